@@ -1,0 +1,23 @@
+use mathlib.Core.Path.{_≡_, ap, sym, _∙_}
+use Rattle.measures.specs.Held.{grainsBy}
+use Rattle.measures.specs.declared.GrainsAnswer.the-variants.{Held as held}
+use borrow.Author.Needs.{needs}
+use Rattle.measures.proofs.Grains.held.Statement.{statement}
+use Rattle.measures.proofs.Grains.held.Tie as tie
+
+outside-requires : tie.Need-outside-requires
+outside-requires c κs = search needs
+
+returns : tie.Need-returns
+returns c = ap (grainsBy (c .before .before .args .x .0)) (sym (c .if1 .taken) ∙ c .before .outside .ensures)
+
+of-requires : tie.Need-of-requires
+of-requires c κs = search needs
+
+returns-2 : tie.Need-returns-2
+returns-2 c =
+    let q = c .before .before in
+    ap held (c .of .ensures) ∙ ap (grainsBy (q .before .args .x .0)) (sym (c .before .if1 .left) ∙ q .outside .ensures)
+
+pub held-spec : {M : Type 1} → statement M
+held-spec = tie.close (tie.spec outside-requires returns of-requires returns-2)
