@@ -1,8 +1,8 @@
 -- Ranges with both ends within, and the test that a number lies outside of one. Assumes nothing.
 use mathlib.Core.Path.{_≡_}
 use mathlib.Core.Bool.{Bool, true, false, not, _||_}
-use Prim.Native.Nat.{ℕ}
-use lib.Dec.{T}
+use Prim.Native.Nat.{ℕ, _≤_}
+use lib.Dec.{T, leb→le}
 use lib.IntN.{ℤ, pos, negℤ}
 use lib.Signed.{_≤ℤ_, ltZ, ltZ-no}
 use Rattle.integers.specs.Order.{le-antisym}
@@ -39,6 +39,10 @@ within r x t = record {
   least-le = ltZ-no (nor-left (ltZ x (r .least)) (ltZ (r .greatest) x) t);
   le-greatest = ltZ-no (nor-right (ltZ x (r .least)) (ltZ (r .greatest) x) t);
 }
+
+-- naturals in a range of naturals
+pub nat-within : (a b x : ℕ) → T (not (outside (range (pos a) (pos b)) (pos x))) → (a ≤ x) × (x ≤ b)
+nat-within a b x t = let w = within (range (pos a) (pos b)) (pos x) t in (leb→le a x (w .least-le .le), leb→le x b (w .le-greatest .le))
 
 -- a number is zero where it lies in the range from zero to zero
 unfoldable pub isZero : ℤ → Bool

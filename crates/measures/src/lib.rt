@@ -90,7 +90,8 @@ impl Tenths {
 
     pub const CAPACITY_GREATEST: Raw = Raw(100000);
 
-    fn of(x: Raw) -> Tenths
+    // A number of tenths that has no limit of its own, or was held to it before.
+    pub fn of(x: Raw) -> Tenths
         ensures { λ r. ⌜ r ≡ record { 0 = x .0 } ⌝ }
     {
         Tenths(x.0)
@@ -121,13 +122,6 @@ impl Tenths {
         ensures { λ r. ⌜ r ≡ tenthsIn limits.capacity (x .0) ⌝ }
     {
         Self::held(Self::CAPACITY_LEAST, Self::CAPACITY_GREATEST, x)
-    }
-
-    // An accepted volume or a flow: every number of its field is one.
-    pub fn accepted(x: u32) -> Tenths
-        ensures { λ r. ⌜ r .0 ≡ pos x ⌝ }
-    {
-        Tenths(x as i64)
     }
 
     pub fn plus(self, other: Tenths) -> Tenths
@@ -164,10 +158,10 @@ impl Tenths {
 
     // The whole of a volume, to be compared with a share of another.
     pub fn whole(self) -> Load
-        requires { ⌜ SFits w64 (pos 100000 *ℤ self .0) ⌝ }
-        ensures { λ r. ⌜ r .0 ≡ pos 100000 *ℤ self .0 ⌝ }
+        requires { ⌜ SFits w64 (self .0 *ℤ pos 100000) ⌝ }
+        ensures { λ r. ⌜ r .0 ≡ self .0 *ℤ pos 100000 ⌝ }
     {
-        Load(100000 * self.0)
+        Load(self.0 * 100000)
     }
 
     // What a volume costs at a price.
@@ -196,7 +190,8 @@ impl Cents {
 
     pub const TOLERANCE_GREATEST: Raw = Raw(1000000000);
 
-    fn of(x: Raw) -> Cents
+    // A number of cents that was held to its limits before.
+    pub fn of(x: Raw) -> Cents
         ensures { λ r. ⌜ r ≡ record { 0 = x .0 } ⌝ }
     {
         Cents(x.0)
@@ -412,7 +407,8 @@ impl Share {
 
     pub const GREATEST: Raw = Raw(100000);
 
-    fn of(x: Raw) -> Share
+    // A share that was held to its limits before.
+    pub fn of(x: Raw) -> Share
         ensures { λ r. ⌜ r ≡ record { 0 = x .0 } ⌝ }
     {
         Share(x.0)

@@ -1,0 +1,102 @@
+//! The proved judge, called over the C interface of its archive.
+
+#[cfg(feature = "book")]
+use second_judge::{BookAnswer, Row};
+
+extern "C" {
+    fn lta_judge(
+        case_bytes: *const u8,
+        case_len: usize,
+        proposal: *const u8,
+        proposal_len: usize,
+        report: *mut u8,
+        report_len: usize,
+    ) -> u64;
+
+    #[cfg(feature = "book")]
+    fn lta_book_surplus(
+        orders: *const Order,
+        order_count: usize,
+        zone_prices: *const i64,
+        price_count: usize,
+    ) -> Surplus;
+
+    #[cfg(feature = "desk")]
+    fn lta_desk_lines(input: *const u8, input_len: usize, out: *mut u8, out_len: usize) -> u64;
+}
+
+/// struct lta_order.
+#[cfg(feature = "book")]
+#[derive(Clone, Copy)]
+#[repr(C)]
+pub struct Order {
+    zone: u8,
+    side: u8,
+    quantity: u32,
+    price: i32,
+}
+
+#[cfg(feature = "book")]
+impl From<Row> for Order {
+    fn from(row: Row) -> Order {
+        Order { zone: row.zone, side: row.side, quantity: row.quantity, price: row.price }
+    }
+}
+
+/// struct lta_surplus.
+#[cfg(feature = "book")]
+#[repr(C)]
+struct Surplus {
+    number: u32,
+    index: u32,
+    sum: i64,
+}
+
+/// Number + 256 * index, as the archive returns it.
+pub fn judge(case: &[u8], proposal: &[u8], report: &mut [u8]) -> u64 {
+    // Safe: each pointer comes with the length of its own slice.
+    unsafe {
+        lta_judge(
+            case.as_ptr(),
+            case.len(),
+            proposal.as_ptr(),
+            proposal.len(),
+            report.as_mut_ptr(),
+            report.len(),
+        )
+    }
+}
+
+/// As `judge`, with a null pointer for each empty slice.
+#[allow(dead_code)] // the benchmark has no use for it
+pub fn judge_null(case: &[u8], proposal: &[u8], report: &mut [u8]) -> u64 {
+    let pointer = |slice: &[u8]| match slice {
+        [] => std::ptr::null(),
+        _ => slice.as_ptr(),
+    };
+    let length = report.len();
+    let report = match report {
+        [] => std::ptr::null_mut(),
+        _ => report.as_mut_ptr(),
+    };
+    // Safe: a null pointer comes with length 0 only.
+    unsafe { lta_judge(pointer(case), case.len(), pointer(proposal), proposal.len(), report, length) }
+}
+
+/// The book entry; `null` gives a null pointer for each empty list.
+#[cfg(feature = "book")]
+#[allow(dead_code)]
+pub fn book_surplus(orders: &[Order], prices: &[i64], null: bool) -> BookAnswer {
+    let orders_at = if null && orders.is_empty() { std::ptr::null() } else { orders.as_ptr() };
+    let prices_at = if null && prices.is_empty() { std::ptr::null() } else { prices.as_ptr() };
+    // Safe: each pointer comes with the length of its own list.
+    let answer = unsafe { lta_book_surplus(orders_at, orders.len(), prices_at, prices.len()) };
+    BookAnswer { number: answer.number, index: answer.index, sum: answer.sum }
+}
+
+/// The desk's lines, written to `out`; gives their length.
+#[cfg(feature = "desk")]
+pub fn desk_lines(input: &[u8], out: &mut [u8]) -> u64 {
+    // Safe: each pointer comes with the length of its own slice.
+    unsafe { lta_desk_lines(input.as_ptr(), input.len(), out.as_mut_ptr(), out.len()) }
+}

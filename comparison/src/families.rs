@@ -1,0 +1,433 @@
+//! The families of inputs for the judgement, and how often each is fed.
+
+use crate::fields::{fields, Field};
+use crate::make::*;
+use crate::rng::Rng;
+use crate::run::Run;
+use second_judge::hours::{stored, Branch, Hour};
+use second_judge::limits::LEAST_BUFFER;
+
+/// A maker of inputs: each call feeds one or a few.
+type Feed = fn(&mut Run, &mut Rng);
+
+/// Name, share of the run's inputs in hundredths, maker.
+pub const FAMILIES: [(&str, u64, Feed); 13] = [
+    ("random hours", 15, random_hours),
+    ("optimal hours", 12, optimal_hours),
+    ("tolerance about the gap", 18, tolerance_about_the_gap),
+    ("limits of each field", 12, limits_of_each_field),
+    ("one field changed", 10, one_field_changed),
+    ("files cut short", 4, cut_short),
+    ("files made longer", 3, made_longer),
+    ("bytes flipped", 5, bytes_flipped),
+    ("several faults at once", 5, several_faults),
+    ("repeated and equal zones", 2, bad_pairs),
+    ("rules at their edges", 6, rules_at_their_edges),
+    ("every field at a limit", 3, fields_at_limits),
+    ("plain and full shapes", 4, plain_shapes),
+];
+
+/// A length that is enough, mostly the least that is.
+fn enough(rng: &mut Rng) -> usize {
+    match rng.below(3) {
+        0 => LEAST_BUFFER + rng.below(81),
+        _ => LEAST_BUFFER,
+    }
+}
+
+fn feed_hour(run: &mut Run, rng: &mut Rng, hour: &Hour) {
+    run.feed(&hour.case(), &hour.proposal(), enough(rng));
+}
+
+/// A good hour: optimal or feasible.
+fn good(rng: &mut Rng, shape: Shape) -> Hour {
+    if rng.one_in(2) {
+        optimal(rng, shape)
+    } else {
+        feasible(rng, shape)
+    }
+}
+
+/// The hours the paper names, a check for each.
+pub fn stored_hours(run: &mut Run) {
+    const EURO: i64 = 100_000_000;
+    run.stored = true;
+    for hour in stored() {
+        run.begin(hour.name);
+        for lent in [LEAST_BUFFER, LEAST_BUFFER + 1, 256] {
+            run.feed(&hour.case, &hour.proposal, lent);
+            run.expect(hour.number, hour.index);
+            for (n, euros) in hour.euros.in_order().into_iter().enumerate() {
+                if let Some(euros) = euros {
+                    run.expect_total(n, euros * EURO);
+                }
+            }
+            for (zone, &price) in hour.prices.iter().enumerate() {
+                run.expect_total(5 + zone, price);
+            }
+        }
+        run.end();
+    }
+    run.stored = false;
+}
+
+fn random_hours(run: &mut Run, rng: &mut Rng) {
+    let shape = Shape::any(rng);
+    let hour = random(rng, shape);
+    feed_hour(run, rng, &hour);
+}
+
+fn optimal_hours(run: &mut Run, rng: &mut Rng) {
+    let shape = Shape::any(rng);
+    let hour = optimal(rng, shape);
+    feed_hour(run, rng, &hour);
+    run.expect(0, 0);
+    run.expect_total(GAP, 0);
+}
+
+fn tolerance_about_the_gap(run: &mut Run, rng: &mut Rng) {
+    let shape = Shape::any(rng);
+    let mut hour = good(rng, shape);
+    hour.tolerance = 0;
+    let verdict = run.feed(&hour.case(), &hour.proposal(), enough(rng));
+    if verdict.number != 0 && verdict.number != 26 {
+        run.fault(|| format!("{verdict:?} for an hour that breaks no rule"));
+        return;
+    }
+    let gap = run.total(GAP);
+    let cents = gap.div_euclid(1_000_000) + i64::from(gap % 1_000_000 != 0);
+    for (tolerance, number) in [(cents - 1, 26), (cents, 0), (cents + 1, 0)] {
+        if (0..=1_000_000_000).contains(&tolerance) {
+            hour.tolerance = tolerance as u32;
+            feed_hour(run, rng, &hour);
+            run.expect(number, 0);
+        }
+    }
+}
+
+fn limits_of_each_field(run: &mut Run, rng: &mut Rng) {
+    let every = rng.one_in(2);
+    let shape = if every { Shape::small(rng) } else { Shape::any(rng) };
+    let hour = good(rng, shape);
+    let (mut case, mut proposal) = (hour.case(), hour.proposal());
+    let originals = (case.clone(), proposal.clone());
+    let list = fields(&hour);
+    // All fields of a small hour, some of a large one.
+    let count = if every { list.len() } else { 40 };
+    for n in 0..count {
+        let field = if every { list[n] } else { rng.pick(&list) };
+        let (least, greatest) = (field.least, field.greatest);
+        for value in [least - 1, least, least + 1, greatest - 1, greatest, greatest + 1] {
+            let (lowest, highest) = field.room();
+            if value < lowest || value > highest {
+                continue;
+            }
+            field.put(&mut case, &mut proposal, value);
+            let verdict = run.feed(&case, &proposal, enough(rng));
+            if !field.allows(value) {
+                run.expect(field.number, field.index);
+            } else if verdict.number == field.number && !field.tied {
+                run.fault(|| format!("{verdict:?} for {value}, which is in range"));
+            }
+        }
+        case.copy_from_slice(&originals.0);
+        proposal.copy_from_slice(&originals.1);
+    }
+}
+
+fn one_field_changed(run: &mut Run, rng: &mut Rng) {
+    let shape = Shape::any(rng);
+    let hour = good(rng, shape);
+    let (mut case, mut proposal) = (hour.case(), hour.proposal());
+    let field = rng.pick(&fields(&hour));
+    let value = if rng.one_in(4) {
+        let (lowest, highest) = field.room();
+        rng.to_the_ends(lowest, highest)
+    } else {
+        rng.to_the_ends(field.least, field.greatest)
+    };
+    field.put(&mut case, &mut proposal, value);
+    run.feed(&case, &proposal, enough(rng));
+}
+
+fn cut_short(run: &mut Run, rng: &mut Rng) {
+    let shape = Shape::any(rng);
+    let hour = good(rng, shape);
+    let (mut case, mut proposal) = (hour.case(), hour.proposal());
+    let (cut_case, header) = (rng.one_in(2), rng.one_in(3));
+    let file = if cut_case { &mut case } else { &mut proposal };
+    let length = match header {
+        true => rng.below(15.min(file.len())),
+        false => rng.to_the_ends(0, file.len() as i64 - 1) as usize,
+    };
+    file.truncate(length);
+    run.feed(&case, &proposal, enough(rng));
+    let number = match (cut_case, length) {
+        (true, 0..=13) => 1,
+        (true, _) => 5,
+        (false, 0..=12) => 9,
+        (false, _) => 12,
+    };
+    run.expect(number, 0);
+}
+
+fn made_longer(run: &mut Run, rng: &mut Rng) {
+    let shape = Shape::any(rng);
+    let hour = good(rng, shape);
+    let (mut case, mut proposal) = (hour.case(), hour.proposal());
+    let lengthen_case = rng.one_in(2);
+    let file = if lengthen_case { &mut case } else { &mut proposal };
+    for _ in 0..rng.pick(&[1, 1, 4, 10, 1_000]) {
+        file.push(rng.next() as u8);
+    }
+    run.feed(&case, &proposal, enough(rng));
+    run.expect(if lengthen_case { 5 } else { 12 }, 0);
+}
+
+fn bytes_flipped(run: &mut Run, rng: &mut Rng) {
+    let shape = Shape::any(rng);
+    let hour = good(rng, shape);
+    let (mut case, mut proposal) = (hour.case(), hour.proposal());
+    for _ in 0..1 + rng.below(3) {
+        let file = if rng.one_in(2) { &mut case } else { &mut proposal };
+        let at = rng.below(file.len());
+        file[at] ^= match rng.one_in(2) {
+            true => 1 << rng.below(8),
+            false => rng.next() as u8,
+        };
+    }
+    run.feed(&case, &proposal, enough(rng));
+}
+
+/// A value outside the field's range, if its bytes can hold one.
+fn outside(rng: &mut Rng, field: &Field) -> Option<i64> {
+    let (lowest, highest) = field.room();
+    let above = field.greatest < highest;
+    let below = lowest < field.least;
+    match (above, below) {
+        (false, false) => None,
+        (true, below) if !below || rng.one_in(2) => Some(rng.to_the_ends(field.greatest + 1, highest)),
+        _ => Some(rng.to_the_ends(lowest, field.least - 1)),
+    }
+}
+
+/// The smallest number wins, then the smallest index.
+fn several_faults(run: &mut Run, rng: &mut Rng) {
+    let shape = Shape::any(rng);
+    let hour = good(rng, shape);
+    let (mut case, mut proposal) = (hour.case(), hour.proposal());
+    let list = fields(&hour);
+    // Faults of the body far outnumber the header's, which would hide them.
+    let body: Vec<Field> = list.iter().copied().filter(|field| field.number > 4).collect();
+    let from = if rng.one_in(4) { &list } else { &body };
+    let mut due = (u32::MAX, 0);
+    for _ in 0..2 + rng.below(4) {
+        let field = rng.pick(from);
+        if let Some(value) = outside(rng, &field) {
+            field.put(&mut case, &mut proposal, value);
+            due = due.min((field.number, field.index));
+        }
+    }
+    run.feed(&case, &proposal, enough(rng));
+    if due.0 != u32::MAX {
+        run.expect(due.0, due.1);
+    }
+}
+
+fn bad_pairs(run: &mut Run, rng: &mut Rng) {
+    let mut shape = Shape::any(rng);
+    shape.zones = shape.zones.max(2);
+    shape.links = shape.links.max(2);
+    let mut hour = good(rng, shape);
+    let count = hour.links.len();
+    let later = 1 + rng.below(count - 1);
+    let mut due = later;
+    if rng.one_in(2) {
+        let earlier = rng.below(later);
+        (hour.links[later].from, hour.links[later].to) = (hour.links[earlier].from, hour.links[earlier].to);
+    } else {
+        hour.links[later].from = hour.links[later].to;
+    }
+    // Sometimes another link further on is at fault too, or one before.
+    if rng.one_in(2) {
+        let other = rng.below(count);
+        hour.links[other].to = hour.links[other].from;
+        due = due.min(other);
+    }
+    feed_hour(run, rng, &hour);
+    run.expect(7, due as u32);
+}
+
+fn rules_at_their_edges(run: &mut Run, rng: &mut Rng) {
+    let shape = Shape::any(rng);
+    let mut hour = good(rng, shape);
+    match rng.below(5) {
+        0 => volume_past_balance(run, rng, &mut hour),
+        1 => flow_past_its_link(run, rng, &mut hour),
+        2 => margin_just_enough(run, rng, &mut hour),
+        3 => share_by_one(run, rng, &mut hour),
+        _ => price_by_one_grain(run, rng, hour.zones),
+    }
+}
+
+fn volume_past_balance(run: &mut Run, rng: &mut Rng, hour: &mut Hour) {
+    if hour.orders.is_empty() {
+        return;
+    }
+    let order = rng.below(hour.orders.len());
+    let full = hour.volumes[order] == hour.orders[order].quantity;
+    if full {
+        hour.volumes[order] -= 1;
+    } else {
+        hour.volumes[order] += 1;
+    }
+    feed_hour(run, rng, hour);
+    run.expect(22, 0);
+}
+
+fn flow_past_its_link(run: &mut Run, rng: &mut Rng, hour: &mut Hour) {
+    if hour.links.is_empty() {
+        return;
+    }
+    let link = rng.below(hour.links.len());
+    hour.flows[link] = most_flow(hour.share, hour.links[link].capacity) as u32;
+    feed_hour(run, rng, hour);
+    hour.flows[link] += 1;
+    feed_hour(run, rng, hour);
+    run.expect(23, link as u32);
+}
+
+fn margin_just_enough(run: &mut Run, rng: &mut Rng, hour: &mut Hour) {
+    if hour.branches.is_empty() {
+        return;
+    }
+    let b = rng.below(hour.branches.len());
+    let parts = flow_based_parts(hour);
+    let Some(least) = least_ram(used(&hour.branches[b], &parts), hour.share) else { return };
+    for (ram, refused) in [(least - 1, true), (least, false), (least + 1, false)] {
+        if !(-500_000..=500_000).contains(&ram) {
+            continue;
+        }
+        hour.branches[b].ram = ram as i32;
+        let verdict = run.feed(&hour.case(), &hour.proposal(), enough(rng));
+        if refused {
+            run.expect(24, b as u32);
+        } else if verdict.number != 0 && verdict.number != 26 {
+            run.fault(|| format!("{verdict:?} for a margin that is enough"));
+        }
+    }
+}
+
+fn share_by_one(run: &mut Run, rng: &mut Rng, hour: &mut Hour) {
+    let share = hour.share;
+    for near in [share.saturating_sub(1), (share + 1).min(100_000)] {
+        hour.share = near;
+        feed_hour(run, rng, hour);
+    }
+}
+
+fn price_by_one_grain(run: &mut Run, rng: &mut Rng, zones: u8) {
+    let zone = rng.below(zones.into());
+    let (system_price, outwards) = rng.pick(&[(-50_000, -1), (400_000, 1)]);
+    for (step, number) in [(0, 0), (outwards, 25), (-outwards, 0)] {
+        let mut ptdfs = vec![0; zones.into()];
+        ptdfs[zone] = step;
+        let hour = Hour {
+            zones,
+            branches: vec![Branch { ram: 0, ptdfs }],
+            shadow_prices: vec![1],
+            system_price,
+            ..Hour::default()
+        };
+        feed_hour(run, rng, &hour);
+        run.expect(number, if number == 25 { zone as u32 } else { 0 });
+    }
+}
+
+fn fields_at_limits(run: &mut Run, rng: &mut Rng) {
+    let shape = Shape::any(rng);
+    let hour = at_limits(rng, shape);
+    feed_hour(run, rng, &hour);
+}
+
+/// One zone or sixteen, no branch, no link, no order, negative margins, the largest.
+fn plain_shapes(run: &mut Run, rng: &mut Rng) {
+    let mut shape = Shape::any(rng);
+    let plain = rng.below(8);
+    match plain {
+        0 => (shape.zones, shape.links) = (1, 0),
+        1 => shape.zones = 16,
+        2 => shape.branches = 0,
+        3 => shape.links = 0,
+        4 => shape.orders = 0,
+        5 => shape = Shape { zones: shape.zones, branches: 0, links: 0, orders: 0 },
+        6 => shape.branches = shape.branches.max(1),
+        _ if rng.one_in(4) => shape = Shape::LARGEST,
+        _ => {}
+    }
+    let mut hour = match rng.below(3) {
+        0 => random(rng, shape),
+        _ => good(rng, shape),
+    };
+    if plain == 6 {
+        // All LTA and nothing flow-based: any margin holds, negative ones too.
+        for branch in &mut hour.branches {
+            branch.ram = rng.to_the_ends(-500_000, -1) as i32;
+        }
+    }
+    feed_hour(run, rng, &hour);
+}
+
+/// Totals at their widest, with the value each must have.
+pub fn widest_totals(run: &mut Run) {
+    run.begin("totals at their widest");
+    for case in widest() {
+        for tolerance in [0, 1_000_000_000] {
+            let hour = Hour { tolerance, ..case.hour.clone() };
+            let verdict = run.feed(&hour.case(), &hour.proposal(), LEAST_BUFFER);
+            if verdict.number != 0 && verdict.number != 26 {
+                run.fault(|| format!("{}: {verdict:?}", case.name));
+            }
+            run.expect_total(case.total, case.value);
+        }
+    }
+    run.end();
+}
+
+/// Buffers of every length up to past the longest report.
+pub fn buffer_lengths(run: &mut Run, rng: &mut Rng) {
+    run.begin("buffer lengths");
+    for lent in 0..=256 {
+        for n in 0..10 {
+            let shape = Shape::small(rng);
+            let hour = good(rng, shape);
+            let (mut case, proposal) = (hour.case(), hour.proposal());
+            if n == 9 {
+                case.truncate(5); // the buffer is asked before the case
+            }
+            run.feed(&case, &proposal, lent);
+            if lent < LEAST_BUFFER {
+                run.expect(30, 0);
+            }
+        }
+    }
+    run.end();
+}
+
+/// Null pointers with length 0, as a C host may pass them.
+pub fn null_pointers(run: &mut Run) {
+    run.begin("null with length 0");
+    let hour = second_judge::hours::three_zone_hour();
+    let (case, proposal) = (hour.case(), hour.proposal());
+    run.feed_null(&[], &proposal, LEAST_BUFFER);
+    run.expect(1, 0);
+    run.feed_null(&case, &[], LEAST_BUFFER);
+    run.expect(9, 0);
+    run.feed_null(&[], &[], LEAST_BUFFER);
+    run.expect(1, 0);
+    run.feed_null(&case, &proposal, 0);
+    run.expect(30, 0);
+    run.feed_null(&[], &[], 0);
+    run.expect(30, 0);
+    run.end();
+}

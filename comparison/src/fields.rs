@@ -1,0 +1,107 @@
+//! The fields of an hour's two files: where each stands and what it may hold.
+
+use crate::make::most_flow;
+use second_judge::hours::Hour;
+
+#[derive(Clone, Copy)]
+pub struct Field {
+    pub in_case: bool,
+    pub at: usize,
+    pub width: usize,
+    pub least: i64,
+    pub greatest: i64,
+    /// The verdict for a value outside; number 0 when every value is allowed.
+    pub number: u32,
+    pub index: u32,
+    /// A value inside may earn the same verdict for another cause.
+    pub tied: bool,
+}
+
+impl Field {
+    /// Least and greatest value that the field's bytes can hold.
+    pub fn room(&self) -> (i64, i64) {
+        match (self.width, self.least < 0) {
+            (4, true) => (i32::MIN.into(), i32::MAX.into()),
+            (width, _) => (0, (1 << (8 * width)) - 1),
+        }
+    }
+
+    pub fn allows(&self, value: i64) -> bool {
+        self.least <= value && value <= self.greatest
+    }
+
+    pub fn put(&self, case: &mut [u8], proposal: &mut [u8], value: i64) {
+        let file = if self.in_case { case } else { proposal };
+        file[self.at..self.at + self.width].copy_from_slice(&value.to_le_bytes()[..self.width]);
+    }
+}
+
+/// The fields found so far and the place of the next one.
+struct Walk {
+    list: Vec<Field>,
+    in_case: bool,
+    at: usize,
+}
+
+impl Walk {
+    fn field(&mut self, width: usize, least: i64, greatest: i64, number: u32, index: usize) -> &mut Field {
+        let (in_case, at, index) = (self.in_case, self.at, index as u32);
+        self.at += width;
+        self.list.push(Field { in_case, at, width, least, greatest, number, index, tied: false });
+        self.list.last_mut().expect("just pushed")
+    }
+
+    fn mark(&mut self, letters: &[u8; 3], number: u32) {
+        for letter in letters {
+            self.field(1, (*letter).into(), (*letter).into(), number, 0);
+        }
+    }
+}
+
+/// Every field of both files, in file order.
+pub fn fields(hour: &Hour) -> Vec<Field> {
+    let mut case = Walk { list: Vec::new(), in_case: true, at: 0 };
+    case.mark(b"LTC", 2);
+    case.field(2, 1, 1, 3, 0);
+    case.field(1, 1, 16, 4, 5);
+    case.field(1, 0, 64, 4, 6);
+    case.field(1, 0, 64, 4, 7);
+    case.field(2, 0, 512, 4, 8);
+    case.field(4, 0, 1_000_000_000, 4, 10);
+    for (b, branch) in hour.branches.iter().enumerate() {
+        case.field(4, -500_000, 500_000, 6, b);
+        for _ in &branch.ptdfs {
+            case.field(4, -200_000, 200_000, 6, b);
+        }
+    }
+    let last_zone = i64::from(hour.zones) - 1;
+    for l in 0..hour.links.len() {
+        // A known zone may still make the two equal or repeat a pair.
+        case.field(1, 0, last_zone, 7, l).tied = true;
+        case.field(1, 0, last_zone, 7, l).tied = true;
+        case.field(4, 0, 100_000, 7, l);
+    }
+    for o in 0..hour.orders.len() {
+        case.field(1, 0, last_zone, 8, o);
+        case.field(1, 0, 1, 8, o);
+        case.field(4, 1, 100_000, 8, o);
+        case.field(4, -50_000, 400_000, 8, o);
+    }
+
+    let mut proposal = Walk { list: case.list, in_case: false, at: 0 };
+    proposal.mark(b"LTP", 10);
+    proposal.field(2, 1, 1, 11, 0);
+    proposal.field(4, 0, 100_000, 13, 0);
+    // The system price: no value is refused, and none is outside.
+    proposal.field(4, i32::MIN.into(), i32::MAX.into(), 0, 0).tied = true;
+    for (o, row) in hour.orders.iter().enumerate() {
+        proposal.field(4, 0, row.quantity.into(), 21, o);
+    }
+    for (l, link) in hour.links.iter().enumerate() {
+        proposal.field(4, 0, most_flow(hour.share, link.capacity), 23, l);
+    }
+    for b in 0..hour.branches.len() {
+        proposal.field(4, 0, 1_000_000, 14, b);
+    }
+    proposal.list
+}

@@ -1,0 +1,117 @@
+//! Compares the proved judge's archive with the second judge over made inputs.
+//!
+//! Arguments, both optional: the seed, the number of inputs for the judgement.
+
+mod archive;
+#[cfg(feature = "book")]
+mod book;
+#[cfg(feature = "desk")]
+mod desk;
+mod families;
+mod fields;
+mod make;
+mod rng;
+mod run;
+
+use rng::Rng;
+use run::{Check, Run, MET};
+use second_judge::Build;
+use std::process::ExitCode;
+use std::time::Instant;
+
+const SEED: u64 = 1;
+const INPUTS: u64 = 260_000;
+/// Every number of the verdict table.
+const NUMBERS: [usize; 22] =
+    [0, 1, 2, 3, 4, 5, 6, 7, 8, 9, 10, 11, 12, 13, 14, 21, 22, 23, 24, 25, 26, 30];
+
+fn main() -> ExitCode {
+    let mut arguments = std::env::args().skip(1).map(|text| text.parse::<u64>());
+    let (seed, inputs) = match (arguments.next(), arguments.next(), arguments.next()) {
+        (None, None, None) => (SEED, INPUTS),
+        (Some(Ok(seed)), None, None) => (seed, INPUTS),
+        (Some(Ok(seed)), Some(Ok(inputs)), None) => (seed, inputs),
+        _ => {
+            eprintln!("usage: comparison [seed [inputs]]");
+            return ExitCode::from(2);
+        }
+    };
+    println!("seed {seed}");
+    let start = Instant::now();
+    let mut run = Run::new(seed);
+
+    run.section("stored hours");
+    families::stored_hours(&mut run);
+    run.section("made inputs");
+    for (n, (name, hundredths, feed)) in families::FAMILIES.iter().enumerate() {
+        // A source of its own for each family: none depends on the one before.
+        let mut rng = Rng::new(seed.wrapping_mul(1_000).wrapping_add(n as u64));
+        run.begin(name);
+        while run.family_inputs() < inputs * hundredths / 100 {
+            feed(&mut run, &mut rng);
+        }
+        run.end();
+    }
+    families::widest_totals(&mut run);
+    families::buffer_lengths(&mut run, &mut Rng::new(seed));
+    families::null_pointers(&mut run);
+    #[cfg(feature = "desk")]
+    {
+        desk::end(&mut run);
+        desk::three_zone_lines(&mut run);
+    }
+    #[cfg(feature = "book")]
+    book::books(&mut run, &mut Rng::new(seed));
+
+    run.section("verdicts, times met");
+    for number in NUMBERS {
+        let times = run.verdicts[number];
+        run.check(format!("{number}"), times > 0, format!("{times}"));
+    }
+    run.section("met, times");
+    for (name, times) in MET.iter().zip(run.met) {
+        run.check(name.to_string(), times > 0, format!("{times}"));
+    }
+    run.section("wrong builds, times found");
+    for ((_, name), found) in Build::WRONG.iter().zip(run.wrong) {
+        let tried = run.wrong_tried;
+        let note = format!("{} stored, {} of {tried} made", found.stored, found.made);
+        run.check(name.to_string(), found.made > 0, note);
+    }
+
+    print_table(&run.checks);
+    // Fewer checks must not look like a whole run.
+    for (name, built) in [("book", cfg!(feature = "book")), ("desk", cfg!(feature = "desk"))] {
+        if !built {
+            println!("NOT COMPARED: the {name} entry (built without the feature {name})");
+        }
+    }
+    println!("{} inputs in {:.1} s", run.inputs, start.elapsed().as_secs_f64());
+    let passed = run.checks.iter().filter(|check| check.passed).count();
+    let failed = run.checks.len() - passed;
+    println!("{passed} passed, {failed} failed");
+    if failed == 0 {
+        ExitCode::SUCCESS
+    } else {
+        ExitCode::FAILURE
+    }
+}
+
+/// A part for each section, with short entries side by side.
+fn print_table(checks: &[Check]) {
+    for section in checks.chunk_by(|one, other| one.section == other.section) {
+        println!("{}", section[0].section);
+        let entries: Vec<String> = section
+            .iter()
+            .map(|check| {
+                let state = if check.passed { "" } else { "  FAILED" };
+                format!("{}: {}{state}", check.name, check.note)
+            })
+            .collect();
+        let width = 2 + entries.iter().map(String::len).max().unwrap_or(0);
+        for line in entries.chunks((96 / width).max(1)) {
+            let line: String = line.iter().map(|entry| format!("{entry:<width$}")).collect();
+            println!("  {}", line.trim_end());
+        }
+    }
+}

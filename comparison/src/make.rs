@@ -1,0 +1,547 @@
+//! Makes hours: optimal ones, feasible ones, random ones and the widest ones.
+//!
+//! An optimal hour is made from its prices. Take shadow prices and a system
+//! price, hence zone prices; let every link with a positive spread be full and
+//! call the sum of their capacities in and out of a zone its net position. Let
+//! each branch's RAM be just what these net positions use. Then branch total,
+//! owed and rent are equal, whatever the share, and with orders taken in the
+//! money only, the gap is zero.
+
+use crate::rng::Rng;
+use second_judge::hours::{Branch, Hour, Link};
+use second_judge::limits::{BUYS, SELLS};
+use second_judge::Row;
+
+const ONE: i64 = 100_000;
+const MOST_ORDERS: usize = 512;
+const LOW: i64 = -50_000;
+const HIGH: i64 = 400_000;
+
+/// Counts of an hour's rows.
+#[derive(Clone, Copy)]
+pub struct Shape {
+    pub zones: usize,
+    pub branches: usize,
+    pub links: usize,
+    pub orders: usize,
+}
+
+impl Shape {
+    pub const LARGEST: Shape = Shape { zones: 16, branches: 64, links: 64, orders: 512 };
+
+    pub fn small(rng: &mut Rng) -> Shape {
+        Shape::within(rng, [4, 4, 6, 12])
+    }
+
+    /// Any size; small ones are the most frequent, to keep a run short.
+    pub fn any(rng: &mut Rng) -> Shape {
+        match rng.below(100) {
+            0..=59 => Shape::small(rng),
+            60..=91 => Shape::within(rng, [10, 16, 16, 64]),
+            92..=98 => Shape::within(rng, [16, 64, 64, 512]),
+            _ => Shape::LARGEST,
+        }
+    }
+
+    fn within(rng: &mut Rng, most: [usize; 4]) -> Shape {
+        let zones = 1 + rng.below(most[0]);
+        Shape {
+            zones,
+            branches: rng.below(most[1] + 1),
+            links: rng.below(most[2] + 1).min(zones * (zones - 1)),
+            orders: rng.below(most[3] + 1),
+        }
+    }
+}
+
+/// So many different ordered pairs of zones.
+fn pairs(rng: &mut Rng, zones: usize, count: usize) -> Vec<(u8, u8)> {
+    let zones = zones as u8;
+    let mut all: Vec<(u8, u8)> = (0..zones)
+        .flat_map(|from| (0..zones).map(move |to| (from, to)))
+        .filter(|(from, to)| from != to)
+        .collect();
+    for n in 0..count {
+        let other = n + rng.below(all.len() - n);
+        all.swap(n, other);
+    }
+    all.truncate(count);
+    all
+}
+
+/// Rule 1.
+pub fn net_positions(hour: &Hour) -> [i64; 16] {
+    let mut net = [0; 16];
+    for (order, &volume) in hour.orders.iter().zip(&hour.volumes) {
+        let volume = i64::from(volume);
+        net[usize::from(order.zone)] += if order.side == BUYS { volume } else { -volume };
+    }
+    net
+}
+
+/// Rule 2, the flow-based parts.
+pub fn flow_based_parts(hour: &Hour) -> [i64; 16] {
+    let mut parts = net_positions(hour);
+    for (link, &flow) in hour.links.iter().zip(&hour.flows) {
+        parts[usize::from(link.to)] -= i64::from(flow);
+        parts[usize::from(link.from)] += i64::from(flow);
+    }
+    parts
+}
+
+/// Rule 5, the left side of a branch.
+pub fn used(branch: &Branch, parts: &[i64; 16]) -> i64 {
+    branch.ptdfs.iter().zip(parts).map(|(&ptdf, part)| i64::from(ptdf) * part).sum()
+}
+
+/// Rule 5: the least RAM that lets so much pass; none at share 100,000.
+pub fn least_ram(used: i64, share: u32) -> Option<i64> {
+    let left = ONE - i64::from(share);
+    // Division that rounds up, for either sign.
+    (left > 0).then(|| -(-used).div_euclid(left))
+}
+
+/// Rule 6, in grains.
+pub fn zone_price(hour: &Hour, zone: usize) -> i64 {
+    let branches = hour.branches.iter().zip(&hour.shadow_prices);
+    ONE * i64::from(hour.system_price)
+        + branches.map(|(row, &shadow)| i64::from(row.ptdfs[zone]) * i64::from(shadow)).sum::<i64>()
+}
+
+fn prices_in_range(hour: &Hour) -> bool {
+    (0..usize::from(hour.zones)).all(|zone| {
+        let price = zone_price(hour, zone);
+        ONE * LOW <= price && price <= ONE * HIGH
+    })
+}
+
+/// Rule 4: the most flow a link takes.
+pub fn most_flow(share: u32, capacity: u32) -> i64 {
+    i64::from(share) * i64::from(capacity) / ONE
+}
+
+/// An hour with gap zero, made as told above.
+pub fn optimal(rng: &mut Rng, shape: Shape) -> Hour {
+    // Where a volume does not fit its orders, all volumes are halved.
+    (0..).find_map(|halvings| try_optimal(rng, shape, halvings)).expect("volumes end at zero")
+}
+
+fn try_optimal(rng: &mut Rng, shape: Shape, halvings: u32) -> Option<Hour> {
+    // PTDFs in thousands and shadow prices in hundreds, so that zone prices
+    // are whole cents and orders can be just at them.
+    let widest = rng.pick(&[20, 100, 200]);
+    let ptdfs: Vec<Vec<i64>> = (0..shape.branches)
+        .map(|_| (0..shape.zones).map(|_| 1_000 * rng.between(-widest, widest)).collect())
+        .collect();
+    let dearest = rng.pick(&[1, 10, 60, 500, 10_000]);
+    let mut shadows: Vec<i64> = (0..shape.branches)
+        .map(|_| match shape.orders > 0 && rng.one_in(3) {
+            true => 100 * rng.to_the_ends(0, dearest),
+            false => 0, // no order: no trade, so no spread to fill a link
+        })
+        .collect();
+    let mut prices = vec![0; shape.zones];
+    let system_price = loop {
+        for (zone, price) in prices.iter_mut().enumerate() {
+            *price = ptdfs.iter().zip(&shadows).map(|(row, shadow)| row[zone] * shadow / ONE).sum();
+        }
+        let (least, greatest) = (prices.iter().min()?, prices.iter().max()?);
+        if greatest - least <= HIGH - LOW {
+            break rng.to_the_ends(LOW - least, HIGH - greatest);
+        }
+        shadows.iter_mut().for_each(|shadow| *shadow = *shadow / 200 * 100);
+    };
+    prices.iter_mut().for_each(|price| *price += system_price);
+
+    // Capacities in hundreds and the share in thousands, so that full links
+    // and full branches come out whole.
+    let widest = rng.pick(&[10, 40, 300, 1_000]) >> halvings;
+    let mut links: Vec<Link> = pairs(rng, shape.zones, shape.links)
+        .into_iter()
+        .map(|(from, to)| Link { from, to, capacity: 100 * rng.to_the_ends(0, widest) as u32 })
+        .collect();
+    let share = match rng.below(4) {
+        0 => 0,
+        1 => 100_000,
+        _ => 1_000 * rng.between(0, 100) as u32,
+    };
+    let spread = |link: &Link| prices[usize::from(link.to)] - prices[usize::from(link.from)];
+    let mut net = [0i64; 16];
+    let mut flows = Vec::with_capacity(links.len());
+    for link in &links {
+        let (capacity, full) = (i64::from(link.capacity), spread(link) > 0);
+        flows.push(if full { most_flow(share, link.capacity) as u32 } else { 0 });
+        if full {
+            net[usize::from(link.to)] += capacity;
+            net[usize::from(link.from)] -= capacity;
+        }
+    }
+    let mut branches = Vec::with_capacity(shape.branches);
+    for (row, &shadow) in ptdfs.iter().zip(&shadows) {
+        let full: i64 = row.iter().zip(net).map(|(ptdf, position)| ptdf * position).sum::<i64>() / ONE;
+        if full.abs() > 500_000 {
+            return None;
+        }
+        let ram = match (share, shadow) {
+            // All is LTA: a branch may have any margin that adds nothing.
+            (100_000, 0) => rng.to_the_ends(-500_000, 500_000),
+            (100_000, _) => rng.to_the_ends(-500_000, full),
+            (_, 0) => rng.to_the_ends(full, 500_000),
+            (_, _) => full,
+        };
+        branches.push(Branch { ram: ram as i32, ptdfs: row.iter().map(|&ptdf| ptdf as i32).collect() });
+    }
+    if share == 0 && rng.one_in(2) {
+        // All is flow-based: what the LTAs would earn may be less.
+        for link in &mut links {
+            link.capacity = rng.between(0, i64::from(link.capacity)) as u32;
+        }
+    }
+
+    let largest = (rng.pick(&[10, 5_000, 20_000, 100_000]) >> halvings).max(1);
+    let orders = priced_orders(rng, shape.orders, largest, &prices, &net)?;
+    Some(Hour {
+        zones: shape.zones as u8,
+        tolerance: if rng.one_in(2) { 0 } else { rng.to_the_ends(0, 1_000_000_000) as u32 },
+        branches,
+        links,
+        orders: orders.iter().map(|(row, _)| *row).collect(),
+        share,
+        system_price: system_price as i32,
+        volumes: orders.iter().map(|(_, volume)| *volume).collect(),
+        flows,
+        shadow_prices: shadows.iter().map(|&shadow| shadow as u32).collect(),
+    })
+}
+
+/// Orders with volumes that are best at the prices and give the net positions.
+fn priced_orders(
+    rng: &mut Rng,
+    count: usize,
+    largest: i64,
+    prices: &[i64],
+    net: &[i64; 16],
+) -> Option<Vec<(Row, u32)>> {
+    let zones = prices.len();
+    let mut orders: Vec<(Row, u32)> = Vec::with_capacity(count + zones);
+    let mut left = *net;
+    let nearness = rng.pick(&[1, 1_000, 450_000]);
+    let drawn = |rng: &mut Rng, taken: bool| {
+        let (zone, side) = (rng.below(zones), rng.below(2) as u8);
+        let away = rng.to_the_ends(0, nearness);
+        let dearer = (side == BUYS) == taken;
+        let price = if dearer { prices[zone] + away } else { prices[zone] - away };
+        let quantity = rng.to_the_ends(1, largest) as u32;
+        let price = price.clamp(LOW, HIGH) as i32;
+        let volume = if taken { quantity } else { 0 };
+        (Row { zone: zone as u8, side, quantity, price }, volume)
+    };
+    // Room is kept for the orders at the zone price that even out each zone.
+    for _ in 0..count.min(MOST_ORDERS - 3 * zones) {
+        let taken = rng.one_in(2);
+        let (row, volume) = drawn(rng, taken);
+        let signed = i64::from(volume);
+        left[usize::from(row.zone)] -= if row.side == BUYS { signed } else { -signed };
+        orders.push((row, volume));
+    }
+    for zone in 0..zones {
+        let side = if left[zone] > 0 { BUYS } else { SELLS };
+        let mut open = left[zone].abs();
+        while open > 0 {
+            let volume = open.min(ONE);
+            let quantity = rng.to_the_ends(volume, ONE) as u32;
+            let row = Row { zone: zone as u8, side, quantity, price: prices[zone] as i32 };
+            orders.push((row, volume as u32));
+            open -= volume;
+        }
+    }
+    while orders.len() < count {
+        orders.push(drawn(rng, false));
+    }
+    if orders.len() > MOST_ORDERS {
+        return None;
+    }
+    for n in (1..orders.len()).rev() {
+        orders.swap(n, rng.below(n + 1));
+    }
+    Some(orders)
+}
+
+/// An hour that breaks no rule up to 25, with a gap of any size.
+pub fn feasible(rng: &mut Rng, shape: Shape) -> Hour {
+    for _ in 0..20 {
+        let mut hour = optimal(rng, shape);
+        disturb(rng, &mut hour);
+        if prices_in_range(&hour) && fit_margins(rng, &mut hour) {
+            return hour;
+        }
+    }
+    optimal(rng, shape)
+}
+
+fn disturb(rng: &mut Rng, hour: &mut Hour) {
+    if rng.one_in(2) {
+        for ptdf in hour.branches.iter_mut().flat_map(|branch| &mut branch.ptdfs) {
+            *ptdf = (i64::from(*ptdf) + rng.between(-999, 999)).clamp(-200_000, 200_000) as i32;
+        }
+    }
+    if rng.one_in(2) {
+        for shadow in &mut hour.shadow_prices {
+            *shadow = (*shadow + rng.below(100) as u32).min(1_000_000);
+        }
+    }
+    if rng.one_in(2) {
+        hour.system_price += rng.between(-300, 300) as i32;
+    }
+    if rng.one_in(2) {
+        hour.share = rng.to_the_ends(0, ONE) as u32;
+        for (link, flow) in hour.links.iter_mut().zip(&mut hour.flows) {
+            link.capacity = (link.capacity + rng.below(100) as u32).min(100_000);
+            *flow = rng.to_the_ends(0, most_flow(hour.share, link.capacity)) as u32;
+        }
+    }
+    // A buy and a sell by the same volume: the balance stays.
+    for _ in 0..rng.below(5) {
+        if hour.orders.is_empty() {
+            break;
+        }
+        let (a, b) = (rng.below(hour.orders.len()), rng.below(hour.orders.len()));
+        if hour.orders[a].side != hour.orders[b].side {
+            let room = |n: usize| hour.orders[n].quantity - hour.volumes[n];
+            let more = i64::from(room(a).min(room(b)));
+            let less = i64::from(hour.volumes[a].min(hour.volumes[b]));
+            let change = rng.to_the_ends(-less, more);
+            for n in [a, b] {
+                hour.volumes[n] = (i64::from(hour.volumes[n]) + change) as u32;
+            }
+        }
+    }
+}
+
+/// Widens the margins that are too small, and makes some of them just enough.
+fn fit_margins(rng: &mut Rng, hour: &mut Hour) -> bool {
+    let parts = flow_based_parts(hour);
+    let share = hour.share;
+    hour.branches.iter_mut().all(|branch| {
+        let used = used(branch, &parts);
+        let Some(least) = least_ram(used, share) else { return used <= 0 };
+        if i64::from(branch.ram) < least || rng.one_in(3) {
+            branch.ram = least.clamp(-500_000, 500_000) as i32;
+        }
+        i64::from(branch.ram) >= least
+    })
+}
+
+/// An hour with every field in range, taken so far along the rules by chance.
+pub fn random(rng: &mut Rng, shape: Shape) -> Hour {
+    let zones = shape.zones;
+    let mut field = |least, greatest| rng.to_the_ends(least, greatest);
+    let mut hour = Hour {
+        zones: zones as u8,
+        tolerance: field(0, 1_000_000_000) as u32,
+        branches: (0..shape.branches)
+            .map(|_| Branch {
+                ram: field(-500_000, 500_000) as i32,
+                ptdfs: (0..zones).map(|_| field(-200_000, 200_000) as i32).collect(),
+            })
+            .collect(),
+        orders: (0..shape.orders)
+            .map(|_| Row {
+                zone: field(0, zones as i64 - 1) as u8,
+                side: field(0, 1) as u8,
+                quantity: field(1, ONE) as u32,
+                price: field(LOW, HIGH) as i32,
+            })
+            .collect(),
+        share: field(0, ONE) as u32,
+        system_price: field(LOW, HIGH) as i32,
+        shadow_prices: (0..shape.branches).map(|_| field(0, 1_000_000) as u32).collect(),
+        ..Hour::default()
+    };
+    hour.links = pairs(rng, zones, shape.links)
+        .into_iter()
+        .map(|(from, to)| Link { from, to, capacity: rng.to_the_ends(0, ONE) as u32 })
+        .collect();
+
+    // How many of the rules from 21 on are seen to.
+    let seen_to = rng.below(7);
+    let volume = |rng: &mut Rng, row: &Row| match seen_to {
+        0 => rng.to_the_ends(0, i64::from(row.quantity) * 2) as u32,
+        _ => rng.to_the_ends(0, i64::from(row.quantity)) as u32,
+    };
+    hour.volumes = hour.orders.iter().map(|row| volume(rng, row)).collect();
+    if seen_to >= 2 {
+        balance(&mut hour);
+    }
+    for link in &hour.links {
+        let most = match seen_to {
+            0..=2 => rng.pick(&[ONE, u32::MAX.into()]),
+            _ => most_flow(hour.share, link.capacity),
+        };
+        hour.flows.push(rng.to_the_ends(0, most) as u32);
+    }
+    if seen_to >= 4 {
+        // Small PTDFs, for else no margin is wide enough.
+        for ptdf in hour.branches.iter_mut().flat_map(|branch| &mut branch.ptdfs) {
+            *ptdf /= rng.pick(&[1_000, 10_000]);
+        }
+        if hour.share == 100_000 && rng.one_in(2) {
+            hour.share -= 1;
+            for (link, flow) in hour.links.iter().zip(&mut hour.flows) {
+                *flow = (*flow).min(most_flow(99_999, link.capacity) as u32);
+            }
+        }
+        fit_margins(rng, &mut hour);
+    }
+    if seen_to >= 5 {
+        hour.shadow_prices.iter_mut().for_each(|shadow| *shadow /= 64);
+    }
+    if seen_to >= 6 {
+        hour.system_price = hour.system_price.clamp(0, 300_000);
+    }
+    hour
+}
+
+/// Lowers volumes on the larger side until both sides are equal.
+fn balance(hour: &mut Hour) {
+    let mut over: i64 = net_positions(hour).iter().sum();
+    let larger = if over > 0 { BUYS } else { SELLS };
+    for (row, volume) in hour.orders.iter().zip(&mut hour.volumes) {
+        if row.side == larger {
+            let cut = over.abs().min(i64::from(*volume));
+            *volume -= cut as u32;
+            over -= over.signum() * cut;
+        }
+    }
+}
+
+/// An hour with every field at one of its limits.
+pub fn at_limits(rng: &mut Rng, shape: Shape) -> Hour {
+    let mut hour = random(rng, shape);
+    let share = rng.pick(&[0, 100_000]);
+    hour.share = share;
+    hour.tolerance = rng.pick(&[0, 1_000_000_000]);
+    hour.system_price = rng.pick(&[i32::MIN, -50_000, -50_000, 400_000, 400_000, i32::MAX]);
+    for branch in &mut hour.branches {
+        branch.ram = rng.pick(&[-500_000, 500_000]);
+    }
+    let ptdfs: &[i32] = if rng.one_in(2) { &[0] } else { &[-200_000, 0, 200_000] };
+    for ptdf in hour.branches.iter_mut().flat_map(|branch| &mut branch.ptdfs) {
+        *ptdf = rng.pick(ptdfs);
+    }
+    for (n, row) in hour.orders.iter_mut().enumerate() {
+        row.price = rng.pick(&[-50_000, 400_000]);
+        row.quantity = rng.pick(&[1, 100_000]);
+        hour.volumes[n] = rng.pick(&[0, row.quantity]);
+    }
+    for (link, flow) in hour.links.iter_mut().zip(&mut hour.flows) {
+        link.capacity = rng.pick(&[0, 100_000]);
+        *flow = rng.pick(&[0, most_flow(share, link.capacity) as u32]);
+    }
+    for shadow in &mut hour.shadow_prices {
+        *shadow = rng.pick(&[0, 1_000_000]);
+    }
+    if rng.one_in(2) {
+        balance(&mut hour);
+    }
+    if rng.one_in(4) {
+        hour.flows.fill(0);
+        hour.volumes.fill(0);
+    }
+    hour
+}
+
+/// An hour with a total at its widest: name, hour, place in the report, value.
+pub struct Widest {
+    pub name: &'static str,
+    pub hour: Hour,
+    pub total: usize,
+    pub value: i64,
+}
+
+/// Places of the totals in the report.
+pub const WELFARE: usize = 0;
+pub const BOUND: usize = 1;
+pub const GAP: usize = 2;
+pub const RENT: usize = 3;
+pub const OWED: usize = 4;
+
+pub fn widest() -> Vec<Widest> {
+    const LOWEST: i32 = -50_000;
+    const HIGHEST: i32 = 400_000;
+    const ALL: i64 = 100_000 * 450_000 * ONE; // a full order across all prices
+    let order = |zone, side, price| Row { zone, side, quantity: 100_000, price };
+    let halves = |first: Row, second: Row| [vec![first; 256], vec![second; 256]].concat();
+    let flat = |ram, count| vec![Branch { ram, ptdfs: vec![0] }; count];
+    // Zones of the second half have the highest price, the others the lowest.
+    let split = |zones: usize, ram| -> Vec<Branch> {
+        let row = |ptdf| (0..zones).map(|zone| if zone < zones / 2 { 0 } else { ptdf }).collect();
+        (0..64).map(|b| Branch { ram, ptdfs: row(if b == 63 { 711 } else { 703 }) }).collect()
+    };
+    let across = |to_higher: bool| -> Vec<Link> {
+        (0..64u8)
+            .map(|n| (n / 8, 8 + n % 8))
+            .map(|(low, high)| if to_higher { (low, high) } else { (high, low) })
+            .map(|(from, to)| Link { from, to, capacity: 100_000 })
+            .collect()
+    };
+    let one_zone = Hour { zones: 1, ..Hour::default() };
+    let traded = |first, second, system_price| Hour {
+        orders: halves(first, second),
+        volumes: vec![100_000; 512],
+        system_price,
+        ..one_zone.clone()
+    };
+    let untraded = |row, system_price| Hour {
+        orders: vec![row; 512],
+        volumes: vec![0; 512],
+        system_price,
+        ..one_zone.clone()
+    };
+    let with_branches = |hour: &Hour, ram, share| Hour {
+        branches: flat(ram, 64),
+        shadow_prices: vec![1_000_000; 64],
+        share,
+        ..hour.clone()
+    };
+    let carried = |buys_in, sells_in| Hour {
+        zones: 2,
+        branches: split(2, 500_000),
+        orders: halves(order(buys_in, BUYS, 0), order(sells_in, SELLS, 0)),
+        volumes: vec![100_000; 512],
+        shadow_prices: vec![1_000_000; 64],
+        system_price: LOWEST,
+        ..Hour::default()
+    };
+    let linked = |to_higher, share| Hour {
+        zones: 16,
+        branches: split(16, -500_000),
+        links: across(to_higher),
+        flows: vec![0; 64],
+        shadow_prices: vec![1_000_000; 64],
+        system_price: LOWEST,
+        share,
+        ..Hour::default()
+    };
+    let buys = untraded(order(0, BUYS, HIGHEST), LOWEST);
+    let sells = untraded(order(0, SELLS, LOWEST), HIGHEST);
+    let branch_total = 64 * 500_000 * 1_000_000 * ONE;
+    let high = traded(order(0, BUYS, HIGHEST), order(0, SELLS, LOWEST), 0);
+    let low = traded(order(0, BUYS, LOWEST), order(0, SELLS, HIGHEST), 0);
+    let widest = |name, hour: Hour, total, value| Widest { name, hour, total, value };
+    vec![
+        widest("welfare", high, WELFARE, 256 * ALL),
+        widest("welfare, negative", low.clone(), WELFARE, -256 * ALL),
+        widest("gap of welfare, negative", with_branches(&low, 500_000, 0), GAP, 256 * ALL + branch_total),
+        widest("surplus of buys", buys.clone(), BOUND, 512 * ALL),
+        widest("surplus of sells", sells.clone(), BOUND, 512 * ALL),
+        widest("branch total", with_branches(&one_zone, 500_000, 0), BOUND, branch_total),
+        widest("branch total, negative", with_branches(&buys, -500_000, 100_000), BOUND, 512 * ALL),
+        widest("bound", with_branches(&buys, 500_000, 0), BOUND, 512 * ALL + branch_total),
+        widest("gap", with_branches(&sells, 500_000, 100_000), GAP, 512 * ALL + branch_total),
+        widest("rent", carried(1, 0), RENT, 256 * ALL),
+        widest("rent, negative", carried(0, 1), RENT, -256 * ALL),
+        widest("owed", linked(true, 100_000), OWED, 64 * ALL),
+        widest("owed, every spread negative", linked(false, 100_000), OWED, 0),
+    ]
+}

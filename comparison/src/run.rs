@@ -1,0 +1,277 @@
+//! Feeds both judges the same input, compares all they leave behind, and counts.
+
+use crate::archive;
+use second_judge::{judge, judge_as, Build, Verdict};
+
+/// Bytes kept on either side of the lent buffer, which no judge may touch.
+const GUARD: usize = 32;
+const MOST_LENT: usize = 256;
+const SPACE: usize = GUARD + MOST_LENT + GUARD;
+
+/// The wrong builds run along on one input out of so many.
+const WRONG_EVERY: u64 = 6;
+/// Disagreements shown in full for each check.
+const SHOWN: u64 = 3;
+
+/// A named check and how it went.
+pub struct Check {
+    pub section: &'static str,
+    pub name: String,
+    pub passed: bool,
+    pub note: String,
+}
+
+/// How often a wrong build was told from the right one.
+#[derive(Clone, Copy, Default)]
+pub struct Found {
+    pub stored: u64,
+    pub made: u64,
+}
+
+/// Things a good stream of inputs must come across, counted.
+pub const MET: [&str; 7] = [
+    "accepted with gap zero",
+    "accepted, gap at the tolerance",
+    "refused, gap under a cent over",
+    "accepted with a negative RAM",
+    "accepted with a negative rent",
+    "accepted with sixteen zones",
+    "accepted with some LTA flow",
+];
+
+pub struct Run {
+    pub checks: Vec<Check>,
+    pub verdicts: [u64; 31],
+    pub wrong: [Found; 9],
+    pub wrong_tried: u64,
+    pub met: [u64; 7],
+    pub inputs: u64,
+    /// Inputs of the stored hours, not of the generator.
+    pub stored: bool,
+    #[cfg(feature = "desk")]
+    pub desk: crate::desk::Desk,
+
+    section: &'static str,
+    family: String,
+    family_inputs: u64,
+    family_faults: u64,
+    verdict: Verdict,
+    space: [u8; SPACE],
+    copies: (Vec<u8>, Vec<u8>),
+}
+
+impl Run {
+    pub fn new(_seed: u64) -> Run {
+        Run {
+            checks: Vec::new(),
+            verdicts: [0; 31],
+            wrong: Default::default(),
+            wrong_tried: 0,
+            met: [0; 7],
+            inputs: 0,
+            stored: false,
+            #[cfg(feature = "desk")]
+            desk: crate::desk::Desk::new(_seed),
+            section: "",
+            family: String::new(),
+            family_inputs: 0,
+            family_faults: 0,
+            verdict: Verdict { number: 0, index: 0 },
+            space: [0; SPACE],
+            copies: Default::default(),
+        }
+    }
+
+    /// Opens a part of the table.
+    pub fn section(&mut self, name: &'static str) {
+        self.section = name;
+    }
+
+    /// Opens a check; what is fed until `end` belongs to it.
+    pub fn begin(&mut self, name: &str) {
+        self.family = name.to_string();
+        self.family_inputs = 0;
+        self.family_faults = 0;
+    }
+
+    pub fn family_inputs(&self) -> u64 {
+        self.family_inputs
+    }
+
+    /// Closes the check.
+    pub fn end(&mut self) {
+        let name = std::mem::take(&mut self.family);
+        self.check_inputs(name, self.family_inputs, self.family_faults);
+    }
+
+    /// A check that passes when something was fed and nothing was amiss.
+    pub fn check_inputs(&mut self, name: String, inputs: u64, faults: u64) {
+        let note = match faults {
+            0 => format!("{inputs}"),
+            _ => format!("{inputs}, {faults} amiss"),
+        };
+        self.check(name, inputs > 0 && faults == 0, note);
+    }
+
+    pub fn check(&mut self, name: String, passed: bool, note: String) {
+        self.checks.push(Check { section: self.section, name, passed, note });
+    }
+
+    /// Counts an input that was compared elsewhere.
+    #[cfg(any(feature = "book", feature = "desk"))]
+    pub fn count(&mut self) {
+        self.family_inputs += 1;
+    }
+
+    pub fn fault(&mut self, text: impl FnOnce() -> String) {
+        self.family_faults += 1;
+        if self.family_faults <= SHOWN {
+            println!("amiss in {}, input {}: {}", self.family, self.family_inputs, text());
+        }
+    }
+
+    /// Gives both judges this input and a buffer of this length.
+    pub fn feed(&mut self, case: &[u8], proposal: &[u8], lent: usize) -> Verdict {
+        self.feed_by(archive::judge, case, proposal, lent)
+    }
+
+    /// As `feed`, with null pointers for what is empty.
+    pub fn feed_null(&mut self, case: &[u8], proposal: &[u8], lent: usize) -> Verdict {
+        self.feed_by(archive::judge_null, case, proposal, lent)
+    }
+
+    fn feed_by(
+        &mut self,
+        theirs: fn(&[u8], &[u8], &mut [u8]) -> u64,
+        case: &[u8],
+        proposal: &[u8],
+        lent: usize,
+    ) -> Verdict {
+        self.inputs += 1;
+        self.family_inputs += 1;
+        // Files are never written: what they held is kept to be compared.
+        self.copies.0.clear();
+        self.copies.0.extend(case);
+        self.copies.1.clear();
+        self.copies.1.extend(proposal);
+
+        // A pattern of its own for each input, so that no byte is right by luck.
+        let mut filled = [0; SPACE];
+        for (n, byte) in filled.iter_mut().enumerate() {
+            *byte = (n as u64 * 37 + self.inputs * 101 + 11) as u8;
+        }
+        let lent = GUARD..GUARD + lent;
+        let mut their_space = filled;
+        let answer = theirs(case, proposal, &mut their_space[lent.clone()]);
+        self.space = filled;
+        self.verdict = judge(case, proposal, &mut self.space[lent.clone()]);
+
+        let ours = u64::from(self.verdict.number) + 256 * u64::from(self.verdict.index);
+        if answer != ours {
+            self.fault(|| {
+                let shown = |answer| format!("{} {}", answer % 256, answer / 256);
+                let files = hex_of_both(case, proposal);
+                format!("archive {}, second judge {}\n{files}", shown(answer), shown(ours))
+            });
+        } else if their_space != self.space {
+            let at = (0..SPACE).find(|&n| their_space[n] != self.space[n]).expect("they differ");
+            let (one, other) = (their_space[at], self.space[at]);
+            let at = at as i64 - GUARD as i64;
+            let files = hex_of_both(case, proposal);
+            self.fault(|| format!("byte {at} of the buffer: archive {one}, second judge {other}\n{files}"));
+        }
+        if self.copies.0 != case || self.copies.1 != proposal {
+            self.fault(|| "a file was written".into());
+        }
+
+        self.verdicts[self.verdict.number as usize] += 1;
+        self.meet(case, proposal);
+        if self.stored || self.inputs % WRONG_EVERY == 0 {
+            self.try_wrong_builds(case, proposal, &filled, lent);
+        }
+        #[cfg(feature = "desk")]
+        self.desk.feed(case, proposal);
+        self.verdict
+    }
+
+    /// Says that the last input must have had this verdict.
+    pub fn expect(&mut self, number: u32, index: u32) {
+        let verdict = self.verdict;
+        if verdict != (Verdict { number, index }) {
+            self.fault(|| format!("{verdict:?} where {number} {index} is due"));
+        }
+    }
+
+    /// Says that this number of the last report must have this value.
+    pub fn expect_total(&mut self, n: usize, value: i64) {
+        let reported = self.total(n);
+        if reported != value {
+            self.fault(|| format!("total {n} is {reported} where {value} is due"));
+        }
+    }
+
+    /// A number of the last report: five totals, then the zone prices.
+    pub fn total(&self, n: usize) -> i64 {
+        let at = GUARD + 8 + 8 * n;
+        i64::from_le_bytes(self.space[at..at + 8].try_into().expect("eight bytes"))
+    }
+
+    fn meet(&mut self, case: &[u8], proposal: &[u8]) {
+        let number = self.verdict.number;
+        if number != 0 && number != 26 {
+            return;
+        }
+        let u32_at = |file: &[u8], at| u32::from_le_bytes(file[at..at + 4].try_into().expect("four"));
+        let zones = usize::from(case[5]);
+        let (branches, links) = (usize::from(case[6]), usize::from(case[7]));
+        let orders = usize::from(case[8]) + 256 * usize::from(case[9]);
+        let (gap, rent) = (self.total(2), self.total(3));
+        let tolerance = i64::from(u32_at(case, 10)) * 1_000_000;
+        let negative = |b: usize| (u32_at(case, 14 + b * (4 + 4 * zones)) as i32) < 0;
+        let flow = |l: usize| u32_at(proposal, 13 + 4 * (orders + l));
+        let accepted = number == 0;
+        let met = [
+            accepted && gap == 0,
+            accepted && gap == tolerance && gap > 0,
+            !accepted && gap - tolerance < 1_000_000,
+            accepted && (0..branches).any(negative),
+            accepted && rent < 0,
+            accepted && zones == 16,
+            accepted && (0..links).any(|l| flow(l) > 0),
+        ];
+        for (count, met) in self.met.iter_mut().zip(met) {
+            *count += u64::from(met);
+        }
+    }
+
+    /// Each wrong build in place of the right one: told from it, or not.
+    fn try_wrong_builds(
+        &mut self,
+        case: &[u8],
+        proposal: &[u8],
+        filled: &[u8; SPACE],
+        lent: std::ops::Range<usize>,
+    ) {
+        self.wrong_tried += u64::from(!self.stored);
+        for (n, (build, _)) in Build::WRONG.iter().enumerate() {
+            let mut space = *filled;
+            let verdict = judge_as(*build, case, proposal, &mut space[lent.clone()]);
+            if verdict != self.verdict || space != self.space {
+                let found = &mut self.wrong[n];
+                *(if self.stored { &mut found.stored } else { &mut found.made }) += 1;
+            }
+        }
+    }
+}
+
+/// Both files in hexadecimal digits, unless they are too long to be read.
+fn hex_of_both(case: &[u8], proposal: &[u8]) -> String {
+    let hex = |name: &str, file: &[u8]| match file.len() {
+        0..=400 => {
+            let digits: String = file.iter().map(|byte| format!("{byte:02x}")).collect();
+            format!("  {name} {digits}")
+        }
+        length => format!("  {name} of {length} bytes"),
+    };
+    format!("{}\n{}", hex("case", case), hex("proposal", proposal))
+}

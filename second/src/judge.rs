@@ -1,0 +1,199 @@
+//! The judgement: the rules in the order of the verdict table, and the report.
+
+use crate::limits::*;
+use crate::read::{Case, Proposal};
+use crate::Verdict;
+
+/// The right judgement and the wrong ones that a comparison must tell from it.
+#[derive(Clone, Copy, Debug, PartialEq, Eq)]
+pub enum Build {
+    Right,
+    // The paper's builds that pass stored hours.
+    ExportPositive,
+    CapacityWithoutShare,
+    BranchTotalAlone,
+    SmallerTotal,
+    SpreadsNetted,
+    RamNeverNegative,
+    // The three shams. They refuse with 1 to 25 and 30 as they should, so that
+    // nothing but an hour that comes through can find them.
+    AlwaysOverTolerance,
+    AcceptsWithZeroTotals,
+    ReportUntouched,
+}
+
+impl Build {
+    /// Every wrong build, with the name a table gives it.
+    pub const WRONG: [(Build, &'static str); 9] = [
+        (Build::ExportPositive, "export counted positive"),
+        (Build::CapacityWithoutShare, "capacity without the share"),
+        (Build::BranchTotalAlone, "branch total alone"),
+        (Build::SmallerTotal, "smaller of the two totals"),
+        (Build::SpreadsNetted, "negative spreads netted"),
+        (Build::RamNeverNegative, "RAM never negative"),
+        (Build::AlwaysOverTolerance, "sham: 26 to every hour"),
+        (Build::AcceptsWithZeroTotals, "sham: accepts, zero totals"),
+        (Build::ReportUntouched, "sham: report untouched"),
+    ];
+}
+
+/// 100,000, which stands for 1 in shares and PTDFs and for a cent in grains.
+const ONE: i128 = GRAINS as i128;
+
+/// Judges a proposal for a case; the report is written for 0 and 26 only.
+pub fn judge(case: &[u8], proposal: &[u8], report: &mut [u8]) -> Verdict {
+    judge_as(Build::Right, case, proposal, report)
+}
+
+/// The judgement as one of the builds gives it.
+#[inline]
+pub fn judge_as(build: Build, case: &[u8], proposal: &[u8], report: &mut [u8]) -> Verdict {
+    match decide(build, case, proposal, report) {
+        Ok(verdict) | Err(verdict) => verdict,
+    }
+}
+
+#[inline]
+fn decide(
+    build: Build,
+    case: &[u8],
+    proposal: &[u8],
+    report: &mut [u8],
+) -> Result<Verdict, Verdict> {
+    // Verdict 30 is asked first of all, of the whole length lent.
+    if report.len() < LEAST_BUFFER {
+        return Err(Verdict::new(30, 0));
+    }
+    let case = Case::read(case)?; // verdicts 1 to 8
+    let proposal = Proposal::read(proposal, &case)?; // verdicts 9 to 14
+
+    // Verdict 21, and rule 1: import is positive.
+    let mut net = [0i128; MOST_ZONES];
+    for o in 0..case.orders {
+        let (order, volume) = (case.order(o), proposal.volume(o));
+        if volume > order.quantity {
+            return Err(Verdict::new(21, o));
+        }
+        let import = (order.side == BUYS) != (build == Build::ExportPositive);
+        let volume = i128::from(volume);
+        net[usize::from(order.zone)] += if import { volume } else { -volume };
+    }
+
+    // Rule 3, verdict 22.
+    if net.iter().sum::<i128>() != 0 {
+        return Err(Verdict::new(22, 0));
+    }
+
+    // Rule 4, verdict 23, and rule 2: the LTA parts.
+    let share = i128::from(proposal.share);
+    let link_share = if build == Build::CapacityWithoutShare { ONE } else { share };
+    let mut lta = [0i128; MOST_ZONES];
+    for l in 0..case.links {
+        let (link, flow) = (case.link(l), i128::from(proposal.flow(l)));
+        if flow * ONE > link_share * i128::from(link.capacity) {
+            return Err(Verdict::new(23, l));
+        }
+        lta[usize::from(link.to)] += flow;
+        lta[usize::from(link.from)] -= flow;
+    }
+
+    // Rule 2: the flow-based parts.
+    let mut flow_based = [0i128; MOST_ZONES];
+    for z in 0..case.zones {
+        flow_based[z] = net[z] - lta[z];
+    }
+
+    // Rule 5, verdict 24.
+    let ram = |b| {
+        let ram = i128::from(case.ram(b));
+        if build == Build::RamNeverNegative { ram.max(0) } else { ram }
+    };
+    for b in 0..case.branches {
+        let ptdfs = case.ptdfs(b).map(i128::from);
+        let used: i128 = ptdfs.zip(flow_based).map(|(ptdf, part)| ptdf * part).sum();
+        if used > (ONE - share) * ram(b) {
+            return Err(Verdict::new(24, b));
+        }
+    }
+
+    // Rule 6, verdict 25.
+    let mut prices = [ONE * i128::from(proposal.system_price); MOST_ZONES];
+    for b in 0..case.branches {
+        let shadow_price = i128::from(proposal.shadow_price(b));
+        for (price, ptdf) in prices.iter_mut().zip(case.ptdfs(b)) {
+            *price += i128::from(ptdf) * shadow_price;
+        }
+    }
+    let (least, greatest) = (i128::from(*ZONE_PRICE.start()), i128::from(*ZONE_PRICE.end()));
+    for z in 0..case.zones {
+        if prices[z] < least || prices[z] > greatest {
+            return Err(Verdict::new(25, z));
+        }
+    }
+
+    // Rules 7 and 8.
+    let (mut welfare, mut surpluses) = (0, 0);
+    for o in 0..case.orders {
+        let order = case.order(o);
+        let worth = ONE * i128::from(proposal.volume(o)) * i128::from(order.price);
+        welfare += if order.side == BUYS { worth } else { -worth };
+        surpluses += order.surplus(prices[usize::from(order.zone)]);
+    }
+
+    // Rule 9.
+    let mut branch_total = 0;
+    for b in 0..case.branches {
+        branch_total += ONE * ram(b) * i128::from(proposal.shadow_price(b));
+    }
+    let mut owed = 0;
+    for l in 0..case.links {
+        let link = case.link(l);
+        let spread = prices[usize::from(link.to)] - prices[usize::from(link.from)];
+        let counted = if build == Build::SpreadsNetted { spread } else { spread.max(0) };
+        owed += i128::from(link.capacity) * counted;
+    }
+    if build == Build::SpreadsNetted {
+        // Netted down to nothing at most, which is the harder one to find.
+        owed = owed.max(0);
+    }
+
+    // Rules 10 and 11.
+    let bound = surpluses
+        + match build {
+            Build::BranchTotalAlone => branch_total,
+            Build::SmallerTotal => branch_total.min(owed),
+            _ => branch_total.max(owed),
+        };
+    let gap = bound - welfare;
+    let rent: i128 = net.iter().zip(prices).map(|(position, price)| position * price).sum();
+
+    // Verdicts 26 and 0.
+    let over = gap > i128::from(MICROCENTS) * i128::from(case.tolerance);
+    let number = match build {
+        Build::AlwaysOverTolerance => 26,
+        Build::AcceptsWithZeroTotals => 0,
+        _ if over => 26,
+        _ => 0,
+    };
+    let totals = match build {
+        Build::AcceptsWithZeroTotals => [0; 5],
+        _ => [welfare, bound, gap, rent, owed],
+    };
+    if build != Build::ReportUntouched {
+        write_report(report, number, &totals, &prices[..case.zones]);
+    }
+    Ok(Verdict::new(number.into(), 0))
+}
+
+/// The report: 48 bytes and 8 for each zone; what lies past it is left alone.
+fn write_report(report: &mut [u8], number: u8, totals: &[i128; 5], prices: &[i128]) {
+    report[0..3].copy_from_slice(b"LTR");
+    report[3..5].copy_from_slice(&1u16.to_le_bytes());
+    report[5] = number;
+    report[6] = prices.len() as u8;
+    report[7] = 0;
+    for (field, &value) in report[8..].chunks_exact_mut(8).zip(totals.iter().chain(prices)) {
+        let value = i64::try_from(value).expect("every total fits 64 bits");
+        field.copy_from_slice(&value.to_le_bytes());
+    }
+}

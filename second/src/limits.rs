@@ -1,0 +1,45 @@
+//! The paper's limits, each in the measure it bounds.
+
+use std::ops::RangeInclusive;
+
+pub const ZONES: RangeInclusive<u8> = 1..=16;
+pub const BRANCHES: RangeInclusive<u8> = 0..=64;
+pub const LINKS: RangeInclusive<u8> = 0..=64;
+pub const ORDERS: RangeInclusive<u16> = 0..=512;
+/// Cents.
+pub const TOLERANCE: RangeInclusive<u32> = 0..=1_000_000_000;
+/// Tenths.
+pub const RAM: RangeInclusive<i32> = -500_000..=500_000;
+/// Hundred-thousandths.
+pub const PTDF: RangeInclusive<i32> = -200_000..=200_000;
+/// Tenths.
+pub const CAPACITY: RangeInclusive<u32> = 0..=100_000;
+/// Tenths.
+pub const QUANTITY: RangeInclusive<u32> = 1..=100_000;
+/// Cents per MWh.
+pub const ORDER_PRICE: RangeInclusive<i32> = -50_000..=400_000;
+/// Hundred-thousandths.
+pub const SHARE: RangeInclusive<u32> = 0..=100_000;
+/// Cents per MWh.
+pub const SHADOW_PRICE: RangeInclusive<u32> = 0..=1_000_000;
+/// Grains: -50,000 to 400,000 cents.
+pub const ZONE_PRICE: RangeInclusive<i64> = -50_000 * GRAINS..=400_000 * GRAINS;
+
+/// Grains in a cent per MWh, and hundred-thousandths in 1.
+pub const GRAINS: i64 = 100_000;
+/// Microcents in a cent.
+pub const MICROCENTS: i64 = 1_000_000;
+
+pub const MOST_ZONES: usize = 16;
+pub const MOST_ORDERS: usize = 512;
+/// A report buffer shorter than this is refused with 30.
+pub const LEAST_BUFFER: usize = 176;
+
+pub const CASE_HEADER: usize = 14;
+pub const PROPOSAL_HEADER: usize = 13;
+pub const LINK_BYTES: usize = 6;
+pub const ORDER_BYTES: usize = 10;
+
+/// Side of an order.
+pub const BUYS: u8 = 0;
+pub const SELLS: u8 = 1;

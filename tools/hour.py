@@ -1,0 +1,467 @@
+#!/usr/bin/env python3
+"""Converts an hour between readable text and its two binary files, the case and the proposal, both ways.
+
+Wrong hours can be written too. Whatever two files are shown, building the text gives back their bytes.
+"""
+
+import argparse
+import re
+import struct
+import sys
+
+HELP = """\
+Converts an hour between readable text and its two binary files, the case and the proposal.
+
+  hour.py build TEXT [--case FILE] [--proposal FILE] [--joined FILE]
+  hour.py show CASE [PROPOSAL]
+  hour.py help
+
+build writes the files asked for; --joined writes the case and at once the proposal, as the desk reads them.
+Without a file it names the two sizes. A TEXT of - is standard input, a FILE of - standard output.
+show prints the text of a case and a proposal. Building that text gives back the same bytes, however broken.
+
+The text: one item per line; blank lines and what follows a # are passed over. Numbers are whole.
+
+  case version V zones Z tolerance T       opens the case; tolerance in cents
+  branch RAM PTDF ...                      RAM in tenths of a MW; one PTDF per zone, 100000 is 1
+  link FROM TO CAPACITY                    zones from 0; capacity in tenths of a MW
+  order ZONE SIDE QUANTITY PRICE           buy or sell; tenths of a MWh; cents per MWh
+  proposal version V share S system P      opens the proposal; LTA share, 100000 is 1; cents per MWh
+  volume V                                 accepted volume in tenths of a MWh, one per order
+  flow F                                   flow in tenths of a MW, one per link
+  shadow S                                 shadow price in cents per MWh, one per branch
+
+The header counts the branches, links and orders of the text. A text without a proposal has one of no bytes.
+
+For wrong hours any value that fits its bits is taken, a side as a number too, and these change what is written:
+
+  mark XYZ                                 the mark of the file opened last: three characters or six hex digits
+  counts zones N branches N links N orders N    any of the header's counts; the records stay as they are
+  cut FILE N                               takes the last N bytes off; FILE is case or proposal
+  append FILE HEX ...                      adds bytes at the end
+  byte FILE OFFSET VALUE                   puts VALUE in place of one byte
+
+cut, append and byte act in the order of the text, on the files as written by all other lines.
+"""
+
+UNITS = """\
+# An hour as text; tools/hour.py help explains the lines.
+# RAM, capacity, quantity, volume, flow: tenths of a MW. PTDF, LTA share: hundred-thousandths, 100000 is 1.
+# Order price, system price, shadow price: cents per MWh. Tolerance: cents.
+"""
+
+# Least and greatest value of each struct code.
+RANGES = {"B": (0, 2**8 - 1), "H": (0, 2**16 - 1), "I": (0, 2**32 - 1), "i": (-(2**31), 2**31 - 1)}
+
+MARKS = {"case": b"LTC", "proposal": b"LTP"}
+
+# Header fields after the mark, in file order.
+HEADERS = {
+    "case": (("version", "H"), ("zones", "B"), ("branches", "B"), ("links", "B"), ("orders", "H"), ("tolerance", "I")),
+    "proposal": (("version", "H"), ("share", "I"), ("system", "i")),
+}
+
+# Records of each file in file order, each with the header field that counts it.
+RECORDS = {
+    "case": (("branch", "branches"), ("link", "links"), ("order", "orders")),
+    "proposal": (("volume", "orders"), ("flow", "links"), ("shadow", "branches")),
+}
+FILE_OF = {kind: file for file, kinds in RECORDS.items() for kind, _ in kinds}
+COUNTS = ("branches", "links", "orders")
+
+# Fields of a record; a branch goes on with one PTDF per zone.
+FIELDS = {
+    "branch": (("RAM", "i"),),
+    "link": (("from zone", "B"), ("to zone", "B"), ("capacity", "I")),
+    "order": (("zone", "B"), ("side", "B"), ("quantity", "I"), ("price", "i")),
+    "volume": (("volume", "I"),),
+    "flow": (("flow", "I"),),
+    "shadow": (("shadow price", "I"),),
+}
+
+SIDES = ("buy", "sell")
+
+WHOLE_NUMBER = re.compile(r"-?[0-9]+")
+HEX_PAIRS = re.compile(r"([0-9a-fA-F]{2})*")
+MARK = re.compile(r"[!-~]{3}|[0-9a-fA-F]{6}")
+HEX_BYTES_PER_LINE = 32
+
+
+class TextError(ValueError):
+    """A line of the text that cannot be built."""
+
+    def __init__(self, line, message):
+        super().__init__(f"line {line}: {message}")
+
+
+def record_fields(kind, zones):
+    return FIELDS[kind] + (("PTDF", "i"),) * (zones if kind == "branch" else 0)
+
+
+def record_layout(kind, zones):
+    return struct.Struct("<" + "".join(code for _, code in record_fields(kind, zones)))
+
+
+def header_layout(file):
+    return struct.Struct("<3s" + "".join(code for _, code in HEADERS[file]))
+
+
+# Text to bytes.
+
+
+def number(word, name, code):
+    """The whole number of a word, refused when the field's bits cannot hold it."""
+    if not WHOLE_NUMBER.fullmatch(word):
+        raise ValueError(f"{name} {word!r} is not a whole number")
+    least, greatest = RANGES[code]
+    if len(word) > 20 or not least <= int(word) <= greatest:
+        raise ValueError(f"{name} {word} is not from {least} to {greatest}")
+    return int(word)
+
+
+def value(word, name, code):
+    """A record's field: a side by its word, all else as a number."""
+    if name == "side" and word in SIDES:
+        return SIDES.index(word)
+    if name == "side" and not WHOLE_NUMBER.fullmatch(word):
+        raise ValueError(f"side {word!r} is not buy, sell or a number")
+    return number(word, name, code)
+
+
+def named_numbers(words, codes):
+    """The numbers of words that go in pairs, name and number."""
+    found = {}
+    for name, word in zip(words[::2], words[1::2]):
+        if name not in codes:
+            raise ValueError(f"{name!r} is not one of {', '.join(codes)}")
+        if name in found:
+            raise ValueError(f"{name} stands twice")
+        found[name] = number(word, name, codes[name])
+    if len(words) % 2:
+        raise ValueError(f"{words[-1]!r} has no number")
+    return found
+
+
+def hex_bytes(words):
+    digits = "".join(words)
+    if not HEX_PAIRS.fullmatch(digits):
+        raise ValueError(f"{digits!r} is not pairs of hex digits")
+    return bytes.fromhex(digits)
+
+
+class Hour:
+    """An hour as its text says it, taken line by line."""
+
+    def __init__(self):
+        self.headers = {}
+        self.header_lines = {}
+        self.marks = dict(MARKS)
+        self.counts = {}
+        self.records = {kind: [] for kind in FIELDS}
+        self.edits = []
+
+    def zones(self):
+        return self.headers["case"]["zones"] if "case" in self.headers else 0
+
+    def take(self, line, words):
+        keyword, *words = words
+        if keyword in HEADERS:
+            self.take_header(line, keyword, words)
+        elif keyword in FIELDS:
+            self.take_record(keyword, words)
+        elif keyword == "mark":
+            self.take_mark(words)
+        elif keyword == "counts":
+            self.take_counts(words)
+        elif keyword in ("cut", "append", "byte"):
+            self.take_edit(line, keyword, words)
+        else:
+            raise ValueError(f"{keyword!r} is not an item of an hour")
+
+    def take_header(self, line, file, words):
+        if file in self.headers:
+            raise ValueError(f"a second {file} line")
+        codes = {name: code for name, code in HEADERS[file] if name not in COUNTS}
+        header = named_numbers(words, codes)
+        for name in codes:
+            if name not in header:
+                raise ValueError(f"the {file} line lacks {name}")
+        self.headers[file] = header
+        self.header_lines[file] = line
+
+    def take_record(self, kind, words):
+        file = FILE_OF[kind]
+        if file not in self.headers:
+            raise ValueError(f"{kind} before the {file} line")
+        fields = record_fields(kind, self.zones())
+        if len(words) != len(fields):
+            wanted = ", ".join(name for name, _ in FIELDS[kind])
+            if kind == "branch":
+                wanted += f" and {len(fields) - 1} PTDFs"
+            raise ValueError(f"{kind} takes {len(fields)} values ({wanted}), not {len(words)}")
+        row = [value(word, name, code) for word, (name, code) in zip(words, fields)]
+        self.records[kind].append(row)
+
+    def take_mark(self, words):
+        if not self.headers:
+            raise ValueError("mark before the case line")
+        if len(words) != 1:
+            raise ValueError(f"mark takes 1 value, not {len(words)}")
+        if not MARK.fullmatch(words[0]):
+            raise ValueError(f"mark {words[0]!r} is not three characters or six hex digits")
+        mark = words[0].encode("ascii") if len(words[0]) == 3 else hex_bytes(words)
+        self.marks[list(self.headers)[-1]] = mark
+
+    def take_counts(self, words):
+        if "case" not in self.headers:
+            raise ValueError("counts before the case line")
+        codes = {name: code for name, code in HEADERS["case"] if name in COUNTS or name == "zones"}
+        self.counts.update(named_numbers(words, codes))
+
+    def take_edit(self, line, edit, words):
+        file, *words = words or [""]
+        if file not in HEADERS:
+            raise ValueError(f"{edit} takes case or proposal first, not {file!r}")
+        wanted = {"cut": 1, "byte": 2}.get(edit, len(words))
+        if len(words) != wanted:
+            raise ValueError(f"{edit} {file} takes {wanted} values, not {len(words)}")
+        if edit == "cut":
+            values = (number(words[0], "cut", "I"),)
+        elif edit == "byte":
+            values = (number(words[0], "offset", "I"), number(words[1], "byte", "B"))
+        else:
+            values = (hex_bytes(words),)
+        self.edits.append((line, edit, file, values))
+
+    def file_bytes(self, file):
+        """The file as its header and records say it, before any edit."""
+        if file not in self.headers:
+            return bytearray()
+        header = dict(self.headers[file])
+        if file == "case":
+            header.update({name: len(self.records[kind]) for kind, name in RECORDS["case"]})
+            header.update(self.counts)
+        for name, code in HEADERS[file]:
+            if header[name] > RANGES[code][1]:
+                message = f"{header[name]} {name} are more than the header can count; say counts {name} N"
+                raise TextError(self.header_lines[file], message)
+        out = bytearray(header_layout(file).pack(self.marks[file], *(header[name] for name, _ in HEADERS[file])))
+        for kind, _ in RECORDS[file]:
+            layout = record_layout(kind, self.zones())
+            for row in self.records[kind]:
+                out += layout.pack(*row)
+        return out
+
+    def files(self):
+        out = {file: self.file_bytes(file) for file in HEADERS}
+        for line, edit, file, values in self.edits:
+            data = out[file]
+            if edit == "append":
+                data += values[0]
+            elif values[0] + (edit == "byte") > len(data):
+                raise TextError(line, f"{edit} {values[0]} does not fit the {file} of {len(data)} bytes")
+            elif edit == "cut":
+                del data[len(data) - values[0] :]
+            else:
+                data[values[0]] = values[1]
+        return bytes(out["case"]), bytes(out["proposal"])
+
+
+def build(text):
+    """The case and the proposal of a text."""
+    hour = Hour()
+    for line, content in enumerate(text.split("\n"), 1):
+        words = content.split("#", 1)[0].split()
+        if words:
+            try:
+                hour.take(line, words)
+            except ValueError as fault:
+                raise TextError(line, str(fault)) from None
+    return hour.files()
+
+
+# Bytes to text.
+
+
+def show_mark(mark):
+    if all(0x21 <= byte <= 0x7E and byte != ord("#") for byte in mark):
+        return mark.decode("ascii")
+    return mark.hex()
+
+
+def show_row(kind, row):
+    words = [str(number) for number in row]
+    if kind == "order" and row[1] < len(SIDES):
+        words[1] = SIDES[row[1]]
+    return words
+
+
+def show_records(kind, rows, notes):
+    """The lines of one kind of record in columns, each with a note on what it is."""
+    table = [show_row(kind, row) for row in rows]
+    widths = [max(map(len, column)) for column in zip(*table)]
+    for words, note in zip(table, notes):
+        columns = " ".join(word.rjust(width) for word, width in zip(words, widths))
+        yield f"{kind} {columns}  # {note}"
+
+
+def show_hex(file, data):
+    for start in range(0, len(data), HEX_BYTES_PER_LINE):
+        yield f"append {file} {data[start : start + HEX_BYTES_PER_LINE].hex()}"
+
+
+def show_header(file, mark, header):
+    names = [name for name, _ in HEADERS[file] if name not in COUNTS]
+    yield f"{file} " + " ".join(f"{name} {header[name]}" for name in names)
+    if mark != MARKS[file]:
+        yield f"mark {show_mark(mark)}"
+
+
+def show_short_header(file, data):
+    """A file that ends inside its header: its whole fields in a comment, its bytes as hex."""
+    whole, position = [], 3
+    if len(data) >= 3:
+        whole.append(f"mark {show_mark(data[:3])}")
+    for name, code in HEADERS[file]:
+        field = struct.Struct("<" + code)
+        if position + field.size <= len(data):
+            whole.append(f"{name} {field.unpack_from(data, position)[0]}")
+        position += field.size
+    yield f"# The {file} ends after {len(data)} bytes, inside its header: {', '.join(whole) or 'no whole field'}."
+    yield from show_hex(file, data)
+
+
+def notes_of(kind, rows, case_rows):
+    """What each record is: its index, and for a proposal the record of the case it belongs to."""
+    if FILE_OF[kind] == "case":
+        return [f"{kind} {index}" for index in range(len(rows))]
+    owner = {"volume": "order", "flow": "link", "shadow": "branch"}[kind]
+    notes = []
+    for index in range(len(rows)):
+        note = f"{owner} {index}"
+        if index < len(case_rows.get(owner, ())):
+            words = show_row(owner, case_rows[owner][index])
+            note += f": RAM {words[0]}" if owner == "branch" else f": {' '.join(words)}"
+        notes.append(note)
+    return notes
+
+
+def whole_records(file, data, counts):
+    """The records of a file up to the first that is not whole, its name if there is one, and where the walk ends."""
+    tables, missing, position = {}, None, header_layout(file).size
+    for kind, name in RECORDS[file]:
+        layout = record_layout(kind, counts.get("zones", 0))
+        rows = tables[kind] = []
+        while missing is None and len(rows) < counts.get(name, 0):
+            if position + layout.size > len(data):
+                missing = f"{kind} {len(rows)}"
+            else:
+                rows.append(layout.unpack_from(data, position))
+                position += layout.size
+    return tables, missing, position
+
+
+def show_file(file, data, counts, case_rows):
+    """The lines of one file. Counts and case_rows are those of the case; showing the case fills them."""
+    layout = header_layout(file)
+    if len(data) < layout.size:
+        if data:
+            yield from show_short_header(file, data)
+        return
+    mark, *values = layout.unpack_from(data)
+    header = dict(zip((name for name, _ in HEADERS[file]), values))
+    yield from show_header(file, mark, header)
+    if file == "case":
+        counts.update(header)
+    tables, missing, position = whole_records(file, data, counts)
+    if file == "case":
+        case_rows.update(tables)
+        if missing is not None:
+            yield "counts " + " ".join(f"{name} {header[name]}" for name in COUNTS)
+    for kind, rows in tables.items():
+        yield from show_records(kind, rows, notes_of(kind, rows, case_rows))
+    rest = data[position:]
+    if missing is not None:
+        yield f"# The {file} ends before the end of {missing}; bytes left: {len(rest)}."
+    elif rest:
+        yield f"# The {file} goes on past its last field; bytes left: {len(rest)}."
+    yield from show_hex(file, rest)
+
+
+def show(case, proposal=b""):
+    """The text of a case and a proposal, whatever their bytes."""
+    counts, case_rows = {}, {}
+    shown = [list(show_file(file, data, counts, case_rows)) for file, data in (("case", case), ("proposal", proposal))]
+    return UNITS + "".join("\n" + "\n".join(lines) + "\n" for lines in shown if lines)
+
+
+# Commands.
+
+
+def read_text(path):
+    if path == "-":
+        return sys.stdin.buffer.read().decode()
+    with open(path, encoding="utf-8", newline="") as file:
+        return file.read()
+
+
+def read_bytes(path):
+    with open(path, "rb") as file:
+        return file.read()
+
+
+def write_bytes(path, data):
+    if path == "-":
+        sys.stdout.buffer.write(data)
+        return
+    with open(path, "wb") as file:
+        file.write(data)
+
+
+def run_build(options):
+    case, proposal = build(read_text(options.text))
+    wanted = ((options.case, case), (options.proposal, proposal), (options.joined, case + proposal))
+    for path, data in wanted:
+        if path is not None:
+            write_bytes(path, data)
+    if all(path is None for path, _ in wanted):
+        print(f"case {len(case)} bytes, proposal {len(proposal)} bytes")
+
+
+def run_show(options):
+    proposal = b"" if options.proposal is None else read_bytes(options.proposal)
+    sys.stdout.write(show(read_bytes(options.case), proposal))
+
+
+def run_help(_options):
+    sys.stdout.write(HELP)
+
+
+def main(arguments):
+    parser = argparse.ArgumentParser(prog="hour.py", usage=HELP.split("\n\n")[1].strip(), add_help=False)
+    commands = parser.add_subparsers(dest="command", prog="hour.py", required=True)
+    builder = commands.add_parser("build", add_help=False)
+    builder.add_argument("text")
+    builder.add_argument("--case")
+    builder.add_argument("--proposal")
+    builder.add_argument("--joined")
+    builder.set_defaults(run=run_build)
+    shower = commands.add_parser("show", add_help=False)
+    shower.add_argument("case")
+    shower.add_argument("proposal", nargs="?")
+    shower.set_defaults(run=run_show)
+    commands.add_parser("help", add_help=False).set_defaults(run=run_help)
+    options = parser.parse_args(arguments)
+    try:
+        options.run(options)
+    except (TextError, UnicodeDecodeError) as fault:
+        print(f"hour.py: {options.text}: {fault}", file=sys.stderr)
+        return 1
+    except OSError as fault:
+        print(f"hour.py: {fault}", file=sys.stderr)
+        return 1
+    return 0
+
+
+if __name__ == "__main__":
+    sys.exit(main(sys.argv[1:]))

@@ -1,0 +1,168 @@
+#!/usr/bin/env python3
+"""Prints the stored hours of full size, 16 zones, 64 branches, 64 links and 512 orders, from how they are made.
+
+  largest_hour.py NAME        NAME is largest-varied, largest-welfare, largest-loss or largest-bound
+"""
+
+import sys
+
+ZONES, BRANCHES, LINKS, ORDERS = 16, 64, 64, 512
+ORDERS_PER_ZONE = ORDERS // ZONES
+LOW_ZONES, HIGH_ZONES = range(0, 8), range(8, 16)
+
+
+def hour_text(comment, tolerance, share, system, branches, links, orders):
+    """The text: a branch is (RAM, PTDFs, shadow), a link (from, to, capacity, flow), an order (line, volume)."""
+    lines = [f"# {line}" for line in comment]
+    lines.append("# Printed by tools/largest_hour.py, which says how it is made.")
+    lines.append(f"case version 1 zones {ZONES} tolerance {tolerance}")
+    lines += [f"branch {ram} {' '.join(map(str, ptdfs))}" for ram, ptdfs, _ in branches]
+    lines += [f"link {source} {sink} {capacity}" for source, sink, capacity, _ in links]
+    lines += [f"order {line}" for line, _ in orders]
+    lines.append(f"proposal version 1 share {share} system {system}")
+    lines += [f"volume {volume}" for _, volume in orders]
+    lines += [f"flow {flow}" for *_, flow in links]
+    lines += [f"shadow {shadow}" for *_, shadow in branches]
+    return "\n".join(lines) + "\n"
+
+
+def two_price_hour(comment, ram, low_side, high_side):
+    """Zones 0 to 7 at -50,000 cents and 8 to 15 at 400,000, every order accepted whole at its zone's price.
+
+    64 branches with PTDF 1,000 in the high zones and shadow price 703,125 make the spread of 450,000 cents.
+    256 orders of 100,000 load each branch by 256,000 tenths, or relieve it by as much.
+    """
+    ptdfs = [0] * len(LOW_ZONES) + [1000] * len(HIGH_ZONES)
+    branches = [(ram, ptdfs, 703125)] * BRANCHES
+    links = [(low, high, 100000, 0) for low in LOW_ZONES for high in HIGH_ZONES]
+    orders = [(f"{zone} {low_side} 100000 -50000", 100000) for zone in LOW_ZONES for _ in range(ORDERS_PER_ZONE)]
+    orders += [(f"{zone} {high_side} 100000 400000", 100000) for zone in HIGH_ZONES for _ in range(ORDERS_PER_ZONE)]
+    return hour_text(comment, 0, 0, -50000, branches, links, orders)
+
+
+def largest_welfare():
+    comment = (
+        "The largest welfare, rent and owed: every buy at 400,000 and every sell at -50,000 cents is accepted.",
+        "expect 0 0",
+        "totals welfare 11520000000 bound 11520000000 gap 0 rent 11520000000 owed 2880000000",
+    )
+    return two_price_hour(comment, 256000, "sell", "buy")
+
+
+def largest_loss():
+    comment = (
+        "The most negative welfare and rent, with negative margins: largest-welfare with buys and sells exchanged.",
+        "expect 26 0",
+        "totals welfare -11520000000 bound 2880000000 gap 14400000000 rent -11520000000 owed 2880000000",
+    )
+    return two_price_hour(comment, -256000, "buy", "sell")
+
+
+def largest_bound():
+    """512 unserved buys at 400,000 in zones at -50,000 cents, and the largest branch total.
+
+    PTDFs of 200,000 in all zones and -200,000 in all zones cancel in the prices and load no branch.
+    """
+    comment = (
+        "The largest bound and gap: no order served at the greatest spread, margins and shadow prices at their limits.",
+        "expect 26 0",
+        "totals welfare 0 bound 55040000000 gap 55040000000 rent 0 owed 0",
+    )
+    branches = [(500000, [200000 - 400000 * (branch % 2)] * ZONES, 1000000) for branch in range(BRANCHES)]
+    links = [(low, high, 100000, 100000) for low in LOW_ZONES for high in HIGH_ZONES]
+    orders = [(f"{order % ZONES} buy 100000 400000", 0) for order in range(ORDERS)]
+    return hour_text(comment, 0, 100000, -50000, branches, links, orders)
+
+
+def sequence(state=1):
+    """Numbers with no pattern, the same at every run: numbers(n) gives the next one below n."""
+
+    def numbers(count):
+        nonlocal state
+        state = (state * 6364136223846793005 + 1442695040888963407) % 2**64
+        return (state >> 33) % count
+
+    return numbers
+
+
+def varied_orders(numbers, price, target):
+    """One zone's orders as (sign, quantity, price, volume): in the money whole, out of the money not at all,
+    the last at the zone price for what the target net position still lacks. Buys have sign 1, sells -1."""
+    orders, rest = [], target
+    for order in range(ORDERS_PER_ZONE - 1):
+        quantity, distance = 1 + numbers(20000), 1 + numbers(20000)
+        if order % 2 == 0:
+            sign = 1 if rest > 0 else -1
+            rest -= sign * quantity
+            orders.append((sign, quantity, price + sign * distance, quantity))
+        else:
+            sign = 1 - 2 * numbers(2)
+            orders.append((sign, quantity, price - sign * distance, 0))
+    return orders + [(1 if rest > 0 else -1, 100000, price, abs(rest))]
+
+
+def euros(amount):
+    """A whole amount in tenths of a cent, the product of tenths and cents, as euros."""
+    return f"{amount // 1000}.{amount % 1000:03}"
+
+
+def largest_varied():
+    """LTA share one half. The flow-based part is chosen first and each RAM is twice the load it makes, so that
+    every branch is full; each link is full where its spread is positive and empty elsewhere. With all orders right
+    at the zone prices, rent is half of branch total plus half of owed, and the gap half of what lies between them.
+
+    PTDFs are multiples of 500, shadow prices of 200, flow-based parts of 100 and capacities of 2: all halves are whole.
+    """
+    numbers, system = sequence(), 100000
+    part = [100 * (numbers(41) - 20) for _ in range(ZONES)]
+    part[0] -= sum(part)
+    branches = []
+    for _ in range(BRANCHES):
+        ptdfs = [500 * (numbers(401) - 200) for _ in range(ZONES)]
+        ram = sum(ptdf * share for ptdf, share in zip(ptdfs, part)) // 50000
+        branches.append((ram, ptdfs, 200 * numbers(51)))
+    price = [system + sum(ptdfs[zone] * shadow for _, ptdfs, shadow in branches) // 100000 for zone in range(ZONES)]
+    pairs = [(source, sink) for source in range(ZONES) for sink in range(ZONES) if source != sink]
+    links, position = [], list(part)
+    for _ in range(LINKS):
+        source, sink = pairs.pop(numbers(len(pairs)))
+        capacity = 2 * numbers(2501)
+        flow = capacity // 2 if price[sink] > price[source] else 0
+        position[sink] += flow
+        position[source] -= flow
+        links.append((source, sink, capacity, flow))
+    by_zone = [varied_orders(numbers, price[zone], position[zone]) for zone in range(ZONES)]
+    rows = [(zone, *row) for rank in zip(*by_zone) for zone, row in enumerate(rank)]
+    sides = {1: "buy", -1: "sell"}
+    orders = [(f"{zone} {sides[sign]} {quantity} {limit}", volume) for zone, sign, quantity, limit, volume in rows]
+    welfare = sum(sign * volume * limit for _, sign, _, limit, volume in rows)
+    branch_total = sum(ram * shadow for ram, _, shadow in branches)
+    owed = sum(capacity * max(0, price[sink] - price[source]) for source, sink, capacity, _ in links)
+    gap, rent = abs(branch_total - owed) // 2, (branch_total + owed) // 2
+    totals = {"welfare": welfare, "bound": welfare + gap, "gap": gap, "rent": rent, "owed": owed}
+    comment = (
+        "An hour of full size with varied fields, every branch and link full, accepted at its tolerance.",
+        "expect 0 0",
+        "totals " + " ".join(f"{name} {euros(amount)}" for name, amount in totals.items()),
+    )
+    return hour_text(comment, -(-gap // 10), 50000, system, branches, links, orders)
+
+
+HOURS = {
+    "largest-varied": largest_varied,
+    "largest-welfare": largest_welfare,
+    "largest-loss": largest_loss,
+    "largest-bound": largest_bound,
+}
+
+
+def main(arguments):
+    if len(arguments) != 1 or arguments[0] not in HOURS:
+        sys.stderr.write(__doc__)
+        return 2
+    sys.stdout.write(HOURS[arguments[0]]())
+    return 0
+
+
+if __name__ == "__main__":
+    sys.exit(main(sys.argv[1:]))

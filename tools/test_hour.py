@@ -1,0 +1,404 @@
+#!/usr/bin/env python3
+"""Tests of hour.py, build_hours.py and the stored hours. The last line counts what passed and failed."""
+
+import contextlib
+import io
+import pathlib
+import random
+import re
+import sys
+import tempfile
+import unittest
+from decimal import Decimal
+
+import build_hours
+import hour
+import largest_hour
+
+ROOT = pathlib.Path(__file__).resolve().parent.parent
+SAMPLES = ROOT / "samples"
+
+# P1 by hand, field by field.
+P1_CASE = bytes.fromhex(
+    "4c5443 0100 03 02 01 0500 00000000"  # LTC, version 1, 3 zones, 2 branches, 1 link, 5 orders, tolerance 0
+    "c4090000 00000000 f8240100 50c30000"  # RAM 2,500; 0, 75,000, 50,000
+    "983a0000 6079feff 00000000 00000000"  # RAM 15,000; -100,000, 0, 0
+    "00 01 a00f0000"  # link 0 to 1, capacity 4,000
+    "00 01 a00f0000 e8030000"  # zone 0 sells 4,000 at 1,000
+    "00 01 70170000 d0070000"  # zone 0 sells 6,000 at 2,000
+    "01 00 e8030000 581b0000"  # zone 1 buys 1,000 at 7,000
+    "01 00 28230000 70170000"  # zone 1 buys 9,000 at 6,000
+    "02 00 10270000 88130000"  # zone 2 buys 10,000 at 5,000
+)
+P1_PROPOSAL = bytes.fromhex(
+    "4c5450 0100 cc550100 ca080000"  # LTP, version 1, share 87,500, system price 2,250
+    "a00f0000 5f050000 e8030000 00000000 17110000"  # volumes 4,000, 1,375, 1,000, 0, 4,375
+    "ac0d0000"  # flow 3,500
+    "7c150000 fa000000"  # shadow prices 5,500 and 250
+)
+
+P1_TEXT = hour.read_text(SAMPLES / "three-zone.txt")
+
+EXPECT = re.compile(r"^# expect (\d+) (\d+)$", re.MULTILINE)
+TOTALS = re.compile(r"^# totals welfare (\S+) bound (\S+) gap (\S+) rent (\S+) owed (\S+)$", re.MULTILINE)
+
+
+def stored_hours():
+    return {path.stem: hour.read_text(path) for path in sorted(build_hours.HOURS.glob("*.txt"))}
+
+
+def run_tool(main, *arguments):
+    """Exit status, standard output and standard error of one tool's command line."""
+    out, err = io.StringIO(), io.StringIO()
+    with contextlib.redirect_stdout(out), contextlib.redirect_stderr(err):
+        try:
+            status = main([str(argument) for argument in arguments])
+        except SystemExit as stop:
+            status = stop.code
+    return status, out.getvalue(), err.getvalue()
+
+
+class ThreeZoneHour(unittest.TestCase):
+    """P1 is the bytes that the paper describes."""
+
+    def test_sizes(self):
+        self.assertEqual((len(P1_CASE), len(P1_PROPOSAL)), (102, 45))
+
+    def test_text_gives_the_bytes_by_hand(self):
+        self.assertEqual(hour.build(P1_TEXT), (P1_CASE, P1_PROPOSAL))
+
+    def test_samples_are_the_bytes_by_hand(self):
+        self.assertEqual((SAMPLES / "three-zone.case").read_bytes(), P1_CASE)
+        self.assertEqual((SAMPLES / "three-zone.proposal").read_bytes(), P1_PROPOSAL)
+
+    def test_stored_hour_is_the_bytes_by_hand(self):
+        self.assertEqual(hour.build(stored_hours()["p01-three-zone-hour"]), (P1_CASE, P1_PROPOSAL))
+
+
+class RoundTrip(unittest.TestCase):
+    """Building what is shown gives back both files, whatever their bytes."""
+
+    def assert_round_trip(self, case, proposal):
+        text = hour.show(case, proposal)
+        self.assertEqual(hour.build(text), (case, proposal), text)
+
+    def test_stored_hours(self):
+        for name, text in stored_hours().items():
+            with self.subTest(name):
+                self.assert_round_trip(*hour.build(text))
+
+    def test_empty_files(self):
+        for case in (b"", P1_CASE):
+            for proposal in (b"", P1_PROPOSAL):
+                self.assert_round_trip(case, proposal)
+
+    def test_every_cut(self):
+        for size in range(len(P1_CASE)):
+            self.assert_round_trip(P1_CASE[:size], P1_PROPOSAL)
+        for size in range(len(P1_PROPOSAL)):
+            self.assert_round_trip(P1_CASE, P1_PROPOSAL[:size])
+
+    def test_every_byte_of_the_headers_replaced(self):
+        for offset in range(14):
+            for value in range(256):
+                case = bytearray(P1_CASE)
+                case[offset] = value
+                self.assert_round_trip(bytes(case), P1_PROPOSAL)
+        for offset in range(13):
+            for value in range(256):
+                proposal = bytearray(P1_PROPOSAL)
+                proposal[offset] = value
+                self.assert_round_trip(P1_CASE, bytes(proposal))
+
+    def test_bytes_after_the_last_field(self):
+        for size in (1, 4, 31, 32, 33, 100):
+            self.assert_round_trip(P1_CASE + bytes(size), P1_PROPOSAL + b"\xff" * size)
+
+    def test_files_exchanged_or_joined(self):
+        self.assert_round_trip(P1_PROPOSAL, P1_CASE)
+        self.assert_round_trip(P1_CASE + P1_PROPOSAL, b"")
+
+    def test_damaged_hours(self):
+        numbers = random.Random(14)
+        for _ in range(2000):
+            files = [bytearray(P1_CASE), bytearray(P1_PROPOSAL)]
+            for data in files:
+                for _ in range(numbers.randrange(4)):
+                    data[numbers.randrange(len(data))] = numbers.randrange(256)
+                if numbers.randrange(2):
+                    del data[numbers.randrange(len(data)) :]
+                if numbers.randrange(2):
+                    data += numbers.randbytes(numbers.randrange(40))
+            self.assert_round_trip(*map(bytes, files))
+
+    def test_random_bytes(self):
+        numbers = random.Random(29)
+        for _ in range(1000):
+            self.assert_round_trip(numbers.randbytes(numbers.randrange(300)), numbers.randbytes(numbers.randrange(300)))
+
+    def test_random_bytes_after_the_marks(self):
+        numbers = random.Random(30)
+        for _ in range(1000):
+            case = b"LTC" + numbers.randbytes(numbers.randrange(1500))
+            proposal = b"LTP" + numbers.randbytes(numbers.randrange(300))
+            self.assert_round_trip(case, proposal)
+
+
+class ShownText(unittest.TestCase):
+    """What show prints is for a reader."""
+
+    def test_units_stand_first(self):
+        for case in (b"", P1_CASE, b"\x00" * 20):
+            lines = hour.show(case).split("\n")
+            self.assertIn("tenths of a MW", lines[1])
+            self.assertIn("cents per MWh", lines[2])
+
+    def test_indices_and_orders_are_named(self):
+        text = hour.show(P1_CASE, P1_PROPOSAL)
+        self.assertIn("order 2  buy 10000 5000  # order 4\n", text)
+        self.assertIn("volume 1375  # order 1: 0 sell 6000 2000\n", text)
+        self.assertIn("flow 3500  # link 0: 0 1 4000\n", text)
+        self.assertIn("shadow 5500  # branch 0: RAM 2500\n", text)
+
+    def test_whole_fields_of_a_short_header(self):
+        text = hour.show(P1_CASE[:6], P1_PROPOSAL[:2])
+        self.assertIn("# The case ends after 6 bytes, inside its header: mark LTC, version 1, zones 3.\n", text)
+        self.assertIn("# The proposal ends after 2 bytes, inside its header: no whole field.\n", text)
+
+    def test_records_before_a_cut_are_shown(self):
+        text = hour.show(P1_CASE[:-1])
+        self.assertIn("counts branches 2 links 1 orders 5\n", text)
+        self.assertIn("order 1  buy 9000 6000  # order 3\n", text)
+        self.assertIn("# The case ends before the end of order 4; bytes left: 9.\n", text)
+        self.assertIn("append case 020010270000881300\n", text)
+
+    def test_a_record_that_is_cut_ends_the_walk(self):
+        # Eight bytes of the second branch are left: enough for a link, which they are not.
+        text = hour.show(P1_CASE[: 14 + 16 + 8])
+        self.assertNotIn("\nlink", text)
+        self.assertIn("append case 983a00006079feff\n", text)
+
+
+class WrongHours(unittest.TestCase):
+    """The text can say what no good hour has."""
+
+    def test_values_out_of_range_that_fit_their_bits(self):
+        text = """
+            case version 65535 zones 1 tolerance 4294967295
+            branch -2147483648 2147483647
+            link 255 254 4294967295
+            order 253 252 4294967295 -2147483648
+            proposal version 0 share 4294967295 system -2147483648
+            volume 4294967295
+            flow 4294967295
+            shadow 4294967295
+        """
+        case = "4c5443 ffff 01 01 01 0100 ffffffff 00000080 ffffff7f ff fe ffffffff fd fc ffffffff 00000080"
+        proposal = "4c5450 0000 ffffffff 00000080 ffffffff ffffffff ffffffff"
+        self.assertEqual(hour.build(text), (bytes.fromhex(case), bytes.fromhex(proposal)))
+
+    def test_counts_change_the_header_alone(self):
+        case, _ = hour.build(P1_TEXT + "counts zones 17 branches 65 links 66\ncounts orders 513\n")
+        self.assertEqual(case, P1_CASE[:5] + bytes.fromhex("11 41 42 0102") + P1_CASE[10:])
+
+    def test_mark_is_of_the_file_opened_last(self):
+        text = "case version 1 zones 1 tolerance 0\nmark LTX\nproposal version 1 share 0 system 0\nmark 00ff23\n"
+        case, proposal = hour.build(text)
+        self.assertEqual((case[:3], proposal[:3]), (b"LTX", b"\x00\xff#"))
+
+    def test_cut_append_and_byte_act_in_order(self):
+        case, proposal = hour.build(P1_TEXT + "cut case 3\nappend case 00 FF\nbyte case 100 7\nappend proposal 00ff\n")
+        self.assertEqual(case, P1_CASE[:99] + b"\x00\x07")
+        self.assertEqual(proposal, P1_PROPOSAL + b"\x00\xff")
+
+    def test_cut_of_a_whole_file(self):
+        self.assertEqual(hour.build(P1_TEXT + "cut case 102\n"), (b"", P1_PROPOSAL))
+
+    def test_no_proposal(self):
+        self.assertEqual(hour.build(P1_TEXT.split("\nproposal")[0]), (P1_CASE, b""))
+
+    def test_no_line_at_all(self):
+        self.assertEqual(hour.build(""), (b"", b""))
+
+    def test_side_as_word_or_number(self):
+        self.assertEqual(hour.build(P1_TEXT.replace("sell", "1").replace("buy", "0")), (P1_CASE, P1_PROPOSAL))
+
+    def test_line_ends_of_other_systems(self):
+        self.assertEqual(hour.build(P1_TEXT.replace("\n", "\r\n")), (P1_CASE, P1_PROPOSAL))
+
+
+class BadText(unittest.TestCase):
+    """A text that cannot be built is refused with the line and the cause."""
+
+    HEAD = "# comment\ncase version 1 zones 2 tolerance 0\n\n"
+
+    def assert_refused(self, text, message):
+        with self.assertRaises(hour.TextError) as caught:
+            hour.build(text)
+        self.assertEqual(str(caught.exception), message)
+
+    def test_lines_after_the_case_line(self):
+        refusals = {
+            "bid 0 1": "'bid' is not an item of an hour",
+            "branch 1 2": "branch takes 3 values (RAM and 2 PTDFs), not 2",
+            "branch 1 2 3 4": "branch takes 3 values (RAM and 2 PTDFs), not 4",
+            "link 0 1": "link takes 3 values (from zone, to zone, capacity), not 2",
+            "link 0 256 1": "to zone 256 is not from 0 to 255",
+            "link 0 1 -1": "capacity -1 is not from 0 to 4294967295",
+            "link 0 1 4294967296": "capacity 4294967296 is not from 0 to 4294967295",
+            "order 0 sel 1 1": "side 'sel' is not buy, sell or a number",
+            "order 0 256 1 1": "side 256 is not from 0 to 255",
+            "order 0 buy 1.5 1": "quantity '1.5' is not a whole number",
+            "order 0 buy 1 -2147483649": "price -2147483649 is not from -2147483648 to 2147483647",
+            "order 0 buy 1 " + "9" * 5000: "price " + "9" * 5000 + " is not from -2147483648 to 2147483647",
+            "order 0 buy 1 1_0": "price '1_0' is not a whole number",
+            "volume 1": "volume before the proposal line",
+            "case version 1 zones 2 tolerance 0": "a second case line",
+            "proposal version 1 share 0": "the proposal line lacks system",
+            "proposal version 1 share 0 system": "'system' has no number",
+            "proposal version 1 share 0 share 0": "share stands twice",
+            "proposal version 1 share 0 zones 2": "'zones' is not one of version, share, system",
+            "counts tolerance 1": "'tolerance' is not one of zones, branches, links, orders",
+            "mark LT": "mark 'LT' is not three characters or six hex digits",
+            "mark LTCP": "mark 'LTCP' is not three characters or six hex digits",
+            "mark 4c545": "mark '4c545' is not three characters or six hex digits",
+            "mark L\u00c4C": "mark 'L\u00c4C' is not three characters or six hex digits",
+            "mark": "mark takes 1 value, not 0",
+            "cut 3": "cut takes case or proposal first, not '3'",
+            "cut": "cut takes case or proposal first, not ''",
+            "cut case": "cut case takes 1 values, not 0",
+            "cut case 15": "cut 15 does not fit the case of 14 bytes",
+            "append case 0": "'0' is not pairs of hex digits",
+            "append proposal 0g": "'0g' is not pairs of hex digits",
+            "byte case 0": "byte case takes 2 values, not 1",
+            "byte case 0 256": "byte 256 is not from 0 to 255",
+            "byte case 14 0": "byte 14 does not fit the case of 14 bytes",
+            "byte proposal 0 0": "byte 0 does not fit the proposal of 0 bytes",
+        }
+        for line, message in refusals.items():
+            with self.subTest(line[:40]):
+                self.assert_refused(self.HEAD + line + "\n", f"line 4: {message}")
+
+    def test_lines_before_the_case_line(self):
+        for keyword, line in (("branch", "branch 0"), ("mark", "mark LTX"), ("counts", "counts zones 1")):
+            self.assert_refused(line, f"line 1: {keyword} before the case line")
+
+    def test_more_records_than_the_header_can_count(self):
+        text = self.HEAD + "link 0 1 0\n" * 256
+        self.assert_refused(text, "line 2: 256 links are more than the header can count; say counts links N")
+        self.assertEqual(len(hour.build(text + "counts links 0\n")[0]), 14 + 6 * 256)
+
+
+class CommandLine(unittest.TestCase):
+    """The commands as a tester types them."""
+
+    def setUp(self):
+        folder = tempfile.TemporaryDirectory()
+        self.addCleanup(folder.cleanup)
+        self.folder = pathlib.Path(folder.name)
+
+    def test_build_and_show(self):
+        case, proposal, joined = (self.folder / name for name in ("case", "proposal", "joined"))
+        text = SAMPLES / "three-zone.txt"
+        options = ("--case", case, "--proposal", proposal, "--joined", joined)
+        self.assertEqual(run_tool(hour.main, "build", text, *options), (0, "", ""))
+        self.assertEqual((case.read_bytes(), proposal.read_bytes()), (P1_CASE, P1_PROPOSAL))
+        self.assertEqual(joined.read_bytes(), P1_CASE + P1_PROPOSAL)
+        self.assertEqual(run_tool(hour.main, "show", case, proposal), (0, hour.show(P1_CASE, P1_PROPOSAL), ""))
+        self.assertEqual(run_tool(hour.main, "show", case), (0, hour.show(P1_CASE), ""))
+
+    def test_build_without_a_file_names_the_sizes(self):
+        status, out, _ = run_tool(hour.main, "build", SAMPLES / "three-zone.txt")
+        self.assertEqual((status, out), (0, "case 102 bytes, proposal 45 bytes\n"))
+
+    def test_bad_text_names_file_and_line_and_writes_nothing(self):
+        text, joined = self.folder / "bad.txt", self.folder / "joined"
+        text.write_text("case version 1 zones 1 tolerance 0\nlink 0\n")
+        status, out, err = run_tool(hour.main, "build", text, "--joined", joined)
+        self.assertEqual((status, out), (1, ""))
+        self.assertIn("bad.txt: line 2: link takes 3 values", err)
+        self.assertFalse(joined.exists())
+
+    def test_a_file_that_is_not_text(self):
+        text = self.folder / "bad.txt"
+        text.write_bytes(b"\xff\xfe")
+        self.assertEqual(run_tool(hour.main, "build", text)[0], 1)
+
+    def test_a_file_that_is_not_there(self):
+        self.assertEqual(run_tool(hour.main, "show", self.folder / "none")[0], 1)
+
+    def test_help_and_usage(self):
+        self.assertEqual(run_tool(hour.main, "help"), (0, hour.HELP, ""))
+        self.assertEqual(run_tool(hour.main)[0], 2)
+        self.assertEqual(run_tool(build_hours.main)[0], 2)
+        self.assertEqual(run_tool(largest_hour.main, "smallest")[0], 2)
+
+    def test_build_hours_and_its_check(self):
+        out = self.folder / "out"
+        names = [f"{name}.bin" for name in stored_hours()]
+        self.assertEqual(run_tool(build_hours.main, out), (0, "".join(f"{name}\n" for name in sorted(names)), ""))
+        self.assertEqual(sorted(path.name for path in out.iterdir()), sorted(names))
+        self.assertEqual((out / "p01-three-zone-hour.bin").read_bytes(), P1_CASE + P1_PROPOSAL)
+        self.assertEqual(run_tool(build_hours.main, "--check", out), (0, "", ""))
+        (out / "p00-none.bin").write_bytes(b"")
+        (out / "p01-three-zone-hour.bin").write_bytes(P1_CASE)
+        (out / "run-empty-input.bin").unlink()
+        complaints = (
+            "build_hours.py: p00-none.bin has no stored hour\n"
+            "build_hours.py: p01-three-zone-hour.bin differs from its stored hour\n"
+            "build_hours.py: run-empty-input.bin is missing\n"
+        )
+        self.assertEqual(run_tool(build_hours.main, "--check", out), (1, "", complaints))
+
+
+class StoredHours(unittest.TestCase):
+    """The stored hours name what they are, and together hold every verdict of the table."""
+
+    def test_each_opens_with_a_comment_and_one_expected_verdict(self):
+        for name, text in stored_hours().items():
+            with self.subTest(name):
+                self.assertRegex(text, r"\A# \S")
+                self.assertEqual(len(EXPECT.findall(text)), 1)
+
+    def test_a_refusal_is_named_after_its_number(self):
+        for name, text in stored_hours().items():
+            if name.startswith("refused-"):
+                with self.subTest(name):
+                    self.assertEqual(int(name.split("-")[1]), int(EXPECT.search(text)[1]))
+
+    def test_totals_stand_where_a_report_is_printed(self):
+        for name, text in stored_hours().items():
+            with self.subTest(name):
+                totals = TOTALS.findall(text)
+                self.assertEqual(len(totals), EXPECT.search(text)[1] in ("0", "26"))
+                for welfare, bound, gap, *_ in totals:
+                    self.assertEqual(Decimal(gap), Decimal(bound) - Decimal(welfare))
+
+    def test_every_number_and_header_offset_is_expected_somewhere(self):
+        found = [EXPECT.search(text).groups() for text in stored_hours().values()]
+        expected = {(int(number), int(index)) for number, index in found}
+        self.assertEqual({number for number, _ in expected}, {0, *range(1, 15), *range(21, 27)})
+        self.assertEqual({index for number, index in expected if number == 4}, {5, 6, 7, 8, 10})
+
+    def test_largest_hours_are_as_made(self):
+        for name, make in largest_hour.HOURS.items():
+            with self.subTest(name):
+                text = stored_hours()[name]
+                self.assertEqual(text, make())
+                case, proposal = hour.build(text)
+                self.assertEqual(case[5:10], bytes([16, 64, 64, 0, 2]))
+                self.assertEqual((len(case), len(proposal)), (14 + 64 * 68 + 64 * 6 + 512 * 10, 13 + 4 * 640))
+
+
+def main():
+    suite = unittest.defaultTestLoader.loadTestsFromModule(sys.modules[__name__])
+    result = unittest.TextTestRunner(stream=sys.stdout, verbosity=1).run(suite)
+    faults = [getattr(test, "test_case", test).id() for test, _ in result.failures + result.errors]
+    failed = len({*faults, *(test.id() for test in result.unexpectedSuccesses)})
+    passed = max(result.testsRun - failed - len(result.skipped), 0)
+    print(f"{passed} passed, {failed} failed")
+    return 0 if passed and not failed else 1
+
+
+if __name__ == "__main__":
+    sys.exit(main())
