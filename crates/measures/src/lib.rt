@@ -13,6 +13,15 @@ ghost use Rattle.measures.specs.Held.{tenthsIn, centsIn, grainsIn, ptdfI
 // A number as a file or a caller gives it, of no measure yet.
 pub struct Raw(pub i64);
 
+impl Raw {
+    // The number of an unsigned field.
+    pub fn unsigned(x: u32) -> Raw
+        ensures { λ r. ⌜ r .0 ≡ pos x ⌝ }
+    {
+        Raw(x as i64)
+    }
+}
+
 // Volume: tenths of a megawatt, which for one hour are tenths of a MWh.
 pub struct Tenths(i64);
 

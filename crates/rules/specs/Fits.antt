@@ -30,20 +30,20 @@ near-signed true k x h = h
 near-signed false k x h = near-neg h
 
 -- an order price in grains lies where a zone price may lie
-in-grains : (x : ℤ) → Within limits.orderPrice x → Within limits.zonePrice (limits.grainsOf x)
+pub in-grains : (x : ℤ) → Within limits.orderPrice x → Within limits.zonePrice (limits.grainsOf x)
 in-grains x h = record {
   least-le = le-by (at (limits.zonePrice .least)) (at (pos 100000) ⊗ at x) (omega (arith, le-fact (at (minus 50000)) (at x) (h .least-le)));
   le-greatest = le-by (at (pos 100000) ⊗ at x) (at (limits.zonePrice .greatest)) (omega (arith, le-fact (at x) (at (pos 400000)) (h .le-greatest)));
 }
 
-apart-prices : (x y : ℤ) → Within limits.zonePrice x → Within limits.zonePrice y → Near 45000000000 (x -ℤ y)
+pub apart-prices : (x y : ℤ) → Within limits.zonePrice x → Within limits.zonePrice y → Near 45000000000 (x -ℤ y)
 apart-prices x y h k = apart 45000000000 limits.zonePrice x y (near-unsigned 45000000000 45000000000 (omega arith)) h k
 
-near-above : (b : Bool) (x y : ℤ) → Within limits.zonePrice x → Within limits.zonePrice y → Near 45000000000 (above b x y)
+pub near-above : (b : Bool) (x y : ℤ) → Within limits.zonePrice x → Within limits.zonePrice y → Near 45000000000 (above b x y)
 near-above true x y h k = apart-prices x y h k
 near-above false x y h k = apart-prices y x k h
 
-near-order-price : (x : ℤ) → Within limits.orderPrice x → Near 400000 x
+pub near-order-price : (x : ℤ) → Within limits.orderPrice x → Near 400000 x
 near-order-price x w = near-within 400000 limits.orderPrice x (omega arith) (omega arith) w
 
 pub near-zone-price : (x : ℤ) → Within limits.zonePrice x → Near 40000000000 x

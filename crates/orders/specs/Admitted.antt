@@ -1,0 +1,38 @@
+-- What is answered for a row of an order book: the order, or that a field lies outside its range. Assumes nothing.
+use mathlib.Core.Path.{_≡_, sym}
+use mathlib.Core.Bool.{Bool, true, false, _||_}
+use Prim.Native.Nat.{ℕ}
+use lib.Dec.{eqb, leb, ltb}
+use lib.IntN.{ℤ, pos, _*ℤ_}
+use Rattle.integers.specs.Order.{positive}
+use Rattle.integers.specs.Ranges.{outside}
+use Rattle.measures.specs.Limits.{grainsOf}
+use Rattle.measures.specs.Limits as limits
+use Rattle.rules.specs.Hour.{above}
+use Rattle.rules.specs.Verdict.{badRow}
+use Rattle.orders.specs.declared.Order.{Order}
+use Rattle.orders.specs.declared.OrderAnswer.{OrderAnswer}
+use Rattle.orders.specs.declared.OrderAnswer.the-variants.{Held, Outside}
+
+-- side 0 buys
+abbrev pub orderOf : ℕ → ℕ → ℤ → ℤ → Order
+orderOf zone side quantity price = record { zone = zone; buys = eqb side 0; quantity = record { 0 = quantity }; price = record { 0 = price } }
+
+abbrev pub orderBy : Order → Bool → OrderAnswer
+orderBy o true = Outside
+orderBy o false = Held o
+
+-- with n zones
+abbrev pub admitted : ℕ → ℕ → ℕ → ℕ → ℤ → OrderAnswer
+admitted n zone side quantity price = orderBy (orderOf zone side (pos quantity) price) (badRow n zone side quantity price)
+
+-- rule 8 for an order at its zone's price
+abbrev pub surplusAt : Order → ℤ → ℤ
+surplusAt o zone = positive (o .quantity .0 *ℤ above (o .buys) (grainsOf (o .price .0)) zone)
+
+-- by its four tests
+pub admitted-by : (n zone side quantity : ℕ) (price : ℤ) {a b e f : Bool}
+    → leb n zone ≡ a → ltb 1 side ≡ b → outside limits.quantity (pos quantity) ≡ e → outside limits.orderPrice price ≡ f
+    → orderBy (orderOf zone side (pos quantity) price) (a || b || e || f) ≡ admitted n zone side quantity price
+unfolding badRow
+admitted-by n zone side quantity price ha hb he hf = sym (λ j. orderBy (orderOf zone side (pos quantity) price) (ha j || hb j || he j || hf j))
