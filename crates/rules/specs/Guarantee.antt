@@ -66,6 +66,14 @@ best-at-zero-gap s t room a z q cl = no-gap (welfare (caseOf s) q) (welfare (cas
           ap (λ (k : ℕ). e * k) (eq-fact (at g) (at (pos 0)) z),
         ))
 
+-- and the rent covers all that is owed
+pub covered-at-zero-gap : (s t : List ℕ) (room : ℕ) → Accepted s t room → gap (caseOf s) (planOf s t) (pricesOf s t) ≡ pos 0
+    → owed (caseOf s) (pricesOf s t) ≤ℤ rent (caseOf s) (planOf s t) (pricesOf s t)
+covered-at-zero-gap s t room a z = whole (owed (caseOf s) (pricesOf s t)) (gap (caseOf s) (planOf s t) (pricesOf s t)) (rent (caseOf s) (planOf s t) (pricesOf s t)) z (coverage s t room a)
+  where
+    whole : (o g r : ℤ) → g ≡ pos 0 → (o -ℤ g) ≤ℤ r → o ≤ℤ r
+    whole o g r z h = le-by (at o) (at r) (omega (arith, le-fact (at o ⊖ at g) (at r) h, eq-fact (at g) (at (pos 0)) z))
+
 -- DEMAND 3 of what stands in the report, where the buffer lent is `buffer`
 pub record Demand3 (s t : List ℕ) (report : List ℕ) : Type 0 where
   pub is-allowed : Clearing (caseOf s) (planOf s t)
