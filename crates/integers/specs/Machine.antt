@@ -1,6 +1,7 @@
 -- What the machine holds of an integer: sums that a loop adds up in 64 bits, the two's complement reading of 32 bits, a number by its size.
 -- A loop over `f 0, f 1, ..` with the invariant `total ≡ sumTo i f` answers its needs so, from `fit : SumsFit f n`:
 --
+--     term-requires c κs = fit .term i taken                        -- the term of this turn fits
 --     plus-requires c κs = step-fits fit i taken inv term           -- the sum of this turn fits
 --     loop-again c       = (omega arith, step fit i inv term sum)    -- and is `sumTo (i + 1) f`
 --
@@ -25,12 +26,14 @@ use Rattle.integers.specs.Size.{Near, near-le, near-sum, near-fits}
 pub sfits-by : (w : Width) {x y : ℤ} → x ≡ y → SFits w y → SFits w x
 sfits-by w e f = subst (SFits w) (sym e) f
 
--- every sum of the first terms, up to n of them, fits 64 bits
+-- each of the first n terms, and every sum of the first of them, fits 64 bits
 pub record SumsFit (f : ℕ → ℤ) (n : ℕ) : Type 0 where
+  pub term : (i : ℕ) → i < n → SFits w64 (f i)
   pub fits : (i : ℕ) → i ≤ n → SFits w64 (sumTo i f)
 
 pub small-sums : (f : ℕ → ℤ) (b n : ℕ) → ((k : ℕ) → k < n → Near b (f k)) → n * b < 9223372036854775808 → SumsFit f n
 small-sums f b n each room = record {
+  term = λ i h. near-fits w64 (omega (arith, mul-le-mul-right {m = 1} {n = n} b (omega arith))) (each i h);
   fits = λ i h. near-fits w64 (omega (arith, mul-le-mul-right b h)) (near-sum i b f (λ k l. each k (omega arith)));
 }
 

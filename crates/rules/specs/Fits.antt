@@ -178,7 +178,10 @@ module _ (c : Case) (cs : CaseSound c) where
             (λ i l k. near-mul (orderNet-near p volumes i l) (near-zone-price _ (prices (c .zone i) (omega arith)))))
 
         pub rent-sums : SumsFit (λ z. net c p z *ℤ zonePrice c d z) (c .zones)
-        rent-sums = record { fits = λ n h. near-fits w64 (omega arith) (rent-partial-near n h) }
+        rent-sums = record {
+          term = λ z h. near-fits w64 (omega arith) (near-mul (net-near p volumes z) (near-zone-price _ (prices z h)));
+          fits = λ n h. near-fits w64 (omega arith) (rent-partial-near n h);
+        }
 
         rent-near : Near 2048000000000000000 (rent c p d)
         unfolding rent

@@ -1,0 +1,52 @@
+-- Runs of stores one after the other, and the report's parts as such runs. Assumes nothing.
+use mathlib.Core.Path.{_≡_, refl, sym, ap, _∙_}
+use mathlib.Core.List.{List, [], _∷_, _++_, append-assoc}
+use Prim.Native.Nat.{ℕ, zero, suc, _+_, _*_, _≤_}
+use native.Mathlib.Nat.{add-zero}
+use native.Mathlib.Numerals.{add-one}
+use native.Mathlib.Omega.{arith}
+use lib.ListN.{length, getD, set, drop}
+use lib.Seq.{sets, sets-eq}
+use lib.IntN.{ℤ, pos}
+use Rattle.integers.specs.Bytes.{bytesOf, signed64, bytes-length}
+use Rattle.measures.specs.declared.Grains.{Grains}
+use Rattle.rules.specs.Report as rules
+use Rattle.rules.specs.Reported.{prices-length}
+use Rattle.report.specs.declared.Totals.{Totals}
+
+-- what is stored at i and then right after it is stored at i in one run
+pub sets-append : (l : List ℕ) (i : ℕ) (a b : List ℕ) → sets (sets l i a) (i + length a) b ≡ sets l i (a ++ b)
+sets-append l i [] b = ap (λ (k : ℕ). sets l k b) (add-zero i)
+sets-append l i (x ∷ a) b = ap (λ (k : ℕ). sets (sets (set l i x) (suc i) a) k b) next ∙ sets-append (set l i x) (suc i) a b
+  where
+    next : i + suc (length a) ≡ suc i + length a
+    next = omega arith
+
+-- the totals and the prices as the rules read them
+abbrev pub totalsIn : Totals → rules.Totals
+totalsIn x = record { welfare = x .welfare .0; bound = x .bound .0; gap = x .gap .0; rent = x .rent .0; owed = x .owed .0 }
+
+abbrev pub noGrains : Grains
+noGrains = record { 0 = pos 0 }
+
+abbrev pub priceIn : List Grains → ℕ → ℤ
+priceIn prices z = (getD prices z noGrains) .0
+
+-- one price more
+pub next-price : (l : List ℕ) (z : ℕ) (price : ℕ → ℤ) → sets (sets l 48 (rules.priceBytes z price)) (48 + 8 * z) (signed64 (price z)) ≡ sets l 48 (rules.priceBytes (z + 1) price)
+unfolding rules.priceBytes
+next-price l z price =
+    ap (λ (k : ℕ). sets (sets l 48 (rules.priceBytes z price)) (48 + k) (signed64 (price z))) (sym (prices-length z price))
+    ∙ sets-append l 48 (rules.priceBytes z price) (signed64 (price z))
+    ∙ ap (λ (n : ℕ). sets l 48 (rules.priceBytes n price)) (sym (add-one z))
+
+-- the three parts in one run, which is the report
+pub report-run : (l : List ℕ) (number zones : ℕ) (totals : rules.Totals) (price : ℕ → ℤ) → 48 + 8 * zones ≤ length l
+    → sets (sets (sets l 0 (rules.headerBytes number zones)) 8 (rules.totalBytes totals)) 48 (rules.priceBytes zones price)
+    ≡ rules.reportText number zones totals price ++ drop (48 + 8 * zones) l
+unfolding rules.reportText rules.headerBytes rules.totalBytes signed64 bytesOf
+report-run l number zones totals price h =
+    let e : 0 + length (rules.reportText number zones totals price) ≡ 48 + 8 * zones = omega (arith, prices-length zones price) in
+    sets-append l 0 (rules.headerBytes number zones ++ rules.totalBytes totals) (rules.priceBytes zones price)
+    ∙ sets-eq (rules.reportText number zones totals price) l 0 (omega (arith, prices-length zones price))
+    ∙ ap (λ (k : ℕ). rules.reportText number zones totals price ++ drop k l) e
