@@ -3,7 +3,6 @@
 use std::path::PathBuf;
 
 fn main() {
-    println!("cargo:rerun-if-changed=build.rs");
     println!("cargo:rerun-if-env-changed=LTA_ARCHIVE_DIR");
     // A relative folder counts from the crate, wherever cargo was started.
     let crate_folder = PathBuf::from(std::env::var("CARGO_MANIFEST_DIR").expect("set by cargo"));
@@ -14,6 +13,9 @@ fn main() {
     if !archive.is_file() {
         println!("cargo:warning=no archive at {}", archive.display());
     }
-    println!("cargo:rustc-link-search=native={}", folder.display());
-    println!("cargo:rustc-link-lib=static=host");
+    // An archive built without the standard library brings a panic handler of
+    // its own. It stands last, and the first of two definitions is taken, so a
+    // panic of this program is still reported and not left to the archive.
+    println!("cargo:rustc-link-arg-bins={}", archive.display());
+    println!("cargo:rustc-link-arg-bins=-Wl,--allow-multiple-definition");
 }

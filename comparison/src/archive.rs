@@ -39,7 +39,12 @@ pub struct Order {
 #[cfg(feature = "book")]
 impl From<Row> for Order {
     fn from(row: Row) -> Order {
-        Order { zone: row.zone, side: row.side, quantity: row.quantity, price: row.price }
+        Order {
+            zone: row.zone,
+            side: row.side,
+            quantity: row.quantity,
+            price: row.price,
+        }
     }
 }
 
@@ -80,18 +85,39 @@ pub fn judge_null(case: &[u8], proposal: &[u8], report: &mut [u8]) -> u64 {
         _ => report.as_mut_ptr(),
     };
     // Safe: a null pointer comes with length 0 only.
-    unsafe { lta_judge(pointer(case), case.len(), pointer(proposal), proposal.len(), report, length) }
+    unsafe {
+        lta_judge(
+            pointer(case),
+            case.len(),
+            pointer(proposal),
+            proposal.len(),
+            report,
+            length,
+        )
+    }
 }
 
 /// The book entry; `null` gives a null pointer for each empty list.
 #[cfg(feature = "book")]
 #[allow(dead_code)]
 pub fn book_surplus(orders: &[Order], prices: &[i64], null: bool) -> BookAnswer {
-    let orders_at = if null && orders.is_empty() { std::ptr::null() } else { orders.as_ptr() };
-    let prices_at = if null && prices.is_empty() { std::ptr::null() } else { prices.as_ptr() };
+    let orders_at = if null && orders.is_empty() {
+        std::ptr::null()
+    } else {
+        orders.as_ptr()
+    };
+    let prices_at = if null && prices.is_empty() {
+        std::ptr::null()
+    } else {
+        prices.as_ptr()
+    };
     // Safe: each pointer comes with the length of its own list.
     let answer = unsafe { lta_book_surplus(orders_at, orders.len(), prices_at, prices.len()) };
-    BookAnswer { number: answer.number, index: answer.index, sum: answer.sum }
+    BookAnswer {
+        number: answer.number,
+        index: answer.index,
+        sum: answer.sum,
+    }
 }
 
 /// The desk's lines, written to `out`; gives their length.

@@ -19,7 +19,9 @@ fn feed_as(run: &mut Run, rows: &[Row], prices: &[i64], null: bool) -> BookAnswe
     let ours = book_surplus(rows, prices);
     if theirs != ours {
         let (rows, prices) = (rows.len(), prices.len());
-        run.fault(|| format!("{rows} rows, {prices} prices: archive {theirs:?}, second judge {ours:?}"));
+        run.fault(|| {
+            format!("{rows} rows, {prices} prices: archive {theirs:?}, second judge {ours:?}")
+        });
     }
     ours
 }
@@ -36,11 +38,13 @@ fn book(rng: &mut Rng, zones: usize, count: usize) -> (Vec<Row>, Vec<i64>) {
         .map(|_| Row {
             zone: rng.below(zones) as u8,
             side: rng.below(2) as u8,
-            quantity: rng.to_the_ends(1, 100_000) as u32,
-            price: rng.to_the_ends(-50_000, 400_000) as i32,
+            quantity: rng.between_or_end(1, 100_000) as u32,
+            price: rng.between_or_end(-50_000, 400_000) as i32,
         })
         .collect();
-    let prices = (0..zones).map(|_| rng.to_the_ends(LOWEST, HIGHEST)).collect();
+    let prices = (0..zones)
+        .map(|_| rng.between_or_end(LOWEST, HIGHEST))
+        .collect();
     (rows, prices)
 }
 
@@ -62,17 +66,21 @@ const FAULTS: [(&str, u32); 11] = [
 /// Plants a fault and gives the index that its refusal names.
 fn plant(rng: &mut Rng, fault: usize, rows: &mut Vec<Row>, prices: &mut Vec<i64>) -> u32 {
     let r = rng.below(rows.len());
-    let z = if prices.is_empty() { 0 } else { rng.below(prices.len()) };
+    let z = if prices.is_empty() {
+        0
+    } else {
+        rng.below(prices.len())
+    };
     match fault {
         0 => prices.clear(),
         1 => prices.resize(17 + rng.below(3), 0),
         2 => rows.resize(513 + rng.below(3), rows[0]),
-        3 => rows[r].zone = rng.to_the_ends(prices.len().min(255) as i64, 255) as u8,
-        4 => rows[r].side = rng.to_the_ends(2, 255) as u8,
+        3 => rows[r].zone = rng.between_or_end(prices.len().min(255) as i64, 255) as u8,
+        4 => rows[r].side = rng.between_or_end(2, 255) as u8,
         5 => rows[r].quantity = 0,
-        6 => rows[r].quantity = rng.to_the_ends(100_001, u32::MAX.into()) as u32,
-        7 => rows[r].price = rng.to_the_ends(i32::MIN.into(), -50_001) as i32,
-        8 => rows[r].price = rng.to_the_ends(400_001, i32::MAX.into()) as i32,
+        6 => rows[r].quantity = rng.between_or_end(100_001, u32::MAX.into()) as u32,
+        7 => rows[r].price = rng.between_or_end(i32::MIN.into(), -50_001) as i32,
+        8 => rows[r].price = rng.between_or_end(400_001, i32::MAX.into()) as i32,
         9 if !prices.is_empty() => prices[z] = rng.pick(&[LOWEST - 1, i64::MIN]),
         10 if !prices.is_empty() => prices[z] = rng.pick(&[HIGHEST + 1, i64::MAX]),
         _ => {}
@@ -91,7 +99,7 @@ pub fn books(run: &mut Run, rng: &mut Rng) {
     for _ in 0..20_000 {
         let zones = 1 + rng.below(16);
         let most = rng.pick(&[3, 30, 512]);
-        let count = rng.to_the_ends(0, most) as usize;
+        let count = rng.between_or_end(0, most) as usize;
         let (rows, prices) = book(rng, zones, count);
         let answer = feed(run, &rows, &prices);
         if answer.number != 0 {
@@ -113,7 +121,9 @@ pub fn books(run: &mut Run, rng: &mut Rng) {
             };
             match due {
                 Some((number, index)) => expect(run, answer, number, index, 0),
-                None if answer.number != 0 => run.fault(|| format!("{answer:?} for a book in range")),
+                None if answer.number != 0 => {
+                    run.fault(|| format!("{answer:?} for a book in range"))
+                }
                 None => {}
             }
         }
@@ -134,13 +144,13 @@ pub fn books(run: &mut Run, rng: &mut Rng) {
 
     // Planted in the order of asking, no fault undoes the one before it.
     run.begin("each pair of refusals");
-    for one in 0..FAULTS.len() {
-        for other in one..FAULTS.len() {
+    for (one, (_, first)) in FAULTS.iter().enumerate() {
+        for (other, (_, second)) in FAULTS.iter().enumerate().skip(one) {
             for _ in 0..40 {
                 let (zones, count) = (1 + rng.below(16), 1 + rng.below(512));
                 let (mut rows, mut prices) = book(rng, zones, count);
-                let first = (FAULTS[one].1, plant(rng, one, &mut rows, &mut prices));
-                let second = (FAULTS[other].1, plant(rng, other, &mut rows, &mut prices));
+                let first = (*first, plant(rng, one, &mut rows, &mut prices));
+                let second = (*second, plant(rng, other, &mut rows, &mut prices));
                 let answer = feed(run, &rows, &prices);
                 let (number, index) = first.min(second);
                 expect(run, answer, number, index, 0);
@@ -150,7 +160,12 @@ pub fn books(run: &mut Run, rng: &mut Rng) {
     run.end();
 
     run.begin("largest at the widest prices");
-    let row = |side, price| Row { zone: 15, side, quantity: 100_000, price };
+    let row = |side, price| Row {
+        zone: 15,
+        side,
+        quantity: 100_000,
+        price,
+    };
     let most = 512 * 100_000 * (HIGHEST - LOWEST);
     for (side, price, zone_price, sum) in [
         (0, 400_000, LOWEST, most),

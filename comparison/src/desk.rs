@@ -10,7 +10,11 @@ const ROOM: usize = 1_024;
 const FILL: u8 = 0x5A;
 
 /// What was done to the joined files.
-const NAMES: [&str; 3] = ["joined files", "joined files cut short", "joined files made longer"];
+const NAMES: [&str; 3] = [
+    "joined files",
+    "joined files cut short",
+    "joined files made longer",
+];
 
 pub struct Desk {
     inputs: [u64; 3],
@@ -21,7 +25,12 @@ pub struct Desk {
 
 impl Desk {
     pub fn new(seed: u64) -> Desk {
-        Desk { inputs: [0; 3], faults: [0; 3], rng: Rng::new(seed), joined: Vec::new() }
+        Desk {
+            inputs: [0; 3],
+            faults: [0; 3],
+            rng: Rng::new(seed),
+            joined: Vec::new(),
+        }
     }
 
     pub fn feed(&mut self, case: &[u8], proposal: &[u8]) {
@@ -59,7 +68,10 @@ impl Desk {
             self.faults[kind] += 1;
             if self.faults[kind] == 1 {
                 let shown = (length as usize).min(ROOM);
-                println!("amiss in the desk lines, {}, length {length}, archive:", NAMES[kind]);
+                println!(
+                    "amiss in the desk lines, {}, length {length}, archive:",
+                    NAMES[kind]
+                );
                 println!("{}", String::from_utf8_lossy(&theirs[..shown]));
                 println!("second judge:\n{}", String::from_utf8_lossy(&ours));
             }
@@ -70,9 +82,9 @@ impl Desk {
 /// Closes the checks of the desk's lines.
 pub fn end(run: &mut Run) {
     run.section("desk lines");
-    for kind in 0..3 {
+    for (kind, name) in NAMES.iter().enumerate() {
         let (inputs, faults) = (run.desk.inputs[kind], run.desk.faults[kind]);
-        run.check_inputs(NAMES[kind].into(), inputs, faults);
+        run.check_inputs(name.to_string(), inputs, faults);
     }
 }
 

@@ -5,7 +5,8 @@ use crate::make::*;
 use crate::rng::Rng;
 use crate::run::Run;
 use second_judge::hours::{stored, Branch, Hour};
-use second_judge::limits::LEAST_BUFFER;
+use second_judge::limits::{BUYS, LEAST_BUFFER, SELLS};
+use second_judge::Row;
 
 /// A maker of inputs: each call feeds one or a few.
 type Feed = fn(&mut Run, &mut Rng);
@@ -107,7 +108,11 @@ fn tolerance_about_the_gap(run: &mut Run, rng: &mut Rng) {
 
 fn limits_of_each_field(run: &mut Run, rng: &mut Rng) {
     let every = rng.one_in(2);
-    let shape = if every { Shape::small(rng) } else { Shape::any(rng) };
+    let shape = if every {
+        Shape::small(rng)
+    } else {
+        Shape::any(rng)
+    };
     let hour = good(rng, shape);
     let (mut case, mut proposal) = (hour.case(), hour.proposal());
     let originals = (case.clone(), proposal.clone());
@@ -117,7 +122,14 @@ fn limits_of_each_field(run: &mut Run, rng: &mut Rng) {
     for n in 0..count {
         let field = if every { list[n] } else { rng.pick(&list) };
         let (least, greatest) = (field.least, field.greatest);
-        for value in [least - 1, least, least + 1, greatest - 1, greatest, greatest + 1] {
+        for value in [
+            least - 1,
+            least,
+            least + 1,
+            greatest - 1,
+            greatest,
+            greatest + 1,
+        ] {
             let (lowest, highest) = field.room();
             if value < lowest || value > highest {
                 continue;
@@ -142,9 +154,9 @@ fn one_field_changed(run: &mut Run, rng: &mut Rng) {
     let field = rng.pick(&fields(&hour));
     let value = if rng.one_in(4) {
         let (lowest, highest) = field.room();
-        rng.to_the_ends(lowest, highest)
+        rng.between_or_end(lowest, highest)
     } else {
-        rng.to_the_ends(field.least, field.greatest)
+        rng.between_or_end(field.least, field.greatest)
     };
     field.put(&mut case, &mut proposal, value);
     run.feed(&case, &proposal, enough(rng));
@@ -158,7 +170,7 @@ fn cut_short(run: &mut Run, rng: &mut Rng) {
     let file = if cut_case { &mut case } else { &mut proposal };
     let length = match header {
         true => rng.below(15.min(file.len())),
-        false => rng.to_the_ends(0, file.len() as i64 - 1) as usize,
+        false => rng.between_or_end(0, file.len() as i64 - 1) as usize,
     };
     file.truncate(length);
     run.feed(&case, &proposal, enough(rng));
@@ -176,7 +188,11 @@ fn made_longer(run: &mut Run, rng: &mut Rng) {
     let hour = good(rng, shape);
     let (mut case, mut proposal) = (hour.case(), hour.proposal());
     let lengthen_case = rng.one_in(2);
-    let file = if lengthen_case { &mut case } else { &mut proposal };
+    let file = if lengthen_case {
+        &mut case
+    } else {
+        &mut proposal
+    };
     for _ in 0..rng.pick(&[1, 1, 4, 10, 1_000]) {
         file.push(rng.next() as u8);
     }
@@ -189,7 +205,11 @@ fn bytes_flipped(run: &mut Run, rng: &mut Rng) {
     let hour = good(rng, shape);
     let (mut case, mut proposal) = (hour.case(), hour.proposal());
     for _ in 0..1 + rng.below(3) {
-        let file = if rng.one_in(2) { &mut case } else { &mut proposal };
+        let file = if rng.one_in(2) {
+            &mut case
+        } else {
+            &mut proposal
+        };
         let at = rng.below(file.len());
         file[at] ^= match rng.one_in(2) {
             true => 1 << rng.below(8),
@@ -206,8 +226,10 @@ fn outside(rng: &mut Rng, field: &Field) -> Option<i64> {
     let below = lowest < field.least;
     match (above, below) {
         (false, false) => None,
-        (true, below) if !below || rng.one_in(2) => Some(rng.to_the_ends(field.greatest + 1, highest)),
-        _ => Some(rng.to_the_ends(lowest, field.least - 1)),
+        (true, below) if !below || rng.one_in(2) => {
+            Some(rng.between_or_end(field.greatest + 1, highest))
+        }
+        _ => Some(rng.between_or_end(lowest, field.least - 1)),
     }
 }
 
@@ -216,22 +238,52 @@ fn several_faults(run: &mut Run, rng: &mut Rng) {
     let shape = Shape::any(rng);
     let hour = good(rng, shape);
     let (mut case, mut proposal) = (hour.case(), hour.proposal());
-    let list = fields(&hour);
-    // Faults of the body far outnumber the header's, which would hide them.
-    let body: Vec<Field> = list.iter().copied().filter(|field| field.number > 4).collect();
-    let from = if rng.one_in(4) { &list } else { &body };
+    // From one part of the files only, for else small numbers hide the others.
+    let numbers = rng.pick(&[
+        (0, 30),
+        (2, 4),
+        (6, 8),
+        (7, 8),
+        (10, 14),
+        (13, 21),
+        (14, 23),
+    ]);
+    let mut list = fields(&hour);
+    list.retain(|field| numbers.0 <= field.number && field.number <= numbers.1);
     let mut due = (u32::MAX, 0);
     for _ in 0..2 + rng.below(4) {
-        let field = rng.pick(from);
+        if list.is_empty() {
+            break;
+        }
+        let field = rng.pick(&list);
         if let Some(value) = outside(rng, &field) {
             field.put(&mut case, &mut proposal, value);
             due = due.min((field.number, field.index));
         }
     }
+    // A wrong length too: the smaller faults are in the headers and stay.
+    match rng.below(8) {
+        0 => due = due.min((wrong_length(rng, &mut case, 14, 1, 5), 0)),
+        1 | 2 => due = due.min((wrong_length(rng, &mut proposal, 13, 9, 12), 0)),
+        _ => {}
+    }
     run.feed(&case, &proposal, enough(rng));
     if due.0 != u32::MAX {
         run.expect(due.0, due.1);
     }
+}
+
+/// Gives a file another length and tells the verdict for that.
+fn wrong_length(rng: &mut Rng, file: &mut Vec<u8>, header: usize, short: u32, wrong: u32) -> u32 {
+    if file.len() == header || rng.one_in(2) {
+        file.push(rng.next() as u8);
+    } else if rng.one_in(4) {
+        file.truncate(rng.below(header));
+        return short;
+    } else {
+        file.truncate(header + rng.below(file.len() - header));
+    }
+    wrong
 }
 
 fn bad_pairs(run: &mut Run, rng: &mut Rng) {
@@ -244,7 +296,8 @@ fn bad_pairs(run: &mut Run, rng: &mut Rng) {
     let mut due = later;
     if rng.one_in(2) {
         let earlier = rng.below(later);
-        (hour.links[later].from, hour.links[later].to) = (hour.links[earlier].from, hour.links[earlier].to);
+        (hour.links[later].from, hour.links[later].to) =
+            (hour.links[earlier].from, hour.links[earlier].to);
     } else {
         hour.links[later].from = hour.links[later].to;
     }
@@ -258,15 +311,28 @@ fn bad_pairs(run: &mut Run, rng: &mut Rng) {
     run.expect(7, due as u32);
 }
 
+/// A row, often the last one.
+fn row(rng: &mut Rng, count: usize) -> usize {
+    match rng.below(3) {
+        0 => count - 1,
+        _ => rng.below(count),
+    }
+}
+
 fn rules_at_their_edges(run: &mut Run, rng: &mut Rng) {
-    let shape = Shape::any(rng);
+    let shape = if rng.one_in(20) {
+        Shape::LARGEST
+    } else {
+        Shape::any(rng)
+    };
     let mut hour = good(rng, shape);
-    match rng.below(5) {
+    match rng.below(6) {
         0 => volume_past_balance(run, rng, &mut hour),
         1 => flow_past_its_link(run, rng, &mut hour),
         2 => margin_just_enough(run, rng, &mut hour),
         3 => share_by_one(run, rng, &mut hour),
-        _ => price_by_one_grain(run, rng, hour.zones),
+        4 => price_by_one_grain(run, rng, hour.zones),
+        _ => gap_by_one_microcent(run, rng, hour.zones),
     }
 }
 
@@ -274,7 +340,7 @@ fn volume_past_balance(run: &mut Run, rng: &mut Rng, hour: &mut Hour) {
     if hour.orders.is_empty() {
         return;
     }
-    let order = rng.below(hour.orders.len());
+    let order = row(rng, hour.orders.len());
     let full = hour.volumes[order] == hour.orders[order].quantity;
     if full {
         hour.volumes[order] -= 1;
@@ -289,7 +355,7 @@ fn flow_past_its_link(run: &mut Run, rng: &mut Rng, hour: &mut Hour) {
     if hour.links.is_empty() {
         return;
     }
-    let link = rng.below(hour.links.len());
+    let link = row(rng, hour.links.len());
     hour.flows[link] = most_flow(hour.share, hour.links[link].capacity) as u32;
     feed_hour(run, rng, hour);
     hour.flows[link] += 1;
@@ -301,9 +367,11 @@ fn margin_just_enough(run: &mut Run, rng: &mut Rng, hour: &mut Hour) {
     if hour.branches.is_empty() {
         return;
     }
-    let b = rng.below(hour.branches.len());
+    let b = row(rng, hour.branches.len());
     let parts = flow_based_parts(hour);
-    let Some(least) = least_ram(used(&hour.branches[b], &parts), hour.share) else { return };
+    let Some(least) = least_ram(used(&hour.branches[b], &parts), hour.share) else {
+        return;
+    };
     for (ram, refused) in [(least - 1, true), (least, false), (least + 1, false)] {
         if !(-500_000..=500_000).contains(&ram) {
             continue;
@@ -344,6 +412,50 @@ fn price_by_one_grain(run: &mut Run, rng: &mut Rng, zones: u8) {
     }
 }
 
+/// One tenth, untraded, at a zone price one grain off a cent: the gap is a
+/// whole number of cents, less or more by one microcent.
+fn gap_by_one_microcent(run: &mut Run, rng: &mut Rng, zones: u8) {
+    let zone = rng.below(zones.into());
+    let cents = rng.pick(&[0, 1, 2, 1_000, 44_999]);
+    let side = rng.pick(&[BUYS, SELLS]);
+    for step in [-1, 0, 1] {
+        let gap = cents * 1_000_000 + step;
+        if gap < 0 {
+            continue;
+        }
+        // A tenth at ten cents per MWh is a cent.
+        let (system_price, price, ptdf) = match side {
+            BUYS => (-49_999, -49_999 + 10 * cents, -step),
+            _ => (399_999, 399_999 - 10 * cents, step),
+        };
+        let mut ptdfs = vec![0; zones.into()];
+        ptdfs[zone] = ptdf as i32;
+        let mut hour = Hour {
+            zones,
+            branches: vec![Branch { ram: 0, ptdfs }],
+            orders: vec![Row {
+                zone: zone as u8,
+                side,
+                quantity: 1,
+                price: price as i32,
+            }],
+            volumes: vec![0],
+            shadow_prices: vec![1],
+            system_price,
+            ..Hour::default()
+        };
+        for tolerance in [cents - 1, cents, cents + 1] {
+            if tolerance < 0 {
+                continue;
+            }
+            hour.tolerance = tolerance as u32;
+            feed_hour(run, rng, &hour);
+            run.expect(if gap > tolerance * 1_000_000 { 26 } else { 0 }, 0);
+            run.expect_total(GAP, gap);
+        }
+    }
+}
+
 fn fields_at_limits(run: &mut Run, rng: &mut Rng) {
     let shape = Shape::any(rng);
     let hour = at_limits(rng, shape);
@@ -360,7 +472,14 @@ fn plain_shapes(run: &mut Run, rng: &mut Rng) {
         2 => shape.branches = 0,
         3 => shape.links = 0,
         4 => shape.orders = 0,
-        5 => shape = Shape { zones: shape.zones, branches: 0, links: 0, orders: 0 },
+        5 => {
+            shape = Shape {
+                zones: shape.zones,
+                branches: 0,
+                links: 0,
+                orders: 0,
+            }
+        }
         6 => shape.branches = shape.branches.max(1),
         _ if rng.one_in(4) => shape = Shape::LARGEST,
         _ => {}
@@ -372,7 +491,7 @@ fn plain_shapes(run: &mut Run, rng: &mut Rng) {
     if plain == 6 {
         // All LTA and nothing flow-based: any margin holds, negative ones too.
         for branch in &mut hour.branches {
-            branch.ram = rng.to_the_ends(-500_000, -1) as i32;
+            branch.ram = rng.between_or_end(-500_000, -1) as i32;
         }
     }
     feed_hour(run, rng, &hour);
@@ -383,7 +502,10 @@ pub fn widest_totals(run: &mut Run) {
     run.begin("totals at their widest");
     for case in widest() {
         for tolerance in [0, 1_000_000_000] {
-            let hour = Hour { tolerance, ..case.hour.clone() };
+            let hour = Hour {
+                tolerance,
+                ..case.hour.clone()
+            };
             let verdict = run.feed(&hour.case(), &hour.proposal(), LEAST_BUFFER);
             if verdict.number != 0 && verdict.number != 26 {
                 run.fault(|| format!("{}: {verdict:?}", case.name));

@@ -22,8 +22,9 @@ use std::time::Instant;
 const SEED: u64 = 1;
 const INPUTS: u64 = 260_000;
 /// Every number of the verdict table.
-const NUMBERS: [usize; 22] =
-    [0, 1, 2, 3, 4, 5, 6, 7, 8, 9, 10, 11, 12, 13, 14, 21, 22, 23, 24, 25, 26, 30];
+const NUMBERS: [usize; 22] = [
+    0, 1, 2, 3, 4, 5, 6, 7, 8, 9, 10, 11, 12, 13, 14, 21, 22, 23, 24, 25, 26, 30,
+];
 
 fn main() -> ExitCode {
     let mut arguments = std::env::args().skip(1).map(|text| text.parse::<u64>());
@@ -81,12 +82,19 @@ fn main() -> ExitCode {
 
     print_table(&run.checks);
     // Fewer checks must not look like a whole run.
-    for (name, built) in [("book", cfg!(feature = "book")), ("desk", cfg!(feature = "desk"))] {
+    for (name, built) in [
+        ("book", cfg!(feature = "book")),
+        ("desk", cfg!(feature = "desk")),
+    ] {
         if !built {
             println!("NOT COMPARED: the {name} entry (built without the feature {name})");
         }
     }
-    println!("{} inputs in {:.1} s", run.inputs, start.elapsed().as_secs_f64());
+    println!(
+        "{} inputs in {:.1} s",
+        run.inputs,
+        start.elapsed().as_secs_f64()
+    );
     let passed = run.checks.iter().filter(|check| check.passed).count();
     let failed = run.checks.len() - passed;
     println!("{passed} passed, {failed} failed");
@@ -110,7 +118,10 @@ fn print_table(checks: &[Check]) {
             .collect();
         let width = 2 + entries.iter().map(String::len).max().unwrap_or(0);
         for line in entries.chunks((96 / width).max(1)) {
-            let line: String = line.iter().map(|entry| format!("{entry:<width$}")).collect();
+            let line: String = line
+                .iter()
+                .map(|entry| format!("{entry:<width$}"))
+                .collect();
             println!("  {}", line.trim_end());
         }
     }

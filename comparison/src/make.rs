@@ -27,7 +27,12 @@ pub struct Shape {
 }
 
 impl Shape {
-    pub const LARGEST: Shape = Shape { zones: 16, branches: 64, links: 64, orders: 512 };
+    pub const LARGEST: Shape = Shape {
+        zones: 16,
+        branches: 64,
+        links: 64,
+        orders: 512,
+    };
 
     pub fn small(rng: &mut Rng) -> Shape {
         Shape::within(rng, [4, 4, 6, 12])
@@ -91,7 +96,12 @@ pub fn flow_based_parts(hour: &Hour) -> [i64; 16] {
 
 /// Rule 5, the left side of a branch.
 pub fn used(branch: &Branch, parts: &[i64; 16]) -> i64 {
-    branch.ptdfs.iter().zip(parts).map(|(&ptdf, part)| i64::from(ptdf) * part).sum()
+    branch
+        .ptdfs
+        .iter()
+        .zip(parts)
+        .map(|(&ptdf, part)| i64::from(ptdf) * part)
+        .sum()
 }
 
 /// Rule 5: the least RAM that lets so much pass; none at share 100,000.
@@ -105,14 +115,14 @@ pub fn least_ram(used: i64, share: u32) -> Option<i64> {
 pub fn zone_price(hour: &Hour, zone: usize) -> i64 {
     let branches = hour.branches.iter().zip(&hour.shadow_prices);
     ONE * i64::from(hour.system_price)
-        + branches.map(|(row, &shadow)| i64::from(row.ptdfs[zone]) * i64::from(shadow)).sum::<i64>()
+        + branches
+            .map(|(row, &shadow)| i64::from(row.ptdfs[zone]) * i64::from(shadow))
+            .sum::<i64>()
 }
 
 fn prices_in_range(hour: &Hour) -> bool {
-    (0..usize::from(hour.zones)).all(|zone| {
-        let price = zone_price(hour, zone);
-        ONE * LOW <= price && price <= ONE * HIGH
-    })
+    (0..usize::from(hour.zones))
+        .all(|zone| (ONE * LOW..=ONE * HIGH).contains(&zone_price(hour, zone)))
 }
 
 /// Rule 4: the most flow a link takes.
@@ -123,7 +133,9 @@ pub fn most_flow(share: u32, capacity: u32) -> i64 {
 /// An hour with gap zero, made as told above.
 pub fn optimal(rng: &mut Rng, shape: Shape) -> Hour {
     // Where a volume does not fit its orders, all volumes are halved.
-    (0..).find_map(|halvings| try_optimal(rng, shape, halvings)).expect("volumes end at zero")
+    (0..)
+        .find_map(|halvings| try_optimal(rng, shape, halvings))
+        .expect("volumes end at zero")
 }
 
 fn try_optimal(rng: &mut Rng, shape: Shape, halvings: u32) -> Option<Hour> {
@@ -131,25 +143,35 @@ fn try_optimal(rng: &mut Rng, shape: Shape, halvings: u32) -> Option<Hour> {
     // are whole cents and orders can be just at them.
     let widest = rng.pick(&[20, 100, 200]);
     let ptdfs: Vec<Vec<i64>> = (0..shape.branches)
-        .map(|_| (0..shape.zones).map(|_| 1_000 * rng.between(-widest, widest)).collect())
+        .map(|_| {
+            (0..shape.zones)
+                .map(|_| 1_000 * rng.between(-widest, widest))
+                .collect()
+        })
         .collect();
     let dearest = rng.pick(&[1, 10, 60, 500, 10_000]);
     let mut shadows: Vec<i64> = (0..shape.branches)
         .map(|_| match shape.orders > 0 && rng.one_in(3) {
-            true => 100 * rng.to_the_ends(0, dearest),
+            true => 100 * rng.between_or_end(0, dearest),
             false => 0, // no order: no trade, so no spread to fill a link
         })
         .collect();
     let mut prices = vec![0; shape.zones];
     let system_price = loop {
         for (zone, price) in prices.iter_mut().enumerate() {
-            *price = ptdfs.iter().zip(&shadows).map(|(row, shadow)| row[zone] * shadow / ONE).sum();
+            *price = ptdfs
+                .iter()
+                .zip(&shadows)
+                .map(|(row, shadow)| row[zone] * shadow / ONE)
+                .sum();
         }
         let (least, greatest) = (prices.iter().min()?, prices.iter().max()?);
         if greatest - least <= HIGH - LOW {
-            break rng.to_the_ends(LOW - least, HIGH - greatest);
+            break rng.between_or_end(LOW - least, HIGH - greatest);
         }
-        shadows.iter_mut().for_each(|shadow| *shadow = *shadow / 200 * 100);
+        shadows
+            .iter_mut()
+            .for_each(|shadow| *shadow = *shadow / 200 * 100);
     };
     prices.iter_mut().for_each(|price| *price += system_price);
 
@@ -158,7 +180,11 @@ fn try_optimal(rng: &mut Rng, shape: Shape, halvings: u32) -> Option<Hour> {
     let widest = rng.pick(&[10, 40, 300, 1_000]) >> halvings;
     let mut links: Vec<Link> = pairs(rng, shape.zones, shape.links)
         .into_iter()
-        .map(|(from, to)| Link { from, to, capacity: 100 * rng.to_the_ends(0, widest) as u32 })
+        .map(|(from, to)| Link {
+            from,
+            to,
+            capacity: 100 * rng.between_or_end(0, widest) as u32,
+        })
         .collect();
     let share = match rng.below(4) {
         0 => 0,
@@ -170,7 +196,11 @@ fn try_optimal(rng: &mut Rng, shape: Shape, halvings: u32) -> Option<Hour> {
     let mut flows = Vec::with_capacity(links.len());
     for link in &links {
         let (capacity, full) = (i64::from(link.capacity), spread(link) > 0);
-        flows.push(if full { most_flow(share, link.capacity) as u32 } else { 0 });
+        flows.push(if full {
+            most_flow(share, link.capacity) as u32
+        } else {
+            0
+        });
         if full {
             net[usize::from(link.to)] += capacity;
             net[usize::from(link.from)] -= capacity;
@@ -178,18 +208,26 @@ fn try_optimal(rng: &mut Rng, shape: Shape, halvings: u32) -> Option<Hour> {
     }
     let mut branches = Vec::with_capacity(shape.branches);
     for (row, &shadow) in ptdfs.iter().zip(&shadows) {
-        let full: i64 = row.iter().zip(net).map(|(ptdf, position)| ptdf * position).sum::<i64>() / ONE;
+        let full: i64 = row
+            .iter()
+            .zip(net)
+            .map(|(ptdf, position)| ptdf * position)
+            .sum::<i64>()
+            / ONE;
         if full.abs() > 500_000 {
             return None;
         }
         let ram = match (share, shadow) {
             // All is LTA: a branch may have any margin that adds nothing.
-            (100_000, 0) => rng.to_the_ends(-500_000, 500_000),
-            (100_000, _) => rng.to_the_ends(-500_000, full),
-            (_, 0) => rng.to_the_ends(full, 500_000),
+            (100_000, 0) => rng.between_or_end(-500_000, 500_000),
+            (100_000, _) => rng.between_or_end(-500_000, full),
+            (_, 0) => rng.between_or_end(full, 500_000),
             (_, _) => full,
         };
-        branches.push(Branch { ram: ram as i32, ptdfs: row.iter().map(|&ptdf| ptdf as i32).collect() });
+        branches.push(Branch {
+            ram: ram as i32,
+            ptdfs: row.iter().map(|&ptdf| ptdf as i32).collect(),
+        });
     }
     if share == 0 && rng.one_in(2) {
         // All is flow-based: what the LTAs would earn may be less.
@@ -202,7 +240,11 @@ fn try_optimal(rng: &mut Rng, shape: Shape, halvings: u32) -> Option<Hour> {
     let orders = priced_orders(rng, shape.orders, largest, &prices, &net)?;
     Some(Hour {
         zones: shape.zones as u8,
-        tolerance: if rng.one_in(2) { 0 } else { rng.to_the_ends(0, 1_000_000_000) as u32 },
+        tolerance: if rng.one_in(2) {
+            0
+        } else {
+            rng.between_or_end(0, 1_000_000_000) as u32
+        },
         branches,
         links,
         orders: orders.iter().map(|(row, _)| *row).collect(),
@@ -228,13 +270,25 @@ fn priced_orders(
     let nearness = rng.pick(&[1, 1_000, 450_000]);
     let drawn = |rng: &mut Rng, taken: bool| {
         let (zone, side) = (rng.below(zones), rng.below(2) as u8);
-        let away = rng.to_the_ends(0, nearness);
+        let away = rng.between_or_end(0, nearness);
         let dearer = (side == BUYS) == taken;
-        let price = if dearer { prices[zone] + away } else { prices[zone] - away };
-        let quantity = rng.to_the_ends(1, largest) as u32;
+        let price = if dearer {
+            prices[zone] + away
+        } else {
+            prices[zone] - away
+        };
+        let quantity = rng.between_or_end(1, largest) as u32;
         let price = price.clamp(LOW, HIGH) as i32;
         let volume = if taken { quantity } else { 0 };
-        (Row { zone: zone as u8, side, quantity, price }, volume)
+        (
+            Row {
+                zone: zone as u8,
+                side,
+                quantity,
+                price,
+            },
+            volume,
+        )
     };
     // Room is kept for the orders at the zone price that even out each zone.
     for _ in 0..count.min(MOST_ORDERS - 3 * zones) {
@@ -249,8 +303,13 @@ fn priced_orders(
         let mut open = left[zone].abs();
         while open > 0 {
             let volume = open.min(ONE);
-            let quantity = rng.to_the_ends(volume, ONE) as u32;
-            let row = Row { zone: zone as u8, side, quantity, price: prices[zone] as i32 };
+            let quantity = rng.between_or_end(volume, ONE) as u32;
+            let row = Row {
+                zone: zone as u8,
+                side,
+                quantity,
+                price: prices[zone] as i32,
+            };
             orders.push((row, volume as u32));
             open -= volume;
         }
@@ -281,7 +340,11 @@ pub fn feasible(rng: &mut Rng, shape: Shape) -> Hour {
 
 fn disturb(rng: &mut Rng, hour: &mut Hour) {
     if rng.one_in(2) {
-        for ptdf in hour.branches.iter_mut().flat_map(|branch| &mut branch.ptdfs) {
+        for ptdf in hour
+            .branches
+            .iter_mut()
+            .flat_map(|branch| &mut branch.ptdfs)
+        {
             *ptdf = (i64::from(*ptdf) + rng.between(-999, 999)).clamp(-200_000, 200_000) as i32;
         }
     }
@@ -294,10 +357,10 @@ fn disturb(rng: &mut Rng, hour: &mut Hour) {
         hour.system_price += rng.between(-300, 300) as i32;
     }
     if rng.one_in(2) {
-        hour.share = rng.to_the_ends(0, ONE) as u32;
+        hour.share = rng.between_or_end(0, ONE) as u32;
         for (link, flow) in hour.links.iter_mut().zip(&mut hour.flows) {
             link.capacity = (link.capacity + rng.below(100) as u32).min(100_000);
-            *flow = rng.to_the_ends(0, most_flow(hour.share, link.capacity)) as u32;
+            *flow = rng.between_or_end(0, most_flow(hour.share, link.capacity)) as u32;
         }
     }
     // A buy and a sell by the same volume: the balance stays.
@@ -310,7 +373,7 @@ fn disturb(rng: &mut Rng, hour: &mut Hour) {
             let room = |n: usize| hour.orders[n].quantity - hour.volumes[n];
             let more = i64::from(room(a).min(room(b)));
             let less = i64::from(hour.volumes[a].min(hour.volumes[b]));
-            let change = rng.to_the_ends(-less, more);
+            let change = rng.between_or_end(-less, more);
             for n in [a, b] {
                 hour.volumes[n] = (i64::from(hour.volumes[n]) + change) as u32;
             }
@@ -324,7 +387,9 @@ fn fit_margins(rng: &mut Rng, hour: &mut Hour) -> bool {
     let share = hour.share;
     hour.branches.iter_mut().all(|branch| {
         let used = used(branch, &parts);
-        let Some(least) = least_ram(used, share) else { return used <= 0 };
+        let Some(least) = least_ram(used, share) else {
+            return used <= 0;
+        };
         if i64::from(branch.ram) < least || rng.one_in(3) {
             branch.ram = least.clamp(-500_000, 500_000) as i32;
         }
@@ -335,14 +400,16 @@ fn fit_margins(rng: &mut Rng, hour: &mut Hour) -> bool {
 /// An hour with every field in range, taken so far along the rules by chance.
 pub fn random(rng: &mut Rng, shape: Shape) -> Hour {
     let zones = shape.zones;
-    let mut field = |least, greatest| rng.to_the_ends(least, greatest);
+    let mut field = |least, greatest| rng.between_or_end(least, greatest);
     let mut hour = Hour {
         zones: zones as u8,
         tolerance: field(0, 1_000_000_000) as u32,
         branches: (0..shape.branches)
             .map(|_| Branch {
                 ram: field(-500_000, 500_000) as i32,
-                ptdfs: (0..zones).map(|_| field(-200_000, 200_000) as i32).collect(),
+                ptdfs: (0..zones)
+                    .map(|_| field(-200_000, 200_000) as i32)
+                    .collect(),
             })
             .collect(),
         orders: (0..shape.orders)
@@ -355,19 +422,25 @@ pub fn random(rng: &mut Rng, shape: Shape) -> Hour {
             .collect(),
         share: field(0, ONE) as u32,
         system_price: field(LOW, HIGH) as i32,
-        shadow_prices: (0..shape.branches).map(|_| field(0, 1_000_000) as u32).collect(),
+        shadow_prices: (0..shape.branches)
+            .map(|_| field(0, 1_000_000) as u32)
+            .collect(),
         ..Hour::default()
     };
     hour.links = pairs(rng, zones, shape.links)
         .into_iter()
-        .map(|(from, to)| Link { from, to, capacity: rng.to_the_ends(0, ONE) as u32 })
+        .map(|(from, to)| Link {
+            from,
+            to,
+            capacity: rng.between_or_end(0, ONE) as u32,
+        })
         .collect();
 
     // How many of the rules from 21 on are seen to.
     let seen_to = rng.below(7);
     let volume = |rng: &mut Rng, row: &Row| match seen_to {
-        0 => rng.to_the_ends(0, i64::from(row.quantity) * 2) as u32,
-        _ => rng.to_the_ends(0, i64::from(row.quantity)) as u32,
+        0 => rng.between_or_end(0, i64::from(row.quantity) * 2) as u32,
+        _ => rng.between_or_end(0, i64::from(row.quantity)) as u32,
     };
     hour.volumes = hour.orders.iter().map(|row| volume(rng, row)).collect();
     if seen_to >= 2 {
@@ -378,11 +451,15 @@ pub fn random(rng: &mut Rng, shape: Shape) -> Hour {
             0..=2 => rng.pick(&[ONE, u32::MAX.into()]),
             _ => most_flow(hour.share, link.capacity),
         };
-        hour.flows.push(rng.to_the_ends(0, most) as u32);
+        hour.flows.push(rng.between_or_end(0, most) as u32);
     }
     if seen_to >= 4 {
         // Small PTDFs, for else no margin is wide enough.
-        for ptdf in hour.branches.iter_mut().flat_map(|branch| &mut branch.ptdfs) {
+        for ptdf in hour
+            .branches
+            .iter_mut()
+            .flat_map(|branch| &mut branch.ptdfs)
+        {
             *ptdf /= rng.pick(&[1_000, 10_000]);
         }
         if hour.share == 100_000 && rng.one_in(2) {
@@ -394,7 +471,9 @@ pub fn random(rng: &mut Rng, shape: Shape) -> Hour {
         fit_margins(rng, &mut hour);
     }
     if seen_to >= 5 {
-        hour.shadow_prices.iter_mut().for_each(|shadow| *shadow /= 64);
+        hour.shadow_prices
+            .iter_mut()
+            .for_each(|shadow| *shadow /= 64);
     }
     if seen_to >= 6 {
         hour.system_price = hour.system_price.clamp(0, 300_000);
@@ -425,8 +504,16 @@ pub fn at_limits(rng: &mut Rng, shape: Shape) -> Hour {
     for branch in &mut hour.branches {
         branch.ram = rng.pick(&[-500_000, 500_000]);
     }
-    let ptdfs: &[i32] = if rng.one_in(2) { &[0] } else { &[-200_000, 0, 200_000] };
-    for ptdf in hour.branches.iter_mut().flat_map(|branch| &mut branch.ptdfs) {
+    let ptdfs: &[i32] = if rng.one_in(2) {
+        &[0]
+    } else {
+        &[-200_000, 0, 200_000]
+    };
+    for ptdf in hour
+        .branches
+        .iter_mut()
+        .flat_map(|branch| &mut branch.ptdfs)
+    {
         *ptdf = rng.pick(ptdfs);
     }
     for (n, row) in hour.orders.iter_mut().enumerate() {
@@ -470,22 +557,51 @@ pub fn widest() -> Vec<Widest> {
     const LOWEST: i32 = -50_000;
     const HIGHEST: i32 = 400_000;
     const ALL: i64 = 100_000 * 450_000 * ONE; // a full order across all prices
-    let order = |zone, side, price| Row { zone, side, quantity: 100_000, price };
+    let order = |zone, side, price| Row {
+        zone,
+        side,
+        quantity: 100_000,
+        price,
+    };
     let halves = |first: Row, second: Row| [vec![first; 256], vec![second; 256]].concat();
-    let flat = |ram, count| vec![Branch { ram, ptdfs: vec![0] }; count];
+    let flat = |ram, count| {
+        vec![
+            Branch {
+                ram,
+                ptdfs: vec![0]
+            };
+            count
+        ]
+    };
     // Zones of the second half have the highest price, the others the lowest.
     let split = |zones: usize, ram| -> Vec<Branch> {
-        let row = |ptdf| (0..zones).map(|zone| if zone < zones / 2 { 0 } else { ptdf }).collect();
-        (0..64).map(|b| Branch { ram, ptdfs: row(if b == 63 { 711 } else { 703 }) }).collect()
+        let row = |ptdf| {
+            (0..zones)
+                .map(|zone| if zone < zones / 2 { 0 } else { ptdf })
+                .collect()
+        };
+        (0..64)
+            .map(|b| Branch {
+                ram,
+                ptdfs: row(if b == 63 { 711 } else { 703 }),
+            })
+            .collect()
     };
     let across = |to_higher: bool| -> Vec<Link> {
         (0..64u8)
             .map(|n| (n / 8, 8 + n % 8))
             .map(|(low, high)| if to_higher { (low, high) } else { (high, low) })
-            .map(|(from, to)| Link { from, to, capacity: 100_000 })
+            .map(|(from, to)| Link {
+                from,
+                to,
+                capacity: 100_000,
+            })
             .collect()
     };
-    let one_zone = Hour { zones: 1, ..Hour::default() };
+    let one_zone = Hour {
+        zones: 1,
+        ..Hour::default()
+    };
     let traded = |first, second, system_price| Hour {
         orders: halves(first, second),
         volumes: vec![100_000; 512],
@@ -528,20 +644,55 @@ pub fn widest() -> Vec<Widest> {
     let branch_total = 64 * 500_000 * 1_000_000 * ONE;
     let high = traded(order(0, BUYS, HIGHEST), order(0, SELLS, LOWEST), 0);
     let low = traded(order(0, BUYS, LOWEST), order(0, SELLS, HIGHEST), 0);
-    let widest = |name, hour: Hour, total, value| Widest { name, hour, total, value };
+    let widest = |name, hour: Hour, total, value| Widest {
+        name,
+        hour,
+        total,
+        value,
+    };
     vec![
         widest("welfare", high, WELFARE, 256 * ALL),
         widest("welfare, negative", low.clone(), WELFARE, -256 * ALL),
-        widest("gap of welfare, negative", with_branches(&low, 500_000, 0), GAP, 256 * ALL + branch_total),
+        widest(
+            "gap of welfare, negative",
+            with_branches(&low, 500_000, 0),
+            GAP,
+            256 * ALL + branch_total,
+        ),
         widest("surplus of buys", buys.clone(), BOUND, 512 * ALL),
         widest("surplus of sells", sells.clone(), BOUND, 512 * ALL),
-        widest("branch total", with_branches(&one_zone, 500_000, 0), BOUND, branch_total),
-        widest("branch total, negative", with_branches(&buys, -500_000, 100_000), BOUND, 512 * ALL),
-        widest("bound", with_branches(&buys, 500_000, 0), BOUND, 512 * ALL + branch_total),
-        widest("gap", with_branches(&sells, 500_000, 100_000), GAP, 512 * ALL + branch_total),
+        widest(
+            "branch total",
+            with_branches(&one_zone, 500_000, 0),
+            BOUND,
+            branch_total,
+        ),
+        widest(
+            "branch total, negative",
+            with_branches(&buys, -500_000, 100_000),
+            BOUND,
+            512 * ALL,
+        ),
+        widest(
+            "bound",
+            with_branches(&buys, 500_000, 0),
+            BOUND,
+            512 * ALL + branch_total,
+        ),
+        widest(
+            "gap",
+            with_branches(&sells, 500_000, 100_000),
+            GAP,
+            512 * ALL + branch_total,
+        ),
         widest("rent", carried(1, 0), RENT, 256 * ALL),
         widest("rent, negative", carried(0, 1), RENT, -256 * ALL),
         widest("owed", linked(true, 100_000), OWED, 64 * ALL),
-        widest("owed, every spread negative", linked(false, 100_000), OWED, 0),
+        widest(
+            "owed, every spread negative",
+            linked(false, 100_000),
+            OWED,
+            0,
+        ),
     ]
 }

@@ -27,7 +27,7 @@ impl Rng {
     }
 
     /// As `between`, with either end one time in eight.
-    pub fn to_the_ends(&mut self, least: i64, greatest: i64) -> i64 {
+    pub fn between_or_end(&mut self, least: i64, greatest: i64) -> i64 {
         match self.below(8) {
             0 => least,
             1 => greatest,

@@ -29,9 +29,10 @@ pub struct Found {
 }
 
 /// Things a good stream of inputs must come across, counted.
-pub const MET: [&str; 7] = [
+pub const MET: [&str; 8] = [
     "accepted with gap zero",
     "accepted, gap at the tolerance",
+    "refused, gap a microcent over",
     "refused, gap under a cent over",
     "accepted with a negative RAM",
     "accepted with a negative rent",
@@ -44,7 +45,7 @@ pub struct Run {
     pub verdicts: [u64; 31],
     pub wrong: [Found; 9],
     pub wrong_tried: u64,
-    pub met: [u64; 7],
+    pub met: [u64; 8],
     pub inputs: u64,
     /// Inputs of the stored hours, not of the generator.
     pub stored: bool,
@@ -67,7 +68,7 @@ impl Run {
             verdicts: [0; 31],
             wrong: Default::default(),
             wrong_tried: 0,
-            met: [0; 7],
+            met: [0; 8],
             inputs: 0,
             stored: false,
             #[cfg(feature = "desk")]
@@ -76,7 +77,10 @@ impl Run {
             family: String::new(),
             family_inputs: 0,
             family_faults: 0,
-            verdict: Verdict { number: 0, index: 0 },
+            verdict: Verdict {
+                number: 0,
+                index: 0,
+            },
             space: [0; SPACE],
             copies: Default::default(),
         }
@@ -114,7 +118,12 @@ impl Run {
     }
 
     pub fn check(&mut self, name: String, passed: bool, note: String) {
-        self.checks.push(Check { section: self.section, name, passed, note });
+        self.checks.push(Check {
+            section: self.section,
+            name,
+            passed,
+            note,
+        });
     }
 
     /// Counts an input that was compared elsewhere.
@@ -126,7 +135,12 @@ impl Run {
     pub fn fault(&mut self, text: impl FnOnce() -> String) {
         self.family_faults += 1;
         if self.family_faults <= SHOWN {
-            println!("amiss in {}, input {}: {}", self.family, self.family_inputs, text());
+            println!(
+                "amiss in {}, input {}: {}",
+                self.family,
+                self.family_inputs,
+                text()
+            );
         }
     }
 
@@ -171,14 +185,22 @@ impl Run {
             self.fault(|| {
                 let shown = |answer| format!("{} {}", answer % 256, answer / 256);
                 let files = hex_of_both(case, proposal);
-                format!("archive {}, second judge {}\n{files}", shown(answer), shown(ours))
+                format!(
+                    "archive {}, second judge {}\n{files}",
+                    shown(answer),
+                    shown(ours)
+                )
             });
         } else if their_space != self.space {
-            let at = (0..SPACE).find(|&n| their_space[n] != self.space[n]).expect("they differ");
+            let at = (0..SPACE)
+                .find(|&n| their_space[n] != self.space[n])
+                .expect("they differ");
             let (one, other) = (their_space[at], self.space[at]);
             let at = at as i64 - GUARD as i64;
             let files = hex_of_both(case, proposal);
-            self.fault(|| format!("byte {at} of the buffer: archive {one}, second judge {other}\n{files}"));
+            self.fault(|| {
+                format!("byte {at} of the buffer: archive {one}, second judge {other}\n{files}")
+            });
         }
         if self.copies.0 != case || self.copies.1 != proposal {
             self.fault(|| "a file was written".into());
@@ -186,7 +208,7 @@ impl Run {
 
         self.verdicts[self.verdict.number as usize] += 1;
         self.meet(case, proposal);
-        if self.stored || self.inputs % WRONG_EVERY == 0 {
+        if self.stored || self.inputs.is_multiple_of(WRONG_EVERY) {
             self.try_wrong_builds(case, proposal, &filled, lent);
         }
         #[cfg(feature = "desk")]
@@ -221,7 +243,8 @@ impl Run {
         if number != 0 && number != 26 {
             return;
         }
-        let u32_at = |file: &[u8], at| u32::from_le_bytes(file[at..at + 4].try_into().expect("four"));
+        let u32_at =
+            |file: &[u8], at| u32::from_le_bytes(file[at..at + 4].try_into().expect("four"));
         let zones = usize::from(case[5]);
         let (branches, links) = (usize::from(case[6]), usize::from(case[7]));
         let orders = usize::from(case[8]) + 256 * usize::from(case[9]);
@@ -233,6 +256,7 @@ impl Run {
         let met = [
             accepted && gap == 0,
             accepted && gap == tolerance && gap > 0,
+            !accepted && gap - tolerance == 1,
             !accepted && gap - tolerance < 1_000_000,
             accepted && (0..branches).any(negative),
             accepted && rent < 0,
@@ -258,7 +282,11 @@ impl Run {
             let verdict = judge_as(*build, case, proposal, &mut space[lent.clone()]);
             if verdict != self.verdict || space != self.space {
                 let found = &mut self.wrong[n];
-                *(if self.stored { &mut found.stored } else { &mut found.made }) += 1;
+                *(if self.stored {
+                    &mut found.stored
+                } else {
+                    &mut found.made
+                }) += 1;
             }
         }
     }

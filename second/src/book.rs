@@ -42,7 +42,11 @@ pub struct BookAnswer {
 
 /// The sum of rule 8 over the rows, at zone prices in grains.
 pub fn book_surplus(rows: &[Row], prices: &[i64]) -> BookAnswer {
-    let refusal = |number, index: usize| BookAnswer { number, index: index as u32, sum: 0 };
+    let refusal = |number, index: usize| BookAnswer {
+        number,
+        index: index as u32,
+        sum: 0,
+    };
     if prices.is_empty() || prices.len() > MOST_ZONES {
         return refusal(4, 5);
     }
@@ -55,6 +59,13 @@ pub fn book_surplus(rows: &[Row], prices: &[i64]) -> BookAnswer {
     if let Some(z) = prices.iter().position(|price| !ZONE_PRICE.contains(price)) {
         return refusal(25, z);
     }
-    let sum: i128 = rows.iter().map(|row| row.surplus(prices[usize::from(row.zone)].into())).sum();
-    BookAnswer { number: 0, index: 0, sum: i64::try_from(sum).expect("the sum fits 64 bits") }
+    let sum: i128 = rows
+        .iter()
+        .map(|row| row.surplus(prices[usize::from(row.zone)].into()))
+        .sum();
+    BookAnswer {
+        number: 0,
+        index: 0,
+        sum: i64::try_from(sum).expect("the sum fits 64 bits"),
+    }
 }

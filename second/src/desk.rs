@@ -42,7 +42,10 @@ pub fn desk_lines(input: &[u8]) -> Vec<u8> {
             let at = 8 + 8 * n;
             i64::from_le_bytes(report[at..at + 8].try_into().expect("eight bytes"))
         };
-        for (n, name) in ["welfare", "bound", "gap", "rent", "owed"].iter().enumerate() {
+        for (n, name) in ["welfare", "bound", "gap", "rent", "owed"]
+            .iter()
+            .enumerate()
+        {
             line(format_args!("{name} {}", amount(value(n), MONEY)));
         }
         for z in 0..zones {

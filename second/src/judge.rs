@@ -86,7 +86,11 @@ fn decide(
 
     // Rule 4, verdict 23, and rule 2: the LTA parts.
     let share = i128::from(proposal.share);
-    let link_share = if build == Build::CapacityWithoutShare { ONE } else { share };
+    let link_share = if build == Build::CapacityWithoutShare {
+        ONE
+    } else {
+        share
+    };
     let mut lta = [0i128; MOST_ZONES];
     for l in 0..case.links {
         let (link, flow) = (case.link(l), i128::from(proposal.flow(l)));
@@ -106,7 +110,11 @@ fn decide(
     // Rule 5, verdict 24.
     let ram = |b| {
         let ram = i128::from(case.ram(b));
-        if build == Build::RamNeverNegative { ram.max(0) } else { ram }
+        if build == Build::RamNeverNegative {
+            ram.max(0)
+        } else {
+            ram
+        }
     };
     for b in 0..case.branches {
         let ptdfs = case.ptdfs(b).map(i128::from);
@@ -124,9 +132,12 @@ fn decide(
             *price += i128::from(ptdf) * shadow_price;
         }
     }
-    let (least, greatest) = (i128::from(*ZONE_PRICE.start()), i128::from(*ZONE_PRICE.end()));
-    for z in 0..case.zones {
-        if prices[z] < least || prices[z] > greatest {
+    let (least, greatest) = (
+        i128::from(*ZONE_PRICE.start()),
+        i128::from(*ZONE_PRICE.end()),
+    );
+    for (z, &price) in prices[..case.zones].iter().enumerate() {
+        if price < least || price > greatest {
             return Err(Verdict::new(25, z));
         }
     }
@@ -149,7 +160,11 @@ fn decide(
     for l in 0..case.links {
         let link = case.link(l);
         let spread = prices[usize::from(link.to)] - prices[usize::from(link.from)];
-        let counted = if build == Build::SpreadsNetted { spread } else { spread.max(0) };
+        let counted = if build == Build::SpreadsNetted {
+            spread
+        } else {
+            spread.max(0)
+        };
         owed += i128::from(link.capacity) * counted;
     }
     if build == Build::SpreadsNetted {
@@ -165,7 +180,11 @@ fn decide(
             _ => branch_total.max(owed),
         };
     let gap = bound - welfare;
-    let rent: i128 = net.iter().zip(prices).map(|(position, price)| position * price).sum();
+    let rent: i128 = net
+        .iter()
+        .zip(prices)
+        .map(|(position, price)| position * price)
+        .sum();
 
     // Verdicts 26 and 0.
     let over = gap > i128::from(MICROCENTS) * i128::from(case.tolerance);
@@ -192,7 +211,10 @@ fn write_report(report: &mut [u8], number: u8, totals: &[i128; 5], prices: &[i12
     report[5] = number;
     report[6] = prices.len() as u8;
     report[7] = 0;
-    for (field, &value) in report[8..].chunks_exact_mut(8).zip(totals.iter().chain(prices)) {
+    for (field, &value) in report[8..]
+        .chunks_exact_mut(8)
+        .zip(totals.iter().chain(prices))
+    {
         let value = i64::try_from(value).expect("every total fits 64 bits");
         field.copy_from_slice(&value.to_le_bytes());
     }

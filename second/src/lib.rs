@@ -25,7 +25,10 @@ pub struct Verdict {
 impl Verdict {
     pub(crate) fn new(number: u32, index: usize) -> Verdict {
         // An index counts rows of one file, at most 512 of them.
-        Verdict { number, index: index as u32 }
+        Verdict {
+            number,
+            index: index as u32,
+        }
     }
 }
 

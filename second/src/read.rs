@@ -131,19 +131,30 @@ impl<'a> Case<'a> {
 
     /// A branch's PTDFs, one per zone.
     pub fn ptdfs(&self, b: usize) -> impl Iterator<Item = i32> + 'a {
-        self.branch_row(b)[4..].chunks_exact(4).map(|field| i32_at(field, 0))
+        self.branch_row(b)[4..]
+            .chunks_exact(4)
+            .map(|field| i32_at(field, 0))
     }
 
     pub fn link(&self, l: usize) -> Link {
         let at = self.links_at() + l * LINK_BYTES;
         let row = &self.bytes[at..at + LINK_BYTES];
-        Link { from: row[0], to: row[1], capacity: u32_at(row, 2) }
+        Link {
+            from: row[0],
+            to: row[1],
+            capacity: u32_at(row, 2),
+        }
     }
 
     pub fn order(&self, o: usize) -> Row {
         let at = self.orders_at() + o * ORDER_BYTES;
         let row = &self.bytes[at..at + ORDER_BYTES];
-        Row { zone: row[0], side: row[1], quantity: u32_at(row, 2), price: i32_at(row, 6) }
+        Row {
+            zone: row[0],
+            side: row[1],
+            quantity: u32_at(row, 2),
+            price: i32_at(row, 6),
+        }
     }
 }
 
@@ -198,6 +209,9 @@ impl<'a> Proposal<'a> {
     }
 
     pub fn shadow_price(&self, b: usize) -> u32 {
-        u32_at(self.bytes, PROPOSAL_HEADER + 4 * (self.orders + self.links + b))
+        u32_at(
+            self.bytes,
+            PROPOSAL_HEADER + 4 * (self.orders + self.links + b),
+        )
     }
 }

@@ -24,13 +24,24 @@ fn stored_hours() {
     for hour in stored() {
         let (verdict, report) = run(Build::Right, &hour);
         let name = hour.name;
-        assert_eq!(verdict, Verdict { number: hour.number, index: hour.index }, "{name}");
+        assert_eq!(
+            verdict,
+            Verdict {
+                number: hour.number,
+                index: hour.index
+            },
+            "{name}"
+        );
         if hour.number != 0 && hour.number != 26 {
             assert_eq!(report, [0xA5; 200], "{name}");
             continue;
         }
         let zones = hour.case[5];
-        assert_eq!(report[..8], [b'L', b'T', b'R', 1, 0, hour.number as u8, zones, 0], "{name}");
+        assert_eq!(
+            report[..8],
+            [b'L', b'T', b'R', 1, 0, hour.number as u8, zones, 0],
+            "{name}"
+        );
         for (n, euros) in hour.euros.in_order().into_iter().enumerate() {
             if let Some(euros) = euros {
                 assert_eq!(field(&report, n), euros * EURO, "{name}, total {n}");
@@ -39,7 +50,12 @@ fn stored_hours() {
         for (z, price) in hour.prices.iter().enumerate() {
             assert_eq!(field(&report, 5 + z), *price, "{name}, zone {z}");
         }
-        assert!(report[48 + 8 * usize::from(zones)..].iter().all(|byte| *byte == 0xA5), "{name}");
+        assert!(
+            report[48 + 8 * usize::from(zones)..]
+                .iter()
+                .all(|byte| *byte == 0xA5),
+            "{name}"
+        );
     }
 }
 
@@ -48,11 +64,17 @@ fn bytes_of_the_three_zone_hour() {
     let hour = three_zone_hour();
     let (case, proposal) = (hour.case(), hour.proposal());
     assert_eq!((case.len(), proposal.len()), (102, 45));
-    assert_eq!(case[..14], [b'L', b'T', b'C', 1, 0, 3, 2, 1, 5, 0, 0, 0, 0, 0]);
+    assert_eq!(
+        case[..14],
+        [b'L', b'T', b'C', 1, 0, 3, 2, 1, 5, 0, 0, 0, 0, 0]
+    );
     assert_eq!(case[14..18], 2_500i32.to_le_bytes());
     assert_eq!(case[46..52], [0, 1, 0xA0, 0x0F, 0, 0]);
     assert_eq!(case[52..62], [0, 1, 0xA0, 0x0F, 0, 0, 0xE8, 3, 0, 0]);
-    assert_eq!(proposal[..13], [b'L', b'T', b'P', 1, 0, 0xCC, 0x55, 1, 0, 0xCA, 8, 0, 0]);
+    assert_eq!(
+        proposal[..13],
+        [b'L', b'T', b'P', 1, 0, 0xCC, 0x55, 1, 0, 0xCA, 8, 0, 0]
+    );
 }
 
 #[test]
@@ -102,7 +124,13 @@ fn buffer_is_asked_first() {
         let mut report = vec![7; length];
         for case in [&hour.case[..], &[]] {
             let verdict = judge(case, &hour.proposal, &mut report);
-            assert_eq!(verdict, Verdict { number: 30, index: 0 });
+            assert_eq!(
+                verdict,
+                Verdict {
+                    number: 30,
+                    index: 0
+                }
+            );
         }
         assert!(report.iter().all(|byte| *byte == 7));
     }
@@ -139,18 +167,32 @@ fn header_refusals() {
         (53, 2, 8, 0),
         (97, 1, 8, 4),
     ] {
-        assert_eq!(with(at, value), Verdict { number, index }, "byte {at} as {value}");
+        assert_eq!(
+            with(at, value),
+            Verdict { number, index },
+            "byte {at} as {value}"
+        );
     }
 }
 
 #[test]
 fn repeated_pair_is_sought_among_all_earlier_links() {
     let mut hour = three_zone_hour();
-    let link = |from, to| hours::Link { from, to, capacity: 1 };
+    let link = |from, to| hours::Link {
+        from,
+        to,
+        capacity: 1,
+    };
     hour.links = vec![link(0, 1), link(1, 0), link(2, 1), link(0, 1)];
     hour.flows = vec![0; 4];
     let verdict = judge(&hour.case(), &hour.proposal(), &mut [0; 176]);
-    assert_eq!(verdict, Verdict { number: 7, index: 3 });
+    assert_eq!(
+        verdict,
+        Verdict {
+            number: 7,
+            index: 3
+        }
+    );
 }
 
 #[test]
@@ -161,7 +203,13 @@ fn smallest_number_then_smallest_index() {
     hour.orders[4].quantity = 0;
     hour.orders[2].price = 400_001;
     let verdict = judge(&hour.case(), &hour.proposal(), &mut [0; 176]);
-    assert_eq!(verdict, Verdict { number: 8, index: 2 });
+    assert_eq!(
+        verdict,
+        Verdict {
+            number: 8,
+            index: 2
+        }
+    );
 }
 
 /// Two zones with the spread of one link positive and of the other negative.
@@ -175,7 +223,12 @@ fn two_way_hour() -> Stored {
         ..p1
     };
     let (case, proposal) = (hour.case(), hour.proposal());
-    Stored { name: "two ways", case, proposal, ..named("P10") }
+    Stored {
+        name: "two ways",
+        case,
+        proposal,
+        ..named("P10")
+    }
 }
 
 #[test]
@@ -187,7 +240,12 @@ fn wrong_builds_do_what_the_paper_says_of_them() {
     assert_eq!(run(Build::CapacityWithoutShare, &p8).0.number, 0);
     assert_eq!(run(Build::BranchTotalAlone, &p3).0.number, 0);
     assert_eq!(run(Build::SmallerTotal, &p3).0.number, 0);
-    assert_eq!(run(Build::RamNeverNegative, &named("P12, share 0")).0.number, 0);
+    assert_eq!(
+        run(Build::RamNeverNegative, &named("P12, share 0"))
+            .0
+            .number,
+        0
+    );
 
     let two = two_way_hour();
     let owed = |build| field(&run(build, &two).1, 4);
@@ -200,27 +258,58 @@ fn shams_are_found_where_the_paper_says() {
     let (p1, p3) = (named("P1"), named("P3"));
     assert_eq!(run(Build::AlwaysOverTolerance, &p1).0.number, 26);
     assert_eq!(run(Build::AcceptsWithZeroTotals, &p3).0.number, 0);
-    assert_eq!(run(Build::ReportUntouched, &p1), (Verdict { number: 0, index: 0 }, [0xA5; 200]));
+    assert_eq!(
+        run(Build::ReportUntouched, &p1),
+        (
+            Verdict {
+                number: 0,
+                index: 0
+            },
+            [0xA5; 200]
+        )
+    );
 }
 
 #[test]
 fn book_answers() {
-    let row = |zone, side, quantity, price| Row { zone, side, quantity, price };
+    let row = |zone, side, quantity, price| Row {
+        zone,
+        side,
+        quantity,
+        price,
+    };
     let answer = |number, index, sum| BookAnswer { number, index, sum };
     let p1 = three_zone_hour();
     let prices = named("P1").prices;
     // P1: bound less the owed, 22,125 - 17,500 euros.
-    assert_eq!(book_surplus(&p1.orders, &prices), answer(0, 0, 4_625 * EURO));
+    assert_eq!(
+        book_surplus(&p1.orders, &prices),
+        answer(0, 0, 4_625 * EURO)
+    );
     assert_eq!(book_surplus(&[], &prices), answer(0, 0, 0));
 
     // In the paper's order: prices, rows, each row, each price.
     let (bad_row, bad_price) = (row(3, 0, 1, 0), [0, -5_000_000_001, 0]);
     assert_eq!(book_surplus(&[bad_row; 513], &[]), answer(4, 5, 0));
-    assert_eq!(book_surplus(&[bad_row; 513], &[40_000_000_001; 17]), answer(4, 5, 0));
+    assert_eq!(
+        book_surplus(&[bad_row; 513], &[40_000_000_001; 17]),
+        answer(4, 5, 0)
+    );
     assert_eq!(book_surplus(&[bad_row; 513], &bad_price), answer(4, 8, 0));
-    assert_eq!(book_surplus(&[row(0, 1, 1, 0), bad_row], &bad_price), answer(8, 1, 0));
-    assert_eq!(book_surplus(&[row(0, 1, 1, 0)], &bad_price), answer(25, 1, 0));
-    for bad in [row(0, 2, 1, 0), row(0, 0, 0, 0), row(0, 0, 100_001, 0), row(0, 0, 1, 400_001)] {
+    assert_eq!(
+        book_surplus(&[row(0, 1, 1, 0), bad_row], &bad_price),
+        answer(8, 1, 0)
+    );
+    assert_eq!(
+        book_surplus(&[row(0, 1, 1, 0)], &bad_price),
+        answer(25, 1, 0)
+    );
+    for bad in [
+        row(0, 2, 1, 0),
+        row(0, 0, 0, 0),
+        row(0, 0, 100_001, 0),
+        row(0, 0, 1, 400_001),
+    ] {
         assert_eq!(book_surplus(&[bad], &prices), answer(8, 0, 0));
     }
 

@@ -1,0 +1,239 @@
+//! Measures the proved judge against the second one on the same inputs; prints only.
+
+#[path = "../../comparison/src/archive.rs"]
+mod archive;
+
+use second_judge::hours::{three_zone_hour, Branch, Hour, Link};
+use second_judge::limits::{BUYS, LEAST_BUFFER, SELLS};
+use second_judge::{judge, Row};
+use std::hint::black_box;
+use std::time::{Duration, Instant};
+
+/// Odd, so that the median is one of them.
+const REPETITIONS: usize = 401;
+/// A repetition lasts about so long: short, so that the two halves of a pair
+/// meet the same machine, and one that is disturbed falls out of the median.
+const LENGTH: Duration = Duration::from_micros(60);
+
+/// Nanoseconds of one call and the ratio, each the median of the repetitions.
+struct Times {
+    proved: f64,
+    rust: f64,
+    ratio: f64,
+}
+
+fn nanoseconds(calls: u32, call: &mut impl FnMut()) -> f64 {
+    let start = Instant::now();
+    for _ in 0..calls {
+        call();
+    }
+    start.elapsed().as_nanos() as f64 / f64::from(calls)
+}
+
+fn median(mut list: Vec<f64>) -> f64 {
+    list.sort_by(f64::total_cmp);
+    list[list.len() / 2]
+}
+
+/// Both by turns, each of them first in every other pair.
+fn measure(mut proved: impl FnMut(), mut rust: impl FnMut()) -> Times {
+    let calls_for = |one: f64| (LENGTH.as_nanos() as f64 / one).clamp(1.0, 1e5) as u32;
+    let warm =
+        |call: &mut dyn FnMut()| median((0..9).map(|_| nanoseconds(9, &mut || call())).collect());
+    let proved_calls = calls_for(warm(&mut proved));
+    let rust_calls = calls_for(warm(&mut rust));
+    let (mut of_proved, mut of_rust, mut ratios) = (Vec::new(), Vec::new(), Vec::new());
+    for n in 0..REPETITIONS {
+        let (one, other);
+        if n % 2 == 0 {
+            one = nanoseconds(proved_calls, &mut proved);
+            other = nanoseconds(rust_calls, &mut rust);
+        } else {
+            other = nanoseconds(rust_calls, &mut rust);
+            one = nanoseconds(proved_calls, &mut proved);
+        }
+        of_proved.push(one);
+        of_rust.push(other);
+        ratios.push(one / other);
+    }
+    Times {
+        proved: median(of_proved),
+        rust: median(of_rust),
+        ratio: median(ratios),
+    }
+}
+
+/// Measures the judgement of two files, which must have this verdict.
+fn measure_judges(case: &[u8], proposal: &[u8], number: u32, index: u32) -> Times {
+    let (mut one, mut other) = ([0; LEAST_BUFFER], [0; LEAST_BUFFER]);
+    let verdict = judge(case, proposal, &mut other);
+    assert_eq!(
+        (verdict.number, verdict.index),
+        (number, index),
+        "the second judge"
+    );
+    let answer = archive::judge(case, proposal, &mut one);
+    assert_eq!(
+        answer,
+        u64::from(number) + 256 * u64::from(index),
+        "the archive"
+    );
+    measure(
+        || {
+            black_box(archive::judge(
+                black_box(case),
+                black_box(proposal),
+                black_box(&mut one),
+            ));
+        },
+        || {
+            black_box(judge(
+                black_box(case),
+                black_box(proposal),
+                black_box(&mut other),
+            ));
+        },
+    )
+}
+
+/// An hour of these counts that is accepted, with no field left at zero.
+fn sized(zones: usize, branches: usize, links: usize, orders: usize) -> Hour {
+    Hour {
+        zones: zones as u8,
+        tolerance: 1_000_000_000,
+        branches: (0..branches)
+            .map(|b| Branch {
+                ram: 50_000,
+                ptdfs: (0..zones)
+                    .map(|z| ((b * 7 + z * 13) % 41) as i32 * 1_000 - 20_500)
+                    .collect(),
+            })
+            .collect(),
+        links: (0..links)
+            .map(|l| (l % zones, (l % zones + 1 + l / zones) % zones))
+            .map(|(from, to)| Link {
+                from: from as u8,
+                to: to as u8,
+                capacity: 1_000,
+            })
+            .collect(),
+        orders: (0..orders)
+            .map(|o| Row {
+                zone: (o * 5 % zones) as u8,
+                side: if o % 2 == 0 { BUYS } else { SELLS },
+                quantity: 100,
+                price: 17_500 + (o % 50) as i32 * 100,
+            })
+            .collect(),
+        share: 50_000,
+        system_price: 20_000,
+        volumes: (0..orders)
+            .map(|o| if o == orders - orders % 2 { 0 } else { 50 })
+            .collect(),
+        flows: vec![100; links],
+        shadow_prices: (0..branches).map(|b| (b % 4) as u32 * 100 + 1).collect(),
+    }
+}
+
+fn print(name: &str, times: &Times) {
+    let Times {
+        proved,
+        rust,
+        ratio,
+    } = times;
+    println!("  {name:<42} {proved:>10.0} {rust:>10.0} {ratio:>8.2}");
+}
+
+fn heading(name: &str) {
+    println!(
+        "{name:<44} {:>10} {:>10} {:>8}",
+        "proved ns", "Rust ns", "ratio"
+    );
+}
+
+fn main() {
+    if cfg!(debug_assertions) {
+        println!("built without --release: the times of the second judge say nothing");
+    }
+    println!("proved / Rust, median of {REPETITIONS} pairs of repetitions by turns");
+    println!("the Rust judge sums in 128 bits throughout, which 64-bit sums would undercut");
+    println!("report buffers: cleared once before the first call, not between calls");
+
+    heading("judgement");
+    let of =
+        |hour: &Hour, number, index| measure_judges(&hour.case(), &hour.proposal(), number, index);
+    print("P1", &of(&three_zone_hour(), 0, 0));
+    print(
+        "middling: 6 zones, 12, 10 and 60 rows",
+        &of(&sized(6, 12, 10, 60), 0, 0),
+    );
+    let largest = sized(16, 64, 64, 512);
+    print(
+        "largest: 16 zones, 64, 64 and 512 rows",
+        &of(&largest, 0, 0),
+    );
+    let header = Hour {
+        tolerance: 1_000_000_001,
+        ..largest.clone()
+    };
+    print("largest, refused at the header (4)", &of(&header, 4, 10));
+    let mut field = largest.clone();
+    field.branches[63].ram = 500_001;
+    print(
+        "largest, refused at the last branch (6)",
+        &of(&field, 6, 63),
+    );
+    let mut rule = largest.clone();
+    rule.branches[63].ram = -500_000;
+    print(
+        "largest, refused at the last branch (24)",
+        &of(&rule, 24, 63),
+    );
+
+    heading("growth, sixteen zones");
+    for count in [0, 64, 128, 256, 512] {
+        print(
+            &format!("{count} orders"),
+            &of(&sized(16, 0, 0, count), 0, 0),
+        );
+    }
+    for count in [0, 8, 16, 32, 64] {
+        print(
+            &format!("{count} branches"),
+            &of(&sized(16, count, 0, 0), 0, 0),
+        );
+    }
+    for count in [0, 8, 16, 32, 64] {
+        print(
+            &format!("{count} links"),
+            &of(&sized(16, 0, count, 0), 0, 0),
+        );
+    }
+
+    #[cfg(feature = "desk")]
+    {
+        heading("desk lines");
+        let hour = three_zone_hour();
+        let input = [hour.case(), hour.proposal()].concat();
+        let mut out = [0; 1_024];
+        let length = archive::desk_lines(&input, &mut out) as usize;
+        assert_eq!(
+            out[..length],
+            second_judge::desk_lines(&input),
+            "the same lines"
+        );
+        let times = measure(
+            || {
+                for _ in 0..100 {
+                    black_box(archive::desk_lines(black_box(&input), black_box(&mut out)));
+                }
+            },
+            || {
+                for _ in 0..100 {
+                    black_box(second_judge::desk_lines(black_box(&input)));
+                }
+            },
+        );
+        print("a day: a hundred of P1's reports", &times);
+    }
+}
