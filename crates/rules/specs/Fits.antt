@@ -117,7 +117,7 @@ module _ (c : Case) (cs : CaseSound c) where
 
   -- after row 14
   module _ (d : Prices) (system : Near 2147483648 (d .system)) (shadows : (m : ℕ) → m < c .branches → d .shadow m ≤ 1000000) where
-    price-term-near : (z m : ℕ) → z < c .zones → m < c .branches → Near 200000000000 (branchPrice c d z m)
+    pub price-term-near : (z m : ℕ) → z < c .zones → m < c .branches → Near 200000000000 (branchPrice c d z m)
     unfolding branchPrice
     price-term-near z m k h = near-mul (near-within 200000 limits.ptdf (c .ptdf m z) (omega arith) (omega arith) (cs .ptdf-in m z h k)) (near-unsigned (d .shadow m) 1000000 (shadows m h))
 

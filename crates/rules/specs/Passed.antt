@@ -33,6 +33,7 @@ pub record CaseSound (c : Case) : Type 0 where
   pub capacity-in : (l : ℕ) → l < c .links → c .capacity l ≤ 100000
   pub side-in : (i : ℕ) → i < c .orders → c .side i ≤ 1
   pub quantity-in : (i : ℕ) → i < c .orders → c .quantity i ≤ 100000
+  pub quantity-within : (i : ℕ) → i < c .orders → Within limits.quantity (pos (c .quantity i))
   pub price-in : (i : ℕ) → i < c .orders → Within limits.orderPrice (c .price i)
 
 -- ROWS 9 TO 14 PASSED
@@ -90,6 +91,7 @@ module _ (s : List ℕ) (c : Case) (passed : refusal (caseRows s c) ≡ none) wh
     capacity-in = λ l h. (nat-within 0 100000 (c .capacity l) ((link-ok l h) .3)) .1;
     side-in = λ i h. nltb→le 1 (c .side i) ((order-ok i h) .1);
     quantity-in = λ i h. (nat-within 1 100000 (c .quantity i) ((order-ok i h) .2)) .1;
+    quantity-within = λ i h. within limits.quantity (pos (c .quantity i)) ((order-ok i h) .2);
     price-in = λ i h. within limits.orderPrice (c .price i) ((order-ok i h) .3);
   }
 

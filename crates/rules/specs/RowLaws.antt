@@ -52,6 +52,13 @@ first-some (suc n) f k h = elim (decLt k n) [ yes l ↦ earlier (firstBelow n f)
     here : (o : Option ℕ) → o ≡ none → k ≡ n → _≡_ {A = Option ℕ} (elim o [ some j ↦ some j | none ↦ cond (f n) (some n) none ]) (some k)
     here o e q = rw e (last (f n) (subst (λ (i : ℕ). T (f i)) q (h .holds)) ∙ ap some (sym q))
 
+-- the same from the tests' own answers, as a search has them
+pub found-at : (n : ℕ) (f : ℕ → Bool) (k : ℕ) → k < n → f k ≡ true → ((i : ℕ) → i < k → f i ≡ false) → firstBelow n f ≡ some k
+found-at n f k h e p = first-some n f k (record { place-in = h; holds = subst T (sym e) tt; none-before = λ i l. subst (λ (b : Bool). T (not b)) (sym (p i l)) tt })
+
+pub found-nowhere : (n : ℕ) (f : ℕ → Bool) → ((i : ℕ) → i < n → f i ≡ false) → firstBelow n f ≡ none
+found-nowhere n f p = first-none n f (λ i l. subst (λ (b : Bool). T (not b)) (sym (p i l)) tt)
+
 last-none : (b : Bool) (n : ℕ) → cond b (some n) none ≡ none → T (not b)
 last-none true n e = absurd (Option·some-ne-none n e)
 last-none false n e = tt

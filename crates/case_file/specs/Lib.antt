@@ -1,0 +1,4 @@
+pub mod Answer
+pub mod Opened
+pub mod Parts
+pub mod Table

@@ -1,0 +1,35 @@
+-- What the verdicts before a stage leave, and that the sums of the stage fit. Assumes nothing.
+use mathlib.Core.Path.{_≡_}
+use mathlib.Core.List.{List}
+use Prim.Native.Nat.{ℕ, _+_, _≤_, _<_}
+use native.Mathlib.Omega.{arith}
+use lib.ListN.{getD}
+use lib.IntN.{ℤ}
+use mir.Syntax.{w64}
+use Rattle.integers.specs.Sums.{sum-ext}
+use Rattle.integers.specs.Machine.{SumsFit, sfits-by}
+use Rattle.rules.specs.Layout.{u32At}
+use Rattle.rules.specs.Hour.{Case, Plan}
+
+-- verdict 21 passed
+pub record VolumesIn (c : Case) (p : Plan) : Type 0 where
+  pub within : (i : ℕ) → i < c .orders → p .volume i ≤ c .quantity i
+
+-- verdict 23 passed: no flow passes the greatest capacity
+pub record FlowsIn (c : Case) (p : Plan) : Type 0 where
+  pub within : (l : ℕ) → l < c .links → p .flow l ≤ 100000
+
+-- an unsigned field of 32 bits, whose bytes are bytes
+pub record Bytes (s : List ℕ) : Type 0 where
+  pub byte : (i : ℕ) → getD s i 0 < 256
+
+pub word-small : (s : List ℕ) (k : ℕ) → Bytes s → u32At s k ≤ 4294967295
+unfolding u32At
+word-small s k b = omega (arith, b .byte k, b .byte (k + 1), b .byte (k + 2), b .byte (k + 3))
+
+-- sums that fit, of terms that are equal
+pub fit-ext : (f g : ℕ → ℤ) (n : ℕ) → ((i : ℕ) → i < n → g i ≡ f i) → SumsFit f n → SumsFit g n
+fit-ext f g n e h = record {
+  term = λ i l. sfits-by w64 (e i l) (h .term i l);
+  fits = λ i l. sfits-by w64 (sum-ext i g f (λ j m. e j (omega arith))) (h .fits i l);
+}

@@ -1,0 +1,10 @@
+-- Definitions
+pub mod Ascii
+pub mod Text
+pub mod Put
+-- Laws
+pub mod Places
+pub mod Value
+pub mod Digits
+pub mod Sizes
+mod Worked

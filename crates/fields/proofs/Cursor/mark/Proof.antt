@@ -1,0 +1,63 @@
+-- `fields::Cursor::mark` meets its contract: the three letters are there, or they are not. Assumes nothing.
+use mathlib.Core.Path.{_≡_, ap, sym, _∙_}
+use mathlib.Core.Bool.{Bool, true}
+use Prim.Native.Nat.{_+_, _≤_}
+use native.Mathlib.Omega.{arith}
+use borrow.Author.Needs.{needs}
+use borrow.Author.Tests.{leb-true, not-true, not-false}
+use lib.ListN.{length}
+use Rattle.rules.specs.Layout.{u8At}
+use Rattle.fields.specs.Walk.{there, cursor, markAt, markBy}
+use Rattle.fields.proofs.Cursor.mark.Statement.{statement}
+use Rattle.fields.proofs.Cursor.mark.Tie as tie
+
+there-requires : tie.Need-there-requires
+there-requires c κs = search needs
+
+returns : tie.Need-returns
+returns c = let a = c .before .before .before .args in ap (markBy (markAt (a .s .now) (a .self .at)) (cursor (a .self .at + 3))) (sym (not-true _ (c .if1 .taken)) ∙ c .before .there .ensures)
+
+is-there : (c : tie.Else1) → there (c .before .before .before .args .s .now) (c .before .before .before .args .self .at) 3 ≡ true
+is-there c = sym (c .before .there .ensures) ∙ not-false _ (c .if1 .left)
+
+inside : (c : tie.Else1) → c .before .before .before .args .self .at + 3 ≤ length (c .before .before .before .args .s .now)
+inside c = leb-true _ _ (is-there c)
+
+shared-slice-read-t7 : tie.Need-shared-slice-read-t7
+shared-slice-read-t7 c = omega (arith, inside (c .before))
+
+add-t8 : tie.Need-add-t8
+add-t8 c = omega (arith, inside (c .before))
+
+shared-slice-read-t10 : tie.Need-shared-slice-read-t10
+shared-slice-read-t10 c = omega (arith, inside (c .before .before))
+
+add-t11 : tie.Need-add-t11
+add-t11 c = omega (arith, inside (c .before .before))
+
+shared-slice-read-t13 : tie.Need-shared-slice-read-t13
+shared-slice-read-t13 c = omega (arith, inside (c .before .before .before))
+
+add-t15 : tie.Need-add-t15
+add-t15 c = omega (arith, inside (c .before .before .before))
+
+returns-2 : tie.Need-returns-2
+unfolding u8At
+returns-2 c =
+    let e = c .before .before .before in
+    let a = e .before .before .before .args in
+    ap (markBy (markAt (a .s .now) (a .self .at)) (cursor (a .self .at + 3))) (sym (is-there e))
+
+pub mark-spec : {M : Type 1} → statement M
+mark-spec =
+    tie.close
+    (tie.spec
+    there-requires
+    returns
+    shared-slice-read-t7
+    add-t8
+    shared-slice-read-t10
+    add-t11
+    shared-slice-read-t13
+    add-t15
+    returns-2)

@@ -1,0 +1,19 @@
+-- `fields::signed_at` meets its contract. Assumes nothing.
+use mathlib.Core.Path.{_∙_}
+use borrow.Author.Needs.{needs}
+use mir.Syntax.{w32}
+use mir.Facts.{toZ-ofZ}
+use Rattle.fields.proofs.signed_at.Statement.{statement}
+use Rattle.fields.proofs.signed_at.Tie as tie
+
+entry-at-requires : tie.Need-entry-at-requires
+entry-at-requires c κs = search needs
+
+widened-requires : tie.Need-widened-requires
+widened-requires c κs = search needs
+
+returns : tie.Need-returns
+returns c = c .widened .ensures ∙ toZ-ofZ {w = w32} (record { sfits = c .before .entry-at .ok }) ∙ c .before .entry-at .ensures
+
+pub signed-at-spec : {M : Type 1} → statement M
+signed-at-spec = tie.close (tie.spec entry-at-requires widened-requires returns)

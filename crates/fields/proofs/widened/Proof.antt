@@ -1,0 +1,16 @@
+-- `fields::widened` meets its contract: 32 signed bits fit 64. Assumes nothing.
+use mathlib.Core.Path.{_∙_}
+use mir.Syntax.{w32, w64}
+use mir.Facts.{toZ-ofZ, sfits-widen}
+use Rattle.integers.specs.Machine.{sfits-by}
+use Rattle.fields.proofs.widened.Statement.{statement}
+use Rattle.fields.proofs.widened.Tie as tie
+
+cast-t2 : tie.Need-cast-t2
+cast-t2 c = sfits-by w64 (toZ-ofZ (c .fits .x)) (sfits-widen {w = w32} {w′ = w64} tt (c .fits .x))
+
+returns : tie.Need-returns
+returns c = toZ-ofZ (cast-t2 c) ∙ toZ-ofZ (c .fits .x)
+
+pub widened-spec : {M : Type 1} → statement M
+widened-spec = tie.close (tie.spec cast-t2 returns)

@@ -1,0 +1,90 @@
+-- `order_book::open_book` meets its contract: each return goes by the tests passed on the way. Assumes nothing.
+use mathlib.Core.Path.{_≡_, refl, sym, _∙_}
+use mathlib.Core.Bool.{false}
+use lib.ListN.{length}
+use lib.IntN.{pos}
+use Rattle.integers.specs.Ranges.{outside, nat-within}
+use Rattle.rules.specs.Layout.{zoneCounts, orderCounts}
+use Rattle.order_book.specs.Steps.{is-false, opened-by, place-at, place-nowhere}
+use borrow.Author.Needs.{needs}
+use Rattle.order_book.proofs.open_book.Statement.{statement}
+use Rattle.order_book.proofs.open_book.Tie as tie
+
+count-outside-requires : tie.Need-count-outside-requires
+count-outside-requires c κs = search needs
+
+new-requires : tie.Need-new-requires
+new-requires c κs = search needs
+
+returns : tie.Need-returns
+returns c =
+    let a = c .before .before .before .args in
+    c .new .ensures ∙ opened-by (a .count) (a .prices .now) (sym (c .before .before .count-outside .ensures) ∙ c .before .if1 .taken) refl refl
+
+count-outside-requires-2 : tie.Need-count-outside-requires-2
+count-outside-requires-2 c κs = search needs
+
+new-requires-2 : tie.Need-new-requires-2
+new-requires-2 c κs = search needs
+
+-- after the first test, and after the second
+prices-in : (c : tie.Else1) → outside zoneCounts (pos (length (c .before .before .args .prices .now))) ≡ false
+prices-in c = sym (c .before .count-outside .ensures) ∙ c .if1 .left
+
+rows-in : (c : tie.Else2) → outside orderCounts (pos (c .before .before .before .before .args .count)) ≡ false
+rows-in c = sym (c .before .count-outside2 .ensures) ∙ c .if2 .left
+
+returns-2 : tie.Need-returns-2
+returns-2 c =
+    let e = c .before .before .before in
+    let a = e .before .before .args in
+    c .new2 .ensures ∙ opened-by (a .count) (a .prices .now) (prices-in e) (sym (c .before .before .count-outside2 .ensures) ∙ c .before .if2 .taken) refl
+
+first-unpriced-requires : tie.Need-first-unpriced-requires
+first-unpriced-requires c κs = (nat-within 1 16 (length (c .before .before .before .before .args .prices .now)) (is-false (prices-in (c .before .before)))) .1
+
+enum-known-zone : tie.Need-enum-known-zone
+enum-known-zone c = search needs
+
+enum-told : tie.Need-enum-told
+enum-told c = search needs
+
+new-requires-3 : tie.Need-new-requires-3
+new-requires-3 c κs = search needs
+
+returns-3 : tie.Need-returns-3
+returns-3 c =
+    let f = c .before .before .before in
+    let e = f .before in
+    let a = e .before .before .before .before .args in
+    c .new3 .ensures
+    ∙ opened-by (a .count) (a .prices .now) (prices-in (e .before .before)) (rows-in e) (place-nowhere _ (sym (f .first-unpriced .ensures) ∙ c .before .enum-told .given .1))
+
+new-requires-4 : tie.Need-new-requires-4
+new-requires-4 c κs = search needs
+
+returns-4 : tie.Need-returns-4
+returns-4 c =
+    let f = c .before .before .before .before in
+    let e = f .before in
+    let a = e .before .before .before .before .args in
+    c .new4 .ensures
+    ∙ opened-by (a .count) (a .prices .now) (prices-in (e .before .before)) (rows-in e) (place-at _ _ (sym (f .first-unpriced .ensures) ∙ c .before .before .zone .given .1))
+
+pub open-book-spec : {M : Type 1} → statement M
+open-book-spec =
+    tie.close
+    (tie.spec
+    count-outside-requires
+    new-requires
+    returns
+    count-outside-requires-2
+    new-requires-2
+    returns-2
+    first-unpriced-requires
+    enum-known-zone
+    enum-told
+    new-requires-3
+    returns-3
+    new-requires-4
+    returns-4)

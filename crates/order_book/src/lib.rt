@@ -1,0 +1,245 @@
+// An order book lent in memory: rows beside zone prices in grains. Its rows go one by one into an account, which in the end gives the sum of rule 8 or a refusal.
+ghost use mathlib.Core.Path.{_≡_};
+ghost use Prim.Native.Nat.{_+_, _<_, _≤_};
+ghost use lib.ListN.{length};
+ghost use lib.IntN.{pos, _+ℤ_};
+ghost use mir.Syntax.{w64};
+ghost use mir.Val.{SFits};
+ghost use Rattle.integers.specs.Ranges.{range};
+ghost use Rattle.integers.specs.Ranges as ranges;
+ghost use Rattle.measures.specs.Limits as limits;
+ghost use Rattle.measures.specs.Held.{grainsIn};
+ghost use Rattle.orders.specs.Admitted.{admitted};
+ghost use Rattle.rules.specs.Book.{priceAt};
+ghost use Rattle.order_book.specs.Account.{standing, isSettled, refusedRow, withRow, placeOf, firstUnpriced, openOf, addOf, answered, closeOf, counted, OrderIn, Ready};
+use measures::Grains;
+use measures::GrainsAnswer;
+use measures::Microcents;
+use measures::Raw;
+use orders::Order;
+use orders::OrderAnswer;
+use orders::admit;
+use orders::surplus;
+
+// A row as the host lends it. Side 0 buys, 1 sells; the quantity is in tenths, the price in cents.
+#[repr(C)]
+pub struct OrderRow {
+    pub zone: u8,
+    pub side: u8,
+    pub quantity: u32,
+    pub price: i32,
+}
+
+// The answer: number and index as in the verdict table, and the sum in microcents, which is 0 for a refusal.
+#[repr(C)]
+pub struct Surplus {
+    pub number: u32,
+    pub index: u32,
+    pub sum: i64,
+}
+
+// What stands after some rows: the refusal so far, or the number 0; how many rows were taken; and their sum. The number 25 stands until a row is refused.
+pub struct Account {
+    number: u32,
+    index: u32,
+    taken: u32,
+    sum: Microcents,
+}
+
+enum Place {
+    At(u32),
+    Nowhere,
+}
+
+impl Account {
+    fn new(number: u32, index: u32) -> Account
+        ensures { λ r. ⌜ r ≡ standing number index ⌝ }
+    {
+        Account {
+            number,
+            index,
+            taken: 0,
+            sum: Microcents::ZERO,
+        }
+    }
+
+    // No row changes it any more.
+    fn settled(self) -> bool
+        ensures { λ r. ⌜ r ≡ isSettled self ⌝ }
+    {
+        if self.number == 0 {
+            return false;
+        }
+        self.number != 25
+    }
+
+    // Refused at the row that follows those taken.
+    fn refuse_row(self) -> Account
+        ensures { λ r. ⌜ r ≡ refusedRow self ⌝ }
+    {
+        let sum = self.sum;
+        Account {
+            number: 8,
+            index: self.taken,
+            taken: self.taken,
+            sum,
+        }
+    }
+
+    fn take_row(self, surplus: Microcents) -> Account
+        requires { ⌜ self .taken < 512 ⌝ }
+        requires { ⌜ SFits w64 (self .sum .0 +ℤ surplus .0) ⌝ }
+        ensures { λ r. ⌜ r ≡ withRow self (surplus .0) ⌝ }
+    {
+        let sum = self.sum.plus(surplus);
+        Account {
+            number: self.number,
+            index: self.index,
+            taken: self.taken + 1,
+            sum,
+        }
+    }
+}
+
+// How many prices and rows there may be.
+pub const PRICES_LEAST: usize = 1;
+
+pub const PRICES_GREATEST: usize = 16;
+
+pub const ROWS_LEAST: usize = 0;
+
+pub const ROWS_GREATEST: usize = 512;
+
+fn count_outside(least: usize, greatest: usize, n: usize) -> bool
+    ensures { λ r. ⌜ r ≡ ranges.outside (range (pos least) (pos greatest)) (pos n) ⌝ }
+{
+    if n < least {
+        return true;
+    }
+    greatest < n
+}
+
+fn price_at(prices: &[i64], zone: usize) -> Raw
+    requires { ⌜ zone < length (now prices) ⌝ }
+    ensures { λ r. ⌜ r .0 ≡ priceAt (now (prices .entry)) zone ⌝ }
+{
+    Raw(prices[zone])
+}
+
+// The price of a zone, held to its limits.
+fn zone_price(prices: &[i64], zone: usize) -> GrainsAnswer
+    requires { ⌜ zone < length (now prices) ⌝ }
+    ensures { λ r. ⌜ r ≡ grainsIn limits.zonePrice (priceAt (now (prices .entry)) zone) ⌝ }
+{
+    Grains::zone_price(price_at(prices, zone))
+}
+
+fn unpriced(prices: &[i64], zone: usize) -> bool
+    requires { ⌜ zone < length (now prices) ⌝ }
+    ensures { λ r. ⌜ r ≡ ranges.outside limits.zonePrice (priceAt (now (prices .entry)) zone) ⌝ }
+{
+    let GrainsAnswer::Held(_price) = zone_price(prices, zone) else {
+        return true;
+    };
+    false
+}
+
+// The first zone whose price is out of range.
+fn first_unpriced(prices: &[i64]) -> Place
+    requires { ⌜ length (now prices) ≤ 16 ⌝ }
+    ensures { λ r. ⌜ r ≡ placeOf (firstUnpriced (now (prices .entry))) ⌝ }
+{
+    let mut zone = 0;
+    while zone < prices.len() {
+        if unpriced(prices, zone) {
+            return Place::At(zone as u32);
+        }
+        zone += 1;
+    }
+    Place::Nowhere
+}
+
+// The account before the first row of `count`.
+pub fn open_book(count: usize, prices: &[i64]) -> Account
+    ensures { λ r. ⌜ r ≡ openOf count (now (prices .entry)) ⌝ }
+{
+    if count_outside(PRICES_LEAST, PRICES_GREATEST, prices.len()) {
+        return Account::new(4, 5);
+    }
+    if count_outside(ROWS_LEAST, ROWS_GREATEST, count) {
+        return Account::new(4, 8);
+    }
+    let Place::At(zone) = first_unpriced(prices) else {
+        return Account::new(0, 0);
+    };
+    Account::new(25, zone)
+}
+
+fn wide(x: u8) -> usize
+    ensures { λ r. ⌜ r ≡ x ⌝ }
+{
+    x as usize
+}
+
+fn row_price(row: OrderRow) -> Raw
+    ensures { λ r. ⌜ r .0 ≡ row .price ⌝ }
+{
+    Raw(row.price as i64)
+}
+
+fn admit_row(zones: usize, row: OrderRow) -> OrderAnswer
+    ensures { λ r. ⌜ r ≡ admitted zones (row .zone) (row .side) (row .quantity) (row .price) ⌝ }
+{
+    admit(
+        zones,
+        wide(row.zone),
+        row.side,
+        row.quantity,
+        row_price(row),
+    )
+}
+
+// Rule 8 of one order, or nothing where its zone's price is out of range: the book is refused then.
+fn order_surplus(order: Order, prices: &[i64]) -> Microcents
+    requires { ⌜ OrderIn (length (now prices)) order ⌝ }
+    ensures { λ r. ⌜ r .0 ≡ counted order (now (prices .entry)) ⌝ }
+{
+    let GrainsAnswer::Held(price) = zone_price(prices, order.zone) else {
+        return Microcents::ZERO;
+    };
+    surplus(order, price)
+}
+
+// The account with one row more.
+pub fn add_row(account: Account, row: OrderRow, prices: &[i64]) -> Account
+    requires { ⌜ Ready account ⌝ }
+    ensures { λ r. ⌜ r ≡ addOf account row (now (prices .entry)) ⌝ }
+{
+    if account.settled() {
+        return account;
+    }
+    let OrderAnswer::Held(order) = admit_row(prices.len(), row) else {
+        return account.refuse_row();
+    };
+    account.take_row(order_surplus(order, prices))
+}
+
+fn answer(number: u32, index: u32, sum: Raw) -> Surplus
+    ensures { λ r. ⌜ r ≡ answered number index (sum .0) ⌝ }
+{
+    Surplus {
+        number,
+        index,
+        sum: sum.0,
+    }
+}
+
+// The answer after the last row.
+pub fn close_book(account: Account) -> Surplus
+    ensures { λ r. ⌜ r ≡ closeOf account ⌝ }
+{
+    if account.number == 0 {
+        return answer(account.number, account.index, account.sum.raw());
+    }
+    answer(account.number, account.index, Microcents::ZERO.raw())
+}

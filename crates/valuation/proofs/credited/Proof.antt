@@ -1,0 +1,24 @@
+-- `valuation::credited` meets its contract. Assumes nothing.
+use mathlib.Core.Path.{_≡_, ap, sym, subst, _∙_}
+use mathlib.Core.Bool.{Bool}
+use lib.IntN.{_+ℤ_}
+use mir.Syntax.{w64}
+use mir.Val.{SFits}
+use Rattle.rules.specs.Hour.{signed}
+use Rattle.valuation.proofs.credited.Statement.{statement}
+use Rattle.valuation.proofs.credited.Tie as tie
+
+plus-requires : tie.Need-plus-requires
+plus-requires c κs = subst (λ (b : Bool). SFits w64 (c .before .args .sum .0 +ℤ signed b (c .before .args .value .0))) (c .if1 .taken) (c .before .pre)
+
+returns : tie.Need-returns
+returns c = c .plus .ensures ∙ ap (λ (b : Bool). c .before .before .args .sum .0 +ℤ signed b (c .before .before .args .value .0)) (sym (c .before .if1 .taken))
+
+minus-requires : tie.Need-minus-requires
+minus-requires c κs = subst (λ (b : Bool). SFits w64 (c .before .args .sum .0 +ℤ signed b (c .before .args .value .0))) (c .if1 .left) (c .before .pre)
+
+returns-2 : tie.Need-returns-2
+returns-2 c = c .minus .ensures ∙ ap (λ (b : Bool). c .before .before .args .sum .0 +ℤ signed b (c .before .before .args .value .0)) (sym (c .before .if1 .left))
+
+pub credited-spec : {M : Type 1} → statement M
+credited-spec = tie.close (tie.spec plus-requires returns minus-requires returns-2)

@@ -1,0 +1,90 @@
+-- `valuation::first_price_outside` meets its contract: every zone passed has its price within the limits. Assumes nothing.
+use mathlib.Core.Path.{_≡_, sym, ap, _∙_}
+use mathlib.Core.Bool.{false}
+use Prim.Native.Nat.{ℕ, _≤_, _<_, _-_}
+use native.Mathlib.Omega.{arith}
+use borrow.Author.Needs.{needs}
+use borrow.Author.Count.{below-none, below-more}
+use Rattle.integers.specs.Ranges.{outside}
+use Rattle.measures.specs.Limits as limits
+use Rattle.measures.specs.Held.{grainsIn, grains-outside, grains-held}
+use Rattle.measures.specs.declared.Raw.{Raw}
+use Rattle.rules.specs.RowLaws.{found-at, found-nowhere}
+use Rattle.valuation.specs.Prices.{grainsAt}
+use Rattle.valuation.proofs.first_price_outside.Statement.{statement}
+use Rattle.valuation.proofs.first_price_outside.Tie as tie
+
+abbrev Inv-loop : tie.InvT-loop
+Inv-loop zones prices z₀ z = (z ≤ zones) × ((k : ℕ) → k < z → outside limits.zonePrice (grainsAt prices k) ≡ false)
+
+abbrev μ-loop : tie.MeasureT-loop
+μ-loop zones prices z₀ z = zones - z
+
+loop-holds : tie.Need-loop-holds Inv-loop μ-loop
+loop-holds c = (omega arith, below-none _)
+
+mul-price : tie.Need-mul-price Inv-loop μ-loop
+mul-price c = omega arith
+
+array-copy-out-price : tie.Need-array-copy-out-price Inv-loop μ-loop
+array-copy-out-price c = omega arith
+
+raw-requires : tie.Need-raw-requires Inv-loop μ-loop
+raw-requires c κs = search needs
+
+zone-price-requires : tie.Need-zone-price-requires Inv-loop μ-loop
+zone-price-requires c κs = search needs
+
+enum-told : tie.Need-enum-told Inv-loop μ-loop
+enum-told c = search needs
+
+enum-told-2 : tie.Need-enum-told-2 Inv-loop μ-loop
+enum-told-2 c = search needs
+
+-- the answer for this zone's price
+answered : (c : tie.After-zone-price Inv-loop μ-loop)
+    → c .zone-price .result ≡ grainsIn limits.zonePrice (grainsAt (c .before .before .before .before .before .args .t1) (c .before .before .before .before .loop .z))
+answered c = c .zone-price .ensures ∙ ap (λ (r : Raw). grainsIn limits.zonePrice (r .0)) (c .before .raw .ensures)
+
+returns : tie.Need-returns Inv-loop μ-loop
+returns c =
+    let p = c .before .before in
+    let l = p .before .before .before .before in
+    sym (found-at (l .before .args .zones) _ (l .loop .z) (p .before .before .before .loop-test .taken) (grains-outside _ _ (sym (answered p) ∙ c .enum-told2 .given .1)) (l .loop .inv .1))
+
+add-z : tie.Need-add-z Inv-loop μ-loop
+add-z c = omega arith
+
+loop-less : tie.Need-loop-less Inv-loop μ-loop
+loop-less c = omega arith
+
+loop-again : tie.Need-loop-again Inv-loop μ-loop
+loop-again c =
+    let p = c .before .before in
+    let l = p .before .before .before .before in
+    (omega arith, below-more _ (l .loop .z) (l .loop .inv .1) ((grains-held _ _ (c .enum-told .given .0 .0) (sym (answered p) ∙ c .enum-told .given .1)) .0))
+
+returns-2 : tie.Need-returns-2 Inv-loop μ-loop
+returns-2 c =
+    let l = c .before in
+    let e : l .loop .z ≡ l .before .args .zones = omega arith in
+    sym (found-nowhere (l .before .args .zones) _ (λ k h. l .loop .inv .1 k (omega arith)))
+
+pub first-price-outside-spec : {M : Type 1} → statement M
+first-price-outside-spec =
+    tie.close
+    (tie.spec
+    Inv-loop
+    μ-loop
+    loop-holds
+    mul-price
+    array-copy-out-price
+    raw-requires
+    zone-price-requires
+    enum-told
+    enum-told-2
+    returns
+    add-z
+    loop-less
+    loop-again
+    returns-2)

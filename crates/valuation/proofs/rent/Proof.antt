@@ -1,0 +1,78 @@
+-- `valuation::rent` meets its contract: after z turns the sum is that of the first z zones. Assumes nothing.
+use mathlib.Core.Path.{_≡_, refl, ap, _∙_}
+use Prim.Native.Nat.{ℕ, _≤_, _-_}
+use native.Mathlib.Omega.{arith}
+use lib.IntN.{_*ℤ_}
+use Rattle.integers.specs.Sums.{sumTo}
+use Rattle.integers.specs.Machine.{step, step-fits}
+use Rattle.clearing.specs.Held.{tenthsAt}
+use Rattle.valuation.specs.Prices.{grainsAt}
+use Rattle.valuation.proofs.rent.Statement.{statement}
+use Rattle.valuation.proofs.rent.Tie as tie
+
+abbrev Inv-loop : tie.InvT-loop
+Inv-loop zones nets prices sum₀ z₀ sum z = (z ≤ zones) × (sum .0 ≡ sumTo z (λ k. tenthsAt nets k *ℤ grainsAt prices k))
+
+abbrev μ-loop : tie.MeasureT-loop
+μ-loop zones nets prices sum₀ z₀ sum z = zones - z
+
+loop-holds : tie.Need-loop-holds Inv-loop μ-loop
+unfolding sumTo
+loop-holds c = (omega arith, refl)
+
+mul-net : tie.Need-mul-net Inv-loop μ-loop
+mul-net c = omega arith
+
+array-copy-out-net : tie.Need-array-copy-out-net Inv-loop μ-loop
+array-copy-out-net c = omega arith
+
+mul-price : tie.Need-mul-price Inv-loop μ-loop
+mul-price c = omega arith
+
+array-copy-out-price : tie.Need-array-copy-out-price Inv-loop μ-loop
+array-copy-out-price c = omega arith
+
+cost-requires : tie.Need-cost-requires Inv-loop μ-loop
+cost-requires c κs =
+    let l = c .before .before .before in
+    l .before .pre .1 .term (l .loop .z) (c .before .before .loop-test .taken)
+
+plus-requires : tie.Need-plus-requires Inv-loop μ-loop
+plus-requires c κs =
+    let l = c .before .before .before .before in
+    step-fits (l .before .pre .1) (l .loop .z) (c .before .before .before .loop-test .taken) (l .loop .inv .1) (c .cost .ensures)
+
+add-z : tie.Need-add-z Inv-loop μ-loop
+add-z c = omega arith
+
+loop-less : tie.Need-loop-less Inv-loop μ-loop
+loop-less c = omega arith
+
+loop-again : tie.Need-loop-again Inv-loop μ-loop
+loop-again c =
+    let l = c .before .before .before .before .before in
+    (omega arith, step (l .before .pre .1) (l .loop .z) (l .loop .inv .1) (c .before .cost .ensures) (c .plus .ensures))
+
+returns : tie.Need-returns Inv-loop μ-loop
+returns c =
+    let l = c .before in
+    let e : l .loop .z ≡ l .before .args .zones = omega arith in
+    l .loop .inv .1 ∙ ap (λ (n : ℕ). sumTo n (λ k. tenthsAt (l .before .args .t1) k *ℤ grainsAt (l .before .args .t2) k)) e
+
+pub rent-spec : {M : Type 1} → statement M
+rent-spec =
+    tie.close
+    (tie.spec
+    Inv-loop
+    μ-loop
+    loop-holds
+    mul-net
+    array-copy-out-net
+    mul-price
+    array-copy-out-price
+    cost-requires
+    plus-requires
+    add-z
+    loop-less
+    loop-again
+    returns)

@@ -1,0 +1,17 @@
+-- One order's, branch's or link's part of a total, as the code computes it in microcents: equal to the definition's part. Assumes nothing.
+use mathlib.Core.Path.{_≡_, ap, sym, _∙_}
+use mathlib.Core.Bool.{Bool, true, false}
+use native.Mathlib.Omega.{arith}
+use lib.IntN.{ℤ, pos, negℤ, _*ℤ_}
+use Rattle.integers.specs.Difference.{at, _⊗_, ⊝_, eq-by}
+use Rattle.measures.specs.Limits.{grainsOf}
+use Rattle.rules.specs.Hour.{signed}
+
+-- volume times the order price in grains is 100,000 times volume times the order price
+pub order-value : (b : Bool) (v x : ℤ) → signed b (v *ℤ grainsOf x) ≡ pos 100000 *ℤ signed b (v *ℤ x)
+order-value true v x = eq-by (at v ⊗ (at (pos 100000) ⊗ at x)) (at (pos 100000) ⊗ (at v ⊗ at x)) (omega arith)
+order-value false v x = eq-by (⊝_ (at v ⊗ (at (pos 100000) ⊗ at x))) (at (pos 100000) ⊗ (⊝_ (at v ⊗ at x))) (omega arith)
+
+-- and so the margin times the shadow price in grains
+pub branch-value : (r x : ℤ) → r *ℤ grainsOf x ≡ pos 100000 *ℤ (r *ℤ x)
+branch-value r x = eq-by (at r ⊗ (at (pos 100000) ⊗ at x)) (at (pos 100000) ⊗ (at r ⊗ at x)) (omega arith)
