@@ -1,0 +1,18 @@
+use borrow.Author.Needs.{needs}
+use Rattle.host.proofs.hour.lta_judge.Statement.{statement}
+use Rattle.host.proofs.hour.lta_judge.Tie as tie
+
+judge-requires : tie.Need-judge-requires
+judge-requires c κs = search needs
+
+packed-requires : tie.Need-packed-requires
+packed-requires c κs = search needs
+
+same-length : tie.Need-same-length
+same-length c = search needs
+
+returns : tie.Need-returns
+returns c = ?
+
+pub lta-judge-spec : {M : Type 1} → statement M
+lta-judge-spec = tie.close (tie.spec judge-requires packed-requires same-length returns)

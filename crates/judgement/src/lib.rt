@@ -1,0 +1,224 @@
+// The judgement: 30 first, then the verdict table in its order; the report is written for 0 and 26 alone.
+ghost use mathlib.Core.Path.{_≡_};
+ghost use Prim.Native.Nat.{ℕ, _+_, _*_, _<_, _≤_};
+ghost use lib.ListN.{length};
+ghost use lib.IntN.{ℤ, pos, _+ℤ_, _-ℤ_, _*ℤ_};
+ghost use lib.Signed.{_≤ℤ_};
+ghost use Rattle.rules.specs.Hour.{caseOf, planOf, pricesOf, net};
+ghost use Rattle.rules.specs.Hour as rules;
+ghost use Rattle.measures.specs.Limits.{microcentsOf};
+ghost use Rattle.rules.specs.Hour.{Plan};
+ghost use Rattle.rules.specs.Clearing.{Clearing};
+ghost use Rattle.rules.specs.Report.{totalsOf, bufferAfter, reportedWelfare, reportedGap, reportedRent, reportedOwed};
+ghost use Rattle.rules.specs.Verdict.{outcome};
+ghost use Rattle.fields.specs.Walk.{outcomeOf};
+ghost use Rattle.case_file.specs.Opened.{Opened};
+ghost use Rattle.clearing.specs.Held.{Holds};
+ghost use Rattle.clearing.specs.Stages.{VolumesIn, FlowsIn};
+ghost use Rattle.case_file.specs.Table.{tableOf};
+ghost use Rattle.proposal_file.specs.Proposed.{Proposed};
+ghost use Rattle.proposal_file.specs.Answer.{openingOf};
+ghost use Rattle.report.specs.Written.{totalsIn};
+ghost use Rattle.valuation.specs.Prices.{Priced, PricesIn};
+ghost use Rattle.judgement.specs.Judged.{verdictOf, Judged, rowsFrom, proposalOn};
+use case_file::CaseAnswer;
+use case_file::Counts;
+use case_file::ptdf_table;
+use case_file::read_case;
+use clearing::first_excess_volume;
+use clearing::first_overloaded_branch;
+use clearing::first_overused_link;
+use clearing::flow_based_parts;
+use clearing::net_positions;
+use clearing::net_sum;
+use fields::Place;
+use fields::Refusal;
+use measures::Grains;
+use measures::Tenths;
+use proposal_file::Opening;
+use proposal_file::ProposalAnswer;
+use proposal_file::read_proposal;
+use report::Totals;
+use report::write_report;
+use valuation::branch_total;
+use valuation::first_price_outside;
+use valuation::owed;
+use valuation::rent;
+use valuation::surpluses;
+use valuation::welfare;
+use valuation::zone_prices;
+
+// The verdict of the table: its number and its index.
+pub struct Verdict {
+    pub number: u32,
+    pub index: u32,
+}
+
+// Rules 7 to 11: the five totals of a cleared hour with its prices within their limits.
+fn totals(case: &[u8], k: Counts, proposal: &[u8], nets: [Tenths; 16], prices: [Grains; 16]) -> Totals
+    requires { ⌜ Proposed (now «case») k (now proposal) ⌝ }
+    requires { ⌜ VolumesIn (caseOf (now «case»)) (planOf (now «case») (now proposal)) ⌝ }
+    requires { ⌜ Holds (net (caseOf (now «case»)) (planOf (now «case») (now proposal))) nets ⌝ }
+    requires { ⌜ Priced (caseOf (now «case»)) (pricesOf (now «case») (now proposal)) prices ⌝ }
+    requires { ⌜ PricesIn (caseOf (now «case»)) (pricesOf (now «case») (now proposal)) ⌝ }
+    ensures { λ r. ⌜ totalsIn r ≡ totalsOf (caseOf (now («case» .entry))) (planOf (now («case» .entry)) (now (proposal .entry))) (pricesOf (now («case» .entry)) (now (proposal .entry))) ⌝ }
+{
+    let zones = k.zones;
+    let gained = welfare(case, k, proposal);
+    let owed_on_links = owed(case, k, proposal, prices);
+    let network = branch_total(case, k, proposal).larger(owed_on_links);
+    let bound = surpluses(case, k, proposal, prices).plus(network);
+    let gap = bound.minus(gained);
+    let congestion = rent(nets, prices, zones);
+    Totals {
+        welfare: gained,
+        bound,
+        gap,
+        rent: congestion,
+        owed: owed_on_links,
+    }
+}
+
+// A verdict at a place.
+fn refused(number: u32, place: usize) -> Verdict
+    requires { ⌜ place < 4294967296 ⌝ }
+    ensures { λ r. ⌜ r ≡ record { number = number; index = place } ⌝ }
+{
+    Verdict {
+        number,
+        index: place as u32,
+    }
+}
+
+fn byte_of(zones: usize) -> u8
+    requires { ⌜ zones ≤ 16 ⌝ }
+    ensures { λ r. ⌜ r ≡ zones ⌝ }
+{
+    zones as u8
+}
+
+// Verdict 26 or 0, with the report.
+fn judge_priced(case: &[u8], k: Counts, proposal: &[u8], nets: [Tenths; 16], prices: [Grains; 16], report: &mut [u8]) -> Verdict
+    requires { ⌜ Proposed (now «case») k (now proposal) ⌝ }
+    requires { ⌜ VolumesIn (caseOf (now «case»)) (planOf (now «case») (now proposal)) ⌝ }
+    requires { ⌜ Holds (net (caseOf (now «case»)) (planOf (now «case») (now proposal))) nets ⌝ }
+    requires { ⌜ Priced (caseOf (now «case»)) (pricesOf (now «case») (now proposal)) prices ⌝ }
+    requires { ⌜ PricesIn (caseOf (now «case»)) (pricesOf (now «case») (now proposal)) ⌝ }
+    requires { ⌜ 176 ≤ length (now report) ⌝ }
+    ensures { λ r. ⌜ Judged (rowsFrom 5 (now («case» .entry)) (now (proposal .entry))) (now («case» .entry)) (now (proposal .entry)) (now (report .entry)) r (now (report .exit)) ⌝ }
+{
+    let all = totals(case, k, proposal, nets, prices);
+    let gap = all.gap;
+    let zones = byte_of(k.zones);
+    if gap.exceeds(k.tolerance.in_microcents()) {
+        write_report(report, 26, zones, all, prices);
+        return refused(26, 0);
+    }
+    write_report(report, 0, zones, all, prices);
+    refused(0, 0)
+}
+
+// Verdict 25 and on.
+fn judge_cleared(case: &[u8], k: Counts, proposal: &[u8], opening: Opening, nets: [Tenths; 16], table: [[i32; 16]; 64], report: &mut [u8]) -> Verdict
+    requires { ⌜ Proposed (now «case») k (now proposal) ⌝ }
+    requires { ⌜ VolumesIn (caseOf (now «case»)) (planOf (now «case») (now proposal)) ⌝ }
+    requires { ⌜ Holds (net (caseOf (now «case»)) (planOf (now «case») (now proposal))) nets ⌝ }
+    requires { ⌜ table ≡ tableOf (now «case») ⌝ }
+    requires { ⌜ opening ≡ openingOf (now proposal) ⌝ }
+    requires { ⌜ 176 ≤ length (now report) ⌝ }
+    ensures { λ r. ⌜ Judged (rowsFrom 4 (now («case» .entry)) (now (proposal .entry))) (now («case» .entry)) (now (proposal .entry)) (now (report .entry)) r (now (report .exit)) ⌝ }
+{
+    let system = opening.system;
+    let prices = zone_prices(case, k, proposal, table, system);
+    let zones = k.zones;
+    let outside = first_price_outside(prices, zones);
+    if let Place::At(z) = outside {
+        return refused(25, z);
+    }
+    judge_priced(case, k, proposal, nets, prices, report)
+}
+
+// Verdicts 23, 24 and on.
+fn judge_balanced(case: &[u8], k: Counts, proposal: &[u8], opening: Opening, nets: [Tenths; 16], report: &mut [u8]) -> Verdict
+    requires { ⌜ Proposed (now «case») k (now proposal) ⌝ }
+    requires { ⌜ VolumesIn (caseOf (now «case»)) (planOf (now «case») (now proposal)) ⌝ }
+    requires { ⌜ Holds (net (caseOf (now «case»)) (planOf (now «case») (now proposal))) nets ⌝ }
+    requires { ⌜ opening ≡ openingOf (now proposal) ⌝ }
+    requires { ⌜ 176 ≤ length (now report) ⌝ }
+    ensures { λ r. ⌜ Judged (rowsFrom 2 (now («case» .entry)) (now (proposal .entry))) (now («case» .entry)) (now (proposal .entry)) (now (report .entry)) r (now (report .exit)) ⌝ }
+{
+    let share = opening.share;
+    let overused = first_overused_link(case, k, proposal, share);
+    if let Place::At(l) = overused {
+        return refused(23, l);
+    }
+    let parts = flow_based_parts(case, k, proposal, nets);
+    let table = ptdf_table(case, k);
+    let overloaded = first_overloaded_branch(case, k, proposal, table, parts, share.rest());
+    if let Place::At(m) = overloaded {
+        return refused(24, m);
+    }
+    judge_cleared(case, k, proposal, opening, nets, table, report)
+}
+
+// Verdicts 21, 22 and on: the hour of a readable case and a proposal for it.
+fn judge_proposed(case: &[u8], k: Counts, proposal: &[u8], opening: Opening, report: &mut [u8]) -> Verdict
+    requires { ⌜ Proposed (now «case») k (now proposal) ⌝ }
+    requires { ⌜ opening ≡ openingOf (now proposal) ⌝ }
+    requires { ⌜ 176 ≤ length (now report) ⌝ }
+    ensures { λ r. ⌜ Judged (rowsFrom 0 (now («case» .entry)) (now (proposal .entry))) (now («case» .entry)) (now (proposal .entry)) (now (report .entry)) r (now (report .exit)) ⌝ }
+{
+    let excess = first_excess_volume(case, k, proposal);
+    if let Place::At(i) = excess {
+        return refused(21, i);
+    }
+    let nets = net_positions(case, k, proposal);
+    let zones = k.zones;
+    if !net_sum(nets, zones).is_zero() {
+        return refused(22, 0);
+    }
+    judge_balanced(case, k, proposal, opening, nets, report)
+}
+
+fn verdict_of(refusal: Refusal) -> Verdict
+    ensures { λ r. ⌜ r ≡ verdictOf (outcomeOf refusal) ⌝ }
+{
+    Verdict {
+        number: refusal.number,
+        index: refusal.index,
+    }
+}
+
+// Verdicts 9 and on: a readable case.
+fn judge_readable(case: &[u8], k: Counts, proposal: &[u8], report: &mut [u8]) -> Verdict
+    requires { ⌜ Opened (now «case») k ⌝ }
+    requires { ⌜ 176 ≤ length (now report) ⌝ }
+    ensures { λ r. ⌜ Judged (proposalOn (now («case» .entry)) (now (proposal .entry))) (now («case» .entry)) (now (proposal .entry)) (now (report .entry)) r (now (report .exit)) ⌝ }
+{
+    match read_proposal(case, k, proposal) {
+        ProposalAnswer::Refused(refusal) => verdict_of(refusal),
+        ProposalAnswer::Sound(opening) => judge_proposed(case, k, proposal, opening, report),
+    }
+}
+
+// The room that a report buffer must have.
+pub const REPORT_ROOM: usize = 176;
+
+// THE JUDGEMENT of a case and a proposal. The answer is the verdict table's, the buffer afterwards is `bufferAfter`'s, and an accepted hour, of which
+// the number is 0, keeps demand 3 in the numbers that the report's bytes then hold.
+pub fn judge(case: &[u8], proposal: &[u8], report: &mut [u8]) -> Verdict
+    ensures outcome { λ r. ⌜ r ≡ verdictOf (outcome (now («case» .entry)) (now (proposal .entry)) (length (now (report .entry)))) ⌝ }
+    ensures report { λ r. ⌜ now (report .exit) ≡ bufferAfter (now («case» .entry)) (now (proposal .entry)) (now (report .entry)) ⌝ }
+    ensures allowed { λ r. ⌜ (r .number ≡ 0 → Clearing (caseOf (now («case» .entry))) (planOf (now («case» .entry)) (now (proposal .entry)))) ⌝ }
+    ensures accuracy { λ r. ⌜ (r .number ≡ 0 → (q : Plan) → Clearing (caseOf (now («case» .entry))) q → rules.welfare (caseOf (now («case» .entry))) q ≤ℤ (pos (q .den) *ℤ (reportedWelfare (now (report .exit)) +ℤ reportedGap (now (report .exit))))) ⌝ }
+    ensures gap { λ r. ⌜ (r .number ≡ 0 → (pos 0 ≤ℤ reportedGap (now (report .exit))) × (reportedGap (now (report .exit)) ≤ℤ microcentsOf (pos ((caseOf (now («case» .entry))) .tolerance)))) ⌝ }
+    ensures coverage { λ r. ⌜ (r .number ≡ 0 → (reportedOwed (now (report .exit)) -ℤ reportedGap (now (report .exit))) ≤ℤ reportedRent (now (report .exit))) ⌝ }
+{
+    if report.len() < REPORT_ROOM {
+        return refused(30, 0);
+    }
+    match read_case(case) {
+        CaseAnswer::Refused(refusal) => verdict_of(refusal),
+        CaseAnswer::Readable(k) => judge_readable(case, k, proposal, report),
+    }
+}
