@@ -1,4 +1,9 @@
+-- `host::hour::lta_judge` meets its contract: it packs the verdict of `judge`, and a packed 0 has the number 0. Assumes nothing.
+use mathlib.Core.Path.{_≡_, ap, _∙_}
+use Prim.Native.Nat.{_+_, _*_}
+use native.Mathlib.Omega.{arith}
 use borrow.Author.Needs.{needs}
+use Rattle.judgement.specs.declared.Verdict.{Verdict}
 use Rattle.host.proofs.hour.lta_judge.Statement.{statement}
 use Rattle.host.proofs.hour.lta_judge.Tie as tie
 
@@ -11,8 +16,15 @@ packed-requires c κs = search needs
 same-length : tie.Need-same-length
 same-length c = search needs
 
+accepted : (c : tie.After-packed) → c .packed .result ≡ 0 → c .before .before .before .judge .result .number ≡ 0
+accepted c e = omega (arith, e, c .packed .ensures)
+
 returns : tie.Need-returns
-returns c = ?
+returns c =
+    let j = c .before .before .before .judge .ensures in (
+      c .packed .ensures ∙ ap (λ (v : Verdict). v .number + 256 * v .index) (j .0),
+      (j .1 .0, (λ e. j .1 .1 .0 (accepted c e), (λ e. j .1 .1 .1 .0 (accepted c e), (λ e. j .1 .1 .1 .1 .0 (accepted c e), λ e. j .1 .1 .1 .1 .1 (accepted c e))))),
+    )
 
 pub lta-judge-spec : {M : Type 1} → statement M
 lta-judge-spec = tie.close (tie.spec judge-requires packed-requires same-length returns)
