@@ -1,23 +1,20 @@
 -- A readable case and its counts: what the stages after reading require, and that every branch, link and order stands within the file.
 -- Assumes nothing.
 use mathlib.Core.Path.{_≡_, refl, sym, ap, subst, _∙_}
-use mathlib.Core.Bool.{Bool, not}
-use mathlib.Core.List.{List, [], _∷_, _++_}
+use mathlib.Core.List.{List, [], _∷_}
 use mathlib.Core.Option.{Option, none, some, Option·some-ne-none}
 use Prim.Native.Nat.{ℕ, suc, _+_, _*_, _≤_, _<_}
 use native.Mathlib.Nat.{mul-le-mul, mul-le-mul-right}
 use native.Mathlib.Omega.{arith}
-use lib.ListN.{length, take, drop, getD}
-use lib.Dec.{T}
-use lib.IntN.{pos}
-use Rattle.integers.specs.Ranges.{Range, range, outside, nat-within}
+use lib.ListN.{length, take, getD}
+use Rattle.integers.specs.Ranges.{nat-within}
 use Rattle.rules.specs.Layout.{caseHeader, linkSize, orderSize, caseLength, branchSize, branchAt, linkAt, orderAt, zonesIn, branchesIn, linksIn, ordersIn}
 use Rattle.rules.specs.Hour.{caseOf}
 use Rattle.rules.specs.Rows.{Row, Outcome, refusal, once, each}
 use Rattle.rules.specs.RowLaws.{Pass, empty, all-pass, else-refusal, refusal-append}
 use Rattle.rules.specs.Verdict.{differ, badBranch, badLink, badOrder, caseRows, caseRefusal, Readable}
 use Rattle.rules.specs.Passed.{case-length}
-use Rattle.fields.specs.Walk.{outcomeOf, refusalOf}
+use Rattle.fields.specs.Walk.{outcomeOf}
 use Rattle.fields.specs.declared.Refusal.{Refusal}
 use Rattle.case_file.specs.declared.Counts.{Counts}
 use Rattle.case_file.specs.declared.HeaderAnswer.the-variants as header
@@ -81,8 +78,8 @@ headed-of s {k} e = by (headerRefusal s) refl e
     by (some o) q e = record { passed = cc; counts = cc }
     by none q e = record { passed = q; counts = cc }
 
-pub unheaded-of : (s : List ℕ) {r : Refusal} → headerAnswer s ≡ header.Refused r → headerRefusal s ≡ some (outcomeOf r)
-unheaded-of s {r} e = by (headerRefusal s) refl e
+pub header-refused-of : (s : List ℕ) {r : Refusal} → headerAnswer s ≡ header.Refused r → headerRefusal s ≡ some (outcomeOf r)
+header-refused-of s {r} e = by (headerRefusal s) refl e
   where
     by : (o : Option Outcome) → headerRefusal s ≡ o → headerBy (countsOf s) o ≡ header.Refused r → headerRefusal s ≡ some (outcomeOf r)
     by (some o) q e = q ∙ cc
@@ -134,17 +131,17 @@ module _ {s : List ℕ} {k : Counts} where
 
   -- WHERE A ROW STANDS
   module _ (h : Headed s k) where
-    pub branch-at : (m : ℕ) → branchStart k m ≡ branchAt s m
+    pub branch-start-is : (m : ℕ) → branchStart k m ≡ branchAt s m
     unfolding branchAt branchSize
-    branch-at m = ap (λ (k : Counts). branchStart k m) (h .counts)
+    branch-start-is m = ap (λ (k : Counts). branchStart k m) (h .counts)
 
-    pub link-at : (l : ℕ) → linkStart k l ≡ linkAt s l
+    pub link-start-is : (l : ℕ) → linkStart k l ≡ linkAt s l
     unfolding linkAt branchSize
-    link-at l = ap (λ (k : Counts). linkStart k l) (h .counts)
+    link-start-is l = ap (λ (k : Counts). linkStart k l) (h .counts)
 
-    pub order-at : (i : ℕ) → orderStart k i ≡ orderAt s i
+    pub order-start-is : (i : ℕ) → orderStart k i ≡ orderAt s i
     unfolding orderAt branchSize
-    order-at i = ap (λ (k : Counts). orderStart k i) (h .counts)
+    order-start-is i = ap (λ (k : Counts). orderStart k i) (h .counts)
 
     pub length-is : lengthOf k ≡ caseLength s
     unfolding caseLength branchSize

@@ -22,7 +22,7 @@ use Rattle.case_file.specs.declared.Link.{Link}
 use Rattle.case_file.specs.declared.LinkRow.{LinkRow}
 use Rattle.case_file.specs.declared.LinkField.{LinkField}
 use Rattle.case_file.specs.declared.LinkField.the-variants.{Taken, Short}
-use Rattle.case_file.specs.Opened.{Headed, branchStart, linkStart, orderStart, branch-at, link-at, order-at}
+use Rattle.case_file.specs.Opened.{Headed, branchStart, linkStart, orderStart, branch-start-is, link-start-is, order-start-is}
 
 -- link l and order i of the case s
 abbrev pub linkOf : List ℕ → ℕ → Link
@@ -60,12 +60,12 @@ module _ {s : List ℕ} {k : Counts} (h : Headed s k) where
   unfolding badBranch caseOf ramIn ptdfIn
   bad-branch m p q =
       sym (λ j. p j || q j)
-      ∙ (λ j. outside limits.margin (i32At s (branch-at h m j)) || anyBelow (zones-is j) (λ z. outside limits.ptdf (i32At s (branch-at h m j + 4 + 4 * z))))
+      ∙ (λ j. outside limits.margin (i32At s (branch-start-is h m j)) || anyBelow (zones-is j) (λ z. outside limits.ptdf (i32At s (branch-start-is h m j + 4 + 4 * z))))
 
   -- its row, and whether an earlier link has its pair
   pub link-row : (l : ℕ) → linkRowAt s (linkStart k l) ≡ record { from = fromIn s l; to = toIn s l; capacity = capacityIn s l }
   unfolding fromIn toIn capacityIn
-  link-row l = ap (linkRowAt s) (link-at h l)
+  link-row l = ap (linkRowAt s) (link-start-is h l)
 
   pub bad-link : (l : ℕ) {r : LinkRow} {a b : Bool} → r ≡ linkRowAt s (linkStart k l)
       → badLinkRow (k .zones) r ≡ a → anyBelow l (samePair s r) ≡ b → (a || b) ≡ badLink (caseOf s) l
@@ -77,7 +77,7 @@ module _ {s : List ℕ} {k : Counts} (h : Headed s k) where
 
   pub bad-order : (i : ℕ) → badRow (k .zones) (u8At s (orderStart k i)) (u8At s (orderStart k i + 1)) (u32At s (orderStart k i + 2)) (i32At s (orderStart k i + 6)) ≡ badOrder (caseOf s) i
   unfolding badOrder caseOf zoneIn sideIn quantityIn priceIn
-  bad-order i = λ j. badRow (zones-is j) (u8At s (order-at h i j)) (u8At s (order-at h i j + 1)) (u32At s (order-at h i j + 2)) (i32At s (order-at h i j + 6))
+  bad-order i = λ j. badRow (zones-is j) (u8At s (order-start-is h i j)) (u8At s (order-start-is h i j + 1)) (u32At s (order-start-is h i j + 2)) (i32At s (order-start-is h i j + 6))
 
 -- what is answered for an order, read back
 pub order-outside : (o : Order) (b : Bool) → admitted.orderBy o b ≡ admit.Outside → b ≡ true

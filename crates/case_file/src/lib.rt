@@ -1,6 +1,6 @@
 // The case file: the counts of a readable case or the refusal by rows 1 to 8 of the verdict table, and the parts of a readable case.
 ghost use mathlib.Core.Path.{_≡_};
-ghost use Prim.Native.Nat.{ℕ, _+_, _*_, _≤_, _<_};
+ghost use Prim.Native.Nat.{_+_, _*_, _≤_, _<_};
 ghost use lib.ListN.{length};
 ghost use lib.IntN.{pos};
 ghost use Rattle.integers.specs.Ranges.{range};
@@ -96,8 +96,13 @@ const MARK: Mark = Mark(b'L', b'T', b'C');
 
 const HEADER: usize = 14;
 
+const LINK_SIZE: usize = 6;
+
+const ORDER_SIZE: usize = 10;
+
 const VERSION: u32 = 1;
 
+// Row 1, for any field of the header that cannot be taken.
 const SHORT: Refusal = Refusal {
     number: 1,
     index: 0,
@@ -120,7 +125,7 @@ impl Counts {
 
     pub const ORDERS_GREATEST: usize = 512;
 
-    // Where branch m stands.
+    // Where branch m stands: after its margin come its PTDFs, one per zone.
     fn branch_start(self, m: usize) -> usize
         requires { ⌜ Limited self ⌝ }
         requires { ⌜ m ≤ self .branches ⌝ }
@@ -134,7 +139,7 @@ impl Counts {
         requires { ⌜ l ≤ self .links ⌝ }
         ensures { λ r. ⌜ r ≡ linkStart self l ⌝ }
     {
-        self.branch_start(self.branches) + l * 6
+        self.branch_start(self.branches) + l * LINK_SIZE
     }
 
     fn order_start(self, i: usize) -> usize
@@ -142,7 +147,7 @@ impl Counts {
         requires { ⌜ i ≤ self .orders ⌝ }
         ensures { λ r. ⌜ r ≡ orderStart self i ⌝ }
     {
-        self.link_start(self.links) + i * 10
+        self.link_start(self.links) + i * ORDER_SIZE
     }
 
     // The length that these counts demand of a case.
@@ -190,6 +195,7 @@ fn take_header(case: &[u8]) -> HeaderField
     })
 }
 
+// The test of every count.
 fn outside(least: usize, greatest: usize, x: usize) -> bool
     ensures { λ r. ⌜ r ≡ ranges.outside (range (pos least) (pos greatest)) (pos x) ⌝ }
 {
@@ -253,6 +259,7 @@ pub fn read_header(case: &[u8]) -> HeaderAnswer
     }
 }
 
+// ROWS 6 TO 8. Row 5 passed, so that no field is missing: the proofs show that the walk over a row is never cut short.
 // Whether one of a branch's PTDFs lies outside its limits.
 fn bad_ptdfs(case: &[u8], start: Cursor, zones: usize) -> bool
     requires { ⌜ start .at + 4 * zones ≤ length (now «case») ⌝ }
@@ -313,6 +320,7 @@ fn take_link(case: &[u8], start: Cursor) -> LinkField
     LinkField::Taken(LinkRow { from, to, capacity })
 }
 
+// Unknown zone, equal zones, or a capacity outside its limits.
 fn bad_link_row(zones: usize, row: LinkRow) -> bool
     ensures { λ r. ⌜ r ≡ badLinkRow zones row ⌝ }
 {
@@ -452,6 +460,7 @@ fn read_body(case: &[u8], k: Counts) -> CaseAnswer
     CaseAnswer::Readable(k)
 }
 
+// The counts of a readable case, or its refusal.
 pub fn read_case(case: &[u8]) -> CaseAnswer
     ensures { λ r. ⌜ r ≡ caseAnswer (now («case» .entry)) ⌝ }
 {
@@ -461,7 +470,7 @@ pub fn read_case(case: &[u8]) -> CaseAnswer
     }
 }
 
-// THE PARTS of a readable case.
+// THE PARTS of a readable case, read where they stand.
 pub fn margin_at(case: &[u8], k: Counts, m: usize) -> Tenths
     requires { ⌜ Opened (now «case») k ⌝ }
     requires { ⌜ m < k .branches ⌝ }
@@ -500,6 +509,7 @@ pub fn order_at(case: &[u8], k: Counts, i: usize) -> Order
     }
 }
 
+// The PTDFs of branch m.
 fn ptdf_row(case: &[u8], k: Counts, m: usize) -> [i32; 16]
     requires { ⌜ Opened (now «case») k ⌝ }
     requires { ⌜ m < k .branches ⌝ }

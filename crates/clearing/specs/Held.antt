@@ -32,7 +32,7 @@ pub set-holds : (f g : ℕ → ℤ) (xs : List Tenths) (k : ℕ) (x : Tenths) �
 set-holds f g xs k x h a e o = record {
   long = length-set xs k x ∙ a .long;
   each = λ z l. elim (ℕ-discrete z k) [
-    yes q ↦ subst (λ (j : ℕ). tenthsAt (set xs k x) j ≡ g j) (sym q) (ap (λ (t : Tenths). t .0) (getD-set-same xs k x noTenths (omega (arith, a .long))) ∙ e)
+    | yes q ↦ subst (λ (j : ℕ). tenthsAt (set xs k x) j ≡ g j) (sym q) (ap (λ (t : Tenths). t .0) (getD-set-same xs k x noTenths (omega (arith, a .long))) ∙ e)
     | no q ↦ ap (λ (t : Tenths). t .0) (getD-set-other xs k z x noTenths q) ∙ a .each z l ∙ o z q
   ];
 }

@@ -113,7 +113,9 @@ pub fn first_overused_link(case: &[u8], k: Counts, proposal: &[u8], share: Share
     for l in 0..links {
         let link = link_at(case, k, l);
         let capacity = link.capacity;
-        if flow_at(case, k, proposal, l).whole().exceeds(share.part(capacity)) {
+        if flow_at(case, k, proposal, l)
+            .whole()
+            .exceeds(share.part(capacity)) {
             return Place::At(l);
         }
     }
@@ -144,7 +146,14 @@ pub fn flow_based_parts(case: &[u8], k: Counts, proposal: &[u8], nets: [Tenths; 
 }
 
 // Verdict 24: the first branch loaded above its margin, scaled by the flow-based share.
-pub fn first_overloaded_branch(case: &[u8], k: Counts, proposal: &[u8], table: [[i32; 16]; 64], parts: [Tenths; 16], flow_based: Share) -> Place
+pub fn first_overloaded_branch(
+    case: &[u8],
+    k: Counts,
+    proposal: &[u8],
+    table: [[i32; 16]; 64],
+    parts: [Tenths; 16],
+    flow_based: Share,
+) -> Place
     requires { ⌜ Proposed (now «case») k (now proposal) ⌝ }
     requires { ⌜ VolumesIn (caseOf (now «case»)) (planOf (now «case») (now proposal)) ⌝ }
     requires { ⌜ FlowsIn (caseOf (now «case»)) (planOf (now «case») (now proposal)) ⌝ }

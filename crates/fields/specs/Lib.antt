@@ -1,2 +1,3 @@
+-- The walk over a file, and the searches over its rows.
 pub mod Walk
 pub mod Search

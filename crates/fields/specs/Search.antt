@@ -8,7 +8,7 @@ use native.Mathlib.Omega.{arith}
 use borrow.Author.Count.{below-more}
 use lib.Dec.{T}
 use Rattle.rules.specs.Rows.{firstBelow, anyBelow}
-use Rattle.rules.specs.RowLaws.{First, first-none, first-some, first-is, not-below, no-place, any-none, any-some}
+use Rattle.rules.specs.RowLaws.{first-none, first-some, first-is, not-below, no-place, any-none, any-some}
 use Rattle.fields.specs.declared.Place.{Place}
 use Rattle.fields.specs.declared.Place.the-variants.{At, Nowhere}
 use Rattle.fields.specs.Walk.{placeOf}

@@ -4,10 +4,10 @@ use mathlib.Core.Bool.{Bool, true, false}
 use mathlib.Core.List.{List}
 use mathlib.Core.Option.{Option, none, some}
 use Prim.Native.Nat.{ℕ, _+_, _<_, _≤_}
+use borrow.Author.Tests.{leb-true, leb-false}
 use lib.ListN.{length}
 use lib.Dec.{leb}
 use lib.IntN.{ℤ}
-use borrow.Author.Tests.{leb-true, leb-false}
 use Rattle.measures.specs.declared.Raw.{Raw}
 use Rattle.rules.specs.Layout.{u8At, u16At, u32At, i32At}
 use Rattle.rules.specs.Rows.{Outcome, verdict}

@@ -3,7 +3,7 @@ ghost use mathlib.Core.Path.{_≡_};
 ghost use mathlib.Core.Bool.{not, _&&_};
 ghost use Prim.Native.Nat.{_+_, _<_, _≤_};
 ghost use lib.ListN.{length};
-ghost use lib.Dec.{eqb, leb};
+ghost use lib.Dec.{eqb};
 ghost use mir.Syntax.{w32};
 ghost use mir.Val.{toZ};
 ghost use Rattle.rules.specs.Layout.{u8At, u16At, u32At, i32At};
@@ -79,6 +79,7 @@ fn wide(x: u8) -> u32
     x as u32
 }
 
+// A FIELD THAT IS THERE, by its offset.
 pub fn byte_at(s: &[u8], at: usize) -> u8
     requires { ⌜ at + 1 ≤ length (now s) ⌝ }
     ensures { λ r. ⌜ r ≡ u8At (now (s .entry)) at ⌝ }
@@ -112,6 +113,7 @@ fn signed(v: u32) -> i32
     (v as i64 - 4294967296) as i32
 }
 
+// 32 signed bits as they are, and widened.
 pub fn entry_at(s: &[u8], at: usize) -> i32
     requires { ⌜ at + 4 ≤ length (now s) ⌝ }
     ensures { λ r. ⌜ r ≡ i32At (now (s .entry)) at ⌝ }
@@ -142,6 +144,7 @@ fn there(s: &[u8], at: usize, width: usize) -> bool
     at <= s.len() - width
 }
 
+// THE WALK: the next field and the cursor past it, or that the file is too short for it.
 impl Cursor {
     pub fn new(at: usize) -> Cursor
         ensures { λ r. ⌜ r ≡ cursor at ⌝ }

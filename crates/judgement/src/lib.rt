@@ -55,7 +55,13 @@ pub struct Verdict {
 }
 
 // Rules 7 to 11: the five totals of a cleared hour with its prices within their limits.
-fn totals(case: &[u8], k: Counts, proposal: &[u8], nets: [Tenths; 16], prices: [Grains; 16]) -> Totals
+fn totals(
+    case: &[u8],
+    k: Counts,
+    proposal: &[u8],
+    nets: [Tenths; 16],
+    prices: [Grains; 16],
+) -> Totals
     requires { ⌜ Proposed (now «case») k (now proposal) ⌝ }
     requires { ⌜ VolumesIn (caseOf (now «case»)) (planOf (now «case») (now proposal)) ⌝ }
     requires { ⌜ Holds (net (caseOf (now «case»)) (planOf (now «case») (now proposal))) nets ⌝ }
@@ -65,8 +71,9 @@ fn totals(case: &[u8], k: Counts, proposal: &[u8], nets: [Tenths; 16], prices: [
 {
     let zones = k.zones;
     let gained = welfare(case, k, proposal);
-    let owed_on_links = owed(case, k, proposal, prices);
-    let network = branch_total(case, k, proposal).larger(owed_on_links);
+    let on_links = owed(case, k, proposal, prices);
+    let on_branches = branch_total(case, k, proposal);
+    let network = on_branches.larger(on_links);
     let bound = surpluses(case, k, proposal, prices).plus(network);
     let gap = bound.minus(gained);
     let congestion = rent(nets, prices, zones);
@@ -75,7 +82,7 @@ fn totals(case: &[u8], k: Counts, proposal: &[u8], nets: [Tenths; 16], prices: [
         bound,
         gap,
         rent: congestion,
-        owed: owed_on_links,
+        owed: on_links,
     }
 }
 
@@ -98,7 +105,14 @@ fn byte_of(zones: usize) -> u8
 }
 
 // Verdict 26 or 0, with the report.
-fn judge_priced(case: &[u8], k: Counts, proposal: &[u8], nets: [Tenths; 16], prices: [Grains; 16], report: &mut [u8]) -> Verdict
+fn judge_priced(
+    case: &[u8],
+    k: Counts,
+    proposal: &[u8],
+    nets: [Tenths; 16],
+    prices: [Grains; 16],
+    report: &mut [u8],
+) -> Verdict
     requires { ⌜ Proposed (now «case») k (now proposal) ⌝ }
     requires { ⌜ VolumesIn (caseOf (now «case»)) (planOf (now «case») (now proposal)) ⌝ }
     requires { ⌜ Holds (net (caseOf (now «case»)) (planOf (now «case») (now proposal))) nets ⌝ }
@@ -119,7 +133,15 @@ fn judge_priced(case: &[u8], k: Counts, proposal: &[u8], nets: [Tenths; 16], pri
 }
 
 // Verdict 25 and on.
-fn judge_cleared(case: &[u8], k: Counts, proposal: &[u8], opening: Opening, nets: [Tenths; 16], table: [[i32; 16]; 64], report: &mut [u8]) -> Verdict
+fn judge_cleared(
+    case: &[u8],
+    k: Counts,
+    proposal: &[u8],
+    opening: Opening,
+    nets: [Tenths; 16],
+    table: [[i32; 16]; 64],
+    report: &mut [u8],
+) -> Verdict
     requires { ⌜ Proposed (now «case») k (now proposal) ⌝ }
     requires { ⌜ VolumesIn (caseOf (now «case»)) (planOf (now «case») (now proposal)) ⌝ }
     requires { ⌜ Holds (net (caseOf (now «case»)) (planOf (now «case») (now proposal))) nets ⌝ }
@@ -139,7 +161,14 @@ fn judge_cleared(case: &[u8], k: Counts, proposal: &[u8], opening: Opening, nets
 }
 
 // Verdicts 23, 24 and on.
-fn judge_balanced(case: &[u8], k: Counts, proposal: &[u8], opening: Opening, nets: [Tenths; 16], report: &mut [u8]) -> Verdict
+fn judge_balanced(
+    case: &[u8],
+    k: Counts,
+    proposal: &[u8],
+    opening: Opening,
+    nets: [Tenths; 16],
+    report: &mut [u8],
+) -> Verdict
     requires { ⌜ Proposed (now «case») k (now proposal) ⌝ }
     requires { ⌜ VolumesIn (caseOf (now «case»)) (planOf (now «case») (now proposal)) ⌝ }
     requires { ⌜ Holds (net (caseOf (now «case»)) (planOf (now «case») (now proposal))) nets ⌝ }
@@ -162,7 +191,13 @@ fn judge_balanced(case: &[u8], k: Counts, proposal: &[u8], opening: Opening, net
 }
 
 // Verdicts 21, 22 and on: the hour of a readable case and a proposal for it.
-fn judge_proposed(case: &[u8], k: Counts, proposal: &[u8], opening: Opening, report: &mut [u8]) -> Verdict
+fn judge_proposed(
+    case: &[u8],
+    k: Counts,
+    proposal: &[u8],
+    opening: Opening,
+    report: &mut [u8],
+) -> Verdict
     requires { ⌜ Proposed (now «case») k (now proposal) ⌝ }
     requires { ⌜ opening ≡ openingOf (now proposal) ⌝ }
     requires { ⌜ 176 ≤ length (now report) ⌝ }

@@ -412,6 +412,8 @@ impl Ptdf {
 }
 
 impl Share {
+    pub const WHOLE: Share = Share(100000);
+
     pub const LEAST: Raw = Raw(0);
 
     pub const GREATEST: Raw = Raw(100000);
@@ -443,7 +445,7 @@ impl Share {
         requires { ⌜ SFits w64 (pos 100000 -ℤ self .0) ⌝ }
         ensures { λ r. ⌜ r .0 ≡ pos 100000 -ℤ self .0 ⌝ }
     {
-        Share(100000 - self.0)
+        Share(Self::WHOLE.0 - self.0)
     }
 
     // This share of a volume.

@@ -1,2 +1,3 @@
+-- What reading a proposal answers, and what holds of a proposal that was read.
 pub mod Answer
 pub mod Proposed

@@ -1,6 +1,6 @@
 -- A proposal that rows 9 to 14 pass, for a readable case: what the stages after reading require, and that its fields stand within the file.
 -- Assumes nothing.
-use mathlib.Core.Path.{_≡_, refl, sym, ap, _∙_}
+use mathlib.Core.Path.{_≡_, refl, ap, _∙_}
 use mathlib.Core.Bool.{Bool}
 use mathlib.Core.List.{List, [], _∷_}
 use mathlib.Core.Option.{Option, none, some}
@@ -10,7 +10,7 @@ use lib.ListN.{length}
 use lib.IntN.{pos}
 use Rattle.integers.specs.Ranges.{outside}
 use Rattle.measures.specs.Limits as limits
-use Rattle.rules.specs.Layout.{u32At, proposalHeader, proposalVersion, proposalLength, branchesIn, shareIn, volumeIn, flowIn, shadowIn}
+use Rattle.rules.specs.Layout.{u32At, proposalHeader, proposalVersion, proposalLength, branchesIn, shareIn, flowIn, shadowIn}
 use Rattle.rules.specs.Hour.{caseOf, planOf, pricesOf}
 use Rattle.rules.specs.Rows.{Row, Outcome, refusal, once, each}
 use Rattle.rules.specs.Verdict.{under, differ, notMark, proposalRows, proposalRefusal}
@@ -18,7 +18,6 @@ use Rattle.rules.specs.Passed.{proposal-length}
 use Rattle.fields.specs.declared.Refusal.{Refusal}
 use Rattle.fields.specs.Walk.{outcomeOf}
 use Rattle.case_file.specs.declared.Counts.{Counts}
-use Rattle.case_file.specs.Answer.{countsOf}
 use Rattle.case_file.specs.Opened.{Opened}
 use Rattle.proposal_file.specs.declared.Opening.{Opening}
 use Rattle.proposal_file.specs.declared.ProposalAnswer.the-variants as answer

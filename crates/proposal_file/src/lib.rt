@@ -55,6 +55,7 @@ const HEADER: usize = 13;
 
 const VERSION: u32 = 1;
 
+// Row 9, for any field of the header that cannot be taken.
 const SHORT: Refusal = Refusal {
     number: 9,
     index: 0,
@@ -98,7 +99,7 @@ fn demanded(k: Counts) -> usize
     HEADER + 4 * (k.orders + k.links + k.branches)
 }
 
-// The first shadow price outside its limits.
+// The first shadow price outside its limits. The length is right, so that none is missing.
 fn first_bad_shadow(case: &[u8], k: Counts, proposal: &[u8]) -> Place
     requires { ⌜ Opened (now «case») k ⌝ }
     requires { ⌜ length (now proposal) ≡ proposalLength (now «case») ⌝ }
@@ -117,7 +118,7 @@ fn first_bad_shadow(case: &[u8], k: Counts, proposal: &[u8]) -> Place
     Place::Nowhere
 }
 
-// Rows 10 to 14, with the header's fields.
+// Rows 10 to 14, with the header's fields. Every 32 signed bits are a system price.
 fn hold_proposal(case: &[u8], k: Counts, proposal: &[u8], h: Header) -> ProposalAnswer
     requires { ⌜ Opened (now «case») k ⌝ }
     requires { ⌜ proposalHeader ≤ length (now proposal) ⌝ }
@@ -145,6 +146,7 @@ fn hold_proposal(case: &[u8], k: Counts, proposal: &[u8], h: Header) -> Proposal
     })
 }
 
+// The opening of a proposal that rows 9 to 14 pass, or its refusal. Its rows depend on the case by the counts alone; the contract speaks of the case.
 pub fn read_proposal(case: &[u8], k: Counts, proposal: &[u8]) -> ProposalAnswer
     requires { ⌜ Opened (now «case») k ⌝ }
     ensures { λ r. ⌜ r ≡ proposalAnswer (now («case» .entry)) (now (proposal .entry)) ⌝ }
@@ -163,7 +165,7 @@ fn number_at(proposal: &[u8], n: usize) -> Raw
     Raw::unsigned(word_at(proposal, HEADER + 4 * n))
 }
 
-// THE PARTS of a proposal that rows 9 to 14 pass.
+// THE PARTS of a proposal that rows 9 to 14 pass, read where they stand.
 pub fn volume_at(case: &[u8], k: Counts, proposal: &[u8], i: usize) -> Tenths
     requires { ⌜ Proposed (now «case») k (now proposal) ⌝ }
     requires { ⌜ i < k .orders ⌝ }

@@ -51,7 +51,13 @@ fn add_branch(prices: [Grains; 16], row: [i32; 16], shadow: Cents, zones: usize)
 }
 
 // Rule 6: the price of each zone.
-pub fn zone_prices(case: &[u8], k: Counts, proposal: &[u8], table: [[i32; 16]; 64], system: Cents) -> [Grains; 16]
+pub fn zone_prices(
+    case: &[u8],
+    k: Counts,
+    proposal: &[u8],
+    table: [[i32; 16]; 64],
+    system: Cents,
+) -> [Grains; 16]
     requires { ⌜ Proposed (now «case») k (now proposal) ⌝ }
     requires { ⌜ table ≡ tableOf (now «case») ⌝ }
     requires { ⌜ system .0 ≡ (pricesOf (now «case») (now proposal)) .system ⌝ }

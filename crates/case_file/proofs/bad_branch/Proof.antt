@@ -1,7 +1,6 @@
 -- `case_file::bad_branch` meets its contract: the branch's fields stand within the file, so that the walk over them is not cut short.
 -- Assumes nothing.
 use mathlib.Core.Path.{_≡_, refl, sym, ap, _∙_}
-use mathlib.Core.Bool.{Bool}
 use mathlib.Core.List.{List}
 use Prim.Native.Nat.{ℕ, _+_, _*_, _≤_}
 use native.Mathlib.Nat.{le-of-lt}
@@ -16,8 +15,7 @@ use Rattle.rules.specs.Layout.{i32At}
 use Rattle.rules.specs.Rows.{anyBelow}
 use Rattle.fields.specs.declared.Cursor.{Cursor}
 use Rattle.fields.specs.Walk.{raw, cursor, signedField, Took, signed-took, signed-short}
-use Rattle.case_file.specs.declared.Counts.{Counts}
-use Rattle.case_file.specs.Opened.{Whole, Headed, limited, branchStart, branch-inside}
+use Rattle.case_file.specs.Opened.{limited, branchStart, branch-inside}
 use Rattle.case_file.specs.Parts.{bad-branch}
 use Rattle.case_file.proofs.bad_branch.Statement.{statement}
 use Rattle.case_file.proofs.bad_branch.Tie as tie

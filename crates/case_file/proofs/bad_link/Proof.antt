@@ -8,7 +8,7 @@ use native.Mathlib.Omega.{arith}
 use borrow.Author.Needs.{needs}
 use Rattle.fields.specs.declared.Cursor.{Cursor}
 use Rattle.fields.specs.Walk.{cursor}
-use Rattle.case_file.specs.Opened.{Whole, limited, linkStart, link-inside}
+use Rattle.case_file.specs.Opened.{limited, linkStart, link-inside}
 use Rattle.case_file.specs.Parts.{linkRowAt, linkField, link-taken, link-short, bad-link}
 use Rattle.case_file.proofs.bad_link.Statement.{statement}
 use Rattle.case_file.proofs.bad_link.Tie as tie

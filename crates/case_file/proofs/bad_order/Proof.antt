@@ -1,7 +1,6 @@
 -- `case_file::bad_order` meets its contract: the order stands within the file, so that the walk over it is not cut short, and `orders::admit` tests
 -- its fields. Assumes nothing.
 use mathlib.Core.Path.{_≡_, sym, ap, _∙_}
-use mathlib.Core.Bool.{Bool}
 use mathlib.Core.List.{List}
 use Prim.Native.Nat.{ℕ, _+_, _≤_}
 use native.Mathlib.Nat.{le-of-lt}
@@ -14,7 +13,7 @@ use Rattle.rules.specs.Verdict.{badRow, badOrder}
 use Rattle.fields.specs.declared.Cursor.{Cursor}
 use Rattle.fields.specs.Walk.{raw, cursor, byteField, wordField, signedField, Took}
 use Rattle.fields.specs.Walk as walk
-use Rattle.case_file.specs.Opened.{Whole, limited, orderStart, order-inside}
+use Rattle.case_file.specs.Opened.{limited, orderStart, order-inside}
 use Rattle.case_file.specs.Parts.{bad-order, order-outside, order-held}
 use Rattle.case_file.proofs.bad_order.Statement.{statement}
 use Rattle.case_file.proofs.bad_order.Tie as tie

@@ -1,12 +1,11 @@
 -- `case_file::bad_ptdfs` meets its contract. The loop's invariant: the cursor stands past as many PTDFs as turns, none of which is bad.
 -- The measure is what is left of the zones. Assumes nothing.
 use mathlib.Core.Path.{_≡_, refl, sym, ap, _∙_}
-use mathlib.Core.Bool.{Bool, true, false}
+use mathlib.Core.Bool.{Bool, false}
 use mathlib.Core.List.{List}
 use Prim.Native.Nat.{ℕ, _+_, _*_, _-_, _≤_}
 use native.Mathlib.Omega.{arith}
 use borrow.Author.Needs.{needs}
-use lib.ListN.{length}
 use Rattle.integers.specs.Ranges.{outside}
 use Rattle.measures.specs.Limits as limits
 use Rattle.measures.specs.Held.{ptdf-outside, ptdf-held}

@@ -1,18 +1,17 @@
 -- `case_file::hold_header` meets its contract: a row of the table for each test, in the table's order, past each that passes to the one that fails.
 -- Assumes nothing.
 use mathlib.Core.Path.{_≡_, sym, ap, _∙_}
-use mathlib.Core.Bool.{Bool, true, false, not}
-use mathlib.Core.Option.{Option}
+use mathlib.Core.Bool.{not}
 use Prim.Native.Nat.{ℕ}
 use borrow.Author.Needs.{needs}
 use borrow.Author.Tests.{eq-eqb, ne-eqb}
 use lib.ListN.{drop}
 use lib.IntN.{pos}
-use Rattle.integers.specs.Ranges.{Range, outside}
+use Rattle.integers.specs.Ranges.{outside}
 use Rattle.measures.specs.Limits as limits
 use Rattle.measures.specs.Held.{centsIn, cents-outside, cents-held}
-use Rattle.rules.specs.Layout.{zoneCounts, branchCounts, linkCounts, orderCounts}
-use Rattle.rules.specs.Rows.{Outcome, refusal}
+use Rattle.rules.specs.Layout.{zoneCounts, branchCounts, linkCounts}
+use Rattle.rules.specs.Rows.{refusal}
 use Rattle.rules.specs.RowLaws.{field-fails, field-passes}
 use Rattle.case_file.specs.declared.Header.{Header}
 use Rattle.case_file.specs.declared.HeaderAnswer.the-variants.{Good}

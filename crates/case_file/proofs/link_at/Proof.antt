@@ -1,5 +1,5 @@
 -- `case_file::link_at` meets its contract: link l stands within the file. Assumes nothing.
-use mathlib.Core.Path.{_≡_, sym, ap, _∙_}
+use mathlib.Core.Path.{_≡_, ap, _∙_}
 use Prim.Native.Nat.{ℕ, _+_, _≤_}
 use native.Mathlib.Nat.{le-of-lt}
 use native.Mathlib.Omega.{arith}
@@ -7,7 +7,7 @@ use borrow.Author.Needs.{needs}
 use lib.ListN.{length}
 use lib.IntN.{pos}
 use Rattle.rules.specs.Layout.{u8At, u32At, linkAt, fromIn, toIn, capacityIn}
-use Rattle.case_file.specs.Opened.{headed, whole, limited, link-at, link-inside}
+use Rattle.case_file.specs.Opened.{headed, whole, limited, link-start-is, link-inside}
 use Rattle.case_file.proofs.link_at.Statement.{statement}
 use Rattle.case_file.proofs.link_at.Tie as tie
 
@@ -21,7 +21,7 @@ inside : (c : tie.After-link-start) → c .link-start .result + 6 ≤ length (en
 inside c = omega (arith, c .link-start .ensures, link-inside (whole (entry c .pre .0)) (entry c .args .l) (entry c .pre .1))
 
 place : (c : tie.After-link-start) → c .link-start .result ≡ linkAt (entry c .args .«case» .now) (entry c .args .l)
-place c = c .link-start .ensures ∙ link-at (headed (entry c .pre .0)) (entry c .args .l)
+place c = c .link-start .ensures ∙ link-start-is (headed (entry c .pre .0)) (entry c .args .l)
 
 byte-at-requires : tie.Need-byte-at-requires
 byte-at-requires c κs = omega (arith, inside c)

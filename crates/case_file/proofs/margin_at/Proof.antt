@@ -1,12 +1,11 @@
 -- `case_file::margin_at` meets its contract: branch m stands within the file. Assumes nothing.
-use mathlib.Core.Path.{_≡_, sym, ap, _∙_}
-use Prim.Native.Nat.{ℕ, _+_}
+use mathlib.Core.Path.{ap, _∙_}
 use native.Mathlib.Nat.{le-of-lt}
 use native.Mathlib.Omega.{arith}
 use borrow.Author.Needs.{needs}
 use Rattle.measures.specs.declared.Tenths.{Tenths}
 use Rattle.rules.specs.Layout.{i32At, ramIn}
-use Rattle.case_file.specs.Opened.{headed, whole, limited, branch-at, branch-inside}
+use Rattle.case_file.specs.Opened.{headed, whole, limited, branch-start-is, branch-inside}
 use Rattle.case_file.proofs.margin_at.Statement.{statement}
 use Rattle.case_file.proofs.margin_at.Tie as tie
 
@@ -28,7 +27,7 @@ returns c =
     let a = b .before .before in
     ap (λ (t : Tenths). t .0) (c .of .ensures)
     ∙ c .before .signed-at .ensures
-    ∙ ap (i32At (a .args .«case» .now)) (b .branch-start .ensures ∙ branch-at (headed (a .pre .0)) (a .args .m))
+    ∙ ap (i32At (a .args .«case» .now)) (b .branch-start .ensures ∙ branch-start-is (headed (a .pre .0)) (a .args .m))
 
 pub margin-at-spec : {M : Type 1} → statement M
 margin-at-spec = tie.close (tie.spec branch-start-requires signed-at-requires of-requires returns)

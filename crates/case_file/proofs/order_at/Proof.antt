@@ -1,5 +1,5 @@
 -- `case_file::order_at` meets its contract: order i stands within the file. Assumes nothing.
-use mathlib.Core.Path.{_≡_, sym, ap, _∙_}
+use mathlib.Core.Path.{_≡_, ap, _∙_}
 use Prim.Native.Nat.{ℕ, _+_, _≤_}
 use native.Mathlib.Nat.{le-of-lt}
 use native.Mathlib.Omega.{arith}
@@ -8,7 +8,7 @@ use lib.Dec.{eqb}
 use lib.ListN.{length}
 use lib.IntN.{pos}
 use Rattle.rules.specs.Layout.{u8At, u32At, i32At, orderAt, zoneIn, sideIn, quantityIn, priceIn}
-use Rattle.case_file.specs.Opened.{headed, whole, limited, order-at, order-inside}
+use Rattle.case_file.specs.Opened.{headed, whole, limited, order-start-is, order-inside}
 use Rattle.case_file.proofs.order_at.Statement.{statement}
 use Rattle.case_file.proofs.order_at.Tie as tie
 
@@ -22,7 +22,7 @@ inside : (c : tie.After-order-start) → c .order-start .result + 10 ≤ length 
 inside c = omega (arith, c .order-start .ensures, order-inside (whole (entry c .pre .0)) (entry c .args .i) (entry c .pre .1))
 
 place : (c : tie.After-order-start) → c .order-start .result ≡ orderAt (entry c .args .«case» .now) (entry c .args .i)
-place c = c .order-start .ensures ∙ order-at (headed (entry c .pre .0)) (entry c .args .i)
+place c = c .order-start .ensures ∙ order-start-is (headed (entry c .pre .0)) (entry c .args .i)
 
 byte-at-requires : tie.Need-byte-at-requires
 byte-at-requires c κs = omega (arith, inside c)

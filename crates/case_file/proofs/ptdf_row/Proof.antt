@@ -1,17 +1,16 @@
 -- `case_file::ptdf_row` meets its contract. The loop's invariant: the first z entries are those of the branch, the others zero.
 -- The measure is what is left of the zones. Assumes nothing.
 use mathlib.Core.Path.{_≡_, refl, sym, ap, _∙_}
-use mathlib.Core.List.{List}
 use Prim.Native.Nat.{ℕ, _+_, _*_, _-_, _≤_}
 use native.Mathlib.Nat.{le-of-lt}
 use native.Mathlib.Omega.{arith}
 use lib.ListN.{length, set}
-use lib.IntN.{ℤ, pos}
+use lib.IntN.{pos}
 use mir.Syntax.{w32}
 use mir.Facts.{toZ-ofZ}
-use Rattle.rules.specs.Layout.{i32At, ptdfIn, branchAt, zonesIn}
+use Rattle.rules.specs.Layout.{i32At, ptdfIn}
 use Rattle.case_file.specs.declared.Counts.{Counts}
-use Rattle.case_file.specs.Opened.{headed, whole, limited, branch-at, branch-inside}
+use Rattle.case_file.specs.Opened.{headed, whole, limited, branch-start-is, branch-inside}
 use Rattle.case_file.specs.Table.{filled, filled-more, rowOf}
 use Rattle.case_file.proofs.ptdf_row.Statement.{statement}
 use Rattle.case_file.proofs.ptdf_row.Tie as tie
@@ -66,7 +65,7 @@ loop-again c =
     let l = c .before .before in
     let b = l .before in
     let s = entry b .args .«case» .now in
-    let at = b .branch-start .ensures ∙ branch-at (headed (entry b .pre .0)) (entry b .args .m) in
+    let at = b .branch-start .ensures ∙ branch-start-is (headed (entry b .pre .0)) (entry b .args .m) in
     let v = toZ-ofZ {w = w32} (record { sfits = c .entry-at .ok }) ∙ c .entry-at .ensures ∙ ap (λ (n : ℕ). i32At s (n + 4 + 4 * l .loop .z)) at in
     (omega arith, (λ j. set (l .loop .inv .1 j) (l .loop .z) (v j)) ∙ sym (filled-more 16 (pos 0) (ptdfIn s (entry b .args .m)) (l .loop .z)))
 

@@ -1,10 +1,9 @@
 -- `case_file::ptdf_table` meets its contract. The loop's invariant: the first m rows are those of the branches, the others zero.
 -- The measure is what is left of the branches. Assumes nothing.
 use mathlib.Core.Path.{_≡_, refl, sym, ap, _∙_}
-use Prim.Native.Nat.{ℕ, _-_, _≤_}
+use Prim.Native.Nat.{_-_, _≤_}
 use native.Mathlib.Omega.{arith}
 use lib.ListN.{set}
-use lib.IntN.{ℤ}
 use Rattle.case_file.specs.declared.Counts.{Counts}
 use Rattle.case_file.specs.Opened.{headed, limited}
 use Rattle.case_file.specs.Table.{filled, filled-more, emptyRow, rowOf, tableOf}

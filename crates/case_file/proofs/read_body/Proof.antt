@@ -3,15 +3,14 @@
 use mathlib.Core.Path.{_≡_, sym, ap, _∙_}
 use mathlib.Core.Bool.{not}
 use mathlib.Core.List.{List}
-use mathlib.Core.Option.{Option}
-use Prim.Native.Nat.{ℕ, _<_}
+use Prim.Native.Nat.{ℕ}
 use native.Mathlib.Omega.{arith}
 use borrow.Author.Needs.{needs}
 use borrow.Author.Tests.{eq-eqb, ne-eqb}
 use lib.ListN.{length, drop}
 use Rattle.rules.specs.Layout.{caseLength}
 use Rattle.rules.specs.Hour.{caseOf}
-use Rattle.rules.specs.Rows.{Outcome, refusal, each}
+use Rattle.rules.specs.Rows.{refusal, each}
 use Rattle.rules.specs.RowLaws.{field-fails, field-passes, row-found, row-clear}
 use Rattle.rules.specs.Verdict.{badBranch, badLink, badOrder, caseRefusal}
 use Rattle.fields.specs.Search.{place-at, place-in, place-nowhere}

@@ -1,11 +1,11 @@
 -- `case_file::read_case` meets its contract: a refused header refuses the case, since its rows are asked first. Assumes nothing.
-use mathlib.Core.Path.{_≡_, sym, ap, _∙_}
+use mathlib.Core.Path.{sym, ap, _∙_}
 use mathlib.Core.Option.{Option}
 use borrow.Author.Needs.{needs}
 use Rattle.rules.specs.Rows.{Outcome, refusal}
 use Rattle.rules.specs.RowLaws.{else-refusal}
 use Rattle.case_file.specs.Answer.{countsOf, caseBy}
-use Rattle.case_file.specs.Opened.{headed-of, unheaded-of, bodyRows, header-first}
+use Rattle.case_file.specs.Opened.{headed-of, header-refused-of, bodyRows, header-first}
 use Rattle.case_file.proofs.read_case.Statement.{statement}
 use Rattle.case_file.proofs.read_case.Tie as tie
 
@@ -32,7 +32,7 @@ returns-2 c =
     let h = r .before .before in
     let s = h .before .before .args .«case» .now in
     ap (caseBy (countsOf s))
-    (sym (header-first s ∙ ap (λ (x : Option Outcome). else-refusal x (refusal (bodyRows s))) (unheaded-of s (sym (h .read-header .ensures) ∙ r .r .given .1))))
+    (sym (header-first s ∙ ap (λ (x : Option Outcome). else-refusal x (refusal (bodyRows s))) (header-refused-of s (sym (h .read-header .ensures) ∙ r .r .given .1))))
 
 pub read-case-spec : {M : Type 1} → statement M
 read-case-spec =

@@ -1,5 +1,5 @@
 -- `case_file::read_header` meets its contract: row 1 by the walk over the header, rows 2 to 4 by its fields. Assumes nothing.
-use mathlib.Core.Path.{_≡_, sym, ap, _∙_}
+use mathlib.Core.Path.{sym, ap, _∙_}
 use borrow.Author.Needs.{needs}
 use Rattle.rules.specs.Rows.{refusal}
 use Rattle.case_file.specs.declared.Header.{Header}

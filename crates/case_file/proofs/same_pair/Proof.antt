@@ -1,17 +1,16 @@
 -- `case_file::same_pair` meets its contract: the two zones of link j stand at its offset. Assumes nothing.
 use mathlib.Core.Path.{_≡_, refl, sym, ap, _∙_}
-use mathlib.Core.Bool.{Bool, true, false, _&&_}
+use mathlib.Core.Bool.{Bool, _&&_}
 use mathlib.Core.List.{List}
 use Prim.Native.Nat.{ℕ, _+_, _≤_}
 use native.Mathlib.Nat.{le-of-lt}
 use native.Mathlib.Omega.{arith}
-use borrow.Author.Needs.{needs}
 use borrow.Author.Tests.{eq-eqb, ne-eqb}
 use lib.Dec.{eqb}
 use lib.ListN.{length}
 use Rattle.rules.specs.Layout.{u8At, linkAt, fromIn, toIn}
 use Rattle.case_file.specs.declared.LinkRow.{LinkRow}
-use Rattle.case_file.specs.Opened.{Whole, limited, link-at, link-inside}
+use Rattle.case_file.specs.Opened.{limited, link-start-is, link-inside}
 use Rattle.case_file.specs.Parts.{samePair}
 use Rattle.case_file.proofs.same_pair.Statement.{statement}
 use Rattle.case_file.proofs.same_pair.Tie as tie
@@ -30,7 +29,7 @@ inside : (c : tie.After-link-start) → c .link-start .result + 6 ≤ length (en
 inside c = omega (arith, c .link-start .ensures, link-inside (entry c .pre .0) (entry c .args .j) (entry c .pre .1))
 
 place : (c : tie.After-link-start) → c .link-start .result ≡ linkAt (entry c .args .«case» .now) (entry c .args .j)
-place c = c .link-start .ensures ∙ link-at (entry c .pre .0 .headed) (entry c .args .j)
+place c = c .link-start .ensures ∙ link-start-is (entry c .pre .0 .headed) (entry c .args .j)
 
 byte-at-requires : tie.Need-byte-at-requires
 byte-at-requires c κs = omega (arith, inside c)

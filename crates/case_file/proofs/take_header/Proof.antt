@@ -11,7 +11,6 @@ use Rattle.rules.specs.Layout.{u8At, u16At, u32At, caseVersion, zonesIn, branch
 use Rattle.fields.specs.declared.Cursor.{Cursor}
 use Rattle.fields.specs.Walk.{markAt, markField, byteField, halfField, wordField, Took}
 use Rattle.fields.specs.Walk as walk
-use Rattle.case_file.specs.declared.HeaderField.{HeaderField}
 use Rattle.case_file.specs.declared.HeaderField.the-variants.{Taken}
 use Rattle.case_file.specs.Answer.{headerIn, takenBy, headerTaken}
 use Rattle.case_file.proofs.take_header.Statement.{statement}

@@ -82,9 +82,11 @@ part-requires c κs =
 branch-load-requires : tie.Need-branch-load-requires Inv-loop μ-loop
 branch-load-requires c κs =
     let i = c .before .before .before in
-    let a = i .before .before .before .before in
-    (zones-in a, fit-ext _ _ _ (λ z h. term-is a (i .before .loop .m) z (inside i) h)
-    (fits-here a (i .before .loop .m) (inside i)))
+    let a = i .before .before .before .before in (
+      zones-in a,
+      fit-ext _ _ _ (λ z h. term-is a (i .before .loop .m) z (inside i) h)
+          (fits-here a (i .before .loop .m) (inside i)),
+    )
 
 exceeds-requires : tie.Need-exceeds-requires Inv-loop μ-loop
 exceeds-requires c κs = search needs

@@ -142,9 +142,11 @@ unfolding planOf
 loop-again c =
     let m = c .before .before in
     let k = m .before .before .before in
-    let l = k .before .before in
-    (omega arith, out-set (caseOf (now (l .before .before .before .args .«case»))) (planOf (now (l .before .before .before .args .«case»)) (now (l .before .before .before .args .proposal))) (l .loop .l) _ (k .link-at .result .from) (c .plus .result) (from-is k) (from-small k) (entered m)
-    (c .plus .ensures ∙ ap (λ (x : ℤ). tenthsAt (set (l .loop .parts) (k .link-at .result .to) (m .minus .result)) (k .link-at .result .from) +ℤ x) (m .before .before .flow-at .ensures)))
+    let l = k .before .before in (
+      omega arith,
+      out-set (caseOf (now (l .before .before .before .args .«case»))) (planOf (now (l .before .before .before .args .«case»)) (now (l .before .before .before .args .proposal))) (l .loop .l) _ (k .link-at .result .from) (c .plus .result) (from-is k) (from-small k) (entered m)
+          (c .plus .ensures ∙ ap (λ (x : ℤ). tenthsAt (set (l .loop .parts) (k .link-at .result .to) (m .minus .result)) (k .link-at .result .from) +ℤ x) (m .before .before .flow-at .ensures)),
+    )
 
 returns : tie.Need-returns Inv-loop μ-loop
 unfolding fbPart ltaPart inflow outflow caseOf

@@ -1,7 +1,7 @@
 -- `fields::signed` meets its contract: the lower half of the 32 bits is the number, and the upper half is the number less 2 ^ 32. Assumes nothing.
 use mathlib.Core.Path.{_≡_, _∙_}
-use borrow.Author.Needs.{needs}
 use native.Mathlib.Omega.{arith}
+use borrow.Author.Needs.{needs}
 use lib.IntN.{pos, _-ℤ_}
 use mir.Syntax.{w32, w64}
 use mir.Val.{toZ, ofZ}

@@ -69,10 +69,11 @@ unfolding caseOf
 net-sum-requires c κs =
     let f = c .before .before .before in
     let a = f .before .before .before .before in
-    let z = ap (λ (k : Counts). k .zones) (a .pre .0 .opened .counts) in
-    (omega (arith, z, (case-sound _ (a .pre .0 .opened .readable)) .zones-in .1),
-    fit-ext _ _ _ (λ i h. c .net-positions .ensures .each i (omega (arith, z, (case-sound _ (a .pre .0 .opened .readable)) .zones-in .1)))
-    (subst (λ (n : ℕ). SumsFit (λ i. net (caseOf (now (a .args .«case»))) (planOf (now (a .args .«case»)) (now (a .args .proposal))) i) n) (sym z) (balance-sums _ (case-sound _ (a .pre .0 .opened .readable)) _ ((volumes f (c .before .enum-told .given .1)) .within))))
+    let z = ap (λ (k : Counts). k .zones) (a .pre .0 .opened .counts) in (
+      omega (arith, z, (case-sound _ (a .pre .0 .opened .readable)) .zones-in .1),
+      fit-ext _ _ _ (λ i h. c .net-positions .ensures .each i (omega (arith, z, (case-sound _ (a .pre .0 .opened .readable)) .zones-in .1)))
+          (subst (λ (n : ℕ). SumsFit (λ i. net (caseOf (now (a .args .«case»))) (planOf (now (a .args .«case»)) (now (a .args .proposal))) i) n) (sym z) (balance-sums _ (case-sound _ (a .pre .0 .opened .readable)) _ ((volumes f (c .before .enum-told .given .1)) .within))),
+    )
 
 is-zero-requires : tie.Need-is-zero-requires
 is-zero-requires c κs = search needs

@@ -65,9 +65,11 @@ rent-requires : tie.Need-rent-requires
 unfolding caseOf
 rent-requires c κs =
     let a = c .before .before .before .before .before .before .before .before .before in
-    let z = ap (λ (k : Counts). k .zones) (a .pre .0 .opened .counts) in
-    (omega (arith, z, (cs a) .zones-in .1), fit-ext _ _ _ (λ i h. rent-term a i (omega (arith, z)))
-    (subst (λ (n : ℕ). SumsFit (λ i. net (caseOf (now (a .args .«case»))) (planOf (now (a .args .«case»)) (now (a .args .proposal))) i *ℤ zonePrice (caseOf (now (a .args .«case»))) (pricesOf (now (a .args .«case»)) (now (a .args .proposal))) i) n) (sym z) (rent-sums _ (cs a) _ (system-near _ _) (shadows a) (a .pre .1 .1 .1 .1 .within) _ (a .pre .1 .0 .within))))
+    let z = ap (λ (k : Counts). k .zones) (a .pre .0 .opened .counts) in (
+      omega (arith, z, (cs a) .zones-in .1),
+      fit-ext _ _ _ (λ i h. rent-term a i (omega (arith, z)))
+          (subst (λ (n : ℕ). SumsFit (λ i. net (caseOf (now (a .args .«case»))) (planOf (now (a .args .«case»)) (now (a .args .proposal))) i *ℤ zonePrice (caseOf (now (a .args .«case»))) (pricesOf (now (a .args .«case»)) (now (a .args .proposal))) i) n) (sym z) (rent-sums _ (cs a) _ (system-near _ _) (shadows a) (a .pre .1 .1 .1 .1 .within) _ (a .pre .1 .0 .within))),
+    )
 
 returns : tie.Need-returns
 unfolding totalsOf rent caseOf

@@ -2,23 +2,21 @@
 -- outside its limits. The measure is what is left of the branches. Assumes nothing.
 use mathlib.Core.Path.{_≡_, refl, sym, ap, _∙_}
 use mathlib.Core.Bool.{Bool}
-use mathlib.Core.List.{List}
 use mathlib.Core.Option.{none}
 use Prim.Native.Nat.{ℕ, _+_, _*_, _-_, _≤_}
 use native.Mathlib.Omega.{arith}
 use borrow.Author.Needs.{needs}
-use lib.ListN.{length}
-use lib.IntN.{ℤ, pos}
+use lib.IntN.{pos}
 use Rattle.integers.specs.Ranges.{outside}
 use Rattle.measures.specs.Limits as limits
-use Rattle.measures.specs.Held.{centsIn, cents-outside, cents-held}
+use Rattle.measures.specs.Held.{cents-outside, cents-held}
 use Rattle.rules.specs.Layout.{u32At, shadowIn}
 use Rattle.rules.specs.Rows.{firstBelow}
 use Rattle.fields.specs.declared.Cursor.{Cursor}
 use Rattle.fields.specs.Walk.{wordField, Took, word-took, word-short}
 use Rattle.fields.specs.Search.{first-here, first-later, first-nowhere}
 use Rattle.case_file.specs.Opened.{headed, limited}
-use Rattle.proposal_file.specs.Proposed.{numberStart, lengthOf, badShadow, length-is, shadow-is}
+use Rattle.proposal_file.specs.Proposed.{numberStart, badShadow, length-is, shadow-is}
 use Rattle.proposal_file.proofs.first_bad_shadow.Statement.{statement}
 use Rattle.proposal_file.proofs.first_bad_shadow.Tie as tie
 

@@ -1,6 +1,6 @@
 -- `proposal_file::hold_proposal` meets its contract: a row of the table for each test, in the table's order, past each that passes to the one that fails.
 -- Assumes nothing.
-use mathlib.Core.Path.{_≡_, refl, sym, ap, _∙_}
+use mathlib.Core.Path.{_≡_, sym, ap, _∙_}
 use mathlib.Core.Bool.{false, not, _&&_}
 use mathlib.Core.List.{List}
 use Prim.Native.Nat.{ℕ}
@@ -9,11 +9,11 @@ use borrow.Author.Needs.{needs}
 use borrow.Author.Tests.{eq-eqb, ne-eqb, le-ltb}
 use lib.Dec.{eqb}
 use lib.ListN.{length, drop}
-use lib.IntN.{ℤ, pos}
+use lib.IntN.{pos}
 use Rattle.integers.specs.Ranges.{outside}
 use Rattle.measures.specs.Limits as limits
 use Rattle.measures.specs.Held.{shareIn, share-outside, share-held}
-use Rattle.rules.specs.Layout.{proposalLength, proposalVersion, branchesIn, systemIn}
+use Rattle.rules.specs.Layout.{proposalLength, proposalVersion, branchesIn}
 use Rattle.rules.specs.Layout as layout
 use Rattle.rules.specs.Rows.{refusal, each}
 use Rattle.rules.specs.RowLaws.{field-fails, field-passes, row-found, row-clear}

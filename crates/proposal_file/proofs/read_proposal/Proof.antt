@@ -1,7 +1,7 @@
 -- `proposal_file::read_proposal` meets its contract: row 9 by the walk over the header, the others by its fields. Assumes nothing.
-use mathlib.Core.Path.{_≡_, sym, ap, _∙_}
-use lib.ListN.{drop}
+use mathlib.Core.Path.{sym, ap, _∙_}
 use borrow.Author.Needs.{needs}
+use lib.ListN.{drop}
 use Rattle.rules.specs.RowLaws.{field-fails}
 use Rattle.proposal_file.specs.declared.ProposalAnswer.the-variants.{Refused}
 use Rattle.proposal_file.specs.Answer.{openingOf, proposalBy, header-taken, header-refused}

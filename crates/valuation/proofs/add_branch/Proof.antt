@@ -80,9 +80,11 @@ loop-less c = omega arith
 loop-again : tie.Need-loop-again Inv-loop μ-loop
 loop-again c =
     let l = c .before .before .before .before .before .before in
-    let a = l .before .args in
-    (omega arith, add-step (a .prices) (l .loop .sums) (a .t2) (a .shadow .0) (l .loop .z) (a .zones) (c .plus .result) (omega arith) (omega arith) (l .loop .inv .1)
-    (c .plus .ensures ∙ ap (λ (x : ℤ). grainsAt (l .loop .sums) (l .loop .z) +ℤ x) (c .before .price2 .ensures ∙ product-is (c .before .before))))
+    let a = l .before .args in (
+      omega arith,
+      add-step (a .prices) (l .loop .sums) (a .t2) (a .shadow .0) (l .loop .z) (a .zones) (c .plus .result) (omega arith) (omega arith) (l .loop .inv .1)
+          (c .plus .ensures ∙ ap (λ (x : ℤ). grainsAt (l .loop .sums) (l .loop .z) +ℤ x) (c .before .price2 .ensures ∙ product-is (c .before .before))),
+    )
 
 returns : tie.Need-returns Inv-loop μ-loop
 returns c =

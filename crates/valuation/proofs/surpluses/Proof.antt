@@ -66,10 +66,13 @@ unfolding caseOf
 surplus-requires c κs =
     let o = c .before in
     let a = o .before .before .before .before .before in
-    let cs = case-sound _ (a .pre .0 .opened .readable) in
-    (subst (λ (x : Order). Within limits.quantity (x .quantity .0)) (sym (o .order-at .ensures)) (cs .quantity-within (o .before .before .loop .i) (inside (o .before))),
-    (subst (λ (x : Order). Within limits.orderPrice (x .price .0)) (sym (o .order-at .ensures)) (cs .price-in (o .before .before .loop .i) (inside (o .before))),
-    subst (λ (x : ℤ). Within limits.zonePrice x) (sym (price-is c)) (a .pre .1 .1 .within _ (zone-known o))))
+    let cs = case-sound _ (a .pre .0 .opened .readable) in (
+      subst (λ (x : Order). Within limits.quantity (x .quantity .0)) (sym (o .order-at .ensures)) (cs .quantity-within (o .before .before .loop .i) (inside (o .before))),
+      (
+        subst (λ (x : Order). Within limits.orderPrice (x .price .0)) (sym (o .order-at .ensures)) (cs .price-in (o .before .before .loop .i) (inside (o .before))),
+        subst (λ (x : ℤ). Within limits.zonePrice x) (sym (price-is c)) (a .pre .1 .1 .within _ (zone-known o)),
+      ),
+    )
 
 -- this order's surplus
 term-is : (c : tie.After-surplus Inv-loop μ-loop) → c .surplus .result .0 ≡ orderSurplus (caseOf (now (c .before .before .before .before .before .before .before .args .«case»))) (pricesOf (now (c .before .before .before .before .before .before .before .args .«case»)) (now (c .before .before .before .before .before .before .before .args .proposal))) (c .before .before .before .before .loop .i)

@@ -37,12 +37,14 @@ in-grains-requires c κs = sfits-by w64 (ap grainsOf (c .before .before .pre .1 
 loop-holds : tie.Need-loop-holds Inv-loop μ-loop
 unfolding sumTo
 loop-holds c =
-    let a = c .before .before .before in
-    (omega arith, record {
-      long = refl;
-      each = λ z h. ap (λ (g : Grains). g .0) (getD-replicate 16 z (c .in-grains .result) noGrains (omega (arith, (case-sound _ (a .pre .0 .opened .readable)) .zones-in .1)))
-          ∙ c .in-grains .ensures ∙ ap grainsOf (a .pre .1 .1) ∙ sym (+ℤ-idr _);
-    })
+    let a = c .before .before .before in (
+      omega arith,
+      record {
+        long = refl;
+        each = λ z h. ap (λ (g : Grains). g .0) (getD-replicate 16 z (c .in-grains .result) noGrains (omega (arith, (case-sound _ (a .pre .0 .opened .readable)) .zones-in .1)))
+            ∙ c .in-grains .ensures ∙ ap grainsOf (a .pre .1 .1) ∙ sym (+ℤ-idr _);
+      },
+    )
 
 one-more : (a x y : ℤ) → (a +ℤ x) +ℤ y ≡ a +ℤ (x +ℤ y)
 one-more a x y = +ℤ-assoc a x y
@@ -85,12 +87,17 @@ add-branch-requires : tie.Need-add-branch-requires Inv-loop μ-loop
 add-branch-requires c κs =
     let i = c .before .before in
     let l = i .before in
-    let a = l .before .before .before .before in
-    (zones-in a, (l .loop .inv .1 .long, record {
-      product = λ z h. sfits-by w64 (term-is c z (known a z h)) (near-fits w64 (omega arith) (price-term-near _ (case-sound _ (a .pre .0 .opened .readable)) _ (system-near _ _) ((proposal-sound _ _ (a .pre .0 .passed)) .shadow-in) z (l .loop .m) (known a z h) (inside i)));
-      sum = λ z h. sfits-by w64 ((λ j. l .loop .inv .1 .each z (known a z h) j +ℤ term-is c z (known a z h) j) ∙ one-more (grainsOf ((pricesOf (now (a .args .«case»)) (now (a .args .proposal))) .system)) (sumTo (l .loop .m) (λ k. branchPrice (caseOf (now (a .args .«case»))) (pricesOf (now (a .args .«case»)) (now (a .args .proposal))) z k)) (branchPrice (caseOf (now (a .args .«case»))) (pricesOf (now (a .args .«case»)) (now (a .args .proposal))) z (l .loop .m)) ∙ ap (λ (x : ℤ). grainsOf ((pricesOf (now (a .args .«case»)) (now (a .args .proposal))) .system) +ℤ x) (sym (sum-more (l .loop .m) (λ k. branchPrice (caseOf (now (a .args .«case»))) (pricesOf (now (a .args .«case»)) (now (a .args .proposal))) z k))))
-          (near-fits w64 (omega arith) (price-near _ (case-sound _ (a .pre .0 .opened .readable)) _ (system-near _ _) ((proposal-sound _ _ (a .pre .0 .passed)) .shadow-in) (l .loop .m + 1) (omega (arith, inside i)) z (known a z h)));
-    }))
+    let a = l .before .before .before .before in (
+      zones-in a,
+      (
+        l .loop .inv .1 .long,
+        record {
+          product = λ z h. sfits-by w64 (term-is c z (known a z h)) (near-fits w64 (omega arith) (price-term-near _ (case-sound _ (a .pre .0 .opened .readable)) _ (system-near _ _) ((proposal-sound _ _ (a .pre .0 .passed)) .shadow-in) z (l .loop .m) (known a z h) (inside i)));
+          sum = λ z h. sfits-by w64 ((λ j. l .loop .inv .1 .each z (known a z h) j +ℤ term-is c z (known a z h) j) ∙ one-more (grainsOf ((pricesOf (now (a .args .«case»)) (now (a .args .proposal))) .system)) (sumTo (l .loop .m) (λ k. branchPrice (caseOf (now (a .args .«case»))) (pricesOf (now (a .args .«case»)) (now (a .args .proposal))) z k)) (branchPrice (caseOf (now (a .args .«case»))) (pricesOf (now (a .args .«case»)) (now (a .args .proposal))) z (l .loop .m)) ∙ ap (λ (x : ℤ). grainsOf ((pricesOf (now (a .args .«case»)) (now (a .args .proposal))) .system) +ℤ x) (sym (sum-more (l .loop .m) (λ k. branchPrice (caseOf (now (a .args .«case»))) (pricesOf (now (a .args .«case»)) (now (a .args .proposal))) z k))))
+              (near-fits w64 (omega arith) (price-near _ (case-sound _ (a .pre .0 .opened .readable)) _ (system-near _ _) ((proposal-sound _ _ (a .pre .0 .passed)) .shadow-in) (l .loop .m + 1) (omega (arith, inside i)) z (known a z h)));
+        },
+      ),
+    )
 
 add-m : tie.Need-add-m Inv-loop μ-loop
 add-m c = omega (arith, inside (c .before .before .before), (case-sound _ (c .before .before .before .before .before .before .before .before .pre .0 .opened .readable)) .branches-in)
@@ -104,9 +111,11 @@ loop-again c =
     let s = c .before in
     let i = s .before .before in
     let l = i .before in
-    let a = l .before .before .before .before in
-    (omega (arith, i .loop-test .taken), branch-step (caseOf (now (a .args .«case»))) (pricesOf (now (a .args .«case»)) (now (a .args .proposal))) (l .loop .m) (l .loop .prices) (c .add-branch .result) _ _ (λ z h. term-is s z h) (l .loop .inv .1)
-    (subst (λ (n : ℕ). AddedTo (l .loop .prices) (c .add-branch .result) (getD (a .args .t4) (l .loop .m) []) (s .shadow-at .result .0) n n) (ap (λ (k : Counts). k .zones) (a .pre .0 .opened .counts)) (c .add-branch .ensures)))
+    let a = l .before .before .before .before in (
+      omega (arith, i .loop-test .taken),
+      branch-step (caseOf (now (a .args .«case»))) (pricesOf (now (a .args .«case»)) (now (a .args .proposal))) (l .loop .m) (l .loop .prices) (c .add-branch .result) _ _ (λ z h. term-is s z h) (l .loop .inv .1)
+          (subst (λ (n : ℕ). AddedTo (l .loop .prices) (c .add-branch .result) (getD (a .args .t4) (l .loop .m) []) (s .shadow-at .result .0) n n) (ap (λ (k : Counts). k .zones) (a .pre .0 .opened .counts)) (c .add-branch .ensures)),
+    )
 
 returns : tie.Need-returns Inv-loop μ-loop
 unfolding zonePrice caseOf

@@ -1,7 +1,7 @@
 -- `case_file::Counts::branch_start` meets its contract: under its limits no offset is large. Assumes nothing.
 use native.Mathlib.Omega.{arith}
-use Rattle.case_file.specs.Opened.{branches-bound}
 use borrow.Author.Needs.{needs}
+use Rattle.case_file.specs.Opened.{branches-bound}
 use Rattle.case_file.proofs.Counts.branch_start.Statement.{statement}
 use Rattle.case_file.proofs.Counts.branch_start.Tie as tie
 

@@ -1,8 +1,8 @@
 -- `case_file::Counts::order_start` meets its contract: under its limits no offset is large. Assumes nothing.
 use native.Mathlib.Nat.{le-refl}
 use native.Mathlib.Omega.{arith}
-use Rattle.case_file.specs.Opened.{branches-bound}
 use borrow.Author.Needs.{needs}
+use Rattle.case_file.specs.Opened.{branches-bound}
 use Rattle.case_file.proofs.Counts.order_start.Statement.{statement}
 use Rattle.case_file.proofs.Counts.order_start.Tie as tie
 

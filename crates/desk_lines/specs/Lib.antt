@@ -1,0 +1,16 @@
+-- DEFINITIONS, to be read beside document 01
+pub mod Cut
+pub mod Lines
+pub mod Printed
+-- THE WORKED HOUR
+mod Worked
+-- WHAT HOLDS OF THEM: all lines have room, and a long input is judged by its start
+pub mod Room
+pub mod Prefix
+-- PROOFS' MEANS
+pub mod Ends
+pub mod Header
+pub mod Judged
+pub mod Refused
+pub mod Numbers
+pub mod Read
