@@ -2,7 +2,7 @@
 use mathlib.Core.Path.{_≡_, sym, _∙_}
 use native.Mathlib.Omega.{arith}
 use Rattle.rules.specs.Layout.{caseLength}
-use Rattle.case_file.specs.Opened.{Headed, headed-of, unheaded-of, limited, length-is}
+use Rattle.case_file.specs.Opened.{Headed, headed-of, header-refused-of, limited, length-is}
 use Rattle.desk_lines.specs.Ends.{end-refused, end-short, end-good}
 use borrow.Author.Needs.{needs}
 use Rattle.desk_lines.proofs.cut.Statement.{statement}
@@ -33,7 +33,7 @@ returns : tie.Need-returns
 returns c =
     let answer = c .before .before in
     let s = answer .before .before .args .input .now in
-    sym (end-refused s _ (unheaded-of s (sym (answer .read-header .ensures) ∙ c .enum-told .given .1)))
+    sym (end-refused s _ (header-refused-of s (sym (answer .read-header .ensures) ∙ c .enum-told .given .1)))
 
 demanded-requires : tie.Need-demanded-requires
 demanded-requires c κs = limited (good-header (c .before))

@@ -1,0 +1,98 @@
+/* A host of the judgement, complete: `example CASE PROPOSAL` reads two files, has them judged and prints the answer.
+ * The status is 0 if the hour is accepted, 1 if it is refused, 2 if it could not be judged or the answer not be printed.
+ *
+ *     cc -Iinclude host/example.c target/staticlib/libhost.a -o example
+ */
+#include "lta_judgement.h"
+
+#include <errno.h>
+#include <inttypes.h>
+#include <stdio.h>
+#include <stdlib.h>
+#include <string.h>
+
+enum status { ACCEPTED, REFUSED, NOT_JUDGED };
+
+/* The bytes of a file; null, with a message printed, if they cannot be had. They are freed by the caller. */
+static uint8_t *file_bytes(const char *name, size_t *length)
+{
+    FILE *file = fopen(name, "rb");
+    if (file == NULL) {
+        fprintf(stderr, "example: cannot open %s: %s\n", name, strerror(errno));
+        return NULL;
+    }
+    size_t room = 0, filled = 0;
+    uint8_t *bytes = NULL;
+    do {
+        room = room == 0 ? 4096 : 2 * room;
+        uint8_t *larger = realloc(bytes, room);
+        if (larger == NULL) {
+            fprintf(stderr, "example: no memory for %s\n", name);
+            free(bytes);
+            fclose(file);
+            return NULL;
+        }
+        bytes = larger;
+        filled += fread(bytes + filled, 1, room - filled, file);
+    } while (filled == room);
+    if (ferror(file)) {
+        fprintf(stderr, "example: cannot read %s: %s\n", name, strerror(errno));
+        free(bytes);
+        bytes = NULL;
+    }
+    fclose(file);
+    *length = filled;
+    return bytes;
+}
+
+/* The signed number of 64 bits, little-endian, at an offset of the report. */
+static int64_t number_at(const uint8_t *report, size_t offset)
+{
+    uint64_t bits = 0;
+    for (size_t k = 8; k-- > 0;)
+        bits = bits << 8 | report[offset + k];
+    int64_t number;
+    memcpy(&number, &bits, sizeof number);
+    return number;
+}
+
+static void print_report(const uint8_t *report)
+{
+    printf("welfare %" PRId64 " microcents\n", number_at(report, LTA_REPORT_WELFARE));
+    printf("bound %" PRId64 " microcents\n", number_at(report, LTA_REPORT_BOUND));
+    printf("gap %" PRId64 " microcents\n", number_at(report, LTA_REPORT_GAP));
+    printf("rent %" PRId64 " microcents\n", number_at(report, LTA_REPORT_RENT));
+    printf("owed %" PRId64 " microcents\n", number_at(report, LTA_REPORT_OWED));
+    for (size_t zone = 0; zone < report[LTA_REPORT_ZONES]; zone++)
+        printf("price %zu %" PRId64 " grains\n", zone, number_at(report, LTA_REPORT_PRICE(zone)));
+}
+
+int main(int count, char **words)
+{
+    if (count != 3) {
+        fprintf(stderr, "usage: example CASE PROPOSAL\n");
+        return NOT_JUDGED;
+    }
+    size_t case_length = 0, proposal_length = 0;
+    uint8_t *case_bytes = file_bytes(words[1], &case_length);
+    uint8_t *proposal = case_bytes == NULL ? NULL : file_bytes(words[2], &proposal_length);
+    if (proposal == NULL) {
+        free(case_bytes);
+        return NOT_JUDGED;
+    }
+
+    uint8_t report[LTA_REPORT_ROOM];
+    uint64_t verdict = lta_judge(case_bytes, case_length, proposal, proposal_length, report, sizeof report);
+    free(proposal);
+    free(case_bytes);
+
+    uint32_t number = LTA_NUMBER(verdict);
+    printf("verdict %" PRIu32 " %" PRIu32 "\n", number, LTA_INDEX(verdict));
+    if (number == LTA_ACCEPTED || number == LTA_GAP_ABOVE_TOLERANCE)
+        print_report(report);
+    if (fflush(stdout) != 0) {
+        fprintf(stderr, "example: cannot print: %s\n", strerror(errno));
+        return NOT_JUDGED;
+    }
+    return number == LTA_ACCEPTED ? ACCEPTED : REFUSED;
+}

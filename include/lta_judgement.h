@@ -1,0 +1,192 @@
+/* The judgement of one day-ahead hour, for C and C++. To be linked with target/staticlib/libhost.a.
+ *
+ * An hour is a case (zones, branches, links and orders) and a proposal for its clearing (volumes, flows and prices). lta_judge answers
+ * whether the proposal is accepted, or else the first cause for which it is refused. lta_book_surplus values an order book that lies in
+ * memory. lta_desk_lines gives a judgement as text.
+ *
+ * Each promise below is part of a contract in crates/host, and the archive is built only if every function in it is proved to meet its
+ * contract. A word in brackets, as [outcome], is the name of the clause that says it.
+ *
+ * What the caller owes, in every call:
+ *   - A pointer and the length or count after it are one array: all of it may be read, and all of `report` or `out` may be written.
+ *     A null pointer is allowed where the length or count is 0.
+ *   - `report` and `out` overlap no other argument, and nothing else writes to an argument during the call.
+ *   - `orders` and `zone_prices` are aligned as their types demand.
+ *   - There is stack enough. The proofs are about a machine that cannot run out of it; by test, 16 KiB are enough.
+ *
+ * What holds then, of every call, whatever the bytes are:
+ *   - It returns.
+ *   - It reads nothing but its arguments. The answer, and what is written, depend on nothing else.
+ *   - It writes nothing but what is said below of `report` and `out`. The case, the proposal, the input, the orders and the prices stay
+ *     as they were, and no file is read or written.
+ *
+ * Measures:
+ *   tenth      0.1 MW, for one hour 0.1 MWh     margins, capacities, quantities, volumes, flows
+ *   cent       0.01 euro per MWh                prices of orders, system price, shadow prices
+ *   grain      1 / 100,000 cent per MWh         zone prices
+ *   microcent  1 / 1,000,000 cent               money. One tenth at one grain is one microcent.
+ *   100,000 stands for 1 in PTDFs and in the LTA share. The tolerance is in cents of money.
+ */
+#ifndef LTA_JUDGEMENT_H
+#define LTA_JUDGEMENT_H
+
+#include <stddef.h>
+#include <stdint.h>
+
+#ifdef __cplusplus
+extern "C" {
+#endif
+
+#define LTA_GRAINS_PER_CENT 100000
+#define LTA_GRAINS_PER_EURO 10000000
+#define LTA_MICROCENTS_PER_CENT 1000000
+#define LTA_MICROCENTS_PER_EURO 100000000
+
+/* THE VERDICT. Number and index of what lta_judge returns. */
+#define LTA_NUMBER(verdict) ((uint32_t)((verdict) % 256))
+#define LTA_INDEX(verdict) ((uint32_t)((verdict) / 256))
+
+/* The numbers. LTA_NO_ROOM is asked first of all; among the others the smallest number that has a cause wins, and then the smallest
+ * index. No number is returned for another cause than its own. The index is 0 where none is named. Places are counted from 0. */
+enum lta_number {
+    LTA_ACCEPTED = 0,               /* none of these causes */
+    LTA_CASE_SHORT = 1,             /* case shorter than 14 bytes */
+    LTA_CASE_MARK = 2,              /* case does not begin with LTC */
+    LTA_CASE_VERSION = 3,           /* case version is not 1 */
+    LTA_CASE_HEADER = 4,            /* header field outside its range; index: its offset, 5, 6, 7, 8 or 10 */
+    LTA_CASE_LENGTH = 5,            /* case length is not what the header demands */
+    LTA_CASE_BRANCH = 6,            /* branch field out of range; index: the branch */
+    LTA_CASE_LINK = 7,              /* link: unknown zone, equal zones, capacity, repeated pair; index: the link, of a pair the later */
+    LTA_CASE_ORDER = 8,             /* order field out of range; index: the order */
+    LTA_PROPOSAL_SHORT = 9,         /* proposal shorter than 13 bytes */
+    LTA_PROPOSAL_MARK = 10,         /* proposal does not begin with LTP */
+    LTA_PROPOSAL_VERSION = 11,      /* proposal version is not 1 */
+    LTA_PROPOSAL_LENGTH = 12,       /* proposal length is wrong for this case */
+    LTA_SHARE = 13,                 /* LTA share above 100,000 */
+    LTA_SHADOW_PRICE = 14,          /* shadow price above 1,000,000; index: the branch */
+    LTA_VOLUME = 21,                /* volume above its order's quantity; index: the order */
+    LTA_BALANCE = 22,               /* rule 3 fails: the net positions do not sum to zero */
+    LTA_LINK_RULE = 23,             /* rule 4 fails: flow * 100,000 > share * capacity; index: the link */
+    LTA_BRANCH_RULE = 24,           /* rule 5 fails: load > (100,000 - share) * margin; index: the branch */
+    LTA_ZONE_PRICE = 25,            /* zone price under -50,000 or over 400,000 cents; index: the zone */
+    LTA_GAP_ABOVE_TOLERANCE = 26,   /* gap above the tolerance */
+    LTA_NO_ROOM = 30                /* report buffer under LTA_REPORT_ROOM bytes */
+};
+
+/* THE REPORT, written for LTA_ACCEPTED and LTA_GAP_ABOVE_TOLERANCE: the offset of each field. Numbers are little-endian. */
+#define LTA_REPORT_MARK 0           /* 3 bytes, LTR */
+#define LTA_REPORT_VERSION 3        /* 16 bits, 1 */
+#define LTA_REPORT_NUMBER 5         /* 8 bits, the verdict's number: 0 or 26 */
+#define LTA_REPORT_ZONES 6          /* 8 bits, the case's zones; the byte after it is zero */
+#define LTA_REPORT_WELFARE 8        /* signed 64 bits, microcents, and so the next four */
+#define LTA_REPORT_BOUND 16
+#define LTA_REPORT_GAP 24           /* bound - welfare */
+#define LTA_REPORT_RENT 32
+#define LTA_REPORT_OWED 40
+#define LTA_REPORT_PRICE(zone) (48 + 8 * (zone)) /* signed 64 bits, grains */
+
+#define LTA_REPORT_SIZE(zones) (48 + 8 * (zones)) /* bytes of a report */
+#define LTA_REPORT_ROOM 176         /* bytes that a report buffer must have, whatever the zones: a report of 16 */
+
+/* Judges a proposal for a case, and returns number + 256 * index. [outcome]
+ *
+ *   case_bytes, case_len       a case, as laid out below
+ *   proposal, proposal_len     a proposal for it, as laid out below
+ *   report, report_len         room for the report, at least LTA_REPORT_ROOM bytes
+ *
+ * The bytes of the report buffer afterwards [report]: if the number is 0 or 26, its first LTA_REPORT_SIZE(zones) bytes are the report,
+ * and all past them are as they were. For any other number every byte is as it was.
+ *
+ * What holds of an accepted hour, that is if lta_judge returns 0, of the numbers that then stand in the report:
+ *   [allowed]   The proposal is a clearing of the case.
+ *   [accuracy]  No clearing of the case has a welfare above welfare + gap. At gap 0 none is better than the proposal.
+ *   [gap]       The gap is at least 0 and at most 1,000,000 * tolerance.
+ *   [coverage]  The rent is at least owed - gap. At gap 0 it covers all that is owed.
+ * A clearing is any choice of volumes (each from zero to its order's quantity), flows (none negative) and LTA share (from 0 to 100,000)
+ * that meets rules 3, 4 and 5; fractions are allowed, of any denominator.
+ *
+ * The rules, with import positive:
+ *    1  net position of a zone = accepted buys - accepted sells
+ *    2  LTA part of a zone = flows in - flows out over its links; flow-based part = net position - LTA part
+ *    3  balance: the net positions sum to zero
+ *    4  each link: flow * 100,000 <= share * capacity
+ *    5  each branch: load = sum over zones of PTDF * flow-based part <= (100,000 - share) * margin
+ *    6  zone price = 100,000 * system price + sum over branches of PTDF * shadow price
+ *    7  welfare = 100,000 * sum of volume * order price, buys counted positive and sells negative
+ *    8  order surplus = quantity * (order price - zone price) for a buy, quantity * (zone price - order price) for a sell, with both
+ *       prices in grains, and never below zero
+ *    9  branch total = 100,000 * sum of margin * shadow price; owed = sum over links of capacity * (price at `to` - price at `from`),
+ *       where positive, else zero
+ *   10  bound = all order surpluses + the larger of branch total and owed
+ *   11  gap = bound - welfare; rent = sum over zones of net position * zone price
+ *
+ * The case, little-endian, each field with its least and greatest value:
+ *   header, 14 bytes   mark LTC; version, 16 bits, 1; zones, 8 bits, 1 to 16; branches, 8 bits, 0 to 64; links, 8 bits, 0 to 64;
+ *                      orders, 16 bits, 0 to 512; tolerance in cents, 32 bits, 0 to 1,000,000,000
+ *   each branch        margin, signed 32 bits, -500,000 to 500,000; a PTDF per zone, signed 32 bits each, -200,000 to 200,000
+ *   each link          from zone, to zone, 8 bits each, not equal, each ordered pair once; capacity, 32 bits, 0 to 100,000
+ *   each order         zone, 8 bits; side, 8 bits, 0 buys, 1 sells; quantity, 32 bits, 1 to 100,000; price, signed 32 bits, -50,000 to
+ *                      400,000
+ * The proposal, little-endian:
+ *   header, 13 bytes   mark LTP; version, 16 bits, 1; LTA share, 32 bits, 0 to 100,000; system price, signed 32 bits, any value
+ *   then               a volume per order, a flow per link, a shadow price per branch (0 to 1,000,000), 32 bits each
+ */
+uint64_t lta_judge(const uint8_t *case_bytes, size_t case_len,
+                   const uint8_t *proposal, size_t proposal_len,
+                   uint8_t *report, size_t report_len);
+
+/* THE LENT ORDER BOOK. A row; its fields have the ranges of an order of a case. */
+#define LTA_BUYS 0
+#define LTA_SELLS 1
+
+struct lta_order {
+    uint8_t zone;      /* below the number of prices */
+    uint8_t side;      /* LTA_BUYS or LTA_SELLS */
+    uint32_t quantity; /* tenths, 1 to 100,000 */
+    int32_t price;     /* cents, -50,000 to 400,000 */
+};
+
+/* The answer. */
+struct lta_surplus {
+    uint32_t number; /* 0, or that of the refusal */
+    uint32_t index;
+    int64_t sum;     /* microcents; 0 in a refusal */
+};
+
+/* The sum of rule 8 over the rows of a book: number 0, index 0 and the sum.
+ *
+ *   orders, order_count        the rows, at most 512
+ *   zone_prices, price_count   the price of each zone in grains, for 1 to 16 zones, each from -50,000 to 400,000 cents
+ *
+ * It refuses with sum 0, asked in this order, and then by the smallest index:
+ *   LTA_CASE_HEADER, index 5   no prices, or over 16
+ *   LTA_CASE_HEADER, index 8   over 512 rows
+ *   LTA_CASE_ORDER             a row with a field out of range; index: the row
+ *   LTA_ZONE_PRICE             a price out of range; index: the zone
+ */
+struct lta_surplus lta_book_surplus(const struct lta_order *orders, size_t order_count,
+                                    const int64_t *zone_prices, size_t price_count);
+
+/* The desk's text: room that is enough for every input. */
+#define LTA_DESK_ROOM 1024
+
+/* Writes the lines that the desk program prints for an input, and returns their length in bytes. [count]
+ *
+ *   input, input_len           a case and at once its proposal. If the header is good and as many bytes as it demands are there, the case
+ *                              is cut at that length and the rest is the proposal; else all is the case, and the proposal is empty.
+ *   out, out_len               room for the text, at least LTA_DESK_ROOM bytes
+ *
+ * The text is `verdict NUMBER INDEX`, as lta_judge answers with room for the report. For 0 and 26 lines follow with welfare, bound, gap,
+ * rent and owed, in euros with eight decimals, and a line `price ZONE PRICE` for each zone, in euros per MWh with seven. A newline ends
+ * each line; no zero byte ends the text.
+ *
+ * The bytes of `out` afterwards [bytes]: the text, and all past it as they were. If out_len is under LTA_DESK_ROOM, 0 is returned and
+ * every byte is as it was.
+ */
+uint64_t lta_desk_lines(const uint8_t *input, size_t input_len, uint8_t *out, size_t out_len);
+
+#ifdef __cplusplus
+}
+#endif
+
+#endif

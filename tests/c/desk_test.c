@@ -1,0 +1,268 @@
+/* lta_desk_lines through the archive: document 01's nine lines, hours that end after the first line, where the input is cut, and outputs
+ * too short. Every call is made with input and output at both places between unreadable pages, the input unwritable, and every byte of
+ * the output is compared afterwards.
+ *
+ *     desk_test CASE PROPOSAL     the three-zone hour's files
+ */
+#include "harness.h"
+#include "hours.h"
+#include "lta_judgement.h"
+
+#include <inttypes.h>
+#include <stdio.h>
+#include <string.h>
+
+/* Room for the text, and bytes past it. */
+#define ROOM 1100
+
+static struct arena input_arena, out_arena;
+static struct file sample;
+
+static const char three_zone_lines[] =
+    "verdict 0 0\n"
+    "welfare 22125.00000000\n"
+    "bound 22125.00000000\n"
+    "gap 0.00000000\n"
+    "rent 17500.00000000\n"
+    "owed 17500.00000000\n"
+    "price 0 20.0000000\n"
+    "price 1 63.7500000\n"
+    "price 2 50.0000000\n";
+
+/* See judge_test for its totals. */
+static const char largest_lines[] =
+    "verdict 26 0\n"
+    "welfare 11520000000.00000000\n"
+    "bound 43520000000.00000000\n"
+    "gap 32000000000.00000000\n"
+    "rent 0.00000000\n"
+    "owed 0.00000000\n"
+    "price 0 0.0000000\n"
+    "price 1 0.0000000\n"
+    "price 2 0.0000000\n"
+    "price 3 0.0000000\n"
+    "price 4 0.0000000\n"
+    "price 5 0.0000000\n"
+    "price 6 0.0000000\n"
+    "price 7 0.0000000\n"
+    "price 8 0.0000000\n"
+    "price 9 0.0000000\n"
+    "price 10 0.0000000\n"
+    "price 11 0.0000000\n"
+    "price 12 0.0000000\n"
+    "price 13 0.0000000\n"
+    "price 14 0.0000000\n"
+    "price 15 0.0000000\n";
+
+/* The length returned, and the output's bytes, with both arguments at each of their places. */
+static void printed_in(size_t room, const struct file *input, const char *text)
+{
+    bool ok = true;
+    for (unsigned k = 0; k < PLACES * PLACES && ok; k++) {
+        enum place input_place = k % PLACES, out_place = k / PLACES;
+        const uint8_t *bytes = lend(input_arena, input_place, input->bytes, input->length);
+        uint8_t *out = lend_room(out_arena, out_place, room);
+        uint64_t length = lta_desk_lines(bytes, input->length, out, room);
+        if (length != strlen(text)) {
+            wrong("%" PRIu64 " bytes, and should be %zu", length, strlen(text));
+            ok = false;
+        }
+        ok = holds(out_arena, out_place, room, (const uint8_t *)text, strlen(text)) && ok;
+        if (!ok)
+            wrong("it is: %.*s", (int)(length < room ? length : room), (const char *)out);
+    }
+    check(ok);
+}
+
+static void printed(const struct file *input, const char *text) { printed_in(ROOM, input, text); }
+
+/* Case and at once proposal. */
+static struct file input_of(const struct hour *h)
+{
+    struct file input = case_file(h), p = proposal_file(h);
+    memcpy(input.bytes + input.length, p.bytes, p.length);
+    input.length += p.length;
+    return input;
+}
+
+static void hours(void)
+{
+    about("the sample files");
+    printed(&sample, three_zone_lines);
+    struct hour h = three_zone_hour();
+    struct file input = input_of(&h);
+    about("P1");
+    printed(&input, three_zone_lines);
+
+    h = unused_link_hour();
+    input = input_of(&h);
+    about("P3, which is refused and has a report");
+    printed(&input,
+            "verdict 26 0\n"
+            "welfare 19500.00000000\n"
+            "bound 22500.00000000\n"
+            "gap 3000.00000000\n"
+            "rent 15000.00000000\n"
+            "owed 18000.00000000\n"
+            "price 0 20.0000000\n"
+            "price 1 65.0000000\n"
+            "price 2 50.0000000\n");
+
+    /* as in judge_test: a sell at 1 cent and a buy at 0 cents, at a zone price of -1 cent */
+    h = (struct hour){.zones = 1, .orders = 2, .order = {{0, LTA_SELLS, 1, 1}, {0, LTA_BUYS, 1, 0}}, .volume = {1, 1}, .system = -1, .tolerance = 1};
+    input = input_of(&h);
+    about("negative amounts");
+    printed(&input,
+            "verdict 0 0\n"
+            "welfare -0.00100000\n"
+            "bound 0.00100000\n"
+            "gap 0.00200000\n"
+            "rent 0.00000000\n"
+            "owed 0.00000000\n"
+            "price 0 -0.0100000\n");
+
+    h = one_zone_hour();
+    h.zones = 16;
+    h.system = -50000;
+    input = input_of(&h);
+    about("sixteen zones");
+    printed(&input,
+            "verdict 0 0\n"
+            "welfare 0.00000000\n"
+            "bound 0.00000000\n"
+            "gap 0.00000000\n"
+            "rent 0.00000000\n"
+            "owed 0.00000000\n"
+            "price 0 -500.0000000\n"
+            "price 1 -500.0000000\n"
+            "price 2 -500.0000000\n"
+            "price 3 -500.0000000\n"
+            "price 4 -500.0000000\n"
+            "price 5 -500.0000000\n"
+            "price 6 -500.0000000\n"
+            "price 7 -500.0000000\n"
+            "price 8 -500.0000000\n"
+            "price 9 -500.0000000\n"
+            "price 10 -500.0000000\n"
+            "price 11 -500.0000000\n"
+            "price 12 -500.0000000\n"
+            "price 13 -500.0000000\n"
+            "price 14 -500.0000000\n"
+            "price 15 -500.0000000\n");
+
+    h = largest_hour(1000000);
+    input = input_of(&h);
+    about("the largest hour");
+    printed(&input, largest_lines);
+}
+
+static void refused(void)
+{
+    struct hour h = three_zone_hour();
+    struct file input = {0};
+    about("empty input");
+    printed(&input, "verdict 1 0\n");
+    h.volume[1] = 6001;
+    input = input_of(&h);
+    about("P5");
+    printed(&input, "verdict 21 1\n");
+    h = one_zone_hour();
+    h.system = 400001;
+    input = input_of(&h);
+    about("P11");
+    printed(&input, "verdict 25 0\n");
+    input = sample;
+    put(&input, 10, 4, 1000000001);
+    about("a header that is not good: all is the case");
+    printed(&input, "verdict 4 10\n");
+}
+
+/* The input cut short at each length, and lengthened by zero bytes. */
+static void lengths(void)
+{
+    struct file input = sample;
+    about("the sample has 147 bytes");
+    check(input.length == 147);
+    for (input.length = 0; input.length <= 200; input.length++) {
+        size_t n = input.length;
+        about("input of %zu bytes", n);
+        if (n == 147)
+            printed(&input, three_zone_lines);
+        else
+            printed(&input, n < 14 ? "verdict 1 0\n" : n < 102 ? "verdict 5 0\n" : n < 102 + 13 ? "verdict 9 0\n" : "verdict 12 0\n");
+    }
+}
+
+static void rooms(void)
+{
+    static const size_t rooms[] = {0, 1, 11, 12, 176, 1023, 1024, 1025, 4096};
+    struct file none = {0};
+    for (size_t k = 0; k < sizeof rooms / sizeof *rooms; k++) {
+        about("the sample, with an output of %zu bytes", rooms[k]);
+        printed_in(rooms[k], &sample, rooms[k] < 1024 ? "" : three_zone_lines);
+        about("empty input, with an output of %zu bytes", rooms[k]);
+        printed_in(rooms[k], &none, rooms[k] < 1024 ? "" : "verdict 1 0\n");
+    }
+    about("the room that the header names");
+    check(LTA_DESK_ROOM == 1024);
+}
+
+static void nulls(void)
+{
+    const uint8_t *bytes = lend(input_arena, AT_END, sample.bytes, sample.length);
+    uint8_t *out = lend_room(out_arena, AT_END, ROOM);
+    about("null for the output");
+    check(lta_desk_lines(bytes, sample.length, NULL, 0) == 0);
+    about("null for both");
+    check(lta_desk_lines(NULL, 0, NULL, 0) == 0);
+    about("null for the input");
+    check(lta_desk_lines(NULL, 0, out, ROOM) == 12 && holds(out_arena, AT_END, ROOM, (const uint8_t *)"verdict 1 0\n", 12));
+}
+
+static struct {
+    struct file input;
+    uint8_t out[LTA_DESK_ROOM];
+    uint64_t length;
+} call;
+
+static void call_lines(void) { call.length = lta_desk_lines(call.input.bytes, call.input.length, call.out, sizeof call.out); }
+
+static void small_stack(void)
+{
+    struct hour h = largest_hour(1000000);
+    call.input = input_of(&h);
+    about("the largest hour on a stack of %d bytes", STACK_ENOUGH);
+    on_stack(STACK_ENOUGH, call_lines);
+    check(call.length == strlen(largest_lines) && memcmp(call.out, largest_lines, strlen(largest_lines)) == 0);
+}
+
+static void append_file(struct file *f, const char *name)
+{
+    FILE *file = fopen(name, "rb");
+    if (file == NULL) {
+        perror(name);
+        return;
+    }
+    f->length += fread(f->bytes + f->length, 1, sizeof f->bytes - f->length, file);
+    fclose(file);
+}
+
+int main(int count, char **words)
+{
+    if (count != 3) {
+        fprintf(stderr, "usage: desk_test CASE PROPOSAL\n");
+        return 2;
+    }
+    append_file(&sample, words[1]);
+    append_file(&sample, words[2]);
+    input_arena = arena(sizeof sample.bytes);
+    out_arena = arena(4096);
+
+    group("hours with a report", hours);
+    group("hours without", refused);
+    group("inputs of 0 to 200 bytes", lengths);
+    group("outputs", rooms);
+    group("null with length 0", nulls);
+    group("a small stack", small_stack);
+    return closing();
+}

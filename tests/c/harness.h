@@ -1,0 +1,54 @@
+/* What the C tests share: named checks, counted; groups of checks in processes of their own; memory between unreadable pages. */
+#ifndef HARNESS_H
+#define HARNESS_H
+
+#include <stdbool.h>
+#include <stddef.h>
+#include <stdint.h>
+
+/* CHECKS. `about` names what is tried next; `check` counts it, passed or failed, under that name, and a crash is told by it too.
+ * `wrong` says a detail of a failure, and leaves the counting to `check`. */
+void about(const char *format, ...) __attribute__((format(printf, 1, 2)));
+void check(bool ok);
+void wrong(const char *format, ...) __attribute__((format(printf, 1, 2)));
+
+/* Runs checks in a child process: if they end it, by a guard page or otherwise, that counts as one failed, and the next group runs. */
+void group(const char *name, void (*checks)(void));
+
+/* Prints 'N passed, M failed' and gives the program's status: 0 only if some passed and none failed. */
+int closing(void);
+
+/* MEMORY between two pages that can be neither read nor written. */
+struct arena {
+    uint8_t *start; /* the first byte that can be used */
+    size_t size;    /* whole pages */
+};
+
+/* Where the lent bytes lie: their last one before the page behind, or their first one after the page in front. Bytes that are not lent
+ * hold a fill, and a writable array too, before the call; the two places have complementary fills. */
+enum place { AT_END, AT_START };
+#define PLACES 2
+
+struct arena arena(size_t least);
+
+/* Lends bytes that can be read and not written. An array of no bytes lies in an unreadable page. */
+const void *lend(struct arena a, enum place place, const void *bytes, size_t length);
+
+/* Lends bytes to be written. */
+uint8_t *lend_room(struct arena a, enum place place, size_t length);
+
+/* Whether the lent room begins with these bytes, and all else in the arena still has its fill. `holds` says the first byte that differs. */
+bool holds(struct arena a, enum place place, size_t length, const uint8_t *bytes, size_t count);
+bool holds_silently(struct arena a, enum place place, size_t length, const uint8_t *bytes, size_t count);
+
+/* Whether a process that reads this byte, or writes it, is ended for that. */
+bool unreadable(const volatile uint8_t *at);
+bool unwritable(volatile uint8_t *at);
+
+/* Calls a function on a stack of so many bytes between unreadable pages. */
+void on_stack(size_t size, void (*call)(void));
+
+/* The stack that is enough for every entry, as the header says. */
+#define STACK_ENOUGH 16384
+
+#endif

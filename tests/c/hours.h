@@ -1,0 +1,73 @@
+/* Hours as document 01 writes them, and their files and reports as bytes. */
+#ifndef HOURS_H
+#define HOURS_H
+
+#include <stddef.h>
+#include <stdint.h>
+
+struct branch {
+    int32_t ram, ptdf[16];
+};
+
+struct link {
+    uint8_t from, to;
+    uint32_t capacity;
+};
+
+struct order {
+    uint8_t zone, side;
+    uint32_t quantity;
+    int32_t price;
+};
+
+struct hour {
+    uint8_t zones, branches, links;
+    uint16_t orders;
+    uint32_t tolerance;
+    struct branch branch[64];
+    struct link link[64];
+    struct order order[512];
+    uint32_t share;
+    int32_t system;
+    uint32_t volume[512], flow[64], shadow[64];
+};
+
+/* The three-zone hour, which is P1; P2's hour, and P3's at tolerance 0; P10's, with one zone and nothing else. */
+struct hour three_zone_hour(void);
+struct hour flow_based_hour(void);
+struct hour unused_link_hour(void);
+struct hour one_zone_hour(void);
+
+/* The largest hour: as many of each as there may be, every order accepted and every link used in full. All net positions, LTA parts
+ * and PTDFs are zero, and so are the zone prices. Every branch has the shadow price given. */
+struct hour largest_hour(uint32_t shadow);
+
+/* A file, or a part of one. The largest case and its proposal in one piece have as many bytes. */
+struct file {
+    size_t length;
+    uint8_t bytes[9870 + 2573];
+};
+
+struct file case_file(const struct hour *h);
+struct file proposal_file(const struct hour *h);
+
+/* A number of some bytes, little-endian, at an offset of a file. */
+void put(struct file *f, size_t offset, size_t width, uint64_t number);
+
+/* The totals in microcents, the zone prices in grains. */
+struct totals {
+    int64_t welfare, bound, gap, rent, owed, price[16];
+};
+
+struct file report_file(uint8_t number, uint8_t zones, struct totals t);
+
+/* Microcents of some euros; grains of some cents per MWh. */
+int64_t euros(int64_t amount);
+int64_t cents(int64_t price);
+
+/* What the paper gives of P1, P2, and P3 and P4. */
+struct totals three_zone_totals(void);
+struct totals flow_based_totals(void);
+struct totals unused_link_totals(void);
+
+#endif

@@ -1,0 +1,539 @@
+/* lta_judge through the archive: P1 to P12 and the run cases of document 01, each cause of its verdict table, files of every length up
+ * to 200 bytes, report buffers of several lengths, null pointers, and the largest hour. Every call is made with each argument at both
+ * places between unreadable pages, case and proposal unwritable, and every byte of the report buffer is compared afterwards.
+ *
+ *     judge_test CASE PROPOSAL     the three-zone hour's files, which must be P1's bytes
+ */
+#include "harness.h"
+#include "hours.h"
+#include "lta_judgement.h"
+
+#include <inttypes.h>
+#include <stdio.h>
+#include <string.h>
+
+/* Room for a report, and bytes past it. */
+#define ROOM 200
+
+static struct arena case_arena, proposal_arena, report_arena;
+static const char *sample_case, *sample_proposal;
+
+/* The verdict, and the report buffer's bytes, with the three arguments at each of their places. */
+static void judged(const struct file *c, const struct file *p, size_t room, uint32_t number, uint32_t index, const struct file *report)
+{
+    bool ok = true;
+    for (unsigned k = 0; k < PLACES * PLACES * PLACES && ok; k++) {
+        enum place case_place = k % PLACES, proposal_place = k / PLACES % PLACES, report_place = k / PLACES / PLACES;
+        const uint8_t *case_bytes = lend(case_arena, case_place, c->bytes, c->length);
+        const uint8_t *proposal = lend(proposal_arena, proposal_place, p->bytes, p->length);
+        uint8_t *buffer = lend_room(report_arena, report_place, room);
+        uint64_t verdict = lta_judge(case_bytes, c->length, proposal, p->length, buffer, room);
+        if (verdict != number + 256 * (uint64_t)index) {
+            wrong("verdict %" PRIu32 " index %" PRIu32 ", and should be %" PRIu32 " index %" PRIu32, LTA_NUMBER(verdict), LTA_INDEX(verdict), number, index);
+            ok = false;
+        }
+        ok = holds(report_arena, report_place, room, report->bytes, report->length) && ok;
+    }
+    check(ok);
+}
+
+/* A refusal that leaves the buffer as it was. */
+static void refused_files(const struct file *c, const struct file *p, uint32_t number, uint32_t index)
+{
+    judged(c, p, ROOM, number, index, &(struct file){0});
+}
+
+static void refused(const struct hour *h, uint32_t number, uint32_t index)
+{
+    struct file c = case_file(h), p = proposal_file(h);
+    refused_files(&c, &p, number, index);
+}
+
+/* A verdict that writes the report. */
+static void reported(const struct hour *h, uint8_t number, struct totals t)
+{
+    struct file c = case_file(h), p = proposal_file(h), report = report_file(number, h->zones, t);
+    judged(&c, &p, ROOM, number, 0, &report);
+}
+
+/* The guard pages do end a process, so that all that follows means something. */
+static void memory(void)
+{
+    const uint8_t two[2] = {1, 2};
+    about("a byte before lent bytes can be read");
+    check(unreadable((const uint8_t *)lend(case_arena, AT_START, two, 2) - 1));
+    about("a byte past lent bytes can be read");
+    check(unreadable((const uint8_t *)lend(case_arena, AT_END, two, 2) + 2));
+    about("an empty array's first byte can be read");
+    check(unreadable(lend(case_arena, AT_START, two, 0)) && unreadable(lend(case_arena, AT_END, two, 0)));
+    about("bytes that are not to be written can be");
+    check(unwritable((uint8_t *)(uintptr_t)lend(case_arena, AT_START, two, 2)));
+    about("lent room cannot be used");
+    uint8_t *room = lend_room(report_arena, AT_END, 2);
+    check(!unreadable(room + 1) && !unwritable(room) && unwritable(room + 2));
+    about("a changed byte is not told");
+    bool before = holds_silently(report_arena, AT_END, 2, two, 0);
+    room[1] ^= 1;
+    check(before && !holds_silently(report_arena, AT_END, 2, two, 0));
+}
+
+/* Marked P in document 01. */
+static void paper(void)
+{
+    struct hour h = three_zone_hour();
+    about("P1, the three-zone hour");
+    reported(&h, LTA_ACCEPTED, three_zone_totals());
+
+    h = flow_based_hour();
+    about("P2, no link");
+    reported(&h, LTA_ACCEPTED, flow_based_totals());
+
+    h = unused_link_hour();
+    about("P3, the link unused");
+    reported(&h, LTA_GAP_ABOVE_TOLERANCE, unused_link_totals());
+    h.tolerance = 299999;
+    about("P3, tolerance 299,999");
+    reported(&h, LTA_GAP_ABOVE_TOLERANCE, unused_link_totals());
+    h.tolerance = 300000;
+    about("P4, tolerance 300,000");
+    reported(&h, LTA_ACCEPTED, unused_link_totals());
+
+    h = three_zone_hour();
+    h.volume[1] = 6001;
+    about("P5, second volume 6,001");
+    refused(&h, LTA_VOLUME, 1);
+
+    h = three_zone_hour();
+    h.volume[4] = 4376;
+    about("P6, last volume 4,376");
+    refused(&h, LTA_BALANCE, 0);
+
+    h = three_zone_hour();
+    h.flow[0] = 3501;
+    about("P7, flow 3,501");
+    refused(&h, LTA_LINK_RULE, 0);
+
+    h = three_zone_hour();
+    h.share = 87499;
+    about("P8, share 87,499");
+    refused(&h, LTA_LINK_RULE, 0);
+    h.share = 87501;
+    about("P9, share 87,501");
+    refused(&h, LTA_BRANCH_RULE, 0);
+
+    h = one_zone_hour();
+    about("P10, one zone at 400,000 cents");
+    reported(&h, LTA_ACCEPTED, (struct totals){.price = {cents(400000)}});
+    h.system = 400001;
+    about("P11, one zone at 400,001 cents");
+    refused(&h, LTA_ZONE_PRICE, 0);
+
+    h = (struct hour){.zones = 1, .branches = 1, .branch = {{-1, {0}}}, .shadow = {1000000}, .share = 100000};
+    about("P12, margin -1 and share 100,000");
+    reported(&h, LTA_ACCEPTED, (struct totals){0});
+    h.share = 0;
+    about("P12, margin -1 and share 0");
+    refused(&h, LTA_BRANCH_RULE, 0);
+}
+
+/* Document 01's cases that are run only. */
+static void run_only(void)
+{
+    struct hour h = three_zone_hour();
+    struct file c = case_file(&h), p = proposal_file(&h), none = {0};
+    about("empty input");
+    refused_files(&none, &none, LTA_CASE_SHORT, 0);
+    about("shadow price 1,000,001 of the first branch");
+    h.shadow[0] = 1000001;
+    refused(&h, LTA_SHADOW_PRICE, 0);
+    about("shadow price 1,000,001 of the second branch");
+    h.shadow[0] = 5500;
+    h.shadow[1] = 1000001;
+    refused(&h, LTA_SHADOW_PRICE, 1);
+    about("a proposal one byte too long");
+    p.length++;
+    refused_files(&c, &p, LTA_PROPOSAL_LENGTH, 0);
+    about("a proposal one byte too short");
+    p.length -= 2;
+    refused_files(&c, &p, LTA_PROPOSAL_LENGTH, 0);
+}
+
+/* P1's files with one field damaged, for each cause in the table that one field can give. */
+static void one_field(void)
+{
+    enum { CASE, PROPOSAL };
+    static const struct {
+        const char *name;
+        int file;
+        size_t offset, width;
+        int64_t value;
+        uint32_t number, index;
+    } damages[] = {
+        {"case mark, first byte", CASE, 0, 1, 'l', LTA_CASE_MARK, 0},
+        {"case mark, second byte", CASE, 1, 1, 't', LTA_CASE_MARK, 0},
+        {"case mark, third byte", CASE, 2, 1, 'K', LTA_CASE_MARK, 0},
+        {"case version 0", CASE, 3, 2, 0, LTA_CASE_VERSION, 0},
+        {"case version 2", CASE, 3, 2, 2, LTA_CASE_VERSION, 0},
+        {"case version 257", CASE, 3, 2, 257, LTA_CASE_VERSION, 0},
+        {"no zones", CASE, 5, 1, 0, LTA_CASE_HEADER, 5},
+        {"17 zones", CASE, 5, 1, 17, LTA_CASE_HEADER, 5},
+        {"65 branches", CASE, 6, 1, 65, LTA_CASE_HEADER, 6},
+        {"65 links", CASE, 7, 1, 65, LTA_CASE_HEADER, 7},
+        {"513 orders", CASE, 8, 2, 513, LTA_CASE_HEADER, 8},
+        {"tolerance 1,000,000,001", CASE, 10, 4, 1000000001, LTA_CASE_HEADER, 10},
+        {"tolerance of all bits", CASE, 10, 4, -1, LTA_CASE_HEADER, 10},
+        {"a zone more than fields", CASE, 5, 1, 4, LTA_CASE_LENGTH, 0},
+        {"a branch less than fields", CASE, 6, 1, 1, LTA_CASE_LENGTH, 0},
+        {"a link more than fields", CASE, 7, 1, 2, LTA_CASE_LENGTH, 0},
+        {"an order less than fields", CASE, 8, 2, 4, LTA_CASE_LENGTH, 0},
+        {"512 orders of 5", CASE, 8, 2, 512, LTA_CASE_LENGTH, 0},
+        {"first margin 500,001", CASE, 14, 4, 500001, LTA_CASE_BRANCH, 0},
+        {"first margin -500,001", CASE, 14, 4, -500001, LTA_CASE_BRANCH, 0},
+        {"second margin 500,001", CASE, 30, 4, 500001, LTA_CASE_BRANCH, 1},
+        {"first branch, last PTDF 200,001", CASE, 26, 4, 200001, LTA_CASE_BRANCH, 0},
+        {"second branch, last PTDF -200,001", CASE, 42, 4, -200001, LTA_CASE_BRANCH, 1},
+        {"link from an unknown zone", CASE, 46, 1, 3, LTA_CASE_LINK, 0},
+        {"link to an unknown zone", CASE, 47, 1, 3, LTA_CASE_LINK, 0},
+        {"link from a zone to itself", CASE, 46, 1, 1, LTA_CASE_LINK, 0},
+        {"capacity 100,001", CASE, 48, 4, 100001, LTA_CASE_LINK, 0},
+        {"capacity of all bits", CASE, 48, 4, -1, LTA_CASE_LINK, 0},
+        {"last order in an unknown zone", CASE, 92, 1, 3, LTA_CASE_ORDER, 4},
+        {"first order on side 2", CASE, 53, 1, 2, LTA_CASE_ORDER, 0},
+        {"second quantity 0", CASE, 64, 4, 0, LTA_CASE_ORDER, 1},
+        {"third quantity 100,001", CASE, 74, 4, 100001, LTA_CASE_ORDER, 2},
+        {"fourth price 400,001", CASE, 88, 4, 400001, LTA_CASE_ORDER, 3},
+        {"last price -50,001", CASE, 98, 4, -50001, LTA_CASE_ORDER, 4},
+        {"proposal mark, first byte", PROPOSAL, 0, 1, 'l', LTA_PROPOSAL_MARK, 0},
+        {"proposal mark, second byte", PROPOSAL, 1, 1, 't', LTA_PROPOSAL_MARK, 0},
+        {"proposal mark, third byte", PROPOSAL, 2, 1, 'C', LTA_PROPOSAL_MARK, 0},
+        {"proposal version 0", PROPOSAL, 3, 2, 0, LTA_PROPOSAL_VERSION, 0},
+        {"proposal version 257", PROPOSAL, 3, 2, 257, LTA_PROPOSAL_VERSION, 0},
+        {"share 100,001", PROPOSAL, 5, 4, 100001, LTA_SHARE, 0},
+        {"share of all bits", PROPOSAL, 5, 4, -1, LTA_SHARE, 0},
+        {"second shadow price of all bits", PROPOSAL, 41, 4, -1, LTA_SHADOW_PRICE, 1},
+        {"last volume of all bits", PROPOSAL, 29, 4, -1, LTA_VOLUME, 4},
+        {"flow of all bits", PROPOSAL, 33, 4, -1, LTA_LINK_RULE, 0},
+        {"share 100,000, so that no margin is left", PROPOSAL, 5, 4, 100000, LTA_BRANCH_RULE, 0},
+        {"system price of the least value", PROPOSAL, 9, 4, INT32_MIN, LTA_ZONE_PRICE, 0},
+        {"system price of the greatest value", PROPOSAL, 9, 4, INT32_MAX, LTA_ZONE_PRICE, 0},
+        {"first shadow price 1,000,000, which prices zone 1 out", PROPOSAL, 37, 4, 1000000, LTA_ZONE_PRICE, 1},
+    };
+    struct hour h = three_zone_hour();
+    for (size_t k = 0; k < sizeof damages / sizeof *damages; k++) {
+        struct file c = case_file(&h), p = proposal_file(&h);
+        put(damages[k].file == CASE ? &c : &p, damages[k].offset, damages[k].width, (uint64_t)damages[k].value);
+        about("%s", damages[k].name);
+        refused_files(&c, &p, damages[k].number, damages[k].index);
+    }
+}
+
+/* Hours at which two causes meet, or the index is not the first. */
+static void causes(void)
+{
+    struct hour h = three_zone_hour();
+    h.links = 2;
+    h.link[1] = h.link[0];
+    about("a repeated pair names the later link");
+    refused(&h, LTA_CASE_LINK, 1);
+
+    h.link[1] = (struct link){1, 0, 4000};
+    h.flow[1] = 3501;
+    about("the second link's flow; the reverse pair is another link");
+    refused(&h, LTA_LINK_RULE, 1);
+
+    h.flow[0] = 3501;
+    about("two flows too large: the first link is named");
+    refused(&h, LTA_LINK_RULE, 0);
+
+    h = three_zone_hour();
+    h.order[3].side = 2;
+    h.order[1].quantity = 0;
+    h.branch[1].ram = 500001;
+    about("two orders and a branch out of range: the branch is named");
+    refused(&h, LTA_CASE_BRANCH, 1);
+    h.branch[1].ram = 15000;
+    about("two orders out of range: the first is named");
+    refused(&h, LTA_CASE_ORDER, 1);
+
+    h = three_zone_hour();
+    h.volume[0] = 4001;
+    about("volume, balance and branch rule fail: the volume is named");
+    refused(&h, LTA_VOLUME, 0);
+
+    h = three_zone_hour();
+    h.volume[1]--;
+    h.flow[0] = 3501;
+    h.system = 400001;
+    about("balance, link rule and zone price fail: the balance is named");
+    refused(&h, LTA_BALANCE, 0);
+
+    h = three_zone_hour();
+    h.branch[1].ram = -1;
+    about("the second branch's rule");
+    refused(&h, LTA_BRANCH_RULE, 1);
+
+    struct file c = case_file(&h), p = proposal_file(&h), none = {0};
+    put(&c, 3, 2, 2);
+    about("case version and no proposal: the version is named");
+    refused_files(&c, &none, LTA_CASE_VERSION, 0);
+    put(&p, 0, 1, 0);
+    about("both marks wrong: the case's is named");
+    put(&c, 0, 1, 0);
+    refused_files(&c, &p, LTA_CASE_MARK, 0);
+
+    /* a sell at 1 cent and a buy at 0 cents, at a zone price of -1 cent: welfare -0.001, bound 0.001 and gap 0.002 euros */
+    h = (struct hour){.zones = 1, .orders = 2, .order = {{0, LTA_SELLS, 1, 1}, {0, LTA_BUYS, 1, 0}}, .volume = {1, 1}, .system = -1, .tolerance = 1};
+    struct totals t = {.welfare = -100000, .bound = 100000, .gap = 200000, .price = {cents(-1)}};
+    about("a negative welfare and a negative price");
+    reported(&h, LTA_ACCEPTED, t);
+    h.tolerance = 0;
+    about("the same at tolerance 0");
+    reported(&h, LTA_GAP_ABOVE_TOLERANCE, t);
+}
+
+/* Case and proposal cut short at each length, and lengthened by zero bytes: the length is refused, and nothing past it is read. */
+static void case_lengths(void)
+{
+    struct hour h = three_zone_hour();
+    struct file c = case_file(&h), p = proposal_file(&h), report = report_file(LTA_ACCEPTED, h.zones, three_zone_totals());
+    about("the three-zone case has 102 bytes");
+    check(c.length == 102);
+    for (c.length = 0; c.length <= 200; c.length++) {
+        about("case of %zu bytes", c.length);
+        if (c.length == 102)
+            judged(&c, &p, ROOM, LTA_ACCEPTED, 0, &report);
+        else
+            refused_files(&c, &p, c.length < 14 ? LTA_CASE_SHORT : LTA_CASE_LENGTH, 0);
+    }
+}
+
+static void proposal_lengths(void)
+{
+    struct hour h = three_zone_hour();
+    struct file c = case_file(&h), p = proposal_file(&h), report = report_file(LTA_ACCEPTED, h.zones, three_zone_totals());
+    about("the three-zone proposal has 45 bytes");
+    check(p.length == 45);
+    for (p.length = 0; p.length <= 200; p.length++) {
+        about("proposal of %zu bytes", p.length);
+        if (p.length == 45)
+            judged(&c, &p, ROOM, LTA_ACCEPTED, 0, &report);
+        else
+            refused_files(&c, &p, p.length < 13 ? LTA_PROPOSAL_SHORT : LTA_PROPOSAL_LENGTH, 0);
+    }
+}
+
+/* Report buffers around the room that is asked for. */
+static void rooms(void)
+{
+    static const size_t lengths[] = {0, 1, 71, 72, 175, 176, 177, 300};
+    struct hour h = three_zone_hour(), over = unused_link_hour();
+    struct file c = case_file(&h), p = proposal_file(&h), report = report_file(LTA_ACCEPTED, h.zones, three_zone_totals()), none = {0};
+    struct file over_case = case_file(&over), over_proposal = proposal_file(&over);
+    struct file over_report = report_file(LTA_GAP_ABOVE_TOLERANCE, over.zones, unused_link_totals());
+    for (size_t k = 0; k < sizeof lengths / sizeof *lengths; k++) {
+        size_t room = lengths[k];
+        bool enough = room >= 176;
+        about("P1 with a report buffer of %zu bytes", room);
+        judged(&c, &p, room, enough ? LTA_ACCEPTED : LTA_NO_ROOM, 0, enough ? &report : &none);
+        about("P3 with a report buffer of %zu bytes", room);
+        judged(&over_case, &over_proposal, room, enough ? LTA_GAP_ABOVE_TOLERANCE : LTA_NO_ROOM, 0, enough ? &over_report : &none);
+        about("empty files with a report buffer of %zu bytes", room);
+        judged(&none, &none, room, enough ? LTA_CASE_SHORT : LTA_NO_ROOM, 0, &none);
+    }
+}
+
+/* A null pointer where the length is 0. */
+static void nulls(void)
+{
+    struct hour h = three_zone_hour();
+    struct file c = case_file(&h), p = proposal_file(&h);
+    for (unsigned k = 0; k < PLACES; k++) {
+        enum place place = k;
+        const uint8_t *case_bytes = lend(case_arena, place, c.bytes, c.length);
+        const uint8_t *proposal = lend(proposal_arena, place, p.bytes, p.length);
+        uint8_t *report = lend_room(report_arena, place, ROOM);
+        about("null for the case");
+        check(lta_judge(NULL, 0, proposal, p.length, report, ROOM) == LTA_CASE_SHORT && holds(report_arena, place, ROOM, NULL, 0));
+        about("null for the proposal");
+        check(lta_judge(case_bytes, c.length, NULL, 0, report, ROOM) == LTA_PROPOSAL_SHORT && holds(report_arena, place, ROOM, NULL, 0));
+        about("null for both files");
+        check(lta_judge(NULL, 0, NULL, 0, report, ROOM) == LTA_CASE_SHORT && holds(report_arena, place, ROOM, NULL, 0));
+        about("null for the report");
+        check(lta_judge(case_bytes, c.length, proposal, p.length, NULL, 0) == LTA_NO_ROOM);
+        about("null for all");
+        check(lta_judge(NULL, 0, NULL, 0, NULL, 0) == LTA_NO_ROOM);
+    }
+}
+
+/* As many of each as there may be. Each order is served at 450,000 cents between its price and the other side's: 256 pairs of 100,000
+ * tenths have a welfare of 1.152e18 microcents. The 64 branches, at their greatest margin and shadow price, have a total of 3.2e18. */
+static void largest(void)
+{
+    struct hour h = largest_hour(0);
+    struct totals t = {.welfare = 1152000000000000000, .bound = 1152000000000000000};
+    about("the largest hour");
+    reported(&h, LTA_ACCEPTED, t);
+
+    struct file c = case_file(&h), p = proposal_file(&h), none = {0};
+    about("the largest case has 9,870 bytes, its proposal 2,573");
+    check(c.length == 9870 && p.length == 2573);
+    about("the largest hour with a report buffer of 176 bytes, which it fills");
+    struct file report = report_file(LTA_ACCEPTED, 16, t);
+    judged(&c, &p, report.length, LTA_ACCEPTED, 0, &report);
+    about("the largest case without its last byte");
+    c.length--;
+    judged(&c, &p, ROOM, LTA_CASE_LENGTH, 0, &none);
+
+    h = largest_hour(1000000);
+    t.bound += 3200000000000000000;
+    t.gap = 3200000000000000000;
+    about("the largest hour with the largest branch total");
+    reported(&h, LTA_GAP_ABOVE_TOLERANCE, t);
+
+    h = largest_hour(0);
+    h.order[511].price = 400001;
+    about("the last of 512 orders out of range");
+    refused(&h, LTA_CASE_ORDER, 511);
+    h = largest_hour(0);
+    h.volume[511]++;
+    about("the last of 512 volumes too large");
+    refused(&h, LTA_VOLUME, 511);
+    h = largest_hour(0);
+    h.link[63] = h.link[0];
+    about("the last of 64 links repeats the first");
+    refused(&h, LTA_CASE_LINK, 63);
+    h = largest_hour(0);
+    h.flow[63]++;
+    about("the last of 64 flows too large");
+    refused(&h, LTA_LINK_RULE, 63);
+    h = largest_hour(0);
+    h.branch[63].ptdf[15] = -200001;
+    about("the last of 64 times 16 PTDFs out of range");
+    refused(&h, LTA_CASE_BRANCH, 63);
+    h = largest_hour(0);
+    h.shadow[63] = 1000001;
+    about("the last of 64 shadow prices too large");
+    refused(&h, LTA_SHADOW_PRICE, 63);
+
+    /* The last zone's price is a cent above the others'. What a buy gains less by that a sell gains more. One branch of 500,000 at a
+     * shadow price of 100,000 has 5e15, and four links of 100,000 lead to the zone. */
+    h = largest_hour(0);
+    h.system = 399999;
+    h.branch[63].ptdf[15] = 1;
+    h.shadow[63] = 100000;
+    t = (struct totals){.welfare = 1152000000000000000, .bound = 1157000000000000000, .gap = 5000000000000000, .owed = 4 * 100000 * cents(1)};
+    for (size_t z = 0; z < 16; z++)
+        t.price[z] = cents(z < 15 ? 399999 : 400000);
+    about("the last of 16 prices at the ceiling");
+    reported(&h, LTA_GAP_ABOVE_TOLERANCE, t);
+    h.shadow[63]++;
+    about("the last of 16 prices a grain above the ceiling");
+    refused(&h, LTA_ZONE_PRICE, 15);
+}
+
+static struct {
+    struct file case_file, proposal;
+    uint8_t report[LTA_REPORT_ROOM];
+    uint64_t verdict;
+} call;
+
+static void call_judge(void)
+{
+    call.verdict = lta_judge(call.case_file.bytes, call.case_file.length, call.proposal.bytes, call.proposal.length, call.report, sizeof call.report);
+}
+
+static void small_stack(void)
+{
+    struct hour h = largest_hour(1000000);
+    call.case_file = case_file(&h);
+    call.proposal = proposal_file(&h);
+    about("the largest hour on a stack of %d bytes", STACK_ENOUGH);
+    on_stack(STACK_ENOUGH, call_judge);
+    check(call.verdict == LTA_GAP_ABOVE_TOLERANCE);
+}
+
+static int64_t number_at(const struct file *f, size_t offset)
+{
+    uint64_t bits = 0;
+    for (size_t k = 0; k < 8; k++)
+        bits |= (uint64_t)f->bytes[offset + k] << 8 * k;
+    int64_t number;
+    memcpy(&number, &bits, sizeof number);
+    return number;
+}
+
+/* The header's offsets and sizes, against reports laid out from the paper. */
+static void header(void)
+{
+    struct totals t = {.welfare = -1, .bound = 2, .gap = -3, .rent = 4, .owed = -5};
+    for (size_t z = 0; z < 16; z++)
+        t.price[z] = (int64_t)z - 8;
+    struct file report = report_file(26, 16, t);
+    about("mark, version, number and zones");
+    check(memcmp(report.bytes + LTA_REPORT_MARK, "LTR", 3) == 0 && report.bytes[LTA_REPORT_VERSION] == 1 && report.bytes[LTA_REPORT_VERSION + 1] == 0
+          && report.bytes[LTA_REPORT_NUMBER] == LTA_GAP_ABOVE_TOLERANCE && report.bytes[LTA_REPORT_ZONES] == 16 && report.bytes[LTA_REPORT_ZONES + 1] == 0);
+    about("totals");
+    check(number_at(&report, LTA_REPORT_WELFARE) == t.welfare && number_at(&report, LTA_REPORT_BOUND) == t.bound && number_at(&report, LTA_REPORT_GAP) == t.gap
+          && number_at(&report, LTA_REPORT_RENT) == t.rent && number_at(&report, LTA_REPORT_OWED) == t.owed);
+    about("prices");
+    bool prices = true;
+    for (size_t z = 0; z < 16; z++)
+        prices = prices && number_at(&report, LTA_REPORT_PRICE(z)) == t.price[z];
+    check(prices);
+    about("sizes");
+    check(LTA_REPORT_SIZE(16) == report.length && LTA_REPORT_ROOM == report.length && LTA_REPORT_SIZE(1) == report_file(0, 1, t).length);
+    about("number and index of a verdict");
+    uint64_t verdict = 25 + 256 * UINT64_C(15);
+    check(LTA_NUMBER(verdict) == LTA_ZONE_PRICE && LTA_INDEX(verdict) == 15 && LTA_INDEX(8 + 256 * UINT64_C(511)) == 511);
+}
+
+static bool same_file(const char *name, const struct file *f)
+{
+    uint8_t bytes[256];
+    FILE *file = fopen(name, "rb");
+    if (file == NULL) {
+        wrong("no file %s", name);
+        return false;
+    }
+    size_t length = fread(bytes, 1, sizeof bytes, file);
+    fclose(file);
+    return length == f->length && memcmp(bytes, f->bytes, length) == 0;
+}
+
+static void samples(void)
+{
+    struct hour h = three_zone_hour();
+    struct file c = case_file(&h), p = proposal_file(&h);
+    about("the sample case is P1's");
+    check(same_file(sample_case, &c));
+    about("the sample proposal is P1's");
+    check(same_file(sample_proposal, &p));
+}
+
+int main(int count, char **words)
+{
+    if (count != 3) {
+        fprintf(stderr, "usage: judge_test CASE PROPOSAL\n");
+        return 2;
+    }
+    sample_case = words[1];
+    sample_proposal = words[2];
+    case_arena = arena(9870);
+    proposal_arena = arena(2573);
+    report_arena = arena(300);
+
+    group("guard pages", memory);
+    group("the header's constants", header);
+    group("sample files", samples);
+    group("P1 to P12", paper);
+    group("run only", run_only);
+    group("one field damaged", one_field);
+    group("which cause and which index", causes);
+    group("cases of 0 to 200 bytes", case_lengths);
+    group("proposals of 0 to 200 bytes", proposal_lengths);
+    group("report buffers", rooms);
+    group("null with length 0", nulls);
+    group("the largest hours", largest);
+    group("a small stack", small_stack);
+    return closing();
+}
