@@ -56,7 +56,7 @@ enum lta_number {
     LTA_CASE_HEADER = 4,            /* header field outside its range; index: its offset, 5, 6, 7, 8 or 10 */
     LTA_CASE_LENGTH = 5,            /* case length is not what the header demands */
     LTA_CASE_BRANCH = 6,            /* branch field out of range; index: the branch */
-    LTA_CASE_LINK = 7,              /* link: unknown zone, equal zones, capacity, repeated pair; index: the link, of a pair the later */
+    LTA_CASE_LINK = 7,              /* link: unknown zone, equal zones, capacity, repeated pair; index: the link (the later one) */
     LTA_CASE_ORDER = 8,             /* order field out of range; index: the order */
     LTA_PROPOSAL_SHORT = 9,         /* proposal shorter than 13 bytes */
     LTA_PROPOSAL_MARK = 10,         /* proposal does not begin with LTP */

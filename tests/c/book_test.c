@@ -25,7 +25,8 @@ static bool is(struct lta_surplus a, uint32_t number, uint32_t index, int64_t su
 {
     bool ok = a.number == number && a.index == index && a.sum == sum;
     if (!ok)
-        wrong("number %" PRIu32 " index %" PRIu32 " sum %" PRId64 ", and should be %" PRIu32 ", %" PRIu32 " and %" PRId64, a.number, a.index, a.sum, number, index, sum);
+        wrong("number %" PRIu32 " index %" PRIu32 " sum %" PRId64 ", and should be %" PRIu32 ", %" PRIu32 " and %" PRId64,
+              a.number, a.index, a.sum, number, index, sum);
     return ok;
 }
 

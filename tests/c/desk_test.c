@@ -108,8 +108,7 @@ static void hours(void)
             "price 1 65.0000000\n"
             "price 2 50.0000000\n");
 
-    /* as in judge_test: a sell at 1 cent and a buy at 0 cents, at a zone price of -1 cent */
-    h = (struct hour){.zones = 1, .orders = 2, .order = {{0, LTA_SELLS, 1, 1}, {0, LTA_BUYS, 1, 0}}, .volume = {1, 1}, .system = -1, .tolerance = 1};
+    h = negative_hour();
     input = input_of(&h);
     about("negative amounts");
     printed(&input,

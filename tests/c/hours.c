@@ -48,6 +48,18 @@ struct hour unused_link_hour(void)
 
 struct hour one_zone_hour(void) { return (struct hour){.zones = 1, .system = 400000}; }
 
+struct hour negative_hour(void)
+{
+    return (struct hour){
+        .zones = 1,
+        .tolerance = 1,
+        .orders = 2,
+        .order = {{0, SELLS, 1, 1}, {0, BUYS, 1, 0}},
+        .system = -1,
+        .volume = {1, 1},
+    };
+}
+
 struct hour largest_hour(uint32_t shadow)
 {
     struct hour h = {.zones = 16, .branches = 64, .links = 64, .orders = 512, .tolerance = 0, .share = 100000, .system = 0};
@@ -154,12 +166,25 @@ int64_t cents(int64_t price) { return price * 100000; }
 struct totals three_zone_totals(void)
 {
     return (struct totals){
-        .welfare = euros(22125), .bound = euros(22125), .gap = 0, .rent = euros(17500), .owed = euros(17500), .price = {cents(2000), cents(6375), cents(5000)}};
+        .welfare = euros(22125),
+        .bound = euros(22125),
+        .gap = 0,
+        .rent = euros(17500),
+        .owed = euros(17500),
+        .price = {cents(2000), cents(6375), cents(5000)},
+    };
 }
 
 struct totals flow_based_totals(void)
 {
-    return (struct totals){.welfare = euros(19500), .bound = euros(19500), .gap = 0, .rent = euros(15000), .owed = 0, .price = {cents(2000), cents(6500), cents(5000)}};
+    return (struct totals){
+        .welfare = euros(19500),
+        .bound = euros(19500),
+        .gap = 0,
+        .rent = euros(15000),
+        .owed = 0,
+        .price = {cents(2000), cents(6500), cents(5000)},
+    };
 }
 
 struct totals unused_link_totals(void)

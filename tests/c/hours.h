@@ -38,6 +38,10 @@ struct hour flow_based_hour(void);
 struct hour unused_link_hour(void);
 struct hour one_zone_hour(void);
 
+/* A sell at 1 cent and a buy at 0 cents, both of a tenth, at a zone price of -1 cent: welfare -0.001 euros, bound 0.001, gap 0.002. The
+ * tolerance is a cent. */
+struct hour negative_hour(void);
+
 /* The largest hour: as many of each as there may be, every order accepted and every link used in full. All net positions, LTA parts
  * and PTDFs are zero, and so are the zone prices. Every branch has the shadow price given. */
 struct hour largest_hour(uint32_t shadow);

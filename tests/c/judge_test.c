@@ -29,7 +29,8 @@ static void judged(const struct file *c, const struct file *p, size_t room, uint
         uint8_t *buffer = lend_room(report_arena, report_place, room);
         uint64_t verdict = lta_judge(case_bytes, c->length, proposal, p->length, buffer, room);
         if (verdict != number + 256 * (uint64_t)index) {
-            wrong("verdict %" PRIu32 " index %" PRIu32 ", and should be %" PRIu32 " index %" PRIu32, LTA_NUMBER(verdict), LTA_INDEX(verdict), number, index);
+            wrong("verdict %" PRIu32 " index %" PRIu32 ", and should be %" PRIu32 " index %" PRIu32,
+                  LTA_NUMBER(verdict), LTA_INDEX(verdict), number, index);
             ok = false;
         }
         ok = holds(report_arena, report_place, room, report->bytes, report->length) && ok;
@@ -281,8 +282,7 @@ static void causes(void)
     put(&c, 0, 1, 0);
     refused_files(&c, &p, LTA_CASE_MARK, 0);
 
-    /* a sell at 1 cent and a buy at 0 cents, at a zone price of -1 cent: welfare -0.001, bound 0.001 and gap 0.002 euros */
-    h = (struct hour){.zones = 1, .orders = 2, .order = {{0, LTA_SELLS, 1, 1}, {0, LTA_BUYS, 1, 0}}, .volume = {1, 1}, .system = -1, .tolerance = 1};
+    h = negative_hour();
     struct totals t = {.welfare = -100000, .bound = 100000, .gap = 200000, .price = {cents(-1)}};
     about("a negative welfare and a negative price");
     reported(&h, LTA_ACCEPTED, t);
@@ -353,15 +353,17 @@ static void nulls(void)
         const uint8_t *proposal = lend(proposal_arena, place, p.bytes, p.length);
         uint8_t *report = lend_room(report_arena, place, ROOM);
         about("null for the case");
-        check(lta_judge(NULL, 0, proposal, p.length, report, ROOM) == LTA_CASE_SHORT && holds(report_arena, place, ROOM, NULL, 0));
+        check(lta_judge(NULL, 0, proposal, p.length, report, ROOM) == LTA_CASE_SHORT);
         about("null for the proposal");
-        check(lta_judge(case_bytes, c.length, NULL, 0, report, ROOM) == LTA_PROPOSAL_SHORT && holds(report_arena, place, ROOM, NULL, 0));
+        check(lta_judge(case_bytes, c.length, NULL, 0, report, ROOM) == LTA_PROPOSAL_SHORT);
         about("null for both files");
-        check(lta_judge(NULL, 0, NULL, 0, report, ROOM) == LTA_CASE_SHORT && holds(report_arena, place, ROOM, NULL, 0));
+        check(lta_judge(NULL, 0, NULL, 0, report, ROOM) == LTA_CASE_SHORT);
         about("null for the report");
         check(lta_judge(case_bytes, c.length, proposal, p.length, NULL, 0) == LTA_NO_ROOM);
         about("null for all");
         check(lta_judge(NULL, 0, NULL, 0, NULL, 0) == LTA_NO_ROOM);
+        about("a null pointer changes the report");
+        check(holds(report_arena, place, ROOM, NULL, 0));
     }
 }
 
@@ -421,7 +423,8 @@ static void largest(void)
     h.system = 399999;
     h.branch[63].ptdf[15] = 1;
     h.shadow[63] = 100000;
-    t = (struct totals){.welfare = 1152000000000000000, .bound = 1157000000000000000, .gap = 5000000000000000, .owed = 4 * 100000 * cents(1)};
+    t = (struct totals){.welfare = 1152000000000000000, .bound = 1157000000000000000, .gap = 5000000000000000};
+    t.owed = 4 * 100000 * cents(1);
     for (size_t z = 0; z < 16; z++)
         t.price[z] = cents(z < 15 ? 399999 : 400000);
     about("the last of 16 prices at the ceiling");
@@ -439,7 +442,8 @@ static struct {
 
 static void call_judge(void)
 {
-    call.verdict = lta_judge(call.case_file.bytes, call.case_file.length, call.proposal.bytes, call.proposal.length, call.report, sizeof call.report);
+    const struct file *c = &call.case_file, *p = &call.proposal;
+    call.verdict = lta_judge(c->bytes, c->length, p->bytes, p->length, call.report, sizeof call.report);
 }
 
 static void small_stack(void)
@@ -470,18 +474,23 @@ static void header(void)
         t.price[z] = (int64_t)z - 8;
     struct file report = report_file(26, 16, t);
     about("mark, version, number and zones");
-    check(memcmp(report.bytes + LTA_REPORT_MARK, "LTR", 3) == 0 && report.bytes[LTA_REPORT_VERSION] == 1 && report.bytes[LTA_REPORT_VERSION + 1] == 0
-          && report.bytes[LTA_REPORT_NUMBER] == LTA_GAP_ABOVE_TOLERANCE && report.bytes[LTA_REPORT_ZONES] == 16 && report.bytes[LTA_REPORT_ZONES + 1] == 0);
+    check(memcmp(report.bytes + LTA_REPORT_MARK, "LTR", 3) == 0
+          && memcmp(report.bytes + LTA_REPORT_VERSION, "\1\0", 2) == 0
+          && report.bytes[LTA_REPORT_NUMBER] == LTA_GAP_ABOVE_TOLERANCE
+          && memcmp(report.bytes + LTA_REPORT_ZONES, "\20\0", 2) == 0);
     about("totals");
-    check(number_at(&report, LTA_REPORT_WELFARE) == t.welfare && number_at(&report, LTA_REPORT_BOUND) == t.bound && number_at(&report, LTA_REPORT_GAP) == t.gap
-          && number_at(&report, LTA_REPORT_RENT) == t.rent && number_at(&report, LTA_REPORT_OWED) == t.owed);
+    check(number_at(&report, LTA_REPORT_WELFARE) == t.welfare
+          && number_at(&report, LTA_REPORT_BOUND) == t.bound
+          && number_at(&report, LTA_REPORT_GAP) == t.gap
+          && number_at(&report, LTA_REPORT_RENT) == t.rent
+          && number_at(&report, LTA_REPORT_OWED) == t.owed);
     about("prices");
     bool prices = true;
     for (size_t z = 0; z < 16; z++)
         prices = prices && number_at(&report, LTA_REPORT_PRICE(z)) == t.price[z];
     check(prices);
     about("sizes");
-    check(LTA_REPORT_SIZE(16) == report.length && LTA_REPORT_ROOM == report.length && LTA_REPORT_SIZE(1) == report_file(0, 1, t).length);
+    check(LTA_REPORT_SIZE(16) == report.length && LTA_REPORT_ROOM == report.length && LTA_REPORT_SIZE(1) == 56);
     about("number and index of a verdict");
     uint64_t verdict = 25 + 256 * UINT64_C(15);
     check(LTA_NUMBER(verdict) == LTA_ZONE_PRICE && LTA_INDEX(verdict) == 15 && LTA_INDEX(8 + 256 * UINT64_C(511)) == 511);

@@ -79,15 +79,6 @@ module _ {s : List ℕ} {k : Counts} (h : Headed s k) where
   unfolding badOrder caseOf zoneIn sideIn quantityIn priceIn
   bad-order i = λ j. badRow (zones-is j) (u8At s (order-start-is h i j)) (u8At s (order-start-is h i j + 1)) (u32At s (order-start-is h i j + 2)) (i32At s (order-start-is h i j + 6))
 
--- what is answered for an order, read back
-pub order-outside : (o : Order) (b : Bool) → admitted.orderBy o b ≡ admit.Outside → b ≡ true
-order-outside o true e = refl
-order-outside o false e = cc
-
-pub order-held : (o : Order) (b : Bool) {x : Order} → admitted.orderBy o b ≡ admit.Held x → b ≡ false
-order-held o true e = cc
-order-held o false e = refl
-
 -- a link's row, read back
 pub link-taken : (s : List ℕ) (at : ℕ) {r : LinkRow} → linkField s at ≡ Taken r → r ≡ linkRowAt s at
 link-taken s at {r} e = by (there s at 6) e

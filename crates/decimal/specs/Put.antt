@@ -2,10 +2,10 @@
 use mathlib.Core.Path.{_≡_, refl, ap, subst, _∙_}
 use mathlib.Core.List.{List, [], _∷_, _++_}
 use Prim.Native.Nat.{ℕ, suc, _+_, _<_}
-use native.Mathlib.Nat.{add-zero}
 use native.Mathlib.Omega.{arith}
 use lib.ListN.{length, set, length-append}
 use lib.Seq.{set-comm, sets, length-sets}
+use Rattle.integers.specs.Bytes.{sets-append}
 
 -- `text` stands at `at`, all else is as it was, and `next` is the position past it
 pub record Put (before : List ℕ) (at : ℕ) (text after : List ℕ) (next : ℕ) : Type 0 where
@@ -18,13 +18,6 @@ put-as {before} {after = after} {at = at} {next = next} e p = subst (λ (t : Lis
 
 pub put-length : {before text after : List ℕ} {at next : ℕ} → Put before at text after next → length after ≡ length before
 put-length {before} {text} {after} {at} p = ap length (p .bytes) ∙ length-sets before at text
-
-sets-append : (old : List ℕ) (at : ℕ) (a b : List ℕ) → sets (sets old at a) (at + length a) b ≡ sets old at (a ++ b)
-sets-append old at [] b = ap (λ (k : ℕ). sets old k b) (add-zero at)
-sets-append old at (x ∷ a) b = ap (λ (k : ℕ). sets (sets (set old at x) (suc at) a) k b) past ∙ sets-append (set old at x) (suc at) a b
-  where
-    past : at + suc (length a) ≡ suc at + length a
-    past = omega arith
 
 -- one text after another
 pub put-then : {before middle after a b : List ℕ} {at mid next : ℕ} → Put before at a middle mid → Put middle mid b after next → Put before at (a ++ b) after next

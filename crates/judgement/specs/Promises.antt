@@ -9,8 +9,8 @@ use Rattle.measures.specs.Limits.{microcentsOf}
 use Rattle.rules.specs.Hour.{Plan, caseOf, planOf, pricesOf, welfare}
 use Rattle.rules.specs.Clearing.{Clearing}
 use Rattle.rules.specs.Verdict.{table, outcome}
-use Rattle.rules.specs.Report.{bufferAfter, written, reportedWelfare, reportedGap, reportedRent, reportedOwed}
-use Rattle.rules.specs.Guarantee.{Accepted, Demand3, demand-3}
+use Rattle.rules.specs.Report.{bufferAfter, reportedWelfare, reportedGap, reportedRent, reportedOwed}
+use Rattle.rules.specs.Guarantee.{Demand3, demand-3}
 use Rattle.judgement.specs.declared.Verdict.{Verdict}
 use Rattle.judgement.specs.Judged.{verdictOf, Judged}
 

@@ -24,7 +24,8 @@ use Rattle.order_book.specs.declared.Account.{Account}
 use Rattle.order_book.specs.declared.OrderRow.{OrderRow}
 use Rattle.order_book.specs.Lent.{bookRow, given, lentAnswer}
 use Rattle.order_book.specs.Account.{standing, firstUnpriced, openBy, openOf, counted, badIn, rowOrder, isSettled, addBy, addOf, closeOf, noOrder, accountAt, Ready}
-use Rattle.order_book.specs.Steps.{is-false, not-is, opened-by, added-by, counted-by, order-in, counted-near}
+use Rattle.integers.specs.Ranges.{is-false, not-is}
+use Rattle.order_book.specs.Steps.{opened-by, added-by, counted-by, order-in, counted-near}
 
 -- after i rows whose surpluses are f, by the first row that is out of range
 abbrev reached : Account → ℕ → (ℕ → ℤ) → Option ℕ → Account

@@ -23,7 +23,7 @@ use Rattle.rules.specs.Book.{BookRow, noRow, rowAt, priceAt, badBookRow, bookRo
 use Rattle.order_book.specs.declared.OrderRow.{OrderRow}
 use Rattle.order_book.specs.Account.{answered}
 use Rattle.order_book.specs.Lent.{bookRow, given, lentAnswer}
-use Rattle.order_book.specs.Steps.{not-is}
+use Rattle.integers.specs.Ranges.{not-is}
 use Rattle.order_book.specs.Closing.{no-cause}
 
 -- f 0, f 1, .. below n, as a list

@@ -11,7 +11,7 @@ use lib.ListN.{length}
 use lib.IntN.{ℤ, pos, _+ℤ_}
 use mir.Syntax.{w64}
 use mir.Val.{SFits}
-use Rattle.integers.specs.Ranges.{outside, within, nat-within}
+use Rattle.integers.specs.Ranges.{outside, within, nat-within, is-false}
 use Rattle.integers.specs.Size.{Near, near-le, near-pos, near-add, near-fits}
 use Rattle.integers.specs.Sums.{only}
 use Rattle.measures.specs.Limits as limits
@@ -28,13 +28,6 @@ use Rattle.order_book.specs.declared.Account.{Account}
 use Rattle.order_book.specs.declared.OrderRow.{OrderRow}
 use Rattle.order_book.specs.declared.Place.the-variants.{At, Nowhere}
 use Rattle.order_book.specs.Account.{placeOf, openBy, openOf, firstUnpriced, counted, badIn, rowOrder, isSettled, addBy, addOf, answered, closeOf, OrderIn, Ready}
-
-pub is-false : {b : Bool} → b ≡ false → T (not b)
-is-false e = subst (λ (b : Bool). T (not b)) (sym e) tt
-
-pub not-is : (b : Bool) → T (not b) → b ≡ false
-not-is true t = absurd t
-not-is false t = refl
 
 pub opened-by : (count : ℕ) (prices : List ℤ) {a b : Bool} {z : Option ℕ} → outside zoneCounts (pos (length prices)) ≡ a → outside orderCounts (pos count) ≡ b → firstUnpriced prices ≡ z
     → openBy a b z ≡ openOf count prices
@@ -57,15 +50,6 @@ closed-by a hb hx = ap (answered (a .number) (a .index)) (hx ∙ ap (λ (b : Boo
 
 pub counted-by : (o : Order) (prices : List ℤ) {b : Bool} → outside limits.zonePrice (priceAt prices (o .zone)) ≡ b → only (not b) (surplusAt o (priceAt prices (o .zone))) ≡ counted o prices
 counted-by o prices h = sym (ap (λ (b : Bool). only (not b) (surplusAt o (priceAt prices (o .zone)))) h)
-
--- the answer for a row, read back as its test
-pub row-outside : (o : Order) (b : Bool) → orderBy o b ≡ Outside → b ≡ true
-row-outside o true e = refl
-row-outside o false e = cc
-
-pub row-held : (o p : Order) (b : Bool) → orderBy o b ≡ Held p → (b ≡ false) × (p ≡ o)
-row-held o p true e = (cc, cc)
-row-held o p false e = (refl, cc)
 
 module _ (prices : List ℤ) (o : OrderRow) (ok : T (not (badIn prices o))) where
   tests : T (not (leb (length prices) (o .zone))) × T (not (ltb 1 (o .side))) × T (not (outside limits.quantity (pos (o .quantity)))) × T (not (outside limits.orderPrice (o .price)))

@@ -1,5 +1,5 @@
 -- What is answered for a row of an order book: the order, or that a field lies outside its range. Assumes nothing.
-use mathlib.Core.Path.{_≡_, sym}
+use mathlib.Core.Path.{_≡_, refl, sym}
 use mathlib.Core.Bool.{Bool, true, false, _||_}
 use Prim.Native.Nat.{ℕ}
 use lib.Dec.{eqb, leb, ltb}
@@ -36,3 +36,12 @@ pub admitted-by : (n zone side quantity : ℕ) (price : ℤ) {a b e f : Bool}
     → orderBy (orderOf zone side (pos quantity) price) (a || b || e || f) ≡ admitted n zone side quantity price
 unfolding badRow
 admitted-by n zone side quantity price ha hb he hf = sym (λ j. orderBy (orderOf zone side (pos quantity) price) (ha j || hb j || he j || hf j))
+
+-- an answer read back: its test, and the order held
+pub order-outside : (o : Order) (b : Bool) → orderBy o b ≡ Outside → b ≡ true
+order-outside o true e = refl
+order-outside o false e = cc
+
+pub order-held : (o p : Order) (b : Bool) → orderBy o b ≡ Held p → (b ≡ false) × (p ≡ o)
+order-held o p true e = (cc, cc)
+order-held o p false e = (refl, cc)

@@ -1,26 +1,17 @@
--- Runs of stores one after the other, and the report's parts as such runs. Assumes nothing.
-use mathlib.Core.Path.{_≡_, refl, sym, ap, _∙_}
-use mathlib.Core.List.{List, [], _∷_, _++_, append-assoc}
-use Prim.Native.Nat.{ℕ, zero, suc, _+_, _*_, _≤_}
-use native.Mathlib.Nat.{add-zero}
+-- The report's parts as runs of stores. Assumes nothing.
+use mathlib.Core.Path.{_≡_, sym, ap, _∙_}
+use mathlib.Core.List.{List, _++_}
+use Prim.Native.Nat.{ℕ, _+_, _*_, _≤_}
 use native.Mathlib.Numerals.{add-one}
 use native.Mathlib.Omega.{arith}
-use lib.ListN.{length, getD, set, drop}
+use lib.ListN.{length, getD, drop}
 use lib.Seq.{sets, sets-eq}
 use lib.IntN.{ℤ, pos}
-use Rattle.integers.specs.Bytes.{bytesOf, signed64, bytes-length}
+use Rattle.integers.specs.Bytes.{bytesOf, signed64, sets-append}
 use Rattle.measures.specs.declared.Grains.{Grains}
 use Rattle.rules.specs.Report as rules
 use Rattle.rules.specs.Reported.{prices-length}
 use Rattle.report.specs.declared.Totals.{Totals}
-
--- what is stored at i and then right after it is stored at i in one run
-pub sets-append : (l : List ℕ) (i : ℕ) (a b : List ℕ) → sets (sets l i a) (i + length a) b ≡ sets l i (a ++ b)
-sets-append l i [] b = ap (λ (k : ℕ). sets l k b) (add-zero i)
-sets-append l i (x ∷ a) b = ap (λ (k : ℕ). sets (sets (set l i x) (suc i) a) k b) next ∙ sets-append (set l i x) (suc i) a b
-  where
-    next : i + suc (length a) ≡ suc i + length a
-    next = omega arith
 
 -- the totals and the prices as the rules read them
 abbrev pub totalsIn : Totals → rules.Totals

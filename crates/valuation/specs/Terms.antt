@@ -1,8 +1,8 @@
 -- One order's, branch's or link's part of a total, as the code computes it in microcents: equal to the definition's part. Assumes nothing.
-use mathlib.Core.Path.{_≡_, ap, sym, _∙_}
+use mathlib.Core.Path.{_≡_}
 use mathlib.Core.Bool.{Bool, true, false}
 use native.Mathlib.Omega.{arith}
-use lib.IntN.{ℤ, pos, negℤ, _*ℤ_}
+use lib.IntN.{ℤ, pos, _*ℤ_}
 use Rattle.integers.specs.Difference.{at, _⊗_, ⊝_, eq-by}
 use Rattle.measures.specs.Limits.{grainsOf}
 use Rattle.rules.specs.Hour.{signed}

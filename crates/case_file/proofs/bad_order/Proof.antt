@@ -14,7 +14,8 @@ use Rattle.fields.specs.declared.Cursor.{Cursor}
 use Rattle.fields.specs.Walk.{raw, cursor, byteField, wordField, signedField, Took}
 use Rattle.fields.specs.Walk as walk
 use Rattle.case_file.specs.Opened.{limited, orderStart, order-inside}
-use Rattle.case_file.specs.Parts.{bad-order, order-outside, order-held}
+use Rattle.case_file.specs.Parts.{bad-order}
+use Rattle.orders.specs.Admitted.{order-outside, order-held}
 use Rattle.case_file.proofs.bad_order.Statement.{statement}
 use Rattle.case_file.proofs.bad_order.Tie as tie
 
@@ -157,7 +158,7 @@ returns-5 : tie.Need-returns-5
 returns-5 c = let m = c .before .before in sym (order-outside _ _ (sym (m .admit .ensures) ∙ c .enum-told6 .given .1)) ∙ tested m
 
 returns-6 : tie.Need-returns-6
-returns-6 c = let m = c .before .before in sym (order-held _ _ (sym (m .admit .ensures) ∙ c .enum-told5 .given .1)) ∙ tested m
+returns-6 c = let m = c .before .before in sym ((order-held _ _ _ (sym (m .admit .ensures) ∙ c .enum-told5 .given .1)) .0) ∙ tested m
 
 pub bad-order-spec : {M : Type 1} → statement M
 bad-order-spec =

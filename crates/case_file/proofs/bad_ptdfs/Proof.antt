@@ -14,7 +14,7 @@ use Rattle.rules.specs.Layout.{i32At}
 use Rattle.rules.specs.Rows.{anyBelow}
 use Rattle.fields.specs.declared.Cursor.{Cursor}
 use Rattle.fields.specs.Walk.{raw, signedField, Took, signed-took, signed-short}
-use Rattle.fields.specs.Search.{any-here, any-later, any-nowhere}
+use Rattle.rules.specs.RowLaws.{any-here, any-later, any-nowhere}
 use Rattle.case_file.proofs.bad_ptdfs.Statement.{statement}
 use Rattle.case_file.proofs.bad_ptdfs.Tie as tie
 

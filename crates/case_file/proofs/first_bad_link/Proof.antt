@@ -9,7 +9,7 @@ use native.Mathlib.Omega.{arith}
 use Rattle.rules.specs.Hour.{caseOf}
 use Rattle.rules.specs.Rows.{firstBelow}
 use Rattle.rules.specs.Verdict.{badLink}
-use Rattle.fields.specs.Search.{first-here, first-later, first-nowhere}
+use Rattle.rules.specs.RowLaws.{first-here, first-later, first-nowhere}
 use Rattle.case_file.proofs.first_bad_link.Statement.{statement}
 use Rattle.case_file.proofs.first_bad_link.Tie as tie
 

@@ -5,7 +5,7 @@ use mathlib.Core.Bool.{false}
 use Prim.Native.Nat.{_-_, _≤_}
 use native.Mathlib.Omega.{arith}
 use Rattle.rules.specs.Rows.{anyBelow}
-use Rattle.fields.specs.Search.{any-here, any-later, any-nowhere}
+use Rattle.rules.specs.RowLaws.{any-here, any-later, any-nowhere}
 use Rattle.case_file.specs.Parts.{samePair}
 use Rattle.case_file.proofs.repeated.Statement.{statement}
 use Rattle.case_file.proofs.repeated.Tie as tie

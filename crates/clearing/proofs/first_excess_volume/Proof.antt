@@ -1,29 +1,28 @@
 -- `clearing::first_excess_volume` meets its contract: every order passed has its volume within its quantity. Assumes nothing.
-use mathlib.Core.Path.{_≡_, refl, ap, sym, subst, _∙_}
-use mathlib.Core.Bool.{Bool, true, false}
-use mathlib.Core.List.{List}
-use Prim.Native.Nat.{ℕ, _+_, _*_, _≤_, _<_, _-_}
+use mathlib.Core.Path.{_≡_, refl, ap, sym, _∙_}
+use mathlib.Core.Option.{none}
+use Prim.Native.Nat.{_≤_, _-_}
 use native.Mathlib.Omega.{arith}
 use borrow.Author.Needs.{needs}
-use borrow.Author.Count.{below-none, below-more}
 use denote.Ref.{now}
-use lib.IntN.{ℤ, pos, _+ℤ_, _-ℤ_, _*ℤ_}
 use lib.Signed.{ltZ}
 use Rattle.case_file.specs.declared.Counts.{Counts}
-use Rattle.rules.specs.RowLaws.{found-at, found-nowhere}
+use Rattle.rules.specs.Rows.{firstBelow}
+use Rattle.rules.specs.RowLaws.{first-here, first-later, first-nowhere}
 use Rattle.rules.specs.Verdict.{over}
 use Rattle.rules.specs.Hour.{caseOf, planOf}
 use Rattle.clearing.proofs.first_excess_volume.Statement.{statement}
 use Rattle.clearing.proofs.first_excess_volume.Tie as tie
 
 abbrev Inv-loop : tie.InvT-loop
-Inv-loop s k t orders i₀ i = (i ≤ k .orders) × ((j : ℕ) → j < i → over ((caseOf s) .quantity j) ((planOf s t) .volume j) ≡ false)
+Inv-loop s k t orders i₀ i = (i ≤ k .orders) × (firstBelow i (λ j. over ((caseOf s) .quantity j) ((planOf s t) .volume j)) ≡ none)
 
 abbrev μ-loop : tie.MeasureT-loop
 μ-loop s k t orders i₀ i = k .orders - i
 
 loop-holds : tie.Need-loop-holds Inv-loop μ-loop
-loop-holds c = (omega arith, below-none _)
+unfolding firstBelow
+loop-holds c = (omega arith, refl)
 
 order-at-requires : tie.Need-order-at-requires Inv-loop μ-loop
 order-at-requires c κs = (c .before .before .before .before .pre .opened, c .loop-test .taken)
@@ -47,7 +46,7 @@ returns c =
     let e = c .before in
     let l = e .before .before .before .before .before in
     let a = l .before .before .before in
-    sym (found-at _ _ (l .loop .i) (omega (arith, ap (λ (k : Counts). k .orders) (a .pre .opened .counts), e .before .before .before .before .loop-test .taken)) (sym (answered e) ∙ c .if1 .taken) (l .loop .inv .1))
+    sym (first-here _ (l .loop .i) (omega (arith, ap (λ (k : Counts). k .orders) (a .pre .opened .counts), e .before .before .before .before .loop-test .taken)) (l .loop .inv .1) (sym (answered e) ∙ c .if1 .taken))
 
 add-i : tie.Need-add-i Inv-loop μ-loop
 add-i c = omega arith
@@ -59,14 +58,14 @@ loop-again : tie.Need-loop-again Inv-loop μ-loop
 loop-again c =
     let e = c .before in
     let l = e .before .before .before .before .before in
-    (omega arith, below-more _ (l .loop .i) (l .loop .inv .1) (sym (answered e) ∙ c .if1 .left))
+    (omega arith, first-later _ (l .loop .i) (l .loop .inv .1) (sym (answered e) ∙ c .if1 .left))
 
 returns-2 : tie.Need-returns-2 Inv-loop μ-loop
 unfolding caseOf
 returns-2 c =
     let l = c .before in
     let a = l .before .before .before in
-    sym (found-nowhere _ _ (λ j h. l .loop .inv .1 j (omega (arith, ap (λ (k : Counts). k .orders) (a .pre .opened .counts)))))
+    sym (first-nowhere _ (l .loop .i) (omega (arith, ap (λ (k : Counts). k .orders) (a .pre .opened .counts))) (omega (arith, ap (λ (k : Counts). k .orders) (a .pre .opened .counts))) (l .loop .inv .1))
 
 pub first-excess-volume-spec : {M : Type 1} → statement M
 first-excess-volume-spec =

@@ -1,14 +1,13 @@
 -- `clearing::first_overloaded_branch` meets its contract: every branch passed is loaded within its scaled margin. Assumes nothing.
 use mathlib.Core.Path.{_≡_, refl, ap, sym, subst, _∙_}
-use mathlib.Core.Bool.{false}
 use mathlib.Core.List.{List, []}
+use mathlib.Core.Option.{none}
 use Prim.Native.Nat.{ℕ, _≤_, _<_, _-_}
 use native.Mathlib.Omega.{arith}
 use borrow.Author.Needs.{needs}
-use borrow.Author.Count.{below-none, below-more}
 use denote.Ref.{now}
 use lib.ListN.{getD}
-use lib.IntN.{ℤ, pos, _-ℤ_, _*ℤ_}
+use lib.IntN.{ℤ, pos, _*ℤ_}
 use lib.Signed.{ltZ}
 use mir.Syntax.{w64}
 use Rattle.integers.specs.Sums.{sumTo, sum-ext}
@@ -16,7 +15,8 @@ use Rattle.integers.specs.Size.{near-fits, near-sub, near-mul, near-pos, near-u
 use Rattle.integers.specs.Machine.{SumsFit, sfits-by}
 use Rattle.measures.specs.Limits as limits
 use Rattle.rules.specs.Hour.{caseOf, planOf, fbPart, branchUse, branchRoom}
-use Rattle.rules.specs.RowLaws.{found-at, found-nowhere}
+use Rattle.rules.specs.Rows.{firstBelow}
+use Rattle.rules.specs.RowLaws.{first-here, first-later, first-nowhere}
 use Rattle.rules.specs.Verdict.{overZ}
 use Rattle.rules.specs.Passed.{case-sound, proposal-sound}
 use Rattle.rules.specs.Fits.{branchUse-sums}
@@ -28,13 +28,14 @@ use Rattle.clearing.proofs.first_overloaded_branch.Statement.{statement
 use Rattle.clearing.proofs.first_overloaded_branch.Tie as tie
 
 abbrev Inv-loop : tie.InvT-loop
-Inv-loop s k t parts flow-based table zones branches m₀ m = (m ≤ k .branches) × ((j : ℕ) → j < m → overZ (branchRoom (caseOf s) (planOf s t) j) (branchUse (caseOf s) (planOf s t) j) ≡ false)
+Inv-loop s k t parts flow-based table zones branches m₀ m = (m ≤ k .branches) × (firstBelow m (λ j. overZ (branchRoom (caseOf s) (planOf s t) j) (branchUse (caseOf s) (planOf s t) j)) ≡ none)
 
 abbrev μ-loop : tie.MeasureT-loop
 μ-loop s k t parts flow-based table zones branches m₀ m = k .branches - m
 
 loop-holds : tie.Need-loop-holds Inv-loop μ-loop
-loop-holds c = (omega arith, below-none _)
+unfolding firstBelow
+loop-holds c = (omega arith, refl)
 
 -- this branch is one of the case's, and one of the table's
 inside : (c : tie.In-loop Inv-loop μ-loop) → c .before .loop .m < (caseOf (now (c .before .before .before .before .args .«case»))) .branches
@@ -114,7 +115,7 @@ unfolding caseOf
 returns c =
     let e = c .before in
     let l = e .before .before .before .before .before .before in
-    sym (found-at _ _ (l .loop .m) (inside (e .before .before .before .before .before)) (sym (answered e) ∙ c .if1 .taken) (l .loop .inv .1))
+    sym (first-here _ (l .loop .m) (inside (e .before .before .before .before .before)) (l .loop .inv .1) (sym (answered e) ∙ c .if1 .taken))
 
 add-m : tie.Need-add-m Inv-loop μ-loop
 add-m c = omega arith
@@ -126,14 +127,14 @@ loop-again : tie.Need-loop-again Inv-loop μ-loop
 loop-again c =
     let e = c .before in
     let l = e .before .before .before .before .before .before in
-    (omega arith, below-more _ (l .loop .m) (l .loop .inv .1) (sym (answered e) ∙ c .if1 .left))
+    (omega arith, first-later _ (l .loop .m) (l .loop .inv .1) (sym (answered e) ∙ c .if1 .left))
 
 returns-2 : tie.Need-returns-2 Inv-loop μ-loop
 unfolding caseOf
 returns-2 c =
     let l = c .before in
     let a = l .before .before .before in
-    sym (found-nowhere _ _ (λ j h. l .loop .inv .1 j (omega (arith, ap (λ (k : Counts). k .branches) (a .pre .0 .opened .counts)))))
+    sym (first-nowhere _ (l .loop .m) (omega (arith, ap (λ (k : Counts). k .branches) (a .pre .0 .opened .counts))) (omega (arith, ap (λ (k : Counts). k .branches) (a .pre .0 .opened .counts))) (l .loop .inv .1))
 
 pub first-overloaded-branch-spec : {M : Type 1} → statement M
 first-overloaded-branch-spec =

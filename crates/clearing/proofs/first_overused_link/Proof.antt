@@ -1,16 +1,15 @@
 -- `clearing::first_overused_link` meets its contract: every link passed has its flow within the LTA share of its capacity. Assumes nothing.
-use mathlib.Core.Path.{_≡_, refl, ap, sym, subst, _∙_}
-use mathlib.Core.Bool.{Bool, true, false}
-use mathlib.Core.List.{List}
-use Prim.Native.Nat.{ℕ, _+_, _*_, _≤_, _<_, _-_}
+use mathlib.Core.Path.{_≡_, refl, ap, sym, _∙_}
+use mathlib.Core.Option.{none}
+use Prim.Native.Nat.{_*_, _≤_, _-_}
 use native.Mathlib.Omega.{arith}
 use borrow.Author.Needs.{needs}
-use borrow.Author.Count.{below-none, below-more}
 use denote.Ref.{now}
-use lib.IntN.{ℤ, pos, _+ℤ_, _-ℤ_, _*ℤ_}
+use lib.IntN.{ℤ, pos, _*ℤ_}
 use lib.Signed.{ltZ}
 use Rattle.case_file.specs.declared.Counts.{Counts}
-use Rattle.rules.specs.RowLaws.{found-at, found-nowhere}
+use Rattle.rules.specs.Rows.{firstBelow}
+use Rattle.rules.specs.RowLaws.{first-here, first-later, first-nowhere}
 use Rattle.rules.specs.Verdict.{over}
 use mir.Syntax.{w64}
 use Rattle.integers.specs.Size.{near-fits, near-mul, near-pos, near-unsigned}
@@ -23,13 +22,14 @@ use Rattle.clearing.proofs.first_overused_link.Statement.{statement}
 use Rattle.clearing.proofs.first_overused_link.Tie as tie
 
 abbrev Inv-loop : tie.InvT-loop
-Inv-loop s k t share links l₀ l = (l ≤ k .links) × ((j : ℕ) → j < l → over (linkRoom (caseOf s) (planOf s t) j) (linkUse (caseOf s) (planOf s t) j) ≡ false)
+Inv-loop s k t share links l₀ l = (l ≤ k .links) × (firstBelow l (λ j. over (linkRoom (caseOf s) (planOf s t) j) (linkUse (caseOf s) (planOf s t) j)) ≡ none)
 
 abbrev μ-loop : tie.MeasureT-loop
 μ-loop s k t share links l₀ l = k .links - l
 
 loop-holds : tie.Need-loop-holds Inv-loop μ-loop
-loop-holds c = (omega arith, below-none _)
+unfolding firstBelow
+loop-holds c = (omega arith, refl)
 
 link-at-requires : tie.Need-link-at-requires Inv-loop μ-loop
 link-at-requires c κs = (c .before .before .before .before .pre .0 .opened, c .loop-test .taken)
@@ -72,7 +72,7 @@ returns c =
     let e = c .before in
     let l = e .before .before .before .before .before .before .before in
     let a = l .before .before .before in
-    sym (found-at _ _ (l .loop .l) (omega (arith, ap (λ (k : Counts). k .links) (a .pre .0 .opened .counts), e .before .before .before .before .before .before .loop-test .taken)) (sym (answered e) ∙ c .if1 .taken) (l .loop .inv .1))
+    sym (first-here _ (l .loop .l) (omega (arith, ap (λ (k : Counts). k .links) (a .pre .0 .opened .counts), e .before .before .before .before .before .before .loop-test .taken)) (l .loop .inv .1) (sym (answered e) ∙ c .if1 .taken))
 
 add-l : tie.Need-add-l Inv-loop μ-loop
 add-l c = omega arith
@@ -84,14 +84,14 @@ loop-again : tie.Need-loop-again Inv-loop μ-loop
 loop-again c =
     let e = c .before in
     let l = e .before .before .before .before .before .before .before in
-    (omega arith, below-more _ (l .loop .l) (l .loop .inv .1) (sym (answered e) ∙ c .if1 .left))
+    (omega arith, first-later _ (l .loop .l) (l .loop .inv .1) (sym (answered e) ∙ c .if1 .left))
 
 returns-2 : tie.Need-returns-2 Inv-loop μ-loop
 unfolding caseOf
 returns-2 c =
     let l = c .before in
     let a = l .before .before .before in
-    sym (found-nowhere _ _ (λ j h. l .loop .inv .1 j (omega (arith, ap (λ (k : Counts). k .links) (a .pre .0 .opened .counts)))))
+    sym (first-nowhere _ (l .loop .l) (omega (arith, ap (λ (k : Counts). k .links) (a .pre .0 .opened .counts))) (omega (arith, ap (λ (k : Counts). k .links) (a .pre .0 .opened .counts))) (l .loop .inv .1))
 
 pub first-overused-link-spec : {M : Type 1} → statement M
 first-overused-link-spec =

@@ -1,10 +1,8 @@
 -- `clearing::flow_based_parts` meets its contract: after l turns the first l flows are taken off where they enter and put back where they leave.
 -- Assumes nothing.
-use mathlib.Core.Path.{_≡_, refl, ap, sym, subst, _∙_}
-use mathlib.Core.List.{List}
+use mathlib.Core.Path.{_≡_, ap, sym, subst, _∙_}
 use Prim.Native.Nat.{ℕ, _+_, _≤_, _<_, _-_}
 use native.Mathlib.Omega.{arith}
-use borrow.Author.Needs.{needs}
 use denote.Ref.{now}
 use lib.ListN.{set}
 use lib.IntN.{ℤ, pos, _+ℤ_, _-ℤ_, +ℤ-idr}
@@ -12,8 +10,8 @@ use mir.Syntax.{w64}
 use Rattle.integers.specs.Sums.{sumTo}
 use Rattle.integers.specs.Size.{Near, near-fits, near-sub, near-unsigned}
 use Rattle.integers.specs.Machine.{sfits-by}
-use Rattle.rules.specs.Hour.{Case, Plan, caseOf, planOf, net, inflow, outflow, ltaPart, fbPart}
-use Rattle.rules.specs.Passed.{CaseSound, case-sound}
+use Rattle.rules.specs.Hour.{caseOf, planOf, inflow, outflow, ltaPart, fbPart}
+use Rattle.rules.specs.Passed.{case-sound}
 use Rattle.rules.specs.Fits.{partial-near}
 use Rattle.case_file.specs.declared.Counts.{Counts}
 use Rattle.case_file.specs.declared.Link.{Link}

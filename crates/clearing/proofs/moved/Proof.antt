@@ -1,5 +1,5 @@
 -- `clearing::moved` meets its contract. Assumes nothing.
-use mathlib.Core.Path.{_≡_, ap, sym, subst, _∙_}
+use mathlib.Core.Path.{ap, sym, subst, _∙_}
 use mathlib.Core.Bool.{Bool}
 use lib.IntN.{_+ℤ_}
 use mir.Syntax.{w64}

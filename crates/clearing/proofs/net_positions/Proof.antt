@@ -1,18 +1,11 @@
 -- `clearing::net_positions` meets its contract: after i turns each zone has the sum of its orders among the first i. Assumes nothing.
-use mathlib.Core.Path.{_≡_, refl, ap, sym, subst, _∙_}
-use mathlib.Core.Bool.{Bool, true, false}
-use mathlib.Core.List.{List}
-use Prim.Native.Nat.{ℕ, _+_, _*_, _≤_, _<_, _-_}
+use mathlib.Core.Path.{_≡_, refl, ap, subst, _∙_}
+use Prim.Native.Nat.{ℕ, _+_, _≤_, _<_, _-_}
 use native.Mathlib.Omega.{arith}
-use borrow.Author.Needs.{needs}
-use borrow.Author.Count.{below-none, below-more}
 use denote.Ref.{now}
-use lib.IntN.{ℤ, pos, _+ℤ_, _-ℤ_, _*ℤ_}
-use lib.Signed.{ltZ}
+use lib.IntN.{ℤ, _+ℤ_}
 use Rattle.case_file.specs.declared.Counts.{Counts}
 use Rattle.orders.specs.declared.Order.{Order}
-use Rattle.rules.specs.RowLaws.{found-at, found-nowhere}
-use Rattle.rules.specs.Verdict.{over}
 use mir.Syntax.{w64}
 use Rattle.integers.specs.Sums.{sumTo}
 use Rattle.integers.specs.Machine.{sfits-by}

@@ -1,20 +1,17 @@
 -- `judgement::judge` meets its contract: row 30, rows 1 to 8, and the rows after them. Assumes nothing.
-use mathlib.Core.Path.{_≡_, refl, ap, sym, subst, _∙_}
+use mathlib.Core.Path.{_≡_, refl, sym, subst, _∙_}
 use mathlib.Core.List.{_++_}
-use mathlib.Core.Option.{none, some}
-use native.Mathlib.Omega.{arith}
 use denote.Ref.{now}
 use lib.ListN.{length}
 use Rattle.rules.specs.Hour.{caseOf, planOf, pricesOf}
 use Rattle.rules.specs.RowLaws.{lacks, field-fails, field-passes}
 use Rattle.rules.specs.Report.{reports}
-use Rattle.fields.specs.Walk.{outcomeOf}
 use Rattle.judgement.specs.declared.Verdict.{Verdict}
 use Rattle.judgement.specs.Judged.{Judged, proposalOn, refused, same-rows, first-refuses, first-passes, silent}
-use mathlib.Core.List.{[], _∷_}
+use mathlib.Core.List.{[]}
 use borrow.Author.Tests.{lt-ltb, le-ltb}
 use Rattle.rules.specs.Rows.{refusal}
-use Rattle.rules.specs.Verdict.{roomRows, caseRows, proposalRows, clearingRows, table, caseRefusal}
+use Rattle.rules.specs.Verdict.{roomRows, caseRows, table, caseRefusal}
 use Rattle.case_file.specs.Opened.{opened-of, refused-of}
 use Rattle.judgement.specs.Promises.{promises}
 use borrow.Author.Needs.{needs}

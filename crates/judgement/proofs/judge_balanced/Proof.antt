@@ -1,25 +1,20 @@
 -- `judgement::judge_balanced` meets its contract: rows 23 and 24, and the rows after them. Assumes nothing.
 use mathlib.Core.Path.{_≡_, refl, ap, sym, subst, _∙_}
-use mathlib.Core.Bool.{Bool, true, false, not}
-use mathlib.Core.Option.{Option, none, some}
-use Prim.Native.Nat.{ℕ, _+_, _*_, _≤_, _<_}
 use native.Mathlib.Omega.{arith}
 use borrow.Author.Needs.{needs}
 use denote.Ref.{now}
 use lib.IntN.{ℤ, pos, _-ℤ_}
 use mir.Syntax.{w64}
-use Rattle.rules.specs.Rows.{firstBelow}
 use Rattle.rules.specs.RowLaws.{row-found, row-clear, not-below}
 use Rattle.rules.specs.Passed.{case-sound, proposal-sound}
 use Rattle.rules.specs.Report.{reports}
-use Rattle.case_file.specs.declared.Counts.{Counts}
 use Rattle.proposal_file.specs.declared.Opening.{Opening}
 use Rattle.judgement.specs.declared.Verdict.{Verdict}
 use Rattle.judgement.specs.Judged.{Judged, rowsFrom, rowAt, refused, same-rows, at-place, at-none, below}
 use lib.Dec.{nltb→le}
 use Rattle.integers.specs.Size.{near-fits, near-sub, near-pos, near-unsigned}
 use Rattle.integers.specs.Machine.{sfits-by}
-use Rattle.rules.specs.Hour.{caseOf, planOf, linkUse, linkRoom}
+use Rattle.rules.specs.Hour.{caseOf, planOf}
 use Rattle.rules.specs.Verdict.{clearingRows}
 use Rattle.rules.specs.Fits.{flow-in}
 use Rattle.clearing.specs.Stages.{FlowsIn}

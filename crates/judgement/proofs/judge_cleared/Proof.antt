@@ -1,16 +1,13 @@
 -- `judgement::judge_cleared` meets its contract: row 25, and the rows after it. Assumes nothing.
 use mathlib.Core.Path.{_≡_, refl, ap, sym, subst, _∙_}
-use mathlib.Core.Bool.{Bool, true, false, not}
-use mathlib.Core.Option.{Option, none, some}
-use Prim.Native.Nat.{ℕ, _+_, _*_, _≤_, _<_}
+use mathlib.Core.Option.{none}
+use Prim.Native.Nat.{_≤_}
 use native.Mathlib.Omega.{arith}
 use borrow.Author.Needs.{needs}
 use denote.Ref.{now}
-use lib.IntN.{ℤ, pos, _-ℤ_}
-use mir.Syntax.{w64}
 use Rattle.rules.specs.Rows.{firstBelow}
 use Rattle.rules.specs.RowLaws.{row-found, row-clear, not-below}
-use Rattle.rules.specs.Passed.{case-sound, proposal-sound}
+use Rattle.rules.specs.Passed.{case-sound}
 use Rattle.rules.specs.Report.{reports}
 use Rattle.case_file.specs.declared.Counts.{Counts}
 use Rattle.proposal_file.specs.declared.Opening.{Opening}

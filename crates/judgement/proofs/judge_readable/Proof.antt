@@ -1,14 +1,8 @@
 -- `judgement::judge_readable` meets its contract: rows 9 to 14, and the rows after them. Assumes nothing.
-use mathlib.Core.Path.{_≡_, refl, ap, sym, subst, _∙_}
-use mathlib.Core.List.{_++_}
-use mathlib.Core.Option.{none, some}
-use native.Mathlib.Omega.{arith}
+use mathlib.Core.Path.{sym, subst, _∙_}
 use denote.Ref.{now}
-use lib.ListN.{length}
 use Rattle.rules.specs.Hour.{caseOf, planOf, pricesOf}
-use Rattle.rules.specs.RowLaws.{lacks, field-fails, field-passes}
-use Rattle.rules.specs.Report.{reports}
-use Rattle.fields.specs.Walk.{outcomeOf}
+use Rattle.rules.specs.RowLaws.{lacks}
 use Rattle.judgement.specs.declared.Verdict.{Verdict}
 use Rattle.judgement.specs.Judged.{Judged, proposalOn, refused, same-rows, first-refuses, first-passes, silent}
 use Rattle.rules.specs.Verdict.{proposalRows, clearingRows, proposalRefusal}

@@ -1,9 +1,9 @@
 -- `judgement::totals` meets its contract: each total is its rule's, and none leaves 64 bits. Assumes nothing.
-use mathlib.Core.Path.{_≡_, refl, ap, sym, subst, _∙_}
+use mathlib.Core.Path.{_≡_, ap, sym, subst, _∙_}
 use Prim.Native.Nat.{ℕ, _+_, _*_, _≤_, _<_}
 use native.Mathlib.Omega.{arith}
 use denote.Ref.{now}
-use lib.IntN.{ℤ, pos, _+ℤ_, _-ℤ_, _*ℤ_}
+use lib.IntN.{_+ℤ_, _-ℤ_, _*ℤ_}
 use mir.Syntax.{w64}
 use Rattle.integers.specs.Size.{near-fits}
 use Rattle.integers.specs.Machine.{SumsFit, sfits-by}
@@ -12,7 +12,7 @@ use Rattle.rules.specs.Fits.{system-near, bound-near, gap-near, rent-sums}
 use Rattle.case_file.specs.declared.Counts.{Counts}
 use Rattle.integers.specs.Order.{larger}
 use Rattle.integers.specs.Sums.{sumTo, sum-ext}
-use Rattle.rules.specs.Hour.{caseOf, planOf, pricesOf, net, zonePrice, welfare, surplus, branchTotal, owed, networkBound, bound, gap, rent}
+use Rattle.rules.specs.Hour.{caseOf, planOf, pricesOf, net, zonePrice, welfare, owed, networkBound, bound, gap, rent}
 use Rattle.rules.specs.Passed.{CaseSound}
 use Rattle.rules.specs.Report.{totalsOf}
 use Rattle.clearing.specs.Held.{tenthsAt}

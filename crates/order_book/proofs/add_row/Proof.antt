@@ -6,7 +6,9 @@ use lib.IntN.{ℤ}
 use Rattle.integers.specs.Size.{Near}
 use Rattle.orders.specs.declared.Order.{Order}
 use Rattle.order_book.specs.Account.{badIn, rowOrder, counted, withRow, OrderIn}
-use Rattle.order_book.specs.Steps.{is-false, added-by, row-outside, row-held, order-in, counted-near, next-fits}
+use Rattle.integers.specs.Ranges.{is-false}
+use Rattle.orders.specs.Admitted.{order-outside, order-held}
+use Rattle.order_book.specs.Steps.{added-by, order-in, counted-near, next-fits}
 use borrow.Author.Needs.{needs}
 use Rattle.order_book.proofs.add_row.Statement.{statement}
 use Rattle.order_book.proofs.add_row.Tie as tie
@@ -37,13 +39,13 @@ returns-2 c =
     let a = r .before .before .before .args in
     c .refuse-row .ensures
     ∙ added-by (a .account) (a .row) (a .prices .now) (sym (r .before .before .settled .ensures) ∙ r .before .if1 .left)
-    (row-outside (rowOrder (a .row)) _ (sym (r .admit-row .ensures) ∙ c .before .enum-told .given .1))
+    (order-outside (rowOrder (a .row)) _ (sym (r .admit-row .ensures) ∙ c .before .enum-told .given .1))
 
 -- the order that is held is the row's, and the row is in range
 held : (c : tie.After-known-told)
     → (badIn (c .before .before .before .before .before .before .args .prices .now) (c .before .before .before .before .before .before .args .row) ≡ false)
     × (c .before .order .given .0 .0 ≡ rowOrder (c .before .before .before .before .before .before .args .row))
-held c = row-held (rowOrder (c .before .before .before .before .before .before .args .row)) (c .before .order .given .0 .0) _ (sym (c .before .before .before .admit-row .ensures) ∙ c .before .order .given .1)
+held c = order-held (rowOrder (c .before .before .before .before .before .before .args .row)) (c .before .order .given .0 .0) _ (sym (c .before .before .before .admit-row .ensures) ∙ c .before .order .given .1)
 
 order-surplus-requires : tie.Need-order-surplus-requires
 order-surplus-requires c κs =

@@ -1,26 +1,27 @@
 -- `order_book::first_unpriced` meets its contract. The loop's invariant: no price before `zone` is out of range. Assumes nothing.
-use mathlib.Core.Path.{_≡_, ap, sym, _∙_}
-use mathlib.Core.Bool.{false}
+use mathlib.Core.Path.{_≡_, refl, ap, sym, _∙_}
+use mathlib.Core.Option.{none}
 use Prim.Native.Nat.{ℕ, _-_, _<_, _≤_}
 use native.Mathlib.Omega.{arith}
-use borrow.Author.Count.{below-none, below-more}
 use lib.ListN.{length}
 use Rattle.integers.specs.Ranges.{outside}
 use Rattle.measures.specs.Limits as limits
 use Rattle.rules.specs.Book.{priceAt}
-use Rattle.rules.specs.RowLaws.{found-at, found-nowhere}
+use Rattle.rules.specs.Rows.{firstBelow}
+use Rattle.rules.specs.RowLaws.{first-here, first-later, first-nowhere}
 use Rattle.order_book.specs.Account.{firstUnpriced, placeOf}
 use Rattle.order_book.proofs.first_unpriced.Statement.{statement}
 use Rattle.order_book.proofs.first_unpriced.Tie as tie
 
 abbrev Inv-loop : tie.InvT-loop
-Inv-loop prices zone₀ zone = (zone ≤ length prices) × ((z : ℕ) → z < zone → outside limits.zonePrice (priceAt prices z) ≡ false)
+Inv-loop prices zone₀ zone = (zone ≤ length prices) × (firstBelow zone (λ z. outside limits.zonePrice (priceAt prices z)) ≡ none)
 
 abbrev μ-loop : tie.MeasureT-loop
 μ-loop prices zone₀ zone = length prices - zone
 
 loop-holds : tie.Need-loop-holds Inv-loop μ-loop
-loop-holds c = (omega arith, below-none _)
+unfolding firstBelow
+loop-holds c = (omega arith, refl)
 
 unpriced-requires : tie.Need-unpriced-requires Inv-loop μ-loop
 unpriced-requires c κs = omega arith
@@ -32,7 +33,7 @@ returns : tie.Need-returns Inv-loop μ-loop
 unfolding firstUnpriced
 returns c =
     let l = c .before .before .before in
-    sym (ap placeOf (found-at _ _ (l .loop .zone) (c .before .before .loop-test .taken) (sym (c .before .unpriced .ensures) ∙ c .if1 .taken) (l .loop .inv .1)))
+    sym (ap placeOf (first-here _ (l .loop .zone) (c .before .before .loop-test .taken) (l .loop .inv .1) (sym (c .before .unpriced .ensures) ∙ c .if1 .taken)))
 
 add-zone : tie.Need-add-zone Inv-loop μ-loop
 add-zone c = omega arith
@@ -43,11 +44,11 @@ loop-less c = omega arith
 loop-again : tie.Need-loop-again Inv-loop μ-loop
 loop-again c =
     let l = c .before .before .before in
-    (omega arith, below-more _ (l .loop .zone) (l .loop .inv .1) (sym (c .before .unpriced .ensures) ∙ c .if1 .left))
+    (omega arith, first-later _ (l .loop .zone) (l .loop .inv .1) (sym (c .before .unpriced .ensures) ∙ c .if1 .left))
 
 returns-2 : tie.Need-returns-2 Inv-loop μ-loop
 unfolding firstUnpriced
-returns-2 c = sym (ap placeOf (found-nowhere _ _ (λ z h. c .before .loop .inv .1 z (omega arith))))
+returns-2 c = let l = c .before in sym (ap placeOf (first-nowhere _ (l .loop .zone) (omega arith) (omega arith) (l .loop .inv .1)))
 
 pub first-unpriced-spec : {M : Type 1} → statement M
 first-unpriced-spec =

@@ -5,7 +5,8 @@ use lib.ListN.{length}
 use lib.IntN.{pos}
 use Rattle.integers.specs.Ranges.{outside, nat-within}
 use Rattle.rules.specs.Layout.{zoneCounts, orderCounts}
-use Rattle.order_book.specs.Steps.{is-false, opened-by, place-at, place-nowhere}
+use Rattle.integers.specs.Ranges.{is-false}
+use Rattle.order_book.specs.Steps.{opened-by, place-at, place-nowhere}
 use borrow.Author.Needs.{needs}
 use Rattle.order_book.proofs.open_book.Statement.{statement}
 use Rattle.order_book.proofs.open_book.Tie as tie

@@ -7,7 +7,8 @@ use Rattle.measures.specs.Held.{grains-outside, grains-held}
 use Rattle.orders.specs.Admitted.{surplusAt}
 use Rattle.rules.specs.Book.{priceAt}
 use borrow.Author.Needs.{needs}
-use Rattle.order_book.specs.Steps.{is-false, counted-by}
+use Rattle.integers.specs.Ranges.{is-false}
+use Rattle.order_book.specs.Steps.{counted-by}
 use Rattle.order_book.proofs.order_surplus.Statement.{statement}
 use Rattle.order_book.proofs.order_surplus.Tie as tie
 

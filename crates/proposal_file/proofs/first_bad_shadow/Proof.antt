@@ -14,7 +14,7 @@ use Rattle.rules.specs.Layout.{u32At, shadowIn}
 use Rattle.rules.specs.Rows.{firstBelow}
 use Rattle.fields.specs.declared.Cursor.{Cursor}
 use Rattle.fields.specs.Walk.{wordField, Took, word-took, word-short}
-use Rattle.fields.specs.Search.{first-here, first-later, first-nowhere}
+use Rattle.rules.specs.RowLaws.{first-here, first-later, first-nowhere}
 use Rattle.case_file.specs.Opened.{headed, limited}
 use Rattle.proposal_file.specs.Proposed.{numberStart, badShadow, length-is, shadow-is}
 use Rattle.proposal_file.proofs.first_bad_shadow.Statement.{statement}

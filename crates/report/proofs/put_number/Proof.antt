@@ -1,10 +1,10 @@
 -- `report::put_number` meets its contract. Assumes nothing.
-use mathlib.Core.Path.{_≡_, ap, _∙_}
+use mathlib.Core.Path.{ap, _∙_}
 use Prim.Native.Nat.{ℕ}
 use denote.Ref.{now}
 use lib.Seq.{sets}
 use mir.Syntax.{w64}
-use mir.Val.{toZ, ofZ}
+use mir.Val.{ofZ}
 use mir.Facts.{toZ-ofZ}
 use Rattle.integers.specs.Bytes.{bytesOf, signed64}
 use borrow.Author.Needs.{needs}

@@ -1,5 +1,5 @@
 -- `report::write_report` meets its contract: three runs of stores, one after the other. Assumes nothing.
-use mathlib.Core.Path.{_≡_, _∙_}
+use mathlib.Core.Path.{_∙_}
 use denote.Ref.{now}
 use lib.Seq.{sets}
 use Rattle.rules.specs.Report.{totalBytes, priceBytes}

@@ -1,27 +1,28 @@
 -- `valuation::first_price_outside` meets its contract: every zone passed has its price within the limits. Assumes nothing.
-use mathlib.Core.Path.{_≡_, sym, ap, _∙_}
-use mathlib.Core.Bool.{false}
-use Prim.Native.Nat.{ℕ, _≤_, _<_, _-_}
+use mathlib.Core.Path.{_≡_, refl, sym, ap, _∙_}
+use mathlib.Core.Option.{none}
+use Prim.Native.Nat.{_≤_, _-_}
 use native.Mathlib.Omega.{arith}
 use borrow.Author.Needs.{needs}
-use borrow.Author.Count.{below-none, below-more}
 use Rattle.integers.specs.Ranges.{outside}
 use Rattle.measures.specs.Limits as limits
 use Rattle.measures.specs.Held.{grainsIn, grains-outside, grains-held}
 use Rattle.measures.specs.declared.Raw.{Raw}
-use Rattle.rules.specs.RowLaws.{found-at, found-nowhere}
+use Rattle.rules.specs.Rows.{firstBelow}
+use Rattle.rules.specs.RowLaws.{first-here, first-later, first-nowhere}
 use Rattle.valuation.specs.Prices.{grainsAt}
 use Rattle.valuation.proofs.first_price_outside.Statement.{statement}
 use Rattle.valuation.proofs.first_price_outside.Tie as tie
 
 abbrev Inv-loop : tie.InvT-loop
-Inv-loop zones prices z₀ z = (z ≤ zones) × ((k : ℕ) → k < z → outside limits.zonePrice (grainsAt prices k) ≡ false)
+Inv-loop zones prices z₀ z = (z ≤ zones) × (firstBelow z (λ k. outside limits.zonePrice (grainsAt prices k)) ≡ none)
 
 abbrev μ-loop : tie.MeasureT-loop
 μ-loop zones prices z₀ z = zones - z
 
 loop-holds : tie.Need-loop-holds Inv-loop μ-loop
-loop-holds c = (omega arith, below-none _)
+unfolding firstBelow
+loop-holds c = (omega arith, refl)
 
 mul-price : tie.Need-mul-price Inv-loop μ-loop
 mul-price c = omega arith
@@ -50,7 +51,7 @@ returns : tie.Need-returns Inv-loop μ-loop
 returns c =
     let p = c .before .before in
     let l = p .before .before .before .before in
-    sym (found-at (l .before .args .zones) _ (l .loop .z) (p .before .before .before .loop-test .taken) (grains-outside _ _ (sym (answered p) ∙ c .enum-told2 .given .1)) (l .loop .inv .1))
+    sym (first-here _ (l .loop .z) (p .before .before .before .loop-test .taken) (l .loop .inv .1) (grains-outside _ _ (sym (answered p) ∙ c .enum-told2 .given .1)))
 
 add-z : tie.Need-add-z Inv-loop μ-loop
 add-z c = omega arith
@@ -62,13 +63,13 @@ loop-again : tie.Need-loop-again Inv-loop μ-loop
 loop-again c =
     let p = c .before .before in
     let l = p .before .before .before .before in
-    (omega arith, below-more _ (l .loop .z) (l .loop .inv .1) ((grains-held _ _ (c .enum-told .given .0 .0) (sym (answered p) ∙ c .enum-told .given .1)) .0))
+    (omega arith, first-later _ (l .loop .z) (l .loop .inv .1) ((grains-held _ _ (c .enum-told .given .0 .0) (sym (answered p) ∙ c .enum-told .given .1)) .0))
 
 returns-2 : tie.Need-returns-2 Inv-loop μ-loop
 returns-2 c =
     let l = c .before in
     let e : l .loop .z ≡ l .before .args .zones = omega arith in
-    sym (found-nowhere (l .before .args .zones) _ (λ k h. l .loop .inv .1 k (omega arith)))
+    sym (first-nowhere _ (l .loop .z) (omega arith) (omega arith) (l .loop .inv .1))
 
 pub first-price-outside-spec : {M : Type 1} → statement M
 first-price-outside-spec =

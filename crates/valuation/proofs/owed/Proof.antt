@@ -1,12 +1,12 @@
 -- `valuation::owed` meets its contract: after l turns the sum is that of the first l links. Assumes nothing.
-use mathlib.Core.Path.{_≡_, refl, ap, sym, subst, _∙_}
-use Prim.Native.Nat.{ℕ, _+_, _*_, _≤_, _<_, _-_}
+use mathlib.Core.Path.{_≡_, refl, ap, _∙_}
+use Prim.Native.Nat.{ℕ, _*_, _≤_, _<_, _-_}
 use native.Mathlib.Omega.{arith}
 use borrow.Author.Needs.{needs}
 use denote.Ref.{now}
-use lib.IntN.{ℤ, pos, _+ℤ_, _-ℤ_, _*ℤ_}
+use lib.IntN.{_-ℤ_, _*ℤ_}
 use mir.Syntax.{w64}
-use Rattle.integers.specs.Sums.{sumTo, sum-scale-l}
+use Rattle.integers.specs.Sums.{sumTo}
 use Rattle.integers.specs.Machine.{SumsFit, step, step-fits, sfits-by}
 use Rattle.rules.specs.Passed.{case-sound, proposal-sound}
 use Rattle.case_file.specs.declared.Counts.{Counts}

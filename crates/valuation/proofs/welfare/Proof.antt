@@ -1,14 +1,13 @@
 -- `valuation::welfare` meets its contract: after i turns the sum is that of the first i orders. Assumes nothing.
-use mathlib.Core.Path.{_≡_, refl, ap, sym, subst, _∙_}
-use Prim.Native.Nat.{ℕ, _+_, _*_, _≤_, _<_, _-_}
+use mathlib.Core.Path.{_≡_, refl, ap, _∙_}
+use Prim.Native.Nat.{ℕ, _*_, _≤_, _<_, _-_}
 use native.Mathlib.Omega.{arith}
-use borrow.Author.Needs.{needs}
 use denote.Ref.{now}
-use lib.IntN.{ℤ, pos, _+ℤ_, _-ℤ_, _*ℤ_}
+use lib.IntN.{pos, _*ℤ_}
 use mir.Syntax.{w64}
 use Rattle.integers.specs.Sums.{sumTo, sum-scale-l}
 use Rattle.integers.specs.Machine.{SumsFit, step, step-fits, sfits-by}
-use Rattle.rules.specs.Passed.{case-sound, proposal-sound}
+use Rattle.rules.specs.Passed.{case-sound}
 use Rattle.case_file.specs.declared.Counts.{Counts}
 use Rattle.integers.specs.Size.{near-fits, near-mul, near-unsigned}
 use Rattle.measures.specs.Limits.{grainsOf}

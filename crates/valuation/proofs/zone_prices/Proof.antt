@@ -2,12 +2,11 @@
 use mathlib.Core.Path.{_≡_, refl, ap, sym, subst, _∙_}
 use Prim.Native.Nat.{ℕ, _+_, _*_, _≤_, _<_, _-_}
 use native.Mathlib.Omega.{arith}
-use borrow.Author.Needs.{needs}
 use denote.Ref.{now}
-use lib.IntN.{ℤ, pos, _+ℤ_, _-ℤ_, _*ℤ_}
+use lib.IntN.{ℤ, pos, _+ℤ_, _*ℤ_}
 use mir.Syntax.{w64}
-use Rattle.integers.specs.Sums.{sumTo, sum-scale-l}
-use Rattle.integers.specs.Machine.{SumsFit, step, step-fits, sfits-by}
+use Rattle.integers.specs.Sums.{sumTo}
+use Rattle.integers.specs.Machine.{sfits-by}
 use Rattle.rules.specs.Passed.{case-sound, proposal-sound}
 use Rattle.case_file.specs.declared.Counts.{Counts}
 use mathlib.Core.List.{List, []}
@@ -17,7 +16,6 @@ use Rattle.integers.specs.Sums.{sum-more}
 use Rattle.integers.specs.Size.{near-fits, near-mul, near-pos}
 use Rattle.measures.specs.Limits.{grainsOf}
 use Rattle.measures.specs.declared.Grains.{Grains}
-use Rattle.rules.specs.Layout.{ptdfIn}
 use Rattle.rules.specs.Hour.{caseOf, pricesOf, branchPrice, zonePrice}
 use Rattle.rules.specs.Fits.{system-near, price-near, price-term-near}
 use Rattle.case_file.specs.Table.{table-entry}

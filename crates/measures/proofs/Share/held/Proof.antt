@@ -1,4 +1,4 @@
-use mathlib.Core.Path.{_≡_, ap, sym, _∙_}
+use mathlib.Core.Path.{ap, sym, _∙_}
 use Rattle.measures.specs.Held.{shareBy}
 use Rattle.measures.specs.declared.ShareAnswer.the-variants.{Held as held}
 use borrow.Author.Needs.{needs}
