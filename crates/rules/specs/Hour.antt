@@ -78,6 +78,7 @@ signed false x = negℤ x
 unfoldable pub orderNet : Case → Plan → ℕ → ℤ
 orderNet c p i = signed (buys c i) (pos (p .volume i))
 
+-- The Annex's (2) names zone A's first supply order twice where its second is meant: here each order counts once.
 unfoldable pub net : Case → Plan → ℕ → ℤ
 net c p z = sumTo (c .orders) (λ i. only (eqb (c .zone i) z) (orderNet c p i))
 
@@ -88,6 +89,7 @@ inflow c p z = sumTo (c .links) (λ l. only (eqb (c .to l) z) (pos (p .flow l)))
 unfoldable pub outflow : Case → Plan → ℕ → ℤ
 outflow c p z = sumTo (c .links) (λ l. only (eqb (c .from l) z) (pos (p .flow l)))
 
+-- The Annex's sums for zone B name the flow from A to C where the flow from C to B belongs: here a flow is in at its "to" and out at its "from".
 unfoldable pub ltaPart : Case → Plan → ℕ → ℤ
 ltaPart c p z = inflow c p z -ℤ outflow c p z
 
