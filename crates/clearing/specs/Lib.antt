@@ -1,3 +1,4 @@
+-- What the stages of the clearing cite: arrays by zone, the parts while links are taken off, and what earlier verdicts leave
 pub mod Held
 pub mod Parts
 pub mod Stages

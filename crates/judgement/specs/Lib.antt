@@ -1,2 +1,3 @@
+-- What a stage answers, and from the table to the contract
 pub mod Judged
 pub mod Promises

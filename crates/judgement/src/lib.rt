@@ -87,7 +87,7 @@ fn totals(
 }
 
 // A verdict at a place.
-fn refused(number: u32, place: usize) -> Verdict
+fn verdict_at(number: u32, place: usize) -> Verdict
     requires { ⌜ place < 4294967296 ⌝ }
     ensures { λ r. ⌜ r ≡ record { number = number; index = place } ⌝ }
 {
@@ -126,10 +126,10 @@ fn judge_priced(
     let zones = byte_of(k.zones);
     if gap.exceeds(k.tolerance.in_microcents()) {
         write_report(report, 26, zones, all, prices);
-        return refused(26, 0);
+        return verdict_at(26, 0);
     }
     write_report(report, 0, zones, all, prices);
-    refused(0, 0)
+    verdict_at(0, 0)
 }
 
 // Verdict 25 and on.
@@ -155,7 +155,7 @@ fn judge_cleared(
     let zones = k.zones;
     let outside = first_price_outside(prices, zones);
     if let Place::At(z) = outside {
-        return refused(25, z);
+        return verdict_at(25, z);
     }
     judge_priced(case, k, proposal, nets, prices, report)
 }
@@ -179,13 +179,13 @@ fn judge_balanced(
     let share = opening.share;
     let overused = first_overused_link(case, k, proposal, share);
     if let Place::At(l) = overused {
-        return refused(23, l);
+        return verdict_at(23, l);
     }
     let parts = flow_based_parts(case, k, proposal, nets);
     let table = ptdf_table(case, k);
     let overloaded = first_overloaded_branch(case, k, proposal, table, parts, share.rest());
     if let Place::At(m) = overloaded {
-        return refused(24, m);
+        return verdict_at(24, m);
     }
     judge_cleared(case, k, proposal, opening, nets, table, report)
 }
@@ -205,12 +205,12 @@ fn judge_proposed(
 {
     let excess = first_excess_volume(case, k, proposal);
     if let Place::At(i) = excess {
-        return refused(21, i);
+        return verdict_at(21, i);
     }
     let nets = net_positions(case, k, proposal);
     let zones = k.zones;
     if !net_sum(nets, zones).is_zero() {
-        return refused(22, 0);
+        return verdict_at(22, 0);
     }
     judge_balanced(case, k, proposal, opening, nets, report)
 }
@@ -250,7 +250,7 @@ pub fn judge(case: &[u8], proposal: &[u8], report: &mut [u8]) -> Verdict
     ensures coverage { λ r. ⌜ (r .number ≡ 0 → (reportedOwed (now (report .exit)) -ℤ reportedGap (now (report .exit))) ≤ℤ reportedRent (now (report .exit))) ⌝ }
 {
     if report.len() < REPORT_ROOM {
-        return refused(30, 0);
+        return verdict_at(30, 0);
     }
     match read_case(case) {
         CaseAnswer::Refused(refusal) => verdict_of(refusal),

@@ -1,1 +1,2 @@
+-- What is answered for a row, and rule 8 of an order
 pub mod Admitted

@@ -1,1 +1,2 @@
+-- The report as runs of stores
 pub mod Written

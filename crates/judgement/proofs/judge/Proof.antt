@@ -18,15 +18,15 @@ use borrow.Author.Needs.{needs}
 use Rattle.judgement.proofs.judge.Statement.{statement}
 use Rattle.judgement.proofs.judge.Tie as tie
 
-refused-requires : tie.Need-refused-requires
-refused-requires c κs = search needs
+verdict-at-requires : tie.Need-verdict-at-requires
+verdict-at-requires c κs = search needs
 
 returns : tie.Need-returns
 unfolding table roomRows reports
 returns c =
     let a = c .before .before .before .before .before in
     promises (now (a .args .«case»)) (now (a .args .proposal)) (now (a .args .report)) _ (now (a .args .report))
-    (subst (λ (r : Verdict). Judged (table (now (a .args .«case»)) (now (a .args .proposal)) (length (now (a .args .report))) (caseOf (now (a .args .«case»))) (planOf (now (a .args .«case»)) (now (a .args .proposal))) (pricesOf (now (a .args .«case»)) (now (a .args .proposal)))) (now (a .args .«case»)) (now (a .args .proposal)) (now (a .args .report)) r (now (a .args .report))) (sym (c .refused .ensures))
+    (subst (λ (r : Verdict). Judged (table (now (a .args .«case»)) (now (a .args .proposal)) (length (now (a .args .report))) (caseOf (now (a .args .«case»))) (planOf (now (a .args .«case»)) (now (a .args .proposal))) (pricesOf (now (a .args .«case»)) (now (a .args .proposal)))) (now (a .args .«case»)) (now (a .args .proposal)) (now (a .args .report)) r (now (a .args .report))) (sym (c .verdict-at .ensures))
     (refused (table (now (a .args .«case»)) (now (a .args .proposal)) (length (now (a .args .report))) (caseOf (now (a .args .«case»))) (planOf (now (a .args .«case»)) (now (a .args .proposal))) (pricesOf (now (a .args .«case»)) (now (a .args .proposal)))) (now (a .args .«case»)) (now (a .args .proposal)) (now (a .args .report)) 30 0 refl (field-fails 30 0 (caseRows (now (a .args .«case»)) (caseOf (now (a .args .«case»))) ++ proposalOn (now (a .args .«case»)) (now (a .args .proposal))) (lt-ltb (length (now (a .args .report))) 176 (c .before .if1 .taken)))))
 
 read-case-requires : tie.Need-read-case-requires
@@ -81,7 +81,7 @@ pub judge-spec : {M : Type 1} → statement M
 judge-spec =
     tie.close
     (tie.spec
-    refused-requires
+    verdict-at-requires
     returns
     read-case-requires
     enum-known-refusal

@@ -34,8 +34,8 @@ first-overused-link-requires c κs = (c .before .before .before .before .pre .0,
 enum-known-overused : tie.Need-enum-known-overused
 enum-known-overused c = search needs
 
-refused-requires : tie.Need-refused-requires
-refused-requires c κs =
+verdict-at-requires : tie.Need-verdict-at-requires
+verdict-at-requires c κs =
     let o = c .before in
     let f = o .before .before in
     below _ _ _ 4294967296 (at-place _ _ _ (f .first-overused-link .ensures) (o .overused .given .1)) (omega (arith, (case-sound _ (f .before .before .before .before .before .pre .0 .opened .readable)) .links-in))
@@ -46,7 +46,7 @@ returns c =
     let o = c .before .before in
     let f = o .before .before in
     let a = f .before .before .before .before .before in
-    subst (λ (r : Verdict). Judged (rowsFrom 2 (now (a .args .«case»)) (now (a .args .proposal))) (now (a .args .«case»)) (now (a .args .proposal)) (now (a .args .report)) r (now (a .args .report))) (sym (c .refused .ensures))
+    subst (λ (r : Verdict). Judged (rowsFrom 2 (now (a .args .«case»)) (now (a .args .proposal))) (now (a .args .«case»)) (now (a .args .proposal)) (now (a .args .report)) r (now (a .args .report))) (sym (c .verdict-at .ensures))
     (refused (rowsFrom 2 (now (a .args .«case»)) (now (a .args .proposal))) (now (a .args .«case»)) (now (a .args .proposal)) (now (a .args .report)) 23 _ refl
     (row-found (rowAt 2 (now (a .args .«case»)) (now (a .args .proposal))) (rowsFrom 3 (now (a .args .«case»)) (now (a .args .proposal))) _ (at-place _ _ _ (f .first-overused-link .ensures) (o .overused .given .1))))
 
@@ -85,8 +85,8 @@ first-overloaded-branch-requires c κs =
 enum-known-overloaded : tie.Need-enum-known-overloaded
 enum-known-overloaded c = search needs
 
-refused-requires-2 : tie.Need-refused-requires-2
-refused-requires-2 c κs =
+verdict-at-requires-2 : tie.Need-verdict-at-requires-2
+verdict-at-requires-2 c κs =
     let o = c .before in
     let f = o .before .before in
     below _ _ _ 4294967296 (at-place _ _ _ (f .first-overloaded-branch .ensures) (o .overloaded .given .1)) (omega (arith, (case-sound _ (f .before .before .before .before .before .before .before .before .before .before .before .pre .0 .opened .readable)) .branches-in))
@@ -99,7 +99,7 @@ returns-2 c =
     let l = f .before .before .before .before .before .before in
     let a = l .before .before .before .before .before in
     same-rows (row-clear (rowAt 2 (now (a .args .«case»)) (now (a .args .proposal))) (rowsFrom 3 (now (a .args .«case»)) (now (a .args .proposal))) (at-none _ _ (l .first-overused-link .ensures) (f .before .before .before .before .enum-told .given .1)))
-    (subst (λ (r : Verdict). Judged (rowsFrom 3 (now (a .args .«case»)) (now (a .args .proposal))) (now (a .args .«case»)) (now (a .args .proposal)) (now (a .args .report)) r (now (a .args .report))) (sym (c .refused2 .ensures))
+    (subst (λ (r : Verdict). Judged (rowsFrom 3 (now (a .args .«case»)) (now (a .args .proposal))) (now (a .args .«case»)) (now (a .args .proposal)) (now (a .args .report)) r (now (a .args .report))) (sym (c .verdict-at2 .ensures))
     (refused (rowsFrom 3 (now (a .args .«case»)) (now (a .args .proposal))) (now (a .args .«case»)) (now (a .args .proposal)) (now (a .args .report)) 24 _ refl
     (row-found (rowAt 3 (now (a .args .«case»)) (now (a .args .proposal))) (rowsFrom 4 (now (a .args .«case»)) (now (a .args .proposal))) _ (at-place _ _ _ (f .first-overloaded-branch .ensures) (o .overloaded .given .1)))))
 
@@ -131,7 +131,7 @@ judge-balanced-spec =
     (tie.spec
     first-overused-link-requires
     enum-known-overused
-    refused-requires
+    verdict-at-requires
     returns
     enum-told
     flow-based-parts-requires
@@ -139,7 +139,7 @@ judge-balanced-spec =
     rest-requires
     first-overloaded-branch-requires
     enum-known-overloaded
-    refused-requires-2
+    verdict-at-requires-2
     returns-2
     enum-told-2
     judge-cleared-requires

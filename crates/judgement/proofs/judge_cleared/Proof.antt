@@ -52,8 +52,8 @@ searched c =
 passed : (c : tie.After-first-price-outside) → c .first-price-outside .result ≡ Nowhere → firstBelow ((caseOf (now (c .before .before .before .before .before .before .args .«case»))) .zones) (λ z. outside limits.zonePrice (zonePrice (caseOf (now (c .before .before .before .before .before .before .args .«case»))) (pricesOf (now (c .before .before .before .before .before .before .args .«case»)) (now (c .before .before .before .before .before .before .args .proposal))) z)) ≡ none
 passed c e = sym (searched c) ∙ at-none _ _ (c .first-price-outside .ensures) e
 
-refused-requires : tie.Need-refused-requires
-refused-requires c κs =
+verdict-at-requires : tie.Need-verdict-at-requires
+verdict-at-requires c κs =
     let o = c .before in
     let f = o .before .before in
     below _ _ _ 4294967296 (at-place _ _ _ (f .first-price-outside .ensures) (o .outside .given .1)) (omega (arith, zones-in (f .before .before .before .before .before .before)))
@@ -64,7 +64,7 @@ returns c =
     let o = c .before .before in
     let f = o .before .before in
     let a = f .before .before .before .before .before .before in
-    subst (λ (r : Verdict). Judged (rowsFrom 4 (now (a .args .«case»)) (now (a .args .proposal))) (now (a .args .«case»)) (now (a .args .proposal)) (now (a .args .report)) r (now (a .args .report))) (sym (c .refused .ensures))
+    subst (λ (r : Verdict). Judged (rowsFrom 4 (now (a .args .«case»)) (now (a .args .proposal))) (now (a .args .«case»)) (now (a .args .proposal)) (now (a .args .report)) r (now (a .args .report))) (sym (c .verdict-at .ensures))
     (refused (rowsFrom 4 (now (a .args .«case»)) (now (a .args .proposal))) (now (a .args .«case»)) (now (a .args .proposal)) (now (a .args .report)) 25 _ refl
     (row-found (rowAt 4 (now (a .args .«case»)) (now (a .args .proposal))) (rowsFrom 5 (now (a .args .«case»)) (now (a .args .proposal))) _ (sym (searched f) ∙ at-place _ _ _ (f .first-price-outside .ensures) (o .outside .given .1))))
 
@@ -95,7 +95,7 @@ judge-cleared-spec =
     zone-prices-requires
     first-price-outside-requires
     enum-known-outside
-    refused-requires
+    verdict-at-requires
     returns
     enum-told
     judge-priced-requires

@@ -57,8 +57,8 @@ write-report-requires c κs =
     let z = zones-are e in
     (omega (arith, z, (case-sound _ (e .before .before .before .before .before .before .before .before .pre .0 .opened .readable)) .zones-in .1), omega (arith, z, (case-sound _ (e .before .before .before .before .before .before .before .before .pre .0 .opened .readable)) .zones-in .1, e .before .before .before .before .before .before .before .before .pre .1 .1 .1 .1 .1))
 
-refused-requires : tie.Need-refused-requires
-refused-requires c κs = search needs
+verdict-at-requires : tie.Need-verdict-at-requires
+verdict-at-requires c κs = search needs
 
 same-length : tie.Need-same-length
 same-length c = search needs
@@ -70,7 +70,7 @@ returns c =
     let f = w .before .before in
     let e = f .before in
     let a = e .before .before .before .before .before .before .before .before in
-    reporting _ (now (a .args .«case»)) (now (a .args .proposal)) (now (a .args .report)) (some (verdict 26 0)) _ _ (field-fails 26 0 [] (sym (tested e) ∙ f .if1 .taken)) refl (c .refused .ensures)
+    reporting _ (now (a .args .«case»)) (now (a .args .proposal)) (now (a .args .report)) (some (verdict 26 0)) _ _ (field-fails 26 0 [] (sym (tested e) ∙ f .if1 .taken)) refl (c .verdict-at .ensures)
     (w .write-report .ensures ∙ same-report 26 _ _ _ (caseOf (now (a .args .«case»))) (planOf (now (a .args .«case»)) (now (a .args .proposal))) (pricesOf (now (a .args .«case»)) (now (a .args .proposal))) (now (a .args .report)) (zones-are e) (e .before .before .before .before .totals .ensures) (a .pre .1 .1 .1 .0 .each))
 
 write-report-requires-2 : tie.Need-write-report-requires-2
@@ -79,8 +79,8 @@ write-report-requires-2 c κs =
     let z = zones-are e in
     (omega (arith, z, (case-sound _ (e .before .before .before .before .before .before .before .before .pre .0 .opened .readable)) .zones-in .1), omega (arith, z, (case-sound _ (e .before .before .before .before .before .before .before .before .pre .0 .opened .readable)) .zones-in .1, e .before .before .before .before .before .before .before .before .pre .1 .1 .1 .1 .1))
 
-refused-requires-2 : tie.Need-refused-requires-2
-refused-requires-2 c κs = search needs
+verdict-at-requires-2 : tie.Need-verdict-at-requires-2
+verdict-at-requires-2 c κs = search needs
 
 same-length-2 : tie.Need-same-length-2
 same-length-2 c = search needs
@@ -92,7 +92,7 @@ returns-2 c =
     let f = w .before .before in
     let e = f .before in
     let a = e .before .before .before .before .before .before .before .before in
-    reporting _ (now (a .args .«case»)) (now (a .args .proposal)) (now (a .args .report)) none _ _ (field-passes 26 0 [] (sym (tested e) ∙ f .if1 .left)) refl (c .refused2 .ensures)
+    reporting _ (now (a .args .«case»)) (now (a .args .proposal)) (now (a .args .report)) none _ _ (field-passes 26 0 [] (sym (tested e) ∙ f .if1 .left)) refl (c .verdict-at2 .ensures)
     (w .write-report2 .ensures ∙ same-report 0 _ _ _ (caseOf (now (a .args .«case»))) (planOf (now (a .args .«case»)) (now (a .args .proposal))) (pricesOf (now (a .args .«case»)) (now (a .args .proposal))) (now (a .args .report)) (zones-are e) (e .before .before .before .before .totals .ensures) (a .pre .1 .1 .1 .0 .each))
 
 pub judge-priced-spec : {M : Type 1} → statement M
@@ -104,10 +104,10 @@ judge-priced-spec =
     in-microcents-requires
     exceeds-requires
     write-report-requires
-    refused-requires
+    verdict-at-requires
     same-length
     returns
     write-report-requires-2
-    refused-requires-2
+    verdict-at-requires-2
     same-length-2
     returns-2)

@@ -31,8 +31,8 @@ first-excess-volume-requires c κs = search needs
 enum-known-excess : tie.Need-enum-known-excess
 enum-known-excess c = search needs
 
-refused-requires : tie.Need-refused-requires
-refused-requires c κs =
+verdict-at-requires : tie.Need-verdict-at-requires
+verdict-at-requires c κs =
     let o = c .before in
     let f = o .before .before in
     below _ _ _ 4294967296 (at-place _ _ _ (f .first-excess-volume .ensures) (o .excess .given .1)) (omega (arith, (case-sound _ (f .before .before .before .before .pre .0 .opened .readable)) .orders-in))
@@ -43,7 +43,7 @@ returns c =
     let o = c .before .before in
     let f = o .before .before in
     let a = f .before .before .before .before in
-    subst (λ (r : Verdict). Judged (rowsFrom 0 (now (a .args .«case»)) (now (a .args .proposal))) (now (a .args .«case»)) (now (a .args .proposal)) (now (a .args .report)) r (now (a .args .report))) (sym (c .refused .ensures))
+    subst (λ (r : Verdict). Judged (rowsFrom 0 (now (a .args .«case»)) (now (a .args .proposal))) (now (a .args .«case»)) (now (a .args .proposal)) (now (a .args .report)) r (now (a .args .report))) (sym (c .verdict-at .ensures))
     (refused (rowsFrom 0 (now (a .args .«case»)) (now (a .args .proposal))) (now (a .args .«case»)) (now (a .args .proposal)) (now (a .args .report)) 21 _ refl
     (row-found (rowAt 0 (now (a .args .«case»)) (now (a .args .proposal))) (rowsFrom 1 (now (a .args .«case»)) (now (a .args .proposal))) _ (at-place _ _ _ (f .first-excess-volume .ensures) (o .excess .given .1))))
 
@@ -72,8 +72,8 @@ net-sum-requires c κs =
 is-zero-requires : tie.Need-is-zero-requires
 is-zero-requires c κs = search needs
 
-refused-requires-2 : tie.Need-refused-requires-2
-refused-requires-2 c κs = search needs
+verdict-at-requires-2 : tie.Need-verdict-at-requires-2
+verdict-at-requires-2 c κs = search needs
 
 -- the balance, as the machine adds it up
 balanced : (c : tie.After-is-zero) → c .is-zero .result ≡ isZero (netSum (caseOf (now (c .before .before .before .before .before .before .before .before .before .args .«case»))) (planOf (now (c .before .before .before .before .before .before .before .before .before .args .«case»)) (now (c .before .before .before .before .before .before .before .before .before .args .proposal))))
@@ -94,7 +94,7 @@ returns-2 c =
     let f = z .before .before .before .before .before in
     let a = f .before .before .before .before in
     same-rows (row-clear (rowAt 0 (now (a .args .«case»)) (now (a .args .proposal))) (rowsFrom 1 (now (a .args .«case»)) (now (a .args .proposal))) (at-none _ _ (f .first-excess-volume .ensures) (z .before .before .before .enum-told .given .1)))
-    (subst (λ (r : Verdict). Judged (rowsFrom 1 (now (a .args .«case»)) (now (a .args .proposal))) (now (a .args .«case»)) (now (a .args .proposal)) (now (a .args .report)) r (now (a .args .report))) (sym (c .refused2 .ensures))
+    (subst (λ (r : Verdict). Judged (rowsFrom 1 (now (a .args .«case»)) (now (a .args .proposal))) (now (a .args .«case»)) (now (a .args .proposal)) (now (a .args .report)) r (now (a .args .report))) (sym (c .verdict-at2 .ensures))
     (refused (rowsFrom 1 (now (a .args .«case»)) (now (a .args .proposal))) (now (a .args .«case»)) (now (a .args .proposal)) (now (a .args .report)) 22 0 refl (field-fails 22 0 (rowsFrom 2 (now (a .args .«case»)) (now (a .args .proposal))) (sym (ap not (balanced z)) ∙ t .if1 .taken))))
 
 judge-balanced-requires : tie.Need-judge-balanced-requires
@@ -124,13 +124,13 @@ judge-proposed-spec =
     (tie.spec
     first-excess-volume-requires
     enum-known-excess
-    refused-requires
+    verdict-at-requires
     returns
     enum-told
     net-positions-requires
     net-sum-requires
     is-zero-requires
-    refused-requires-2
+    verdict-at-requires-2
     returns-2
     judge-balanced-requires
     same-length
