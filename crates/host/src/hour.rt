@@ -9,6 +9,7 @@ ghost use Rattle.rules.specs.Hour.{Plan, caseOf, planOf, welfare};
 ghost use Rattle.rules.specs.Clearing.{Clearing};
 ghost use Rattle.rules.specs.Report.{bufferAfter, reportedWelfare, reportedGap, reportedRent, reportedOwed};
 ghost use Rattle.rules.specs.Verdict.{outcome};
+ghost use Rattle.rules.specs.AnnexHour.{AnnexDemand3};
 use judgement::judge;
 
 fn packed(number: u32, index: u32) -> u64
@@ -27,6 +28,7 @@ pub extern "C" fn lta_judge(case: &[u8], proposal: &[u8], report: &mut [u8]) -> 
     ensures accuracy { λ r. ⌜ (r ≡ 0 → (q : Plan) → Clearing (caseOf (now («case» .entry))) q → welfare (caseOf (now («case» .entry))) q ≤ℤ (pos (q .den) *ℤ (reportedWelfare (now (report .exit)) +ℤ reportedGap (now (report .exit))))) ⌝ }
     ensures gap { λ r. ⌜ (r ≡ 0 → (pos 0 ≤ℤ reportedGap (now (report .exit))) × (reportedGap (now (report .exit)) ≤ℤ microcentsOf (pos ((caseOf (now («case» .entry))) .tolerance)))) ⌝ }
     ensures coverage { λ r. ⌜ (r ≡ 0 → (reportedOwed (now (report .exit)) -ℤ reportedGap (now (report .exit))) ≤ℤ reportedRent (now (report .exit))) ⌝ }
+    ensures annex { λ r. ⌜ (r ≡ 0 → AnnexDemand3 (now («case» .entry)) (now (proposal .entry)) (now (report .exit))) ⌝ }
 {
     let v = judge(case, proposal, report);
     packed(v.number, v.index)

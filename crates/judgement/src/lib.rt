@@ -11,6 +11,7 @@ ghost use Rattle.rules.specs.Hour.{Plan};
 ghost use Rattle.rules.specs.Clearing.{Clearing};
 ghost use Rattle.rules.specs.Report.{totalsOf, bufferAfter, reportedWelfare, reportedGap, reportedRent, reportedOwed};
 ghost use Rattle.rules.specs.Verdict.{outcome};
+ghost use Rattle.rules.specs.AnnexHour.{AnnexDemand3};
 ghost use Rattle.fields.specs.Walk.{outcomeOf};
 ghost use Rattle.case_file.specs.Opened.{Opened};
 ghost use Rattle.clearing.specs.Held.{Holds};
@@ -248,6 +249,7 @@ pub fn judge(case: &[u8], proposal: &[u8], report: &mut [u8]) -> Verdict
     ensures accuracy { λ r. ⌜ (r .number ≡ 0 → (q : Plan) → Clearing (caseOf (now («case» .entry))) q → rules.welfare (caseOf (now («case» .entry))) q ≤ℤ (pos (q .den) *ℤ (reportedWelfare (now (report .exit)) +ℤ reportedGap (now (report .exit))))) ⌝ }
     ensures gap { λ r. ⌜ (r .number ≡ 0 → (pos 0 ≤ℤ reportedGap (now (report .exit))) × (reportedGap (now (report .exit)) ≤ℤ microcentsOf (pos ((caseOf (now («case» .entry))) .tolerance)))) ⌝ }
     ensures coverage { λ r. ⌜ (r .number ≡ 0 → (reportedOwed (now (report .exit)) -ℤ reportedGap (now (report .exit))) ≤ℤ reportedRent (now (report .exit))) ⌝ }
+    ensures annex { λ r. ⌜ (r .number ≡ 0 → AnnexDemand3 (now («case» .entry)) (now (proposal .entry)) (now (report .exit))) ⌝ }
 {
     if report.len() < REPORT_ROOM {
         return verdict_at(30, 0);

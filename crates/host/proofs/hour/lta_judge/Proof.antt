@@ -23,7 +23,7 @@ returns : tie.Need-returns
 returns c =
     let j = c .before .before .before .judge .ensures in (
       c .packed .ensures ∙ ap (λ (v : Verdict). v .number + 256 * v .index) (j .0),
-      (j .1 .0, (λ e. j .1 .1 .0 (accepted c e), (λ e. j .1 .1 .1 .0 (accepted c e), (λ e. j .1 .1 .1 .1 .0 (accepted c e), λ e. j .1 .1 .1 .1 .1 (accepted c e))))),
+      (j .1 .0, (λ e. j .1 .1 .0 (accepted c e), (λ e. j .1 .1 .1 .0 (accepted c e), (λ e. j .1 .1 .1 .1 .0 (accepted c e), (λ e. j .1 .1 .1 .1 .1 .0 (accepted c e), λ e. j .1 .1 .1 .1 .1 .1 (accepted c e)))))),
     )
 
 pub lta-judge-spec : {M : Type 1} → statement M

@@ -1,0 +1,153 @@
+-- Appendix B of the Annex: the network constraints (63) to (72) allow the convex combinations of the flow-based domain and the LTA domain, all of
+-- them, and with both weights positive nothing else; without LTA weight they are the flow-based domain. With the whole weight on the LTA domain the
+-- Annex assumes that the PTDF constraints bound the positions; without that the closure has more, and so have (63) to (72). Assumes nothing.
+use mathlib.Core.Path.{_≡_, refl, sym, ap, _∙_}
+use Prim.Native.Nat.{ℕ, _+_, _*_, _<_}
+use native.Mathlib.Nat.{mul-le-mul-left, mul-pos}
+use native.Mathlib.Omega.{arith}
+use lib.Dec.{ltb→lt}
+use lib.IntN.{ℤ, pos, negsuc, natAbs, _+ℤ_, _*ℤ_}
+use lib.Signed.{_≤ℤ_, _<ℤ_, yes-nonNeg, pos-natAbs}
+use Rattle.integers.specs.Difference.{at, _⊕_, _⊗_, le-by, eq-by, le-fact, eq-fact}
+use Rattle.integers.specs.Order.{times-nonneg}
+use Rattle.integers.specs.Sums.{sumTo, sum-ext, sum-scale-l}
+use Rattle.rules.specs.Hour.{Case}
+use Rattle.rules.specs.Annex.{Solution, Network, FlowBased, Points, Combines, capacityLTA}
+use Rattle.rules.specs.CommercialFlows.{net-ext, net-zero, net-scale}
+
+-- Σ_l ptdf_l z n_l = z Σ_l ptdf_l n_l
+scaled-use : (n : ℕ) (z : ℤ) (ptdf netpos : ℕ → ℤ) → sumTo n (λ l. ptdf l *ℤ (z *ℤ netpos l)) ≡ z *ℤ sumTo n (λ l. ptdf l *ℤ netpos l)
+scaled-use n z ptdf netpos = sum-ext n _ (λ l. z *ℤ (ptdf l *ℤ netpos l)) (λ l h. turned (ptdf l) z (netpos l)) ∙ sum-scale-l n (λ l. ptdf l *ℤ netpos l) z
+  where
+    turned : (a b e : ℤ) → a *ℤ (b *ℤ e) ≡ b *ℤ (a *ℤ e)
+    turned a b e = eq-by (at a ⊗ (at b ⊗ at e)) (at b ⊗ (at a ⊗ at e)) (omega arith)
+
+-- THE COMBINATION of two points, (87) to (90) and the substitution that follows them
+unfoldable pub combination : (c : Case) → Points c → Solution
+combination c y = record {
+  den = (y .a1 + y .a2) * y .den;
+  accepted = λ i. pos 0;
+  netpos = λ l. pos (y .a1) *ℤ y .netposFB l +ℤ pos (y .a2) *ℤ y .netposLTA l;
+  netposFB = λ l. pos (y .a1) *ℤ y .netposFB l;
+  netposLTA = λ l. pos (y .a2) *ℤ y .netposLTA l;
+  flow = λ l k. pos (y .a1) *ℤ y .flowFB l k +ℤ pos (y .a2) *ℤ y .flowLTA l k;
+  flowFB = λ l k. pos (y .a1) *ℤ y .flowFB l k;
+  flowLTA = λ l k. pos (y .a2) *ℤ y .flowLTA l k;
+  alpha1 = pos (100000 * (y .a1 * y .den));
+  alpha2 = pos (100000 * (y .a2 * y .den));
+}
+
+-- every convex combination is allowed
+pub combines : (c : Case) (y : Points c) → Combines c y (combination c y)
+unfolding combination
+combines c y = record { netpos-is = λ l h. refl; flow-is = λ l k hl hk. refl }
+
+pub allowed : (c : Case) (y : Points c) → Network c (combination c y)
+unfolding combination
+allowed c y = record {
+  den-positive = mul-pos (y .weights-positive) (y .den-positive);
+  netpos-is = λ l h. refl;
+  flow-is = λ l k hl hk. refl;
+  alpha-sum = eq-by (at (pos (100000 * (y .a1 * y .den))) ⊕ at (pos (100000 * (y .a2 * y .den)))) (at (pos (100000 * ((y .a1 + y .a2) * y .den)))) (omega arith);
+  alpha-in = (le-by (at (pos 0)) (at (pos (100000 * (y .a1 * y .den)))) (omega arith), le-by (at (pos 0)) (at (pos (100000 * (y .a2 * y .den)))) (omega arith));
+  branch = λ m h. rw (scaled-use (c .zones) (pos (y .a1)) (c .ptdf m) (y .netposFB)) (branch-le (y .a1) (y .den) (sumTo (c .zones) (λ l. c .ptdf m l *ℤ y .netposFB l)) (c .ram m) (y .flow-based .branch m h));
+  netposFB-is = λ l h. ap (λ (z : ℤ). pos (y .a1) *ℤ z) (y .flow-based .netpos-is l h) ∙ sym (net-scale (c .zones) (pos (y .a1)) (y .flowFB) l);
+  flowFB-in = λ l k hl hk. times-nonneg (y .a1) (y .flow-based .flow-in l k hl hk);
+  link = λ l k hl hk. link-le (y .a2) (y .den) (y .flowLTA l k) (capacityLTA c l k) (y .long-term .link l k hl hk);
+  netposLTA-is = λ l h. ap (λ (z : ℤ). pos (y .a2) *ℤ z) (y .long-term .netpos-is l h) ∙ sym (net-scale (c .zones) (pos (y .a2)) (y .flowLTA) l);
+  flowLTA-in = λ l k hl hk. times-nonneg (y .a2) (y .long-term .flow-in l k hl hk);
+}
+  where
+    branch-le : (a d : ℕ) (u r : ℤ) → u ≤ℤ (pos (100000 * d) *ℤ r) → (pos a *ℤ u) ≤ℤ (pos (100000 * (a * d)) *ℤ r)
+    branch-le a d u r h = le-by (at (pos a) ⊗ at u) (at (pos (100000 * (a * d))) ⊗ at r) (omega (arith, mul-le-mul-left a (le-fact (at u) (at (pos (100000 * d)) ⊗ at r) h)))
+
+    link-le : (a d : ℕ) (f k : ℤ) → f ≤ℤ (pos d *ℤ k) → (pos 100000 *ℤ (pos a *ℤ f)) ≤ℤ (pos (100000 * (a * d)) *ℤ k)
+    link-le a d f k h = le-by (at (pos 100000) ⊗ (at (pos a) ⊗ at f)) (at (pos (100000 * (a * d))) ⊗ at k) (omega (arith, mul-le-mul-left a (le-fact (at f) (at (pos d) ⊗ at k) h)))
+
+-- WITH BOTH WEIGHTS POSITIVE nothing else is
+module _ (c : Case) (x : Solution) (nw : Network c x) (a b : ℕ) (is-a : pos a ≡ x .alpha1) (is-b : pos b ≡ x .alpha2) (a-positive : 0 < a) (b-positive : 0 < b) where
+  whole : a + b ≡ 100000 * x .den
+  whole = omega (arith, eq-fact (at (pos a) ⊕ at (pos b)) (at (pos (100000 * x .den))) (cc (is-a, is-b, nw .alpha-sum)))
+
+  points : Points c
+  points = record {
+    den = a * b;
+    netposFB = λ l. pos (100000 * b) *ℤ x .netposFB l;
+    flowFB = λ l k. pos (100000 * b) *ℤ x .flowFB l k;
+    netposLTA = λ l. pos (100000 * a) *ℤ x .netposLTA l;
+    flowLTA = λ l k. pos (100000 * a) *ℤ x .flowLTA l k;
+    a1 = a;
+    a2 = b;
+    den-positive = mul-pos a-positive b-positive;
+    weights-positive = omega arith;
+    flow-based = record {
+      branch = λ m h. rw (scaled-use (c .zones) (pos (100000 * b)) (c .ptdf m) (x .netposFB)) (branch-le (sumTo (c .zones) (λ l. c .ptdf m l *ℤ x .netposFB l)) (c .ram m) (rw (← is-a) at (nw .branch m h)));
+      netpos-is = λ l h. ap (λ (z : ℤ). pos (100000 * b) *ℤ z) (nw .netposFB-is l h) ∙ sym (net-scale (c .zones) (pos (100000 * b)) (x .flowFB) l);
+      flow-in = λ l k hl hk. times-nonneg (100000 * b) (nw .flowFB-in l k hl hk);
+    };
+    long-term = record {
+      link = λ l k hl hk. link-le (x .flowLTA l k) (capacityLTA c l k) (rw (← is-b) at (nw .link l k hl hk));
+      netpos-is = λ l h. ap (λ (z : ℤ). pos (100000 * a) *ℤ z) (nw .netposLTA-is l h) ∙ sym (net-scale (c .zones) (pos (100000 * a)) (x .flowLTA) l);
+      flow-in = λ l k hl hk. times-nonneg (100000 * a) (nw .flowLTA-in l k hl hk);
+    };
+  }
+    where
+      branch-le : (u r : ℤ) → u ≤ℤ (pos a *ℤ r) → (pos (100000 * b) *ℤ u) ≤ℤ (pos (100000 * (a * b)) *ℤ r)
+      branch-le u r h = le-by (at (pos (100000 * b)) ⊗ at u) (at (pos (100000 * (a * b))) ⊗ at r) (omega (arith, mul-le-mul-left b (le-fact (at u) (at (pos a) ⊗ at r) h)))
+
+      link-le : (f k : ℤ) → (pos 100000 *ℤ f) ≤ℤ (pos b *ℤ k) → (pos (100000 * a) *ℤ f) ≤ℤ (pos (a * b) *ℤ k)
+      link-le f k h = le-by (at (pos (100000 * a)) ⊗ at f) (at (pos (a * b)) ⊗ at k) (omega (arith, mul-le-mul-left a (le-fact (at (pos 100000) ⊗ at f) (at (pos b) ⊗ at k) h)))
+
+  combined : Combines c points x
+  unfolding points
+  combined = record {
+    netpos-is = λ l h. rw (nw .netpos-is l h) (sums (x .netposFB l) (x .netposLTA l));
+    flow-is = λ l k hl hk. rw (nw .flow-is l k hl hk) (sums (x .flowFB l k) (x .flowLTA l k));
+  }
+    where
+      sums : (f g : ℤ) → pos ((a + b) * (a * b)) *ℤ (f +ℤ g) ≡ pos (x .den) *ℤ (pos a *ℤ (pos (100000 * b) *ℤ f) +ℤ pos b *ℤ (pos (100000 * a) *ℤ g))
+      sums f g = rw whole (eq-by (at (pos (100000 * x .den * (a * b))) ⊗ (at f ⊕ at g)) (at (pos (x .den)) ⊗ (at (pos a) ⊗ (at (pos (100000 * b)) ⊗ at f) ⊕ at (pos b) ⊗ (at (pos (100000 * a)) ⊗ at g))) (omega arith))
+
+pub record IsCombination (c : Case) (x : Solution) : Type 0 where
+  pub points : Points c
+  pub combines : Combines c points x
+
+pub only-combinations : (c : Case) (x : Solution) → Network c x → pos 0 <ℤ x .alpha1 → pos 0 <ℤ x .alpha2 → IsCombination c x
+only-combinations c x nw h l = record {
+  points = points c x nw (natAbs (x .alpha1)) (natAbs (x .alpha2)) (size (x .alpha1) (nw .alpha-in .0)) (size (x .alpha2) (nw .alpha-in .1)) (above (x .alpha1) h) (above (x .alpha2) l);
+  combines = combined c x nw (natAbs (x .alpha1)) (natAbs (x .alpha2)) (size (x .alpha1) (nw .alpha-in .0)) (size (x .alpha2) (nw .alpha-in .1)) (above (x .alpha1) h) (above (x .alpha2) l);
+}
+  where
+    size : (z : ℤ) → pos 0 ≤ℤ z → pos (natAbs z) ≡ z
+    size z h = pos-natAbs z (yes-nonNeg h)
+
+    above : (z : ℤ) → pos 0 <ℤ z → 0 < natAbs z
+    above (pos n) h = ltb→lt 0 n (h .lt)
+    above (negsuc n) h = absurd (h .lt)
+
+-- WITHOUT LTA WEIGHT the network is the flow-based domain
+pub flow-based-alone : (c : Case) (x : Solution) → Network c x → x .alpha2 ≡ pos 0 → FlowBased c (x .den) (x .netpos) (x .flow)
+flow-based-alone c x nw e = record {
+  branch = λ m h. rw (sum-ext (c .zones) (λ l. c .ptdf m l *ℤ x .netpos l) (λ l. c .ptdf m l *ℤ x .netposFB l) (λ l g. ap (λ (z : ℤ). c .ptdf m l *ℤ z) (netpos-FB l g)), ← whole (x .alpha1) (x .alpha2) e (nw .alpha-sum)) (nw .branch m h);
+  netpos-is = λ l h. netpos-FB l h ∙ nw .netposFB-is l h ∙ sym (net-ext (c .zones) (x .flow) (x .flowFB) flow-FB l h);
+  flow-in = λ l k hl hk. rw (flow-FB l k hl hk) (nw .flowFB-in l k hl hk);
+}
+  where
+    none : (f a k : ℤ) → a ≡ pos 0 → pos 0 ≤ℤ f → (pos 100000 *ℤ f) ≤ℤ (a *ℤ k) → f ≡ pos 0
+    none f a k e h l = eq-by (at f) (at (pos 0)) (omega (arith, le-fact (at (pos 0)) (at f) h, le-fact (at (pos 100000) ⊗ at f) (at (pos 0) ⊗ at k) (rw e at l)))
+
+    less : (a f g : ℤ) → a ≡ f +ℤ g → g ≡ pos 0 → a ≡ f
+    less a f g h z = eq-by (at a) (at f) (omega (arith, eq-fact (at a) (at f ⊕ at g) h, eq-fact (at g) (at (pos 0)) z))
+
+    whole : (a b : ℤ) → b ≡ pos 0 → a +ℤ b ≡ pos (100000 * x .den) → a ≡ pos (100000 * x .den)
+    whole a b z h = eq-by (at a) (at (pos (100000 * x .den))) (omega (arith, eq-fact (at a ⊕ at b) (at (pos (100000 * x .den))) h, eq-fact (at b) (at (pos 0)) z))
+
+    no-LTA : (l k : ℕ) → l < c .zones → k < c .zones → x .flowLTA l k ≡ pos 0
+    no-LTA l k hl hk = none (x .flowLTA l k) (x .alpha2) (capacityLTA c l k) e (nw .flowLTA-in l k hl hk) (nw .link l k hl hk)
+
+    flow-FB : (l k : ℕ) → l < c .zones → k < c .zones → x .flow l k ≡ x .flowFB l k
+    flow-FB l k hl hk = less (x .flow l k) (x .flowFB l k) (x .flowLTA l k) (nw .flow-is l k hl hk) (no-LTA l k hl hk)
+
+    netpos-FB : (l : ℕ) → l < c .zones → x .netpos l ≡ x .netposFB l
+    netpos-FB l h = less (x .netpos l) (x .netposFB l) (x .netposLTA l) (nw .netpos-is l h)
+        (nw .netposLTA-is l h ∙ net-ext (c .zones) (x .flowLTA) (λ l k. pos 0) no-LTA l h ∙ net-zero (c .zones) l)
