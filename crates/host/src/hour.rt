@@ -19,7 +19,7 @@ fn packed(number: u32, index: u32) -> u64
 }
 
 // THE ENTRY: number + 256 * index of the verdict table; the buffer afterwards, every byte of it; and demand 3 of an hour that is answered with 0, in the
-// numbers that the report's bytes then hold.
+// numbers that the report's bytes then hold, by document 01's rules and in the Annex's terms.
 #[no_mangle]
 pub extern "C" fn lta_judge(case: &[u8], proposal: &[u8], report: &mut [u8]) -> u64
     ensures outcome { λ r. ⌜ r ≡ (outcome (now («case» .entry)) (now (proposal .entry)) (length (now (report .entry)))) .number + 256 * (outcome (now («case» .entry)) (now (proposal .entry)) (length (now (report .entry)))) .index ⌝ }

@@ -241,7 +241,7 @@ fn judge_readable(case: &[u8], k: Counts, proposal: &[u8], report: &mut [u8]) ->
 pub const REPORT_ROOM: usize = 176;
 
 // THE JUDGEMENT of a case and a proposal. The answer is the verdict table's, the buffer afterwards is `bufferAfter`'s, and an accepted hour, of which
-// the number is 0, keeps demand 3 in the numbers that the report's bytes then hold.
+// the number is 0, keeps demand 3 in the numbers that the report's bytes then hold, by document 01's rules and in the Annex's terms.
 pub fn judge(case: &[u8], proposal: &[u8], report: &mut [u8]) -> Verdict
     ensures outcome { λ r. ⌜ r ≡ verdictOf (outcome (now («case» .entry)) (now (proposal .entry)) (length (now (report .entry)))) ⌝ }
     ensures report { λ r. ⌜ now (report .exit) ≡ bufferAfter (now («case» .entry)) (now (proposal .entry)) (now (report .entry)) ⌝ }

@@ -2,10 +2,11 @@
 -- both sides of (81), and of appendix B the two domains and their combinations, (87) to (96). `Extended` shows that (60) to (72) allow exactly the
 -- clearings of document 01. l and k are zones, i is an order, j a link, m a branch. Assumes nothing.
 -- What document 01 changes against the Annex:
---   units: PTDFs and weights are hundred-thousandths, so (65), (67) and (70) stand multiplied by 100,000, and (59) is in microcents;
---   fractions: all variables are whole numbers over one common positive denominator;
+--   units: PTDFs and weights are hundred-thousandths, so (65), (67), (70), (74) and (91) stand multiplied by 100,000, and (59) is in microcents;
+--   fractions: all variables are whole numbers over one common positive denominator, all multipliers whole cents or grains;
 --   orders: a side and an unsigned quantity for the signed Q^i, and for x_i the accepted volume |Q^i| x_i, so x_i is `accepted i` over den times quantity;
 --   capacities: of links, each an ordered pair of zones that occurs once, and zero for a pair without a link;
+--   no link: section 3.3 takes an empty LTA domain for none; by rule 9 it holds the zero exchange, so α₂ is free also where there is no link;
 --   misprints: two, both before the appendix; a note says where each would fall. (62) is an empty line.
 use mathlib.Core.Path.{_≡_}
 use mathlib.Core.Bool.{Bool, not, _&&_}
@@ -110,8 +111,7 @@ pub record AlongLines (c : Case) (line : ℕ → ℕ → Bool) (x : Solution) : 
 unfoldable pub everyPair : ℕ → ℕ → Bool
 everyPair l k = not (eqb l k)
 
--- PRICES: the multipliers of (60), (63), (67), (68), (70) and (71). Those of zones are in grains but price^FB, which is in cents as the system
--- price is; shadow prices are in cents.
+-- PRICES: the multipliers of (60), (63), (67), (68), (70) and (71), in grains; but price^FB, as the system price, and shadow prices are in cents.
 pub record Multipliers : Type 0 where
   pub price : ℕ → ℤ
   -- price with a tilde, of (63)
@@ -122,7 +122,7 @@ pub record Multipliers : Type 0 where
   pub shadow : ℕ → ℕ
   pub w : ℕ → ℕ → ℤ
 
-pub record Priced (c : Case) (line : ℕ → ℕ → Bool) (y : Multipliers) : Type 0 where
+pub record PriceConditions (c : Case) (line : ℕ → ℕ → Bool) (y : Multipliers) : Type 0 where
   -- (73)
   pub price-split : (l : ℕ) → l < c .zones → y .priceSplit l ≡ y .price l
   -- (74) price_l = price^FB_l + Σ_m ptdf_{m,l} ShadowPrice_m
@@ -135,7 +135,7 @@ pub record Priced (c : Case) (line : ℕ → ℕ → Bool) (y : Multipliers) : T
   -- (78) 0 ≥ price^FB_k - price^FB_l
   pub no-spread : (l k : ℕ) → l < c .zones → k < c .zones → T (line l k) → (y .priceFB k -ℤ y .priceFB l) ≤ℤ pos 0
 
--- (77) flow^LTA_{l,k} > 0 ⇒ price^LTA_k - price^LTA_l = w^LTA_{l,k}, of a solution and its multipliers at the optimum
+-- (77) flow^LTA_{l,k} > 0 ⇒ price^LTA_k - price^LTA_l = w^LTA_{l,k}, of a solution and its multipliers at the optimum; that it is not negative is `w-in`
 pub record Complementary (c : Case) (x : Solution) (y : Multipliers) : Type 0 where
   pub w-is : (l k : ℕ) → l < c .zones → k < c .zones → pos 0 <ℤ x .flowLTA l k → y .priceLTA k -ℤ y .priceLTA l ≡ y .w l k
 
@@ -143,24 +143,32 @@ pub record Complementary (c : Case) (x : Solution) (y : Multipliers) : Type 0 wh
 unfoldable pub congestionRent : Case → Solution → (ℕ → ℤ) → ℤ
 congestionRent c x price = sumTo (c .zones) (λ l. x .netpos l *ℤ price l)
 
+-- what (67) and (70) leave at their multipliers: Σ_m RAM_m ShadowPrice_m and Σ_{l,k} capacity^LTA_{l,k} w^LTA_{l,k}
+unfoldable pub marginValue : Case → Multipliers → ℤ
+marginValue c y = sumTo (c .branches) (λ m. c .ram m *ℤ pos (y .shadow m))
+
+unfoldable pub capacityValue : Case → Multipliers → ℤ
+capacityValue c y = sumTo (c .zones) (λ l. sumTo (c .zones) (λ k. capacityLTA c l k *ℤ y .w l k))
+
 -- (81), right side: Σ_{l,k} (price_k - price_l)⁺ capacity^LTA_{l,k}
 unfoldable pub liabilities : Case → (ℕ → ℤ) → ℤ
 liabilities c price = sumTo (c .zones) (λ l. sumTo (c .zones) (λ k. capacityLTA c l k *ℤ positive (price k -ℤ price l)))
 
--- APPENDIX B: the two domains that are combined, each at its full weight. A point of the flow-based domain, (91) to (93), over a denominator
-pub record FlowBased (c : Case) (den : ℕ) (netpos : ℕ → ℤ) (flow : ℕ → ℕ → ℤ) : Type 0 where
+-- APPENDIX B: the two domains that are combined, each at its full weight: where the weight is positive, its factor on both sides of (91) to (96)
+-- cancels. A point of the flow-based domain, (91) to (93), over a denominator
+pub record FBDomain (c : Case) (den : ℕ) (netpos : ℕ → ℤ) (flow : ℕ → ℕ → ℤ) : Type 0 where
   pub branch : (m : ℕ) → m < c .branches → sumTo (c .zones) (λ l. c .ptdf m l *ℤ netpos l) ≤ℤ (pos (100000 * den) *ℤ c .ram m)
   pub netpos-is : (l : ℕ) → l < c .zones → netpos l ≡ netFlow (c .zones) flow l
   pub flow-in : (l k : ℕ) → l < c .zones → k < c .zones → pos 0 ≤ℤ flow l k
 
 -- a point of the LTA domain, (94) to (96)
-pub record LongTerm (c : Case) (den : ℕ) (netpos : ℕ → ℤ) (flow : ℕ → ℕ → ℤ) : Type 0 where
+pub record LTADomain (c : Case) (den : ℕ) (netpos : ℕ → ℤ) (flow : ℕ → ℕ → ℤ) : Type 0 where
   pub link : (l k : ℕ) → l < c .zones → k < c .zones → flow l k ≤ℤ (pos den *ℤ capacityLTA c l k)
   pub netpos-is : (l : ℕ) → l < c .zones → netpos l ≡ netFlow (c .zones) flow l
   pub flow-in : (l k : ℕ) → l < c .zones → k < c .zones → pos 0 ≤ℤ flow l k
 
--- and two such points over one denominator, with weights a₁ and a₂ over their sum
-pub record Points (c : Case) : Type 0 where
+-- and two such points over one denominator, with weights a₁ and a₂ over their sum, (89) and (90); at weight 0 (91) to (93), or (94) to (96), ask nothing
+pub record TwoPoints (c : Case) : Type 0 where
   pub den : ℕ
   pub netposFB : ℕ → ℤ
   pub flowFB : ℕ → ℕ → ℤ
@@ -170,11 +178,11 @@ pub record Points (c : Case) : Type 0 where
   pub a2 : ℕ
   pub den-positive : 0 < den
   pub weights-positive : 0 < a1 + a2
-  pub flow-based : FlowBased c den netposFB flowFB
-  pub long-term : LongTerm c den netposLTA flowLTA
+  pub flow-based : 0 < a1 → FBDomain c den netposFB flowFB
+  pub long-term : 0 < a2 → LTADomain c den netposLTA flowLTA
 
 -- x is their convex combination, (87) and (88): multiplied by both denominators
-pub record Combines (c : Case) (y : Points c) (x : Solution) : Type 0 where
+pub record Combines (c : Case) (y : TwoPoints c) (x : Solution) : Type 0 where
   pub netpos-is : (l : ℕ) → l < c .zones
       → pos ((y .a1 + y .a2) * y .den) *ℤ x .netpos l ≡ pos (x .den) *ℤ (pos (y .a1) *ℤ y .netposFB l +ℤ pos (y .a2) *ℤ y .netposLTA l)
   pub flow-is : (l k : ℕ) → l < c .zones → k < c .zones

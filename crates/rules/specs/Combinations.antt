@@ -1,18 +1,18 @@
--- Appendix B of the Annex: the network constraints (63) to (72) allow the convex combinations of the flow-based domain and the LTA domain, all of
--- them, and with both weights positive nothing else; without LTA weight they are the flow-based domain. With the whole weight on the LTA domain the
--- Annex assumes that the PTDF constraints bound the positions; without that the closure has more, and so have (63) to (72). Assumes nothing.
+-- Appendix B of the Annex: the network constraints (63) to (72) allow every convex combination of the flow-based domain and the LTA domain; with both
+-- weights positive nothing else, and without LTA weight only points of the flow-based domain. With the whole weight on the LTA domain the Annex assumes
+-- that the PTDF constraints bound the positions; that nothing else is allowed then is not shown. Assumes nothing.
 use mathlib.Core.Path.{_≡_, refl, sym, ap, _∙_}
-use Prim.Native.Nat.{ℕ, _+_, _*_, _<_}
+use Prim.Native.Nat.{ℕ, zero, suc, _+_, _*_, _<_}
 use native.Mathlib.Nat.{mul-le-mul-left, mul-pos}
 use native.Mathlib.Omega.{arith}
 use lib.Dec.{ltb→lt}
 use lib.IntN.{ℤ, pos, negsuc, natAbs, _+ℤ_, _*ℤ_}
 use lib.Signed.{_≤ℤ_, _<ℤ_, yes-nonNeg, pos-natAbs}
 use Rattle.integers.specs.Difference.{at, _⊕_, _⊗_, le-by, eq-by, le-fact, eq-fact}
-use Rattle.integers.specs.Order.{times-nonneg}
+use Rattle.integers.specs.Order.{scaled, times-nonneg}
 use Rattle.integers.specs.Sums.{sumTo, sum-ext, sum-scale-l}
 use Rattle.rules.specs.Hour.{Case}
-use Rattle.rules.specs.Annex.{Solution, Network, FlowBased, Points, Combines, capacityLTA}
+use Rattle.rules.specs.Annex.{Solution, Network, FBDomain, TwoPoints, Combines, capacityLTA, netFlow}
 use Rattle.rules.specs.CommercialFlows.{net-ext, net-zero, net-scale}
 
 -- Σ_l ptdf_l z n_l = z Σ_l ptdf_l n_l
@@ -23,7 +23,7 @@ scaled-use n z ptdf netpos = sum-ext n _ (λ l. z *ℤ (ptdf l *ℤ netpos l)) (
     turned a b e = eq-by (at a ⊗ (at b ⊗ at e)) (at b ⊗ (at a ⊗ at e)) (omega arith)
 
 -- THE COMBINATION of two points, (87) to (90) and the substitution that follows them
-unfoldable pub combination : (c : Case) → Points c → Solution
+unfoldable pub combination : (c : Case) → TwoPoints c → Solution
 combination c y = record {
   den = (y .a1 + y .a2) * y .den;
   accepted = λ i. pos 0;
@@ -38,11 +38,11 @@ combination c y = record {
 }
 
 -- every convex combination is allowed
-pub combines : (c : Case) (y : Points c) → Combines c y (combination c y)
+pub combines : (c : Case) (y : TwoPoints c) → Combines c y (combination c y)
 unfolding combination
 combines c y = record { netpos-is = λ l h. refl; flow-is = λ l k hl hk. refl }
 
-pub allowed : (c : Case) (y : Points c) → Network c (combination c y)
+pub allowed : (c : Case) (y : TwoPoints c) → Network c (combination c y)
 unfolding combination
 allowed c y = record {
   den-positive = mul-pos (y .weights-positive) (y .den-positive);
@@ -50,26 +50,41 @@ allowed c y = record {
   flow-is = λ l k hl hk. refl;
   alpha-sum = eq-by (at (pos (100000 * (y .a1 * y .den))) ⊕ at (pos (100000 * (y .a2 * y .den)))) (at (pos (100000 * ((y .a1 + y .a2) * y .den)))) (omega arith);
   alpha-in = (le-by (at (pos 0)) (at (pos (100000 * (y .a1 * y .den)))) (omega arith), le-by (at (pos 0)) (at (pos (100000 * (y .a2 * y .den)))) (omega arith));
-  branch = λ m h. rw (scaled-use (c .zones) (pos (y .a1)) (c .ptdf m) (y .netposFB)) (branch-le (y .a1) (y .den) (sumTo (c .zones) (λ l. c .ptdf m l *ℤ y .netposFB l)) (c .ram m) (y .flow-based .branch m h));
-  netposFB-is = λ l h. ap (λ (z : ℤ). pos (y .a1) *ℤ z) (y .flow-based .netpos-is l h) ∙ sym (net-scale (c .zones) (pos (y .a1)) (y .flowFB) l);
-  flowFB-in = λ l k hl hk. times-nonneg (y .a1) (y .flow-based .flow-in l k hl hk);
-  link = λ l k hl hk. link-le (y .a2) (y .den) (y .flowLTA l k) (capacityLTA c l k) (y .long-term .link l k hl hk);
-  netposLTA-is = λ l h. ap (λ (z : ℤ). pos (y .a2) *ℤ z) (y .long-term .netpos-is l h) ∙ sym (net-scale (c .zones) (pos (y .a2)) (y .flowLTA) l);
-  flowLTA-in = λ l k hl hk. times-nonneg (y .a2) (y .long-term .flow-in l k hl hk);
+  branch = λ m h. rw (scaled-use (c .zones) (pos (y .a1)) (c .ptdf m) (y .netposFB), ← regroup (y .a1) (y .den) (c .ram m))
+      (weighed-le (y .a1) (sumTo (c .zones) (λ l. c .ptdf m l *ℤ y .netposFB l)) (pos (100000 * y .den) *ℤ c .ram m) (λ w. (y .flow-based w) .branch m h));
+  netposFB-is = λ l h. weighed-eq (y .a1) (y .netposFB l) (netFlow (c .zones) (y .flowFB) l) (λ w. (y .flow-based w) .netpos-is l h) ∙ sym (net-scale (c .zones) (pos (y .a1)) (y .flowFB) l);
+  flowFB-in = λ l k hl hk. weighed-in (y .a1) (y .flowFB l k) (λ w. (y .flow-based w) .flow-in l k hl hk);
+  link = λ l k hl hk. rw (← regroup (y .a2) (y .den) (capacityLTA c l k)) (hundred-thousand (pos (y .a2) *ℤ y .flowLTA l k) (y .a2) (y .den) (capacityLTA c l k)
+      (weighed-le (y .a2) (y .flowLTA l k) (pos (y .den) *ℤ capacityLTA c l k) (λ w. (y .long-term w) .link l k hl hk)));
+  netposLTA-is = λ l h. weighed-eq (y .a2) (y .netposLTA l) (netFlow (c .zones) (y .flowLTA) l) (λ w. (y .long-term w) .netpos-is l h) ∙ sym (net-scale (c .zones) (pos (y .a2)) (y .flowLTA) l);
+  flowLTA-in = λ l k hl hk. weighed-in (y .a2) (y .flowLTA l k) (λ w. (y .long-term w) .flow-in l k hl hk);
 }
   where
-    branch-le : (a d : ℕ) (u r : ℤ) → u ≤ℤ (pos (100000 * d) *ℤ r) → (pos a *ℤ u) ≤ℤ (pos (100000 * (a * d)) *ℤ r)
-    branch-le a d u r h = le-by (at (pos a) ⊗ at u) (at (pos (100000 * (a * d))) ⊗ at r) (omega (arith, mul-le-mul-left a (le-fact (at u) (at (pos (100000 * d)) ⊗ at r) h)))
+    -- what holds where the weight is positive holds of the weighed sides
+    weighed-le : (a : ℕ) (u v : ℤ) → (0 < a → u ≤ℤ v) → (pos a *ℤ u) ≤ℤ (pos a *ℤ v)
+    weighed-le zero u v h = le-by (at (pos 0) ⊗ at u) (at (pos 0) ⊗ at v) (omega arith)
+    weighed-le (suc a) u v h = scaled (suc a) (h (omega arith))
 
-    link-le : (a d : ℕ) (f k : ℤ) → f ≤ℤ (pos d *ℤ k) → (pos 100000 *ℤ (pos a *ℤ f)) ≤ℤ (pos (100000 * (a * d)) *ℤ k)
-    link-le a d f k h = le-by (at (pos 100000) ⊗ (at (pos a) ⊗ at f)) (at (pos (100000 * (a * d))) ⊗ at k) (omega (arith, mul-le-mul-left a (le-fact (at f) (at (pos d) ⊗ at k) h)))
+    weighed-eq : (a : ℕ) (u v : ℤ) → (0 < a → u ≡ v) → pos a *ℤ u ≡ pos a *ℤ v
+    weighed-eq zero u v h = eq-by (at (pos 0) ⊗ at u) (at (pos 0) ⊗ at v) (omega arith)
+    weighed-eq (suc a) u v h = ap (λ (z : ℤ). pos (suc a) *ℤ z) (h (omega arith))
+
+    weighed-in : (a : ℕ) (u : ℤ) → (0 < a → pos 0 ≤ℤ u) → pos 0 ≤ℤ (pos a *ℤ u)
+    weighed-in zero u h = le-by (at (pos 0)) (at (pos 0) ⊗ at u) (omega arith)
+    weighed-in (suc a) u h = times-nonneg (suc a) (h (omega arith))
+
+    regroup : (a d : ℕ) (r : ℤ) → pos a *ℤ (pos (100000 * d) *ℤ r) ≡ pos (100000 * (a * d)) *ℤ r
+    regroup a d r = eq-by (at (pos a) ⊗ (at (pos (100000 * d)) ⊗ at r)) (at (pos (100000 * (a * d))) ⊗ at r) (omega arith)
+
+    hundred-thousand : (f : ℤ) (a d : ℕ) (k : ℤ) → f ≤ℤ (pos a *ℤ (pos d *ℤ k)) → (pos 100000 *ℤ f) ≤ℤ (pos a *ℤ (pos (100000 * d) *ℤ k))
+    hundred-thousand f a d k h = le-by (at (pos 100000) ⊗ at f) (at (pos a) ⊗ (at (pos (100000 * d)) ⊗ at k)) (omega (arith, le-fact (at f) (at (pos a) ⊗ (at (pos d) ⊗ at k)) h))
 
 -- WITH BOTH WEIGHTS POSITIVE nothing else is
 module _ (c : Case) (x : Solution) (nw : Network c x) (a b : ℕ) (is-a : pos a ≡ x .alpha1) (is-b : pos b ≡ x .alpha2) (a-positive : 0 < a) (b-positive : 0 < b) where
   whole : a + b ≡ 100000 * x .den
   whole = omega (arith, eq-fact (at (pos a) ⊕ at (pos b)) (at (pos (100000 * x .den))) (cc (is-a, is-b, nw .alpha-sum)))
 
-  points : Points c
+  points : TwoPoints c
   points = record {
     den = a * b;
     netposFB = λ l. pos (100000 * b) *ℤ x .netposFB l;
@@ -80,12 +95,12 @@ module _ (c : Case) (x : Solution) (nw : Network c x) (a b : ℕ) (is-a : pos a 
     a2 = b;
     den-positive = mul-pos a-positive b-positive;
     weights-positive = omega arith;
-    flow-based = record {
+    flow-based = λ w. record {
       branch = λ m h. rw (scaled-use (c .zones) (pos (100000 * b)) (c .ptdf m) (x .netposFB)) (branch-le (sumTo (c .zones) (λ l. c .ptdf m l *ℤ x .netposFB l)) (c .ram m) (rw (← is-a) at (nw .branch m h)));
       netpos-is = λ l h. ap (λ (z : ℤ). pos (100000 * b) *ℤ z) (nw .netposFB-is l h) ∙ sym (net-scale (c .zones) (pos (100000 * b)) (x .flowFB) l);
       flow-in = λ l k hl hk. times-nonneg (100000 * b) (nw .flowFB-in l k hl hk);
     };
-    long-term = record {
+    long-term = λ w. record {
       link = λ l k hl hk. link-le (x .flowLTA l k) (capacityLTA c l k) (rw (← is-b) at (nw .link l k hl hk));
       netpos-is = λ l h. ap (λ (z : ℤ). pos (100000 * a) *ℤ z) (nw .netposLTA-is l h) ∙ sym (net-scale (c .zones) (pos (100000 * a)) (x .flowLTA) l);
       flow-in = λ l k hl hk. times-nonneg (100000 * a) (nw .flowLTA-in l k hl hk);
@@ -108,14 +123,18 @@ module _ (c : Case) (x : Solution) (nw : Network c x) (a b : ℕ) (is-a : pos a 
       sums : (f g : ℤ) → pos ((a + b) * (a * b)) *ℤ (f +ℤ g) ≡ pos (x .den) *ℤ (pos a *ℤ (pos (100000 * b) *ℤ f) +ℤ pos b *ℤ (pos (100000 * a) *ℤ g))
       sums f g = rw whole (eq-by (at (pos (100000 * x .den * (a * b))) ⊗ (at f ⊕ at g)) (at (pos (x .den)) ⊗ (at (pos a) ⊗ (at (pos (100000 * b)) ⊗ at f) ⊕ at (pos b) ⊗ (at (pos (100000 * a)) ⊗ at g))) (omega arith))
 
+-- x combines a point of each domain, with its own weights
 pub record IsCombination (c : Case) (x : Solution) : Type 0 where
-  pub points : Points c
+  pub points : TwoPoints c
   pub combines : Combines c points x
+  pub weights-are : (pos (points .a1) ≡ x .alpha1) × (pos (points .a2) ≡ x .alpha2)
 
 pub only-combinations : (c : Case) (x : Solution) → Network c x → pos 0 <ℤ x .alpha1 → pos 0 <ℤ x .alpha2 → IsCombination c x
+unfolding points
 only-combinations c x nw h l = record {
   points = points c x nw (natAbs (x .alpha1)) (natAbs (x .alpha2)) (size (x .alpha1) (nw .alpha-in .0)) (size (x .alpha2) (nw .alpha-in .1)) (above (x .alpha1) h) (above (x .alpha2) l);
   combines = combined c x nw (natAbs (x .alpha1)) (natAbs (x .alpha2)) (size (x .alpha1) (nw .alpha-in .0)) (size (x .alpha2) (nw .alpha-in .1)) (above (x .alpha1) h) (above (x .alpha2) l);
+  weights-are = (size (x .alpha1) (nw .alpha-in .0), size (x .alpha2) (nw .alpha-in .1));
 }
   where
     size : (z : ℤ) → pos 0 ≤ℤ z → pos (natAbs z) ≡ z
@@ -126,7 +145,7 @@ only-combinations c x nw h l = record {
     above (negsuc n) h = absurd (h .lt)
 
 -- WITHOUT LTA WEIGHT the network is the flow-based domain
-pub flow-based-alone : (c : Case) (x : Solution) → Network c x → x .alpha2 ≡ pos 0 → FlowBased c (x .den) (x .netpos) (x .flow)
+pub flow-based-alone : (c : Case) (x : Solution) → Network c x → x .alpha2 ≡ pos 0 → FBDomain c (x .den) (x .netpos) (x .flow)
 flow-based-alone c x nw e = record {
   branch = λ m h. rw (sum-ext (c .zones) (λ l. c .ptdf m l *ℤ x .netpos l) (λ l. c .ptdf m l *ℤ x .netposFB l) (λ l g. ap (λ (z : ℤ). c .ptdf m l *ℤ z) (netpos-FB l g)), ← whole (x .alpha1) (x .alpha2) e (nw .alpha-sum)) (nw .branch m h);
   netpos-is = λ l h. netpos-FB l h ∙ nw .netposFB-is l h ∙ sym (net-ext (c .zones) (x .flow) (x .flowFB) flow-FB l h);

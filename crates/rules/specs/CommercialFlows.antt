@@ -2,15 +2,17 @@
 -- the same", as `net-sum` (the net positions of any flows sum to zero) and `balanced-carried` (whatever sums to zero, flows along lines bring about).
 -- Assumes nothing.
 use mathlib.Core.Path.{_≡_, refl, sym, ap, _∙_}
-use mathlib.Core.Bool.{Bool, true, false, not}
-use Prim.Native.Nat.{ℕ, zero, suc, _≤_, _<_}
+use mathlib.Core.Bool.{Bool, true, false, not, _||_}
+use Prim.Native.Nat.{ℕ, zero, suc, _+_, _≤_, _<_}
+use native.Mathlib.Numerals.{add-one}
 use native.Mathlib.Omega.{arith}
 use lib.Dec.{T, eqb, eqb→eq, eqb-refl, T-not}
 use lib.IntN.{ℤ, pos, negsuc, _+ℤ_, _-ℤ_, _*ℤ_}
 use lib.Signed.{_≤ℤ_, ≤ℤ-refl}
 use Rattle.integers.specs.Difference.{at, _⊕_, _⊖_, _⊗_, le-by, eq-by}
 use Rattle.integers.specs.Order.{add-nonneg, times-nonneg}
-use Rattle.integers.specs.Sums.{sumTo, only, sum-ext, sum-zero, sum-add, sum-sub, sum-scale, sum-scale-l, only-on, only-off, only-swap, sum-one, sum-key, sum-exchanged}
+use Rattle.integers.specs.Ranges.{or-left, or-right}
+use Rattle.integers.specs.Sums.{sumTo, only, sum-ext, sum-zero, sum-add, sum-sub, sum-scale, sum-scale-l, sum-swap, only-on, only-off, only-swap, sum-one, sum-key, sum-exchanged}
 use Rattle.rules.specs.Annex.{Route, here, onward, Connected, everyPair, netFlow}
 
 -- NET FLOWS
@@ -52,6 +54,24 @@ net-scale n z f l =
   where
     factor : (k a b : ℤ) → k *ℤ a -ℤ k *ℤ b ≡ k *ℤ (a -ℤ b)
     factor k a b = eq-by (at k ⊗ at a ⊖ at k ⊗ at b) (at k ⊗ (at a ⊖ at b)) (omega arith)
+
+-- at a price for each zone, net positions are worth what the flows gain on their way
+pub net-priced : (n : ℕ) (f : ℕ → ℕ → ℤ) (price : ℕ → ℤ) → sumTo n (λ l. netFlow n f l *ℤ price l) ≡ sumTo n (λ l. sumTo n (λ k. f l k *ℤ (price k -ℤ price l)))
+net-priced n f price =
+    sum-ext n _ _ (λ l h.
+    ap (λ (z : ℤ). z *ℤ price l) (net-plain n f l)
+    ∙ times-sub (sumTo n (λ k. f k l)) (sumTo n (λ k. f l k)) (price l)
+    ∙ sym (cc (sum-scale n (λ k. f k l) (price l), sum-scale n (λ k. f l k) (price l))))
+    ∙ sum-sub n (λ l. sumTo n (λ k. f k l *ℤ price l)) (λ l. sumTo n (λ k. f l k *ℤ price l))
+    ∙ ap (λ (z : ℤ). z -ℤ sumTo n (λ l. sumTo n (λ k. f l k *ℤ price l))) (sum-swap n n (λ l k. f k l *ℤ price l))
+    ∙ sym (sum-sub n (λ l. sumTo n (λ k. f l k *ℤ price k)) (λ l. sumTo n (λ k. f l k *ℤ price l)))
+    ∙ sum-ext n _ _ (λ l h. sym (sum-sub n (λ k. f l k *ℤ price k) (λ k. f l k *ℤ price l)) ∙ sum-ext n _ _ (λ k g. sub-times (f l k) (price k) (price l)))
+  where
+    times-sub : (a b z : ℤ) → (a -ℤ b) *ℤ z ≡ a *ℤ z -ℤ b *ℤ z
+    times-sub a b z = eq-by ((at a ⊖ at b) ⊗ at z) (at a ⊗ at z ⊖ at b ⊗ at z) (omega arith)
+
+    sub-times : (a u v : ℤ) → a *ℤ u -ℤ a *ℤ v ≡ a *ℤ (u -ℤ v)
+    sub-times a u v = eq-by (at a ⊗ at u ⊖ at a ⊗ at v) (at a ⊗ (at u ⊖ at v)) (omega arith)
 
 -- WHAT LINES CAN CARRY: net positions that flows along lines, none negative, bring about
 pub record Carried (n : ℕ) (line : ℕ → ℕ → Bool) (net : ℕ → ℤ) : Type 0 where
@@ -157,6 +177,7 @@ module _ {n : ℕ} {line : ℕ → ℕ → Bool} where
       own l h = sum-one n l (λ z. x z *ℤ only (eqb z l) (pos 1)) h (λ z g ne. ap (λ (y : ℤ). x z *ℤ y) (only-off (eqb z l) (pos 1) (λ t. ne (sym (eqb→eq z l t)))) ∙ eq-by (at (x z) ⊗ at (pos 0)) (at (pos 0)) (omega arith))
           ∙ ap (λ (y : ℤ). x l *ℤ y) (only-on (eqb l l) (pos 1) (eqb-refl l)) ∙ eq-by (at (x l) ⊗ at (pos 1)) (at (x l)) (omega arith)
 
+-- CONNECTED: every two zones joined, as in the Annex
 pub every-pair-connected : (n : ℕ) → Connected n everyPair
 unfolding everyPair
 every-pair-connected n = record { there = λ z h. direct 0 z (omega arith) h; back = λ z h. direct z 0 h (omega arith) }
@@ -167,3 +188,23 @@ every-pair-connected n = record { there = λ z h. direct 0 z (omega arith) h; ba
 
     direct : (a b : ℕ) → a < n → b < n → Route n everyPair a b
     direct a b ha hb = by a b (eqb a b) (eqb→eq a b) (λ t. onward here ha hb t)
+
+-- and a chain, in which each zone is joined with the next, both ways
+unfoldable pub chain : ℕ → ℕ → Bool
+chain l k = eqb (l + 1) k || eqb (k + 1) l
+
+pub chain-connected : (n : ℕ) → Connected n chain
+unfolding chain
+chain-connected n = record { there = there; back = back }
+  where
+    step : {a b e : ℕ} → a < n → b < n → T (chain a b) → Route n chain b e → Route n chain a e
+    step ha hb t here = onward here ha hb t
+    step ha hb t (onward r hc he u) = onward (step ha hb t r) hc he u
+
+    there : (z : ℕ) → z < n → Route n chain 0 z
+    there zero h = here
+    there (suc z) h = onward (there z (omega arith)) (omega arith) h (or-left (eqb (z + 1) (suc z)) _ (rw (add-one z) (eqb-refl (suc z))))
+
+    back : (z : ℕ) → z < n → Route n chain z 0
+    back zero h = here
+    back (suc z) h = step h (omega arith) (or-right (eqb (suc z + 1) z) (eqb (z + 1) (suc z)) (rw (add-one z) (eqb-refl (suc z)))) (back z (omega arith))

@@ -1,17 +1,19 @@
--- Why rule 3 says "over connected zones": two zones that no line joins, one selling a tenth and one buying it. Their net positions sum to zero, so this
--- is a clearing of document 01, and no solution of (60) to (72) with commercial flow along lines alone is the same, since (68) has none. Assumes nothing.
+-- Why rule 3 says "over connected zones": two zones, one selling a tenth and one buying it, and no line from the first to the second. The net positions
+-- sum to zero, so this is a clearing of document 01. No solution of (60) to (72) is the same: with no flow from the first zone (68) and (69) leave the
+-- second no flow-based position above zero. Assumes nothing.
 use mathlib.Core.Path.{_≡_, refl, _∙_}
-use mathlib.Core.Bool.{Bool, false}
+use mathlib.Core.Bool.{Bool, not}
 use Prim.Native.Nat.{ℕ, _-_}
 use native.Mathlib.Omega.{arith}
-use lib.IntN.{pos}
-use Rattle.integers.specs.Difference.{at, eq-fact}
+use lib.Dec.{T}
+use lib.IntN.{ℤ, pos, _+ℤ_, _-ℤ_}
+use lib.Signed.{_≤ℤ_}
+use Rattle.integers.specs.Difference.{at, _⊕_, _⊖_, le-fact, eq-fact}
 use Rattle.integers.specs.Sums.{sumTo}
 use Rattle.rules.specs.Hour.{Case, Plan, buys, orderNet, net, inflow, outflow, ltaPart, fbPart, netSum}
 use Rattle.rules.specs.Clearing.{Clearing}
-use Rattle.rules.specs.Annex.{Solution, Feasible, PairsOnce, AlongLines}
+use Rattle.rules.specs.Annex.{Solution, Feasible, PairsOnce, AlongLines, netFlow}
 use Rattle.rules.specs.Duality.{Placed}
-use Rattle.rules.specs.CommercialFlows.{net-ext, net-zero}
 use Rattle.rules.specs.Extended.{Same, agree}
 
 -- order 0 sells in zone 0, order 1 buys in zone 1, a tenth each
@@ -36,9 +38,6 @@ twoZones = record {
 unfoldable pub bothAccepted : Plan
 bothAccepted = record { den = 1; share = 0; volume = λ i. 1; flow = λ j. 0 }
 
-abbrev pub noLine : ℕ → ℕ → Bool
-noLine l k = false
-
 pub allowed : Clearing twoZones bothAccepted
 unfolding twoZones bothAccepted netSum net orderNet buys sumTo
 allowed = record {
@@ -50,9 +49,12 @@ allowed = record {
   branch = λ m h. absurd (omega arith);
 }
 
-pub not-carried : (x : Solution) → Feasible twoZones x → AlongLines twoZones noLine x → Same twoZones bothAccepted x → ⊥
-unfolding twoZones bothAccepted fbPart ltaPart inflow outflow net orderNet buys sumTo
-not-carried x fe along same = apart (agree twoZones placed once bothAccepted x same fe .fb-part-is 1 (omega arith) ∙ no-flow)
+-- whatever lines there are, but for one from zone 0 to zone 1
+pub not-carried : (line : ℕ → ℕ → Bool) → T (not (line 0 1)) → (x : Solution) → Feasible twoZones x → AlongLines twoZones line x → Same twoZones bothAccepted x → ⊥
+unfolding twoZones bothAccepted fbPart ltaPart inflow outflow net orderNet buys netFlow sumTo
+not-carried line no-line x fe along same = apart (x .flowFB 0 1) (x .flowFB 1 0)
+    (agree twoZones placed once bothAccepted x same fe .fb-part-is 1 (omega arith) ∙ fe .network .netposFB-is 1 (omega arith))
+    (along .elsewhere 0 1 (omega arith) (omega arith) no-line) (fe .network .flowFB-in 1 0 (omega arith) (omega arith))
   where
     placed : Placed twoZones
     placed = record { from-in = λ j h. absurd (omega arith); to-in = λ j h. absurd (omega arith); zone-in = λ i h. h }
@@ -60,8 +62,5 @@ not-carried x fe along same = apart (agree twoZones placed once bothAccepted x s
     once : PairsOnce twoZones
     once = record { once = λ i j h l e f. absurd (omega arith) }
 
-    no-flow : x .netposFB 1 ≡ pos 0
-    no-flow = fe .network .netposFB-is 1 (omega arith) ∙ net-ext 2 (x .flowFB) (λ l k. pos 0) (λ l k hl hk. along .elsewhere l k hl hk tt) 1 (omega arith) ∙ net-zero 2 1
-
-    apart : pos 1 ≡ pos 0 → ⊥
-    apart e = omega (arith, eq-fact (at (pos 1)) (at (pos 0)) e)
+    apart : (f g : ℤ) → pos 1 ≡ (pos 0 +ℤ (f -ℤ g)) +ℤ pos 0 → f ≡ pos 0 → pos 0 ≤ℤ g → ⊥
+    apart f g e z h = omega (arith, eq-fact (at (pos 1)) ((at (pos 0) ⊕ (at f ⊖ at g)) ⊕ at (pos 0)) e, eq-fact (at f) (at (pos 0)) z, le-fact (at (pos 0)) (at g) h)
