@@ -28,11 +28,11 @@ mul-price c = omega arith
 array-copy-out-price : tie.Need-array-copy-out-price Inv-loop μ-loop
 array-copy-out-price c = omega arith
 
-mul-put-number : tie.Need-mul-put-number Inv-loop μ-loop
-mul-put-number c = omega arith
+mul-put-wide : tie.Need-mul-put-wide Inv-loop μ-loop
+mul-put-wide c = omega arith
 
-add-put-number : tie.Need-add-put-number Inv-loop μ-loop
-add-put-number c = omega arith
+add-put-wide : tie.Need-add-put-wide Inv-loop μ-loop
+add-put-wide c = omega arith
 
 raw-requires : tie.Need-raw-requires Inv-loop μ-loop
 raw-requires c κs = search needs
@@ -41,8 +41,8 @@ raw-requires c κs = search needs
 kept : (c : tie.At-loop Inv-loop μ-loop) → length (c .loop .report) ≡ length (now (c .before .before .args .report))
 kept c = ap length (c .loop .inv .1) ∙ length-sets _ 48 (priceBytes (c .loop .z) (priceIn (c .before .before .args .t3)))
 
-put-number-requires : tie.Need-put-number-requires Inv-loop μ-loop
-put-number-requires c κs = omega (arith, kept (c .before .before .before .before), c .before .before .before .before .before .before .pre .1)
+put-wide-requires : tie.Need-put-wide-requires Inv-loop μ-loop
+put-wide-requires c κs = omega (arith, kept (c .before .before .before .before), c .before .before .before .before .before .before .pre .1)
 
 add-z : tie.Need-add-z Inv-loop μ-loop
 add-z c = omega arith
@@ -56,7 +56,7 @@ loop-again c =
     let l = p .before .before .before .before .before in
     let start = now (l .before .before .args .report) in
     let prices = l .before .before .args .t3 in
-    (omega arith, p .put-number .ensures ∙ (λ j. sets (l .loop .inv .1 j) (48 + 8 * l .loop .z) (signed64 ((p .before .raw .ensures j) .0))) ∙ next-price start (l .loop .z) (priceIn prices))
+    (omega arith, p .put-wide .ensures ∙ (λ j. sets (l .loop .inv .1 j) (48 + 8 * l .loop .z) (signed64 ((p .before .raw .ensures j) .0))) ∙ next-price start (l .loop .z) (priceIn prices))
 
 same-length : tie.Need-same-length Inv-loop μ-loop
 same-length c = kept (c .before)
@@ -76,10 +76,10 @@ put-prices-spec =
     loop-holds
     mul-price
     array-copy-out-price
-    mul-put-number
-    add-put-number
+    mul-put-wide
+    add-put-wide
     raw-requires
-    put-number-requires
+    put-wide-requires
     add-z
     loop-less
     loop-again

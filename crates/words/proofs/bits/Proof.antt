@@ -1,4 +1,4 @@
--- `report::bits` meets its contract: the machine reads x back from its bits, and x is -(n + 1) where it is below 0.
+-- `words::bits` meets its contract: the machine reads x back from its bits, and x is -(n + 1) where it is below 0.
 -- Assumes nothing.
 use mathlib.Core.Path.{_≡_, refl, sym, subst, ap, _∙_}
 use mathlib.Core.Bool.{true, false}
@@ -12,8 +12,8 @@ use borrow.Author.Tests.{ltb-true}
 use mir.Syntax.{w64}
 use mir.Val.{SFits, toZ, ofZ}
 use mir.ValLaws.{toZ-ofZ}
-use Rattle.report.proofs.bits.Statement.{statement}
-use Rattle.report.proofs.bits.Tie as tie
+use Rattle.words.proofs.bits.Statement.{statement}
+use Rattle.words.proofs.bits.Tie as tie
 
 -- what the code computes from what it reads back
 abbrev one-more : ℤ → ℤ

@@ -1,0 +1,2 @@
+-- Halves of 64 bits
+pub mod Halves

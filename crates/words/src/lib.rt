@@ -1,0 +1,56 @@
+// Numbers put into a lent buffer as little-endian bytes: 32 and 64 bits, signed ones in two's complement.
+ghost use mathlib.Core.Path.{_≡_};
+ghost use Prim.Native.Nat.{_+_, _≤_};
+ghost use lib.ListN.{length};
+ghost use lib.Seq.{sets};
+ghost use mir.Syntax.{w32, w64};
+ghost use mir.Val.{SFits, ofZ};
+ghost use Rattle.integers.specs.Bytes.{bytesOf, signed32, signed64};
+use measures::Raw;
+
+const WORDS: u64 = 4294967296;
+
+// The two's complement bits of a number.
+fn bits(x: i64) -> u64
+    ensures { λ r. ⌜ r ≡ ofZ w64 x ⌝ }
+{
+    if x < 0 {
+        18446744073709551615 - ((-(x + 1)) as u64)
+    } else {
+        x as u64
+    }
+}
+
+// The four bytes of a number, the lowest first.
+pub fn put_word(out: &mut [u8], at: usize, x: u32)
+    requires { ⌜ at + 4 ≤ length (now out) ⌝ }
+    ensures { λ _. ⌜ now (out .exit) ≡ sets (now (out .entry)) at (bytesOf 4 x) ⌝ }
+{
+    out[at] = (x % 256) as u8;
+    let x1 = x / 256;
+    out[at + 1] = (x1 % 256) as u8;
+    let x2 = x1 / 256;
+    out[at + 2] = (x2 % 256) as u8;
+    let x3 = x2 / 256;
+    out[at + 3] = (x3 % 256) as u8;
+}
+
+// Signed 32 bits.
+pub fn put_signed(out: &mut [u8], at: usize, x: Raw)
+    requires { ⌜ at + 4 ≤ length (now out) ⌝ }
+    requires { ⌜ SFits w32 (x .0) ⌝ }
+    ensures { λ _. ⌜ now (out .exit) ≡ sets (now (out .entry)) at (signed32 (x .0)) ⌝ }
+{
+    let b = bits(x.0);
+    put_word(out, at, (b % WORDS) as u32);
+}
+
+// Signed 64 bits: the low half, and then the high one.
+pub fn put_wide(out: &mut [u8], at: usize, x: Raw)
+    requires { ⌜ at + 8 ≤ length (now out) ⌝ }
+    ensures { λ _. ⌜ now (out .exit) ≡ sets (now (out .entry)) at (signed64 (x .0)) ⌝ }
+{
+    let b = bits(x.0);
+    put_word(out, at, (b % WORDS) as u32);
+    put_word(out, at + 4, (b / WORDS) as u32);
+}
