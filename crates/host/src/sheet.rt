@@ -1,17 +1,22 @@
 // A published margin sheet as the host has it turned into the branch part of a case (request S-1).
 ghost use mathlib.Core.Path.{_≡_};
-ghost use lib.ListN.{length};
+ghost use mathlib.Core.List.{List, _++_};
+ghost use Prim.Native.Nat.{ℕ};
+ghost use lib.ListN.{length, take};
 ghost use Rattle.rules.specs.Rows.{verdict};
-ghost use Rattle.margin_sheet.specs.Sheet.{sheetOutcome, sheetWritten, sheetOutput};
+ghost use Rattle.margin_sheet.specs.Sheet.{lineCount, sheetOutcome, sheetWritten, sheetOutput};
+ghost use Rattle.margin_sheet.specs.ReadBack.{Header, Holds};
 use margin_sheet::Written;
 use margin_sheet::sheet_branches;
 
-// The branches at the start of `out`, and how many bytes they are; or a refusal, 50 to 55 in that order, with length 0 and `out` as it was.
+// The branches at the start of `out`, and how many bytes they are; or a refusal, 50 to 55 in that order, with length 0 and `out` as it was. An answer's bytes,
+// behind any header of these zones and that many branches and before whatever follows, hold the sheet's margins and, turned, its PTDFs.
 #[no_mangle]
 pub extern "C" fn lta_sheet_branches(sheet: &[u8], zones: usize, out: &mut [u8]) -> Written
     ensures outcome { λ r. ⌜ verdict (r .number) (r .index) ≡ sheetOutcome zones (now (sheet .entry)) (length (now (out .entry))) ⌝ }
     ensures length { λ r. ⌜ r .length ≡ length (sheetWritten zones (now (sheet .entry)) (length (now (out .entry)))) ⌝ }
     ensures output { λ r. ⌜ now (out .exit) ≡ sheetOutput zones (now (sheet .entry)) (now (out .entry)) ⌝ }
+    ensures branches { λ r. ⌜ (r .number ≡ 0 → (header rest : List ℕ) → Header zones (lineCount (now (sheet .entry))) header → Holds zones (now (sheet .entry)) (header ++ (take (r .length) (now (out .exit)) ++ rest))) ⌝ }
 {
     sheet_branches(sheet, zones, out)
 }
