@@ -1,5 +1,7 @@
 //! The proved judge, called over the C interface of its archive.
 
+#[cfg(feature = "sheet")]
+use second_judge::SheetAnswer;
 #[cfg(feature = "book")]
 use second_judge::{BookAnswer, Row};
 
@@ -23,6 +25,15 @@ extern "C" {
 
     #[cfg(feature = "desk")]
     fn lta_desk_lines(input: *const u8, input_len: usize, out: *mut u8, out_len: usize) -> u64;
+
+    #[cfg(feature = "sheet")]
+    fn lta_sheet_branches(
+        sheet: *const u8,
+        sheet_len: usize,
+        zones: usize,
+        out: *mut u8,
+        out_len: usize,
+    ) -> Written;
 }
 
 /// struct lta_order.
@@ -55,6 +66,26 @@ struct Surplus {
     number: u32,
     index: u32,
     sum: i64,
+}
+
+/// struct lta_written.
+#[cfg(feature = "sheet")]
+#[repr(C)]
+pub struct Written {
+    number: u32,
+    index: u64,
+    length: u64,
+}
+
+#[cfg(feature = "sheet")]
+impl From<Written> for SheetAnswer {
+    fn from(written: Written) -> SheetAnswer {
+        SheetAnswer {
+            number: written.number,
+            index: written.index,
+            length: written.length,
+        }
+    }
 }
 
 /// Number + 256 * index, as the archive returns it.
@@ -125,4 +156,22 @@ pub fn book_surplus(orders: &[Order], prices: &[i64], null: bool) -> BookAnswer 
 pub fn desk_lines(input: &[u8], out: &mut [u8]) -> u64 {
     // Safe: each pointer comes with the length of its own slice.
     unsafe { lta_desk_lines(input.as_ptr(), input.len(), out.as_mut_ptr(), out.len()) }
+}
+
+/// A sheet's branches, written to `out`; `null` gives a null pointer for each
+/// empty slice.
+#[cfg(feature = "sheet")]
+pub fn sheet_branches(sheet: &[u8], zones: usize, out: &mut [u8], null: bool) -> SheetAnswer {
+    let sheet_at = if null && sheet.is_empty() {
+        std::ptr::null()
+    } else {
+        sheet.as_ptr()
+    };
+    let out_at = if null && out.is_empty() {
+        std::ptr::null_mut()
+    } else {
+        out.as_mut_ptr()
+    };
+    // Safe: each pointer comes with the length of its own slice.
+    unsafe { lta_sheet_branches(sheet_at, sheet.len(), zones, out_at, out.len()) }.into()
 }

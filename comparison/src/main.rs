@@ -12,6 +12,8 @@ mod fields;
 mod make;
 mod rng;
 mod run;
+#[cfg(feature = "sheet")]
+mod sheet;
 
 use rng::Rng;
 use run::{Check, Run, MET};
@@ -63,6 +65,8 @@ fn main() -> ExitCode {
     }
     #[cfg(feature = "book")]
     book::books(&mut run, &mut Rng::new(seed));
+    #[cfg(feature = "sheet")]
+    sheet::sheets(&mut run, &mut Rng::new(seed));
 
     run.section("verdicts, times met");
     for number in NUMBERS {
@@ -85,6 +89,7 @@ fn main() -> ExitCode {
     for (name, built) in [
         ("book", cfg!(feature = "book")),
         ("desk", cfg!(feature = "desk")),
+        ("sheet", cfg!(feature = "sheet")),
     ] {
         if !built {
             println!("NOT COMPARED: the {name} entry (built without the feature {name})");

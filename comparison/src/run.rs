@@ -127,7 +127,7 @@ impl Run {
     }
 
     /// Counts an input that was compared elsewhere.
-    #[cfg(any(feature = "book", feature = "desk"))]
+    #[cfg(any(feature = "book", feature = "desk", feature = "sheet"))]
     pub fn count(&mut self) {
         self.family_inputs += 1;
     }

@@ -1,4 +1,5 @@
-//! The second judge: gives the paper's verdict on a case and a proposal.
+//! The second judge: gives the paper's verdict on a case and a proposal, and
+//! what the paper says of the other entries.
 //!
 //! Rule numbers in the comments are those of the paper's list of sums,
 //! verdict numbers those of its table. Every sum is taken in 128 bits, so no
@@ -10,10 +11,12 @@ pub mod hours;
 mod judge;
 pub mod limits;
 mod read;
+mod sheet;
 
 pub use book::{book_surplus, BookAnswer, Row};
 pub use desk::desk_lines;
 pub use judge::{judge, judge_as, Build};
+pub use sheet::{sheet_branches, sheet_branches_as, SheetAnswer, SheetBuild};
 
 /// Number and index as the paper's table returns them.
 #[derive(Clone, Copy, Debug, PartialEq, Eq)]
