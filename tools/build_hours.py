@@ -23,7 +23,7 @@ def joined_hours():
     joined = {}
     for text in HOURS.glob("*.txt"):
         try:
-            joined[f"{text.stem}.bin"] = b"".join(hour.build(hour.read_text(text)))
+            joined[f"{text.stem}.bin"] = b"".join(hour.build(hour.read_text(text), HOURS))
         except ValueError as fault:
             raise ValueError(f"{text.name}: {fault}") from None
     return dict(sorted(joined.items()))

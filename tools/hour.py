@@ -5,6 +5,7 @@ Wrong hours can be written too. Whatever two files are shown, building the text 
 """
 
 import argparse
+import os
 import re
 import struct
 import sys
@@ -24,6 +25,7 @@ The text: one item per line; blank lines and what follows a # are passed over. N
 
   case version V zones Z tolerance T       opens the case; tolerance in cents
   branch RAM PTDF ...                      RAM in tenths of a MW; one PTDF per zone, 100000 is 1
+  sheet FILE                               all branches, from a published margin sheet, in place of branch lines
   link FROM TO CAPACITY                    zones from 0; capacity in tenths of a MW
   order ZONE SIDE QUANTITY PRICE           buy or sell; tenths of a MWh; cents per MWh
   proposal version V share S system P      opens the proposal; LTA share, 100000 is 1; cents per MWh
@@ -32,6 +34,10 @@ The text: one item per line; blank lines and what follows a # are passed over. N
   shadow S                                 shadow price in cents per MWh, one per branch
 
 The header counts the branches, links and orders of the text. A text without a proposal has one of no bytes.
+
+A margin sheet has a line per branch, its fields with commas between them: the margin in MW to one decimal, then one
+PTDF per zone to five. Sheets count export positive, so the PTDFs change sign. A sheet's FILE counts from the text's
+folder; a sheet that is refused is named with its line and with the number and index of request S-1.
 
 For wrong hours any value that fits its bits is taken, a side as a number too, and these change what is written:
 
@@ -81,7 +87,14 @@ FIELDS = {
 
 SIDES = ("buy", "sell")
 
+# Fields of a margin sheet's line, each with the decimals of our unit and its greatest size in it.
+SHEET_MARGIN = ("margin", 1, 500_000)
+SHEET_PTDF = ("PTDF", 5, 200_000)
+SHEET_ZONES = 16
+SHEET_LINES = 64
+
 WHOLE_NUMBER = re.compile(r"-?[0-9]+")
+SHEET_NUMBER = re.compile(rb"(-?)([0-9]+)(?:\.([0-9]+))?")
 HEX_PAIRS = re.compile(r"([0-9a-fA-F]{2})*")
 MARK = re.compile(r"[!-~]{3}|[0-9a-fA-F]{6}")
 HEX_BYTES_PER_LINE = 32
@@ -149,10 +162,66 @@ def hex_bytes(words):
     return bytes.fromhex(digits)
 
 
-class Hour:
-    """An hour as its text says it, taken line by line."""
+def refuse_line(number, index, message):
+    """Refuses a sheet at a line, named as an editor counts it and as request S-1 does."""
+    raise ValueError(f"line {index + 1} ({number} index {index}): {message}")
 
-    def __init__(self):
+
+def sheet_numbers(sheet, columns):
+    """The numbers of each line, each as its text, sign, digits and decimals; else 51."""
+    lines = sheet.split(b"\n")
+    # What follows the last newline is a line only if something stands there.
+    if not lines[-1]:
+        lines.pop()
+    table = []
+    for index, line in enumerate(lines):
+        fields = line.split(b",") if line else []
+        if len(fields) != len(columns):
+            wanted = f"{len(columns)} fields (margin and {len(columns) - 1} PTDFs)"
+            refuse_line(51, index, f"the line takes {wanted}, not {len(fields)}")
+        row = []
+        for field, (name, _, _) in zip(fields, columns):
+            text, found = field.decode("ascii", "backslashreplace"), SHEET_NUMBER.fullmatch(field)
+            if found is None:
+                refuse_line(51, index, f"{name} {text!r} is no number")
+            row.append((text, *found.groups(b"")))
+        table.append(row)
+    return table
+
+
+def sheet_branches(sheet, zones):
+    """The branches of a published margin sheet. Request S-1: its causes in its order, each over the whole sheet."""
+    if not 1 <= zones <= SHEET_ZONES:
+        raise ValueError(f"(50) a sheet takes 1 to {SHEET_ZONES} zones, not {zones}")
+    columns = (SHEET_MARGIN,) + (SHEET_PTDF,) * zones
+    table = sheet_numbers(sheet, columns)
+    for index, row in enumerate(table):
+        for (text, _, _, fraction), (name, decimals, _) in zip(row, columns):
+            if fraction[decimals:].strip(b"0"):
+                refuse_line(52, index, f"{name} {text} goes past {decimals} decimals")
+    branches = []
+    for index, row in enumerate(table):
+        branch = []
+        for (text, sign, whole, fraction), (name, decimals, most) in zip(row, columns):
+            digits = (whole + fraction[:decimals].ljust(decimals, b"0")).lstrip(b"0") or b"0"
+            if len(digits) > len(str(most)) or int(digits) > most:
+                limit = most // 10**decimals
+                refuse_line(53, index, f"{name} {text} is not from -{limit} to {limit}")
+            # Sheets count export positive, a case import: the PTDFs turn, and the margin does not.
+            negative = bool(sign) != (name == "PTDF")
+            branch.append(-int(digits) if negative else int(digits))
+        branches.append(branch)
+    if len(branches) > SHEET_LINES:
+        raise ValueError(f"(54) a sheet takes at most {SHEET_LINES} lines, not {len(branches)}")
+    return branches
+
+
+class Hour:
+    """An hour as its text says it, taken line by line. A sheet's file counts from the folder."""
+
+    def __init__(self, folder):
+        self.folder = folder
+        self.sheet = None
         self.headers = {}
         self.header_lines = {}
         self.marks = dict(MARKS)
@@ -169,6 +238,8 @@ class Hour:
             self.take_header(line, keyword, words)
         elif keyword in FIELDS:
             self.take_record(keyword, words)
+        elif keyword == "sheet":
+            self.take_sheet(words)
         elif keyword == "mark":
             self.take_mark(words)
         elif keyword == "counts":
@@ -193,6 +264,8 @@ class Hour:
         file = FILE_OF[kind]
         if file not in self.headers:
             raise ValueError(f"{kind} before the {file} line")
+        if kind == "branch" and self.sheet is not None:
+            raise ValueError(f"branch beside the sheet {self.sheet}")
         fields = record_fields(kind, self.zones())
         if len(words) != len(fields):
             wanted = ", ".join(name for name, _ in FIELDS[kind])
@@ -201,6 +274,21 @@ class Hour:
             raise ValueError(f"{kind} takes {len(fields)} values ({wanted}), not {len(words)}")
         row = [value(word, name, code) for word, (name, code) in zip(words, fields)]
         self.records[kind].append(row)
+
+    def take_sheet(self, words):
+        if "case" not in self.headers:
+            raise ValueError("sheet before the case line")
+        if len(words) != 1:
+            raise ValueError(f"sheet takes 1 value, not {len(words)}")
+        if self.sheet is not None or self.records["branch"]:
+            raise ValueError(f"sheet beside {'another sheet' if self.sheet is not None else 'branch lines'}")
+        self.sheet = words[0]
+        try:
+            self.records["branch"] = sheet_branches(read_bytes(os.path.join(self.folder, self.sheet)), self.zones())
+        except OSError as fault:
+            raise ValueError(f"{self.sheet}: {fault.strerror}") from None
+        except ValueError as fault:
+            raise ValueError(f"{self.sheet}: {fault}") from None
 
     def take_mark(self, words):
         if not self.headers:
@@ -267,9 +355,9 @@ class Hour:
         return bytes(out["case"]), bytes(out["proposal"])
 
 
-def build(text):
-    """The case and the proposal of a text."""
-    hour = Hour()
+def build(text, folder=""):
+    """The case and the proposal of a text. The files that it names count from the folder."""
+    hour = Hour(folder)
     for line, content in enumerate(text.split("\n"), 1):
         words = content.split("#", 1)[0].split()
         if words:
@@ -419,7 +507,7 @@ def write_bytes(path, data):
 
 
 def run_build(options):
-    case, proposal = build(read_text(options.text))
+    case, proposal = build(read_text(options.text), os.path.dirname(options.text))
     wanted = ((options.case, case), (options.proposal, proposal), (options.joined, case + proposal))
     for path, data in wanted:
         if path is not None:

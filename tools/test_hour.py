@@ -6,6 +6,7 @@ import io
 import pathlib
 import random
 import re
+import struct
 import sys
 import tempfile
 import unittest
@@ -85,7 +86,7 @@ class RoundTrip(unittest.TestCase):
     def test_stored_hours(self):
         for name, text in stored_hours().items():
             with self.subTest(name):
-                self.assert_round_trip(*hour.build(text))
+                self.assert_round_trip(*hour.build(text, build_hours.HOURS))
 
     def test_empty_files(self):
         for case in (b"", P1_CASE):
@@ -287,6 +288,117 @@ class BadText(unittest.TestCase):
         text = self.HEAD + "link 0 1 0\n" * 256
         self.assert_refused(text, "line 2: 256 links are more than the header can count; say counts links N")
         self.assertEqual(len(hour.build(text + "counts links 0\n")[0]), 14 + 6 * 256)
+
+
+class MarginSheet(unittest.TestCase):
+    """A published margin sheet gives the branches by request S-1, or is refused with its line and the cause."""
+
+    def setUp(self):
+        folder = tempfile.TemporaryDirectory()
+        self.addCleanup(folder.cleanup)
+        self.folder = pathlib.Path(folder.name)
+
+    def branches(self, sheet, zones=1):
+        """The branch part of the case that a text with this sheet gives, as numbers."""
+        (self.folder / "x.csv").write_bytes(sheet)
+        text = f"case version 1 zones {zones} tolerance 0\nsheet x.csv\n"
+        case, proposal = hour.build(text, self.folder)
+        self.assertEqual((case[6] * 4 * (zones + 1), proposal), (len(case) - 14, b""))
+        return list(struct.unpack(f"<{(len(case) - 14) // 4}i", case[14:]))
+
+    def assert_refused(self, sheet, message, zones=1):
+        with self.assertRaises(hour.TextError) as caught:
+            self.branches(sheet, zones)
+        self.assertEqual(str(caught.exception), f"line 2: x.csv: {message}")
+
+    def test_sample_sheet_gives_the_sample_case(self):
+        text = re.sub(r"branch.*\nbranch.*\n", "sheet three-zone.csv\n", P1_TEXT)
+        self.assertEqual(text.count("branch"), 0)
+        self.assertEqual(hour.build(text, SAMPLES), (P1_CASE, P1_PROPOSAL))
+
+    def test_ptdfs_turn_and_margins_do_not(self):
+        self.assertEqual(self.branches(b"12.3,0.5\n-12.3,-0.5\n"), [123, -50_000, -123, 50_000])
+
+    def test_newline_ends_a_line_and_the_last_may_lack_it(self):
+        self.assertEqual(self.branches(b""), [])
+        self.assertEqual(self.branches(b"1,0"), [10, 0])
+        self.assertEqual(self.branches(b"1,0\n2,0"), [10, 0, 20, 0])
+        for sheet, index in ((b"\n", 0), (b"1,0\n\n", 1), (b"1,0\n\n2,0", 1)):
+            where = f"line {index + 1} (51 index {index})"
+            self.assert_refused(sheet, f"{where}: the line takes 2 fields (margin and 1 PTDFs), not 0")
+
+    def test_zeros_before_and_behind_in_any_count(self):
+        zeros = b"0" * 5000
+        self.assertEqual(self.branches(zeros + b"7.5" + zeros + b",-" + zeros + b".00001" + zeros), [75, 1])
+        self.assertEqual(self.branches(b"-0,-0.0"), [0, 0])
+
+    def test_limits_are_taken(self):
+        self.assertEqual(self.branches(b"50000,2\n-50000.0,-2.00000"), [500_000, -200_000, -500_000, 200_000])
+        self.assertEqual(self.branches(b"0,0\n" * 64), [0] * 128)
+        self.assertEqual(self.branches(b",".join([b"1"] * 17), 16), [10] + [-100_000] * 16)
+
+    def test_what_is_no_number(self):
+        for field in ("", "-", "+1", ".5", "1.", "--1", "1e3", " 1", "1 ", "1\r", "1.2.3", "1_0", "NaN", "\u0661"):
+            with self.subTest(field):
+                shown = field.encode().decode("ascii", "backslashreplace")
+                self.assert_refused(f"0,{field}".encode(), f"line 1 (51 index 0): PTDF {shown!r} is no number")
+
+    def test_other_refusals(self):
+        refusals = {
+            b"0,0\n0": "line 2 (51 index 1): the line takes 2 fields (margin and 1 PTDFs), not 1",
+            b"0,0\n0,0,0": "line 2 (51 index 1): the line takes 2 fields (margin and 1 PTDFs), not 3",
+            b"0,0\n0.01,0": "line 2 (52 index 1): margin 0.01 goes past 1 decimals",
+            b"0,-0.000001": "line 1 (52 index 0): PTDF -0.000001 goes past 5 decimals",
+            b"0,0\n50000.1,0": "line 2 (53 index 1): margin 50000.1 is not from -50000 to 50000",
+            b"0,-2.00001": "line 1 (53 index 0): PTDF -2.00001 is not from -2 to 2",
+            b"9" * 5000 + b",0": f"line 1 (53 index 0): margin {'9' * 5000} is not from -50000 to 50000",
+            b"0,0\n" * 65: "(54) a sheet takes at most 64 lines, not 65",
+        }
+        for sheet, message in refusals.items():
+            with self.subTest(sheet[:20]):
+                self.assert_refused(sheet, message)
+        for zones in (0, 17):
+            self.assert_refused(b"", f"(50) a sheet takes 1 to 16 zones, not {zones}", zones)
+
+    def test_each_cause_is_asked_of_the_whole_sheet_before_the_next(self):
+        good = b"\n0,0" * 70
+        no_number = "line 3 (51 index 2): PTDF 'x' is no number"
+        decimal = "line 2 (52 index 1): margin 0.01 goes past 1 decimals"
+        out_of_range = "line 1 (53 index 0): PTDF 3 is not from -2 to 2"
+        self.assert_refused(b"0,3\n0.01,0\n0,x" + good, no_number)
+        self.assert_refused(b"0,3\n0.01,0\n0,1" + good, decimal)
+        self.assert_refused(b"0,3\n0.10,0\n0,1" + good, out_of_range)
+        self.assert_refused(b"0,2\n0.10,0\n0,1" + good, "(54) a sheet takes at most 64 lines, not 73")
+
+    def test_lines_of_the_text(self):
+        case, sheet = "case version 1 zones 3 tolerance 0\n", "sheet three-zone.csv\n"
+        refusals = {
+            sheet + case: "line 1: sheet before the case line",
+            case + "sheet": "line 2: sheet takes 1 value, not 0",
+            case + "sheet a b": "line 2: sheet takes 1 value, not 2",
+            case + "sheet none.csv": "line 2: none.csv: No such file or directory",
+            case + sheet + sheet: "line 3: sheet beside another sheet",
+            case + sheet + "branch 0 0 0 0": "line 3: branch beside the sheet three-zone.csv",
+            case + "branch 0 0 0 0\n" + sheet: "line 3: sheet beside branch lines",
+        }
+        for text, message in refusals.items():
+            with self.subTest(message), self.assertRaises(hour.TextError) as caught:
+                hour.build(text, SAMPLES)
+            self.assertEqual(str(caught.exception), message)
+
+    def test_a_sheet_counts_from_the_folder_of_its_text(self):
+        (self.folder / "sheets").mkdir()
+        (self.folder / "sheets" / "good.csv").write_bytes((SAMPLES / "three-zone.csv").read_bytes())
+        (self.folder / "sheets" / "bad.csv").write_bytes(b"250.0,0,-0.75,-0.5\n1500.0,1e0,0,0\n")
+        text, case = self.folder / "hour.txt", self.folder / "case"
+        text.write_text(re.sub(r"branch.*\nbranch.*\n", "sheet sheets/good.csv\n", P1_TEXT))
+        self.assertEqual(run_tool(hour.main, "build", text, "--case", case), (0, "", ""))
+        self.assertEqual(case.read_bytes(), P1_CASE)
+        text.write_text(text.read_text().replace("good", "bad"))
+        status, out, err = run_tool(hour.main, "build", text)
+        self.assertEqual((status, out), (1, ""))
+        cause = "line 2 (51 index 1): PTDF '1e0' is no number"
+        self.assertEqual(err, f"hour.py: {text}: line 4: sheets/bad.csv: {cause}\n")
 
 
 class CommandLine(unittest.TestCase):
