@@ -2,7 +2,7 @@
 
 use std::path::PathBuf;
 
-fn main() {
+pub fn main() {
     println!("cargo:rerun-if-env-changed=LTA_ARCHIVE_DIR");
     // A relative folder counts from the crate, wherever cargo was started.
     let crate_folder = PathBuf::from(std::env::var("CARGO_MANIFEST_DIR").expect("set by cargo"));

@@ -2,7 +2,7 @@
  *
  * An hour is a case (zones, branches, links and orders) and a proposal for its clearing (volumes, flows and prices). lta_judge answers
  * whether the proposal is accepted, or else the first cause for which it is refused. lta_book_surplus values an order book that lies in
- * memory. lta_desk_lines gives a judgement as text.
+ * memory. lta_desk_lines gives a judgement as text. lta_sheet_branches turns a published margin sheet into the branches of a case.
  *
  * Each promise below is part of a contract in crates/host, and the archive is built only if every function in it is proved to meet its
  * contract. A word in brackets, as [outcome], is the name of the clause that says it.
@@ -17,15 +17,16 @@
  * What holds then, of every call, whatever the bytes are:
  *   - It returns.
  *   - It reads nothing but its arguments. The answer, and what is written, depend on nothing else.
- *   - It writes nothing but what is said below of `report` and `out`. The case, the proposal, the input, the orders and the prices stay
- *     as they were, and no file is read or written.
+ *   - It writes nothing but what is said below of `report` and `out`. The case, the proposal, the input, the orders, the prices and the
+ *     sheet stay as they were, and no file is read or written.
  *
  * Measures:
  *   tenth      0.1 MW, for one hour 0.1 MWh     margins, capacities, quantities, volumes, flows
  *   cent       0.01 euro per MWh                prices of orders, system price, shadow prices
  *   grain      1 / 100,000 cent per MWh         zone prices
  *   microcent  1 / 1,000,000 cent               money. One tenth at one grain is one microcent.
- *   100,000 stands for 1 in PTDFs and in the LTA share. The tolerance is in cents of money.
+ *   100,000 stands for 1 in PTDFs and in the LTA share. The tolerance is in cents of money. A margin sheet is text, in MW and in PTDFs
+ *   as they are published.
  */
 #ifndef LTA_JUDGEMENT_H
 #define LTA_JUDGEMENT_H
@@ -187,6 +188,48 @@ struct lta_surplus lta_book_surplus(const struct lta_order *orders, size_t order
  * every byte is as it was.
  */
 uint64_t lta_desk_lines(const uint8_t *input, size_t input_len, uint8_t *out, size_t out_len);
+
+/* THE MARGIN SHEET. The answer of an entry that writes. */
+struct lta_written {
+    uint32_t number; /* 0, or that of the refusal */
+    uint64_t index;
+    uint64_t length; /* bytes written; 0 in a refusal */
+};
+
+/* The numbers of lta_sheet_branches, in the order in which they are asked, each of the whole sheet before the next. 51 to 53 name the
+ * first such line; the index of the others is 0. No number is returned for another cause than its own. */
+enum lta_sheet_number {
+    LTA_SHEET_ZONES = 50,           /* zones is 0 or over 16 */
+    LTA_SHEET_FIELD = 51,           /* a line has not 1 + zones fields, or one is no number; index: the line */
+    LTA_SHEET_DECIMAL = 52,         /* a decimal past the first of a margin or the fifth of a PTDF is not zero; index: the line */
+    LTA_SHEET_RANGE = 53,           /* a number is out of its range; index: the line */
+    LTA_SHEET_LINES = 54,           /* over 64 lines */
+    LTA_SHEET_NO_ROOM = 55          /* out_len is under LTA_SHEET_SIZE(zones, lines) */
+};
+
+#define LTA_SHEET_SIZE(zones, lines) (4 * ((zones) + 1) * (lines)) /* bytes of the branches of a sheet */
+#define LTA_SHEET_ROOM 4352         /* room that is enough for every sheet: 64 lines of 16 zones */
+
+/* Writes the branches of a published margin sheet as a case has them, and answers with number 0, index 0 [outcome] and their length,
+ * LTA_SHEET_SIZE(zones, lines) [length]; or it refuses, with length 0.
+ *
+ *   sheet, sheet_len           the sheet, as laid out below
+ *   zones                      the zones of the case, 1 to 16
+ *   out, out_len               room for the branches, at least LTA_SHEET_SIZE(zones, lines) bytes
+ *
+ * The sheet has a line for each branch, at most 64, counted from 0. A newline (byte 10) ends a line, and the last line may lack it; an
+ * empty sheet has no line. A line is its fields with a comma between each two: the margin in MW, then a PTDF for each zone, with export
+ * counted positive. A field is digits, perhaps with a minus sign before them and perhaps with a point and digits behind them, and nothing
+ * else: no plus sign, no exponent, no space, no carriage return. Zeros before and behind are taken in any count; -0 is zero.
+ *   margin             -50,000 to 50,000 MW, to one decimal
+ *   PTDF               -2 to 2, to five decimals
+ *
+ * For each line is written, little-endian, signed 32 bits each: the margin in tenths, -500,000 to 500,000, and for each zone the PTDF in
+ * hundred-thousandths, -200,000 to 200,000, with its sign turned, since a case counts import positive.
+ *
+ * The bytes of `out` afterwards [output]: the branches, and all past them as they were. In a refusal every byte is as it was.
+ */
+struct lta_written lta_sheet_branches(const uint8_t *sheet, size_t sheet_len, size_t zones, uint8_t *out, size_t out_len);
 
 #ifdef __cplusplus
 }

@@ -1,7 +1,10 @@
-//! Measures the proved judge against the second one on the same inputs; prints only.
+//! Measures the proved judge against the second one, and the margin sheet's
+//! entry against plain C, on the same inputs; prints only.
 
 #[path = "../../comparison/src/archive.rs"]
 mod archive;
+#[cfg(feature = "sheet")]
+mod sheet;
 
 use second_judge::hours::{three_zone_hour, Branch, Hour, Link};
 use second_judge::limits::{BUYS, LEAST_BUFFER, SELLS};
@@ -18,7 +21,7 @@ const LENGTH: Duration = Duration::from_micros(60);
 /// Nanoseconds of one call and the ratio, each the median of the repetitions.
 struct Times {
     proved: f64,
-    rust: f64,
+    other: f64,
     ratio: f64,
 }
 
@@ -36,29 +39,29 @@ fn median(mut list: Vec<f64>) -> f64 {
 }
 
 /// Both by turns, each of them first in every other pair.
-fn measure(mut proved: impl FnMut(), mut rust: impl FnMut()) -> Times {
+fn measure(mut proved: impl FnMut(), mut other: impl FnMut()) -> Times {
     let calls_for = |one: f64| (LENGTH.as_nanos() as f64 / one).clamp(1.0, 1e5) as u32;
     let warm =
         |call: &mut dyn FnMut()| median((0..9).map(|_| nanoseconds(9, &mut || call())).collect());
     let proved_calls = calls_for(warm(&mut proved));
-    let rust_calls = calls_for(warm(&mut rust));
-    let (mut of_proved, mut of_rust, mut ratios) = (Vec::new(), Vec::new(), Vec::new());
+    let other_calls = calls_for(warm(&mut other));
+    let (mut of_proved, mut of_other, mut ratios) = (Vec::new(), Vec::new(), Vec::new());
     for n in 0..REPETITIONS {
-        let (one, other);
+        let (one, two);
         if n % 2 == 0 {
             one = nanoseconds(proved_calls, &mut proved);
-            other = nanoseconds(rust_calls, &mut rust);
+            two = nanoseconds(other_calls, &mut other);
         } else {
-            other = nanoseconds(rust_calls, &mut rust);
+            two = nanoseconds(other_calls, &mut other);
             one = nanoseconds(proved_calls, &mut proved);
         }
         of_proved.push(one);
-        of_rust.push(other);
-        ratios.push(one / other);
+        of_other.push(two);
+        ratios.push(one / two);
     }
     Times {
         proved: median(of_proved),
-        rust: median(of_rust),
+        other: median(of_other),
         ratio: median(ratios),
     }
 }
@@ -138,17 +141,18 @@ fn sized(zones: usize, branches: usize, links: usize, orders: usize) -> Hour {
 fn print(name: &str, times: &Times) {
     let Times {
         proved,
-        rust,
+        other,
         ratio,
     } = times;
-    println!("  {name:<42} {proved:>10.0} {rust:>10.0} {ratio:>8.2}");
+    println!("  {name:<42} {proved:>10.0} {other:>10.0} {ratio:>8.2}");
 }
 
 fn heading(name: &str) {
-    println!(
-        "{name:<44} {:>10} {:>10} {:>8}",
-        "proved ns", "Rust ns", "ratio"
-    );
+    heading_against(name, "Rust ns");
+}
+
+fn heading_against(name: &str, other: &str) {
+    println!("{name:<44} {:>10} {other:>10} {:>8}", "proved ns", "ratio");
 }
 
 fn main() {
@@ -236,4 +240,7 @@ fn main() {
         );
         print("a day: a hundred of P1's reports", &times);
     }
+
+    #[cfg(feature = "sheet")]
+    sheet::sheets();
 }
