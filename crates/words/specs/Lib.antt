@@ -1,2 +1,2 @@
--- Halves of 64 bits
+-- PROOFS' MEANS: the halves of 64 bits
 pub mod Halves

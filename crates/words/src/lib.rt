@@ -8,7 +8,8 @@ ghost use mir.Val.{SFits, ofZ};
 ghost use Rattle.integers.specs.Bytes.{bytesOf, signed32, signed64};
 use measures::Raw;
 
-const WORDS: u64 = 4294967296;
+// 2 ^ 32, which parts 64 bits in two halves.
+const HALF: u64 = 4294967296;
 
 // The two's complement bits of a number.
 fn bits(x: i64) -> u64
@@ -42,7 +43,7 @@ pub fn put_signed(out: &mut [u8], at: usize, x: Raw)
     ensures { λ _. ⌜ now (out .exit) ≡ sets (now (out .entry)) at (signed32 (x .0)) ⌝ }
 {
     let b = bits(x.0);
-    put_word(out, at, (b % WORDS) as u32);
+    put_word(out, at, (b % HALF) as u32);
 }
 
 // Signed 64 bits: the low half, and then the high one.
@@ -51,6 +52,6 @@ pub fn put_wide(out: &mut [u8], at: usize, x: Raw)
     ensures { λ _. ⌜ now (out .exit) ≡ sets (now (out .entry)) at (signed64 (x .0)) ⌝ }
 {
     let b = bits(x.0);
-    put_word(out, at, (b % WORDS) as u32);
-    put_word(out, at + 4, (b / WORDS) as u32);
+    put_word(out, at, (b % HALF) as u32);
+    put_word(out, at + 4, (b / HALF) as u32);
 }
