@@ -189,7 +189,7 @@ struct lta_surplus lta_book_surplus(const struct lta_order *orders, size_t order
  */
 uint64_t lta_desk_lines(const uint8_t *input, size_t input_len, uint8_t *out, size_t out_len);
 
-/* THE MARGIN SHEET. The answer of an entry that writes. */
+/* THE MARGIN SHEET. What lta_sheet_branches answers. */
 struct lta_written {
     uint32_t number; /* 0, or that of the refusal */
     uint64_t index;
@@ -219,8 +219,9 @@ enum lta_sheet_number {
  *
  * The sheet has a line for each branch, at most 64, counted from 0. A newline (byte 10) ends a line, and the last line may lack it; an
  * empty sheet has no line. A line is its fields with a comma between each two: the margin in MW, then a PTDF for each zone, with export
- * counted positive. A field is digits, perhaps with a minus sign before them and perhaps with a point and digits behind them, and nothing
- * else: no plus sign, no exponent, no space, no carriage return. Zeros before and behind are taken in any count; -0 is zero.
+ * counted positive. A field is digits, one or more, perhaps with a minus sign before them and perhaps with a point and digits, one or
+ * more, behind them, and nothing else: no plus sign, no exponent, no space, no carriage return. Leading zeros, and zeros at the end of the
+ * decimals, are taken in any count; -0 is zero.
  *   margin             -50,000 to 50,000 MW, to one decimal
  *   PTDF               -2 to 2, to five decimals
  *
@@ -228,6 +229,8 @@ enum lta_sheet_number {
  * hundred-thousandths, -200,000 to 200,000, with its sign turned, since a case counts import positive.
  *
  * The bytes of `out` afterwards [output]: the branches, and all past them as they were. In a refusal every byte is as it was.
+ * Behind a case header with these zones and as many branches as the sheet has lines, and before whatever follows, lta_judge reads these
+ * numbers, and LTA_CASE_BRANCH has no cause [branches].
  */
 struct lta_written lta_sheet_branches(const uint8_t *sheet, size_t sheet_len, size_t zones, uint8_t *out, size_t out_len);
 

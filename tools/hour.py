@@ -37,7 +37,7 @@ The header counts the branches, links and orders of the text. A text without a p
 
 A margin sheet has a line per branch, its fields with commas between them: the margin in MW to one decimal, then one
 PTDF per zone to five. Sheets count export positive, so the PTDFs change sign. A sheet's FILE counts from the text's
-folder; a sheet that is refused is named with its line and with the number and index of request S-1.
+folder; a sheet that is refused is named with the number and index of request S-1, and 51 to 53 with the line.
 
 For wrong hours any value that fits its bits is taken, a side as a number too, and these change what is written:
 

@@ -1,5 +1,5 @@
 /* lta_sheet_branches through the archive: the sample sheet, what is a number and what is none, each limit and one past it, each cause and
- * their order, outputs of several lengths, null pointers. Every call is made with sheet and output at both places between unreadable
+ * their order, outputs of several lengths, null pointers. Calls on a sheet are made with sheet and output at both places between unreadable
  * pages, the sheet unwritable, and every byte of the output is compared afterwards.
  *
  *     sheet_test SHEET     the three-zone hour's sheet

@@ -8,7 +8,7 @@ ghost use Rattle.rules.specs.Report.{headerBytes, totalBytes, priceBytes, repor
 ghost use Rattle.report.specs.Written.{totalsIn, priceIn};
 use measures::Grains;
 use measures::Microcents;
-use words::put_wide;
+use words::put_signed64;
 
 pub struct Totals {
     pub welfare: Microcents,
@@ -36,11 +36,11 @@ fn put_totals(report: &mut [u8], totals: Totals)
     requires { ⌜ 48 ≤ length (now report) ⌝ }
     ensures { λ _. ⌜ now (report .exit) ≡ sets (now (report .entry)) 8 (totalBytes (totalsIn totals)) ⌝ }
 {
-    put_wide(report, 8, totals.welfare.raw());
-    put_wide(report, 16, totals.bound.raw());
-    put_wide(report, 24, totals.gap.raw());
-    put_wide(report, 32, totals.rent.raw());
-    put_wide(report, 40, totals.owed.raw());
+    put_signed64(report, 8, totals.welfare.raw());
+    put_signed64(report, 16, totals.bound.raw());
+    put_signed64(report, 24, totals.gap.raw());
+    put_signed64(report, 32, totals.rent.raw());
+    put_signed64(report, 40, totals.owed.raw());
 }
 
 fn put_prices(report: &mut [u8], zones: usize, prices: [Grains; 16])
@@ -50,7 +50,7 @@ fn put_prices(report: &mut [u8], zones: usize, prices: [Grains; 16])
 {
     for z in 0..zones {
         let price = prices[z];
-        put_wide(report, 48 + 8 * z, price.raw());
+        put_signed64(report, 48 + 8 * z, price.raw());
     }
 }
 

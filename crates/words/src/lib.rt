@@ -37,7 +37,7 @@ pub fn put_word(out: &mut [u8], at: usize, x: u32)
 }
 
 // Signed 32 bits.
-pub fn put_signed(out: &mut [u8], at: usize, x: Raw)
+pub fn put_signed32(out: &mut [u8], at: usize, x: Raw)
     requires { ⌜ at + 4 ≤ length (now out) ⌝ }
     requires { ⌜ SFits w32 (x .0) ⌝ }
     ensures { λ _. ⌜ now (out .exit) ≡ sets (now (out .entry)) at (signed32 (x .0)) ⌝ }
@@ -47,7 +47,7 @@ pub fn put_signed(out: &mut [u8], at: usize, x: Raw)
 }
 
 // Signed 64 bits: the low half, and then the high one.
-pub fn put_wide(out: &mut [u8], at: usize, x: Raw)
+pub fn put_signed64(out: &mut [u8], at: usize, x: Raw)
     requires { ⌜ at + 8 ≤ length (now out) ⌝ }
     ensures { λ _. ⌜ now (out .exit) ≡ sets (now (out .entry)) at (signed64 (x .0)) ⌝ }
 {

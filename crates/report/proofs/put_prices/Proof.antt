@@ -28,11 +28,11 @@ mul-price c = omega arith
 array-copy-out-price : tie.Need-array-copy-out-price Inv-loop μ-loop
 array-copy-out-price c = omega arith
 
-mul-put-wide : tie.Need-mul-put-wide Inv-loop μ-loop
-mul-put-wide c = omega arith
+mul-put-signed64 : tie.Need-mul-put-signed64 Inv-loop μ-loop
+mul-put-signed64 c = omega arith
 
-add-put-wide : tie.Need-add-put-wide Inv-loop μ-loop
-add-put-wide c = omega arith
+add-put-signed64 : tie.Need-add-put-signed64 Inv-loop μ-loop
+add-put-signed64 c = omega arith
 
 raw-requires : tie.Need-raw-requires Inv-loop μ-loop
 raw-requires c κs = search needs
@@ -41,8 +41,8 @@ raw-requires c κs = search needs
 kept : (c : tie.At-loop Inv-loop μ-loop) → length (c .loop .report) ≡ length (now (c .before .before .args .report))
 kept c = ap length (c .loop .inv .1) ∙ length-sets _ 48 (priceBytes (c .loop .z) (priceIn (c .before .before .args .t3)))
 
-put-wide-requires : tie.Need-put-wide-requires Inv-loop μ-loop
-put-wide-requires c κs = omega (arith, kept (c .before .before .before .before), c .before .before .before .before .before .before .pre .1)
+put-signed64-requires : tie.Need-put-signed64-requires Inv-loop μ-loop
+put-signed64-requires c κs = omega (arith, kept (c .before .before .before .before), c .before .before .before .before .before .before .pre .1)
 
 add-z : tie.Need-add-z Inv-loop μ-loop
 add-z c = omega arith
@@ -56,7 +56,7 @@ loop-again c =
     let l = p .before .before .before .before .before in
     let start = now (l .before .before .args .report) in
     let prices = l .before .before .args .t3 in
-    (omega arith, p .put-wide .ensures ∙ (λ j. sets (l .loop .inv .1 j) (48 + 8 * l .loop .z) (signed64 ((p .before .raw .ensures j) .0))) ∙ next-price start (l .loop .z) (priceIn prices))
+    (omega arith, p .put-signed64 .ensures ∙ (λ j. sets (l .loop .inv .1 j) (48 + 8 * l .loop .z) (signed64 ((p .before .raw .ensures j) .0))) ∙ next-price start (l .loop .z) (priceIn prices))
 
 same-length : tie.Need-same-length Inv-loop μ-loop
 same-length c = kept (c .before)
@@ -76,10 +76,10 @@ put-prices-spec =
     loop-holds
     mul-price
     array-copy-out-price
-    mul-put-wide
-    add-put-wide
+    mul-put-signed64
+    add-put-signed64
     raw-requires
-    put-wide-requires
+    put-signed64-requires
     add-z
     loop-less
     loop-again

@@ -11,32 +11,32 @@ use Rattle.report.proofs.put_totals.Tie as tie
 raw-requires : tie.Need-raw-requires
 raw-requires c κs = search needs
 
-put-wide-requires : tie.Need-put-wide-requires
-put-wide-requires c κs = search needs
+put-signed64-requires : tie.Need-put-signed64-requires
+put-signed64-requires c κs = search needs
 
 raw-requires-2 : tie.Need-raw-requires-2
 raw-requires-2 c κs = search needs
 
-put-wide-requires-2 : tie.Need-put-wide-requires-2
-put-wide-requires-2 c κs = search needs
+put-signed64-requires-2 : tie.Need-put-signed64-requires-2
+put-signed64-requires-2 c κs = search needs
 
 raw-requires-3 : tie.Need-raw-requires-3
 raw-requires-3 c κs = search needs
 
-put-wide-requires-3 : tie.Need-put-wide-requires-3
-put-wide-requires-3 c κs = search needs
+put-signed64-requires-3 : tie.Need-put-signed64-requires-3
+put-signed64-requires-3 c κs = search needs
 
 raw-requires-4 : tie.Need-raw-requires-4
 raw-requires-4 c κs = search needs
 
-put-wide-requires-4 : tie.Need-put-wide-requires-4
-put-wide-requires-4 c κs = search needs
+put-signed64-requires-4 : tie.Need-put-signed64-requires-4
+put-signed64-requires-4 c κs = search needs
 
 raw-requires-5 : tie.Need-raw-requires-5
 raw-requires-5 c κs = search needs
 
-put-wide-requires-5 : tie.Need-put-wide-requires-5
-put-wide-requires-5 c κs = search needs
+put-signed64-requires-5 : tie.Need-put-signed64-requires-5
+put-signed64-requires-5 c κs = search needs
 
 same-length : tie.Need-same-length
 same-length c = search needs
@@ -50,26 +50,26 @@ returns c =
     let p2 = p3 .before .before .before .before .before in
     let p1 = p2 .before .before .before .before .before in
     let start = now (p1 .before .before .before .before .args .report) in
-    let e1 : p1 .put-wide .last .0 ≡ sets start 8 (signed64 (p1 .before .before .before .before .args .totals .welfare .0))
-    = p1 .put-wide .ensures ∙ (λ j. sets start 8 (signed64 ((p1 .before .raw .ensures j) .0))) in
-    let e2 = p2 .put-wide2 .ensures ∙ (λ j. sets (e1 j) 16 (signed64 ((p2 .before .raw2 .ensures j) .0))) in
-    let e3 = p3 .put-wide3 .ensures ∙ (λ j. sets (e2 j) 24 (signed64 ((p3 .before .raw3 .ensures j) .0))) in
-    let e4 = p4 .put-wide4 .ensures ∙ (λ j. sets (e3 j) 32 (signed64 ((p4 .before .raw4 .ensures j) .0))) in
-    p5 .put-wide5 .ensures ∙ (λ j. sets (e4 j) 40 (signed64 ((p5 .before .raw5 .ensures j) .0)))
+    let e1 : p1 .put-signed64 .last .0 ≡ sets start 8 (signed64 (p1 .before .before .before .before .args .totals .welfare .0))
+    = p1 .put-signed64 .ensures ∙ (λ j. sets start 8 (signed64 ((p1 .before .raw .ensures j) .0))) in
+    let e2 = p2 .put-signed642 .ensures ∙ (λ j. sets (e1 j) 16 (signed64 ((p2 .before .raw2 .ensures j) .0))) in
+    let e3 = p3 .put-signed643 .ensures ∙ (λ j. sets (e2 j) 24 (signed64 ((p3 .before .raw3 .ensures j) .0))) in
+    let e4 = p4 .put-signed644 .ensures ∙ (λ j. sets (e3 j) 32 (signed64 ((p4 .before .raw4 .ensures j) .0))) in
+    p5 .put-signed645 .ensures ∙ (λ j. sets (e4 j) 40 (signed64 ((p5 .before .raw5 .ensures j) .0)))
 
 pub put-totals-spec : {M : Type 1} → statement M
 put-totals-spec =
     tie.close
     (tie.spec
     raw-requires
-    put-wide-requires
+    put-signed64-requires
     raw-requires-2
-    put-wide-requires-2
+    put-signed64-requires-2
     raw-requires-3
-    put-wide-requires-3
+    put-signed64-requires-3
     raw-requires-4
-    put-wide-requires-4
+    put-signed64-requires-4
     raw-requires-5
-    put-wide-requires-5
+    put-signed64-requires-5
     same-length
     returns)

@@ -1,4 +1,4 @@
--- `words::put_wide` meets its contract: two halves in a row. Assumes nothing.
+-- `words::put_signed64` meets its contract: two halves in a row. Assumes nothing.
 use mathlib.Core.Path.{_≡_, ap, _∙_}
 use Prim.Native.Nat.{ℕ, _+_, _/_}
 use denote.Ref.{now}
@@ -9,8 +9,8 @@ use mir.Facts.{toZ-ofZ}
 use Rattle.integers.specs.Bytes.{bytesOf, signed64}
 use Rattle.words.specs.Halves.{two-halves}
 use borrow.Author.Needs.{needs}
-use Rattle.words.proofs.put_wide.Statement.{statement}
-use Rattle.words.proofs.put_wide.Tie as tie
+use Rattle.words.proofs.put_signed64.Statement.{statement}
+use Rattle.words.proofs.put_signed64.Tie as tie
 
 bits-requires : tie.Need-bits-requires
 bits-requires c κs = search needs
@@ -46,8 +46,8 @@ returns c =
     ∙ two-halves (now (a .args .out)) (a .args .at) (b .bits .result)
     ∙ ap (λ (n : ℕ). sets (now (a .args .out)) (a .args .at) (bytesOf 8 n)) whole
 
-pub put-wide-spec : {M : Type 1} → statement M
-put-wide-spec =
+pub put-signed64-spec : {M : Type 1} → statement M
+put-signed64-spec =
     tie.close
     (tie.spec
     bits-requires

@@ -1,4 +1,4 @@
--- `words::put_signed` meets its contract: the low half of the 64 bits. Assumes nothing.
+-- `words::put_signed32` meets its contract: the low half of the 64 bits. Assumes nothing.
 use mathlib.Core.Path.{ap, _∙_}
 use Prim.Native.Nat.{ℕ, _%_}
 use denote.Ref.{now}
@@ -9,8 +9,8 @@ use mir.Facts.{toZ-ofZ}
 use Rattle.integers.specs.Bytes.{bytesOf, signed32}
 use Rattle.words.specs.Halves.{low-bits}
 use borrow.Author.Needs.{needs}
-use Rattle.words.proofs.put_signed.Statement.{statement}
-use Rattle.words.proofs.put_signed.Tie as tie
+use Rattle.words.proofs.put_signed32.Statement.{statement}
+use Rattle.words.proofs.put_signed32.Tie as tie
 
 bits-requires : tie.Need-bits-requires
 bits-requires c κs = search needs
@@ -33,5 +33,5 @@ returns c =
     let whole = b .bits .ensures ∙ ap (ofZ w64) (toZ-ofZ {w = w64} {z = a .args .x .0} (record { sfits = b .before .struct-told .given .0 .1 })) in
     p .put-word .ensures ∙ ap (λ (n : ℕ). sets (now (a .args .out)) (a .args .at) (bytesOf 4 n)) (ap (λ (n : ℕ). n % 4294967296) whole ∙ low-bits (a .args .x .0) (a .pre .1))
 
-pub put-signed-spec : {M : Type 1} → statement M
-put-signed-spec = tie.close (tie.spec bits-requires cast-put-word put-word-requires same-length returns)
+pub put-signed32-spec : {M : Type 1} → statement M
+put-signed32-spec = tie.close (tie.spec bits-requires cast-put-word put-word-requires same-length returns)
