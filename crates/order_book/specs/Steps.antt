@@ -20,7 +20,8 @@ use Rattle.orders.specs.declared.Order.{Order}
 use Rattle.orders.specs.declared.OrderAnswer.the-variants.{Held, Outside}
 use Rattle.rules.specs.Layout.{zoneCounts, orderCounts}
 use Rattle.rules.specs.Hour.{surplusOf}
-use Rattle.rules.specs.Verdict.{badRow}
+use Rattle.rules.specs.Rows.{anyBelow}
+use Rattle.rules.specs.Verdict.{rowFault, badRow}
 use Rattle.rules.specs.Passed.{nor-4}
 use Rattle.rules.specs.Fits.{surplus-near}
 use Rattle.rules.specs.Book.{priceAt}
@@ -53,7 +54,7 @@ counted-by o prices h = sym (ap (λ (b : Bool). only (not b) (surplusAt o (price
 
 module _ (prices : List ℤ) (o : OrderRow) (ok : T (not (badIn prices o))) where
   tests : T (not (leb (length prices) (o .zone))) × T (not (ltb 1 (o .side))) × T (not (outside limits.quantity (pos (o .quantity)))) × T (not (outside limits.orderPrice (o .price)))
-  unfolding badRow
+  unfolding badRow rowFault anyBelow
   tests = nor-4 (leb (length prices) (o .zone)) (ltb 1 (o .side)) (outside limits.quantity (pos (o .quantity))) (outside limits.orderPrice (o .price)) ok
 
   pub order-in : OrderIn (length prices) (rowOrder o)

@@ -9,7 +9,8 @@ use Rattle.integers.specs.Ranges.{outside}
 use Rattle.measures.specs.Limits.{grainsOf}
 use Rattle.measures.specs.Limits as limits
 use Rattle.rules.specs.Hour.{above}
-use Rattle.rules.specs.Verdict.{badRow}
+use Rattle.rules.specs.Rows.{anyBelow}
+use Rattle.rules.specs.Verdict.{rowFault, badRow}
 use Rattle.orders.specs.declared.Order.{Order}
 use Rattle.orders.specs.declared.OrderAnswer.{OrderAnswer}
 use Rattle.orders.specs.declared.OrderAnswer.the-variants.{Held, Outside}
@@ -34,7 +35,7 @@ surplusAt o zone = positive (o .quantity .0 *ℤ above (o .buys) (grainsOf (o .p
 pub admitted-by : (n zone side quantity : ℕ) (price : ℤ) {a b e f : Bool}
     → leb n zone ≡ a → ltb 1 side ≡ b → outside limits.quantity (pos quantity) ≡ e → outside limits.orderPrice price ≡ f
     → orderBy (orderOf zone side (pos quantity) price) (a || b || e || f) ≡ admitted n zone side quantity price
-unfolding badRow
+unfolding badRow rowFault anyBelow
 admitted-by n zone side quantity price ha hb he hf = sym (λ j. orderBy (orderOf zone side (pos quantity) price) (ha j || hb j || he j || hf j))
 
 -- an answer read back: its test, and the order held
