@@ -1,4 +1,4 @@
-// One order: the fields of its row held to their limits, and its surplus at a zone price (rule 8). The case file and the lent book share both.
+// One order: a lent row held to its limits, and the surplus at a zone price (rule 8), which the case file and the lent book share.
 ghost use mathlib.Core.Path.{_≡_};
 ghost use Prim.Native.Nat.{ℕ, _≤_};
 ghost use lib.Dec.{eqb};
