@@ -12,12 +12,19 @@ pub struct Row {
 }
 
 impl Row {
+    /// Zone, side, quantity, price: whether each is in range, among so many zones.
+    pub(crate) fn fields_in_range(&self, zones: usize) -> [bool; 4] {
+        [
+            usize::from(self.zone) < zones,
+            self.side == BUYS || self.side == SELLS,
+            QUANTITY.contains(&self.quantity),
+            ORDER_PRICE.contains(&self.price),
+        ]
+    }
+
     /// No field out of range, among so many zones: else verdict 8.
     pub fn in_range(&self, zones: usize) -> bool {
-        usize::from(self.zone) < zones
-            && (self.side == BUYS || self.side == SELLS)
-            && QUANTITY.contains(&self.quantity)
-            && ORDER_PRICE.contains(&self.price)
+        self.fields_in_range(zones) == [true; 4]
     }
 
     /// Rule 8: the order's surplus at a zone price in grains, in microcents.

@@ -286,7 +286,7 @@ pub fn stored() -> Vec<Stored> {
     hour(
         "shadow price 1,000,001",
         14,
-        0,
+        37,
         &Hour {
             shadow_prices: vec![1_000_001, 250],
             ..p1.clone()

@@ -1,6 +1,7 @@
 //! The judgement: the rules in the order of the verdict table, and the report.
 
 use crate::limits::*;
+use crate::misnamed::misnamed;
 use crate::read::{Case, Proposal};
 use crate::Verdict;
 
@@ -20,11 +21,20 @@ pub enum Build {
     AlwaysOverTolerance,
     AcceptsWithZeroTotals,
     ReportUntouched,
+    // S-2's: they refuse with the right number and name another place.
+    RowForOffset,
+    OffsetInPart,
+    EqualZonesFirstByte,
+    PairEarlierLink,
+    PtdfBeforeMargin,
+    LastFieldOfRow,
+    ShadowPriceInCase,
+    ShadowPriceJoined,
 }
 
 impl Build {
     /// Every wrong build, with the name a table gives it.
-    pub const WRONG: [(Build, &'static str); 9] = [
+    pub const WRONG: [(Build, &'static str); 17] = [
         (Build::ExportPositive, "export counted positive"),
         (Build::CapacityWithoutShare, "capacity without the share"),
         (Build::BranchTotalAlone, "branch total alone"),
@@ -34,6 +44,14 @@ impl Build {
         (Build::AlwaysOverTolerance, "sham: 26 to every hour"),
         (Build::AcceptsWithZeroTotals, "sham: accepts, zero totals"),
         (Build::ReportUntouched, "sham: report untouched"),
+        (Build::RowForOffset, "row's number for the offset"),
+        (Build::OffsetInPart, "offset counted from its part"),
+        (Build::EqualZonesFirstByte, "equal zones: first byte"),
+        (Build::PairEarlierLink, "repeated pair: earlier link"),
+        (Build::PtdfBeforeMargin, "PTDF before its margin"),
+        (Build::LastFieldOfRow, "last field at fault of a row"),
+        (Build::ShadowPriceInCase, "14: the branch in the case"),
+        (Build::ShadowPriceJoined, "14: offset in the joined file"),
     ];
 }
 
@@ -49,7 +67,8 @@ pub fn judge(case: &[u8], proposal: &[u8], report: &mut [u8]) -> Verdict {
 #[inline]
 pub fn judge_as(build: Build, case: &[u8], proposal: &[u8], report: &mut [u8]) -> Verdict {
     match decide(build, case, proposal, report) {
-        Ok(verdict) | Err(verdict) => verdict,
+        Ok(verdict) => verdict,
+        Err(verdict) => misnamed(build, verdict, case),
     }
 }
 

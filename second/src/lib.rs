@@ -4,12 +4,14 @@
 //! Rule numbers in the comments are those of the paper's list of sums,
 //! verdict numbers those of its table. Every sum is taken in 128 bits, so no
 //! argument about widths is needed before the totals go into the report.
+//! The paper is document 01 as the requests after it amend it.
 
 mod book;
 mod desk;
 pub mod hours;
 mod judge;
 pub mod limits;
+mod misnamed;
 mod read;
 mod sheet;
 
@@ -27,7 +29,7 @@ pub struct Verdict {
 
 impl Verdict {
     pub(crate) fn new(number: u32, index: usize) -> Verdict {
-        // An index counts rows of one file, at most 512 of them.
+        // A row's number or an offset in a case of at most 9,870 bytes.
         Verdict {
             number,
             index: index as u32,

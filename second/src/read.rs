@@ -3,6 +3,7 @@
 use crate::book::Row;
 use crate::limits::*;
 use crate::Verdict;
+use std::iter;
 
 fn u16_at(bytes: &[u8], at: usize) -> u16 {
     u16::from_le_bytes([bytes[at], bytes[at + 1]])
@@ -14,6 +15,17 @@ fn u32_at(bytes: &[u8], at: usize) -> u32 {
 
 fn i32_at(bytes: &[u8], at: usize) -> i32 {
     u32_at(bytes, at) as i32
+}
+
+/// A field of a file: its offset, and whether it holds what it may.
+pub type Field = (usize, bool);
+
+/// S-2: refused with the offset of the first field at fault; they come in file order.
+fn each_allowed(number: u32, mut fields: impl Iterator<Item = Field>) -> Result<(), Verdict> {
+    match fields.find(|(_, allowed)| !allowed) {
+        Some((at, _)) => Err(Verdict::new(number, at)),
+        None => Ok(()),
+    }
 }
 
 pub struct Link {
@@ -76,52 +88,83 @@ impl<'a> Case<'a> {
         if bytes.len() != case.demanded() {
             return Err(Verdict::new(5, 0));
         }
-        for b in 0..case.branches {
-            if !RAM.contains(&case.ram(b)) || !case.ptdfs(b).all(|ptdf| PTDF.contains(&ptdf)) {
-                return Err(Verdict::new(6, b));
-            }
-        }
-        // For each from-zone the to-zones met so far, one bit each.
-        let mut met = [0u16; MOST_ZONES];
-        for l in 0..case.links {
-            let link = case.link(l);
-            let known = usize::from(link.from) < case.zones && usize::from(link.to) < case.zones;
-            if !known || link.from == link.to || !CAPACITY.contains(&link.capacity) {
-                return Err(Verdict::new(7, l));
-            }
-            let (row, bit) = (usize::from(link.from), 1 << link.to);
-            if met[row] & bit != 0 {
-                return Err(Verdict::new(7, l));
-            }
-            met[row] |= bit;
-        }
-        for o in 0..case.orders {
-            if !case.order(o).in_range(case.zones) {
-                return Err(Verdict::new(8, o));
-            }
-        }
+        each_allowed(6, case.branch_fields())?;
+        each_allowed(7, case.link_fields())?;
+        each_allowed(8, case.order_fields())?;
         Ok(case)
     }
 
     /// The length the header demands.
     pub fn demanded(&self) -> usize {
-        self.orders_at() + self.orders * ORDER_BYTES
+        self.order_at(self.orders)
     }
 
-    fn branch_bytes(&self) -> usize {
+    /// Each branch: its margin, then its PTDFs.
+    pub fn branch_fields(&self) -> impl Iterator<Item = Field> + '_ {
+        (0..self.branches).flat_map(|b| {
+            let at = self.branch_at(b);
+            let margin = (at, RAM.contains(&self.ram(b)));
+            let ptdfs = self.ptdfs(b).enumerate();
+            iter::once(margin)
+                .chain(ptdfs.map(move |(z, ptdf)| (at + 4 + 4 * z, PTDF.contains(&ptdf))))
+        })
+    }
+
+    /// Each link: from, which a repeated pair puts at fault too, to, which equal
+    /// zones do, and capacity.
+    pub fn link_fields(&self) -> impl Iterator<Item = Field> + '_ {
+        (0..self.links).flat_map(|l| {
+            let (at, link) = (self.link_at(l), self.link(l));
+            let known = |zone: u8| usize::from(zone) < self.zones;
+            [
+                (at, known(link.from) && self.same_pair_before(l).is_none()),
+                (at + 1, known(link.to) && link.to != link.from),
+                (at + 2, CAPACITY.contains(&link.capacity)),
+            ]
+        })
+    }
+
+    /// The first link before this one that has its ordered pair.
+    pub fn same_pair_before(&self, l: usize) -> Option<usize> {
+        let pair = |row: &[u8]| [row[0], row[1]];
+        let this = pair(&self.bytes[self.link_at(l)..]);
+        self.bytes[self.link_at(0)..self.link_at(l)]
+            .chunks_exact(LINK_BYTES)
+            .position(|earlier| pair(earlier) == this)
+    }
+
+    /// Each order: zone, side, quantity, price.
+    pub fn order_fields(&self) -> impl Iterator<Item = Field> + '_ {
+        (0..self.orders).flat_map(|o| {
+            let at = self.order_at(o);
+            let [zone, side, quantity, price] = self.order(o).fields_in_range(self.zones);
+            [
+                (at, zone),
+                (at + 1, side),
+                (at + 2, quantity),
+                (at + 6, price),
+            ]
+        })
+    }
+
+    pub fn branch_bytes(&self) -> usize {
         4 + 4 * self.zones
     }
 
-    fn links_at(&self) -> usize {
-        CASE_HEADER + self.branches * self.branch_bytes()
+    pub fn branch_at(&self, b: usize) -> usize {
+        CASE_HEADER + b * self.branch_bytes()
     }
 
-    fn orders_at(&self) -> usize {
-        self.links_at() + self.links * LINK_BYTES
+    pub fn link_at(&self, l: usize) -> usize {
+        self.branch_at(self.branches) + l * LINK_BYTES
+    }
+
+    pub fn order_at(&self, o: usize) -> usize {
+        self.link_at(self.links) + o * ORDER_BYTES
     }
 
     fn branch_row(&self, b: usize) -> &'a [u8] {
-        let at = CASE_HEADER + b * self.branch_bytes();
+        let at = self.branch_at(b);
         &self.bytes[at..at + self.branch_bytes()]
     }
 
@@ -137,7 +180,7 @@ impl<'a> Case<'a> {
     }
 
     pub fn link(&self, l: usize) -> Link {
-        let at = self.links_at() + l * LINK_BYTES;
+        let at = self.link_at(l);
         let row = &self.bytes[at..at + LINK_BYTES];
         Link {
             from: row[0],
@@ -147,7 +190,7 @@ impl<'a> Case<'a> {
     }
 
     pub fn order(&self, o: usize) -> Row {
-        let at = self.orders_at() + o * ORDER_BYTES;
+        let at = self.order_at(o);
         let row = &self.bytes[at..at + ORDER_BYTES];
         Row {
             zone: row[0],
@@ -192,11 +235,11 @@ impl<'a> Proposal<'a> {
         if !SHARE.contains(&proposal.share) {
             return Err(Verdict::new(13, 0));
         }
-        for b in 0..case.branches {
-            if !SHADOW_PRICE.contains(&proposal.shadow_price(b)) {
-                return Err(Verdict::new(14, b));
-            }
-        }
+        let shadow_price = |b| {
+            let allowed = SHADOW_PRICE.contains(&proposal.shadow_price(b));
+            (proposal.shadow_price_at(b), allowed)
+        };
+        each_allowed(14, (0..case.branches).map(shadow_price))?;
         Ok(proposal)
     }
 
@@ -209,9 +252,10 @@ impl<'a> Proposal<'a> {
     }
 
     pub fn shadow_price(&self, b: usize) -> u32 {
-        u32_at(
-            self.bytes,
-            PROPOSAL_HEADER + 4 * (self.orders + self.links + b),
-        )
+        u32_at(self.bytes, self.shadow_price_at(b))
+    }
+
+    fn shadow_price_at(&self, b: usize) -> usize {
+        PROPOSAL_HEADER + 4 * (self.orders + self.links + b)
     }
 }

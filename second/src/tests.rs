@@ -158,14 +158,14 @@ fn header_refusals() {
         (9, 3, 4, 8),
         (13, 255, 4, 10),
         (5, 4, 5, 0),
-        (17, 0x7F, 6, 0),
-        (33, 0x7F, 6, 1),
-        (46, 3, 7, 0),
-        (46, 1, 7, 0),
-        (51, 1, 7, 0),
-        (52, 3, 8, 0),
-        (53, 2, 8, 0),
-        (97, 1, 8, 4),
+        (17, 0x7F, 6, 14),
+        (33, 0x7F, 6, 30),
+        (46, 3, 7, 46),
+        (46, 1, 7, 47),
+        (51, 1, 7, 48),
+        (52, 3, 8, 52),
+        (53, 2, 8, 53),
+        (97, 1, 8, 94),
     ] {
         assert_eq!(
             with(at, value),
@@ -190,7 +190,7 @@ fn repeated_pair_is_sought_among_all_earlier_links() {
         verdict,
         Verdict {
             number: 7,
-            index: 3
+            index: 64
         }
     );
 }
@@ -207,9 +207,130 @@ fn smallest_number_then_smallest_index() {
         verdict,
         Verdict {
             number: 8,
-            index: 2
+            index: 78
         }
     );
+}
+
+// S-2. Offsets by hand: P1's branches begin at 14 and 30, its link at 46, its
+// orders at 52, 62, 72, 82 and 92, its shadow prices at 37 and 41.
+
+/// The right verdict and that of a wrong build.
+fn told_apart(build: Build, hour: &Hour, right: (u32, u32), wrong: (u32, u32)) {
+    let (case, proposal) = (hour.case(), hour.proposal());
+    let given = [Build::Right, build].map(|build| {
+        let verdict = judge_as(build, &case, &proposal, &mut [0; 176]);
+        (verdict.number, verdict.index)
+    });
+    assert_eq!(given, [right, wrong], "{build:?}");
+}
+
+/// P1 with these links, none of which has a flow.
+fn with_links(links: &[(u8, u8, u32)]) -> Hour {
+    let link = |&(from, to, capacity): &(u8, u8, u32)| hours::Link { from, to, capacity };
+    Hour {
+        links: links.iter().map(link).collect(),
+        flows: vec![0; links.len()],
+        ..three_zone_hour()
+    }
+}
+
+#[test]
+fn row_number_for_the_offset() {
+    let mut hour = three_zone_hour();
+    hour.shadow_prices[1] = 1_000_001;
+    told_apart(Build::RowForOffset, &hour, (14, 41), (14, 1));
+    hour.orders[4].price = -50_001;
+    told_apart(Build::RowForOffset, &hour, (8, 98), (8, 4));
+    hour.links[0].capacity = 100_001;
+    told_apart(Build::RowForOffset, &hour, (7, 48), (7, 0));
+    hour.branches[1].ptdfs[2] = 200_001;
+    told_apart(Build::RowForOffset, &hour, (6, 42), (6, 1));
+}
+
+#[test]
+fn offset_counted_from_its_part() {
+    let mut hour = three_zone_hour();
+    hour.shadow_prices[0] = 1_000_001;
+    told_apart(Build::OffsetInPart, &hour, (14, 37), (14, 0));
+    hour.orders[1].quantity = 0;
+    told_apart(Build::OffsetInPart, &hour, (8, 64), (8, 12));
+    hour.links[0].to = 3;
+    told_apart(Build::OffsetInPart, &hour, (7, 47), (7, 1));
+    hour.branches[1].ram = -500_001;
+    told_apart(Build::OffsetInPart, &hour, (6, 30), (6, 16));
+}
+
+#[test]
+fn equal_zones_name_the_first_byte() {
+    let hour = with_links(&[(0, 1, 1), (2, 2, 100_001)]);
+    told_apart(Build::EqualZonesFirstByte, &hour, (7, 53), (7, 52));
+    // Equal and unknown: the from zone is at fault by itself.
+    let hour = with_links(&[(0, 1, 1), (3, 3, 1)]);
+    told_apart(Build::EqualZonesFirstByte, &hour, (7, 52), (7, 52));
+}
+
+#[test]
+fn repeated_pair_names_the_earlier_link() {
+    let hour = with_links(&[(0, 1, 1), (1, 0, 1), (2, 1, 1), (1, 0, 1), (0, 1, 1)]);
+    told_apart(Build::PairEarlierLink, &hour, (7, 64), (7, 52));
+}
+
+#[test]
+fn capacity_named_before_the_pair_that_repeats() {
+    let hour = with_links(&[(0, 1, 1), (1, 0, 1), (0, 1, 100_001)]);
+    told_apart(Build::LastFieldOfRow, &hour, (7, 58), (7, 60));
+    let hour = with_links(&[(0, 3, 100_001)]);
+    told_apart(Build::LastFieldOfRow, &hour, (7, 47), (7, 48));
+}
+
+#[test]
+fn ptdf_named_before_its_margin() {
+    let mut hour = three_zone_hour();
+    hour.branches[1].ptdfs[1] = -200_001;
+    told_apart(Build::PtdfBeforeMargin, &hour, (6, 38), (6, 38));
+    hour.branches[1].ram = 500_001;
+    told_apart(Build::PtdfBeforeMargin, &hour, (6, 30), (6, 38));
+    // Row by row: a PTDF of an earlier branch comes before the margin.
+    hour.branches[0].ptdfs[2] = 200_001;
+    told_apart(Build::PtdfBeforeMargin, &hour, (6, 26), (6, 26));
+    hour.branches[0].ptdfs[0] = 200_001;
+    told_apart(Build::LastFieldOfRow, &hour, (6, 18), (6, 26));
+}
+
+#[test]
+fn price_named_before_the_side() {
+    let mut hour = three_zone_hour();
+    hour.orders[3].price = 400_001;
+    hour.orders[3].side = 2;
+    told_apart(Build::LastFieldOfRow, &hour, (8, 83), (8, 88));
+    hour.orders[3].zone = 3;
+    told_apart(Build::LastFieldOfRow, &hour, (8, 82), (8, 88));
+    hour.orders[2].quantity = 100_001;
+    told_apart(Build::LastFieldOfRow, &hour, (8, 74), (8, 74));
+}
+
+#[test]
+fn shadow_price_counted_in_the_case() {
+    let mut hour = three_zone_hour();
+    hour.shadow_prices = vec![1_000_000, 1_000_001];
+    told_apart(Build::ShadowPriceInCase, &hour, (14, 41), (14, 30));
+    told_apart(Build::ShadowPriceJoined, &hour, (14, 41), (14, 143));
+}
+
+#[test]
+fn offset_cut_to_eight_bits() {
+    let mut hour = three_zone_hour();
+    hour.orders = vec![hour.orders[0]; 512];
+    hour.volumes = vec![0; 512];
+    hour.shadow_prices[1] = 1_000_001;
+    let verdict = judge(&hour.case(), &hour.proposal(), &mut [0; 176]);
+    assert_eq!((verdict.number, verdict.index), (14, 2_069));
+    hour.orders[511].price = 400_001;
+    let verdict = judge(&hour.case(), &hour.proposal(), &mut [0; 176]);
+    assert_eq!((verdict.number, verdict.index), (8, 5_168));
+    let lines = desk_lines(&[hour.case(), hour.proposal()].concat());
+    assert_eq!(lines, b"verdict 8 5168\n");
 }
 
 /// Two zones with the spread of one link positive and of the other negative.
