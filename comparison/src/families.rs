@@ -29,7 +29,7 @@ pub const FAMILIES: [(&str, u64, Feed); 13] = [
 ];
 
 /// A length that is enough, mostly the least that is.
-fn enough(rng: &mut Rng) -> usize {
+pub fn enough(rng: &mut Rng) -> usize {
     match rng.below(3) {
         0 => LEAST_BUFFER + rng.below(81),
         _ => LEAST_BUFFER,
@@ -220,7 +220,7 @@ fn bytes_flipped(run: &mut Run, rng: &mut Rng) {
 }
 
 /// A value outside the field's range, if its bytes can hold one.
-fn outside(rng: &mut Rng, field: &Field) -> Option<i64> {
+pub fn outside(rng: &mut Rng, field: &Field) -> Option<i64> {
     let (lowest, highest) = field.room();
     let above = field.greatest < highest;
     let below = lowest < field.least;
@@ -293,22 +293,27 @@ fn bad_pairs(run: &mut Run, rng: &mut Rng) {
     let mut hour = good(rng, shape);
     let count = hour.links.len();
     let later = 1 + rng.below(count - 1);
-    let mut due = later;
+    // The link at fault, and its byte: a repeated pair has the first, equal zones the second.
+    let mut due = (later, 0);
     if rng.one_in(2) {
         let earlier = rng.below(later);
         (hour.links[later].from, hour.links[later].to) =
             (hour.links[earlier].from, hour.links[earlier].to);
     } else {
         hour.links[later].from = hour.links[later].to;
+        due = (later, 1);
     }
-    // Sometimes another link further on is at fault too, or one before.
+    // Sometimes another link further on is at fault too, or one before, or this one otherwise.
     if rng.one_in(2) {
         let other = rng.below(count);
         hour.links[other].to = hour.links[other].from;
-        due = due.min(other);
+        if other <= later {
+            due = (other, 1);
+        }
     }
+    let links_at = 14 + hour.branches.len() * (4 + 4 * usize::from(hour.zones));
     feed_hour(run, rng, &hour);
-    run.expect(7, due as u32);
+    run.expect(7, (links_at + 6 * due.0 + due.1) as u32);
 }
 
 /// A row, often the last one.

@@ -88,24 +88,25 @@ pub fn fields(hour: &Hour) -> Vec<Field> {
     case.field(1, 0, 64, 4, 7);
     case.field(2, 0, 512, 4, 8);
     case.field(4, 0, 1_000_000_000, 4, 10);
-    for (b, branch) in hour.branches.iter().enumerate() {
-        case.field(4, -500_000, 500_000, 6, b);
+    // 6, 7, 8 and 14 name the offset.
+    for branch in &hour.branches {
+        case.field(4, -500_000, 500_000, 6, case.at);
         for _ in &branch.ptdfs {
-            case.field(4, -200_000, 200_000, 6, b);
+            case.field(4, -200_000, 200_000, 6, case.at);
         }
     }
     let last_zone = i64::from(hour.zones) - 1;
-    for l in 0..hour.links.len() {
+    for _ in &hour.links {
         // A known zone may still make the two equal or repeat a pair.
-        case.field(1, 0, last_zone, 7, l).tied = true;
-        case.field(1, 0, last_zone, 7, l).tied = true;
-        case.field(4, 0, 100_000, 7, l);
+        case.field(1, 0, last_zone, 7, case.at).tied = true;
+        case.field(1, 0, last_zone, 7, case.at).tied = true;
+        case.field(4, 0, 100_000, 7, case.at);
     }
-    for o in 0..hour.orders.len() {
-        case.field(1, 0, last_zone, 8, o);
-        case.field(1, 0, 1, 8, o);
-        case.field(4, 1, 100_000, 8, o);
-        case.field(4, -50_000, 400_000, 8, o);
+    for _ in &hour.orders {
+        case.field(1, 0, last_zone, 8, case.at);
+        case.field(1, 0, 1, 8, case.at);
+        case.field(4, 1, 100_000, 8, case.at);
+        case.field(4, -50_000, 400_000, 8, case.at);
     }
 
     let mut proposal = Walk {
@@ -126,8 +127,8 @@ pub fn fields(hour: &Hour) -> Vec<Field> {
     for (l, link) in hour.links.iter().enumerate() {
         proposal.field(4, 0, most_flow(hour.share, link.capacity), 23, l);
     }
-    for b in 0..hour.branches.len() {
-        proposal.field(4, 0, 1_000_000, 14, b);
+    for _ in &hour.branches {
+        proposal.field(4, 0, 1_000_000, 14, proposal.at);
     }
     proposal.list
 }

@@ -10,6 +10,7 @@ mod desk;
 mod families;
 mod fields;
 mod make;
+mod offsets;
 mod rng;
 mod run;
 #[cfg(feature = "sheet")]
@@ -58,6 +59,7 @@ fn main() -> ExitCode {
     families::widest_totals(&mut run);
     families::buffer_lengths(&mut run, &mut Rng::new(seed));
     families::null_pointers(&mut run);
+    offsets::offsets(&mut run, &mut Rng::new(seed));
     #[cfg(feature = "desk")]
     {
         desk::end(&mut run);

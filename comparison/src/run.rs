@@ -43,7 +43,7 @@ pub const MET: [&str; 8] = [
 pub struct Run {
     pub checks: Vec<Check>,
     pub verdicts: [u64; 31],
-    pub wrong: [Found; 9],
+    pub wrong: [Found; Build::WRONG.len()],
     pub wrong_tried: u64,
     pub met: [u64; 8],
     pub inputs: u64,
