@@ -15,11 +15,14 @@ Converts an hour between readable text and its two binary files, the case and th
 
   hour.py build TEXT [--case FILE] [--proposal FILE] [--joined FILE]
   hour.py show CASE [PROPOSAL]
+  hour.py field CASE [PROPOSAL] OFFSET
   hour.py help
 
 build writes the files asked for; --joined writes the case and at once the proposal, as the desk reads them.
 Without a file it names the two sizes. A TEXT of - is standard input, a FILE of - standard output.
 show prints the text of a case and a proposal. Building that text gives back the same bytes, however broken.
+field says which field of the last file named stands at OFFSET, a number or hex digits after 0x. The index of verdicts
+4, 6, 7 and 8 is an offset of the case, that of 14 one of the proposal.
 
 The text: one item per line; blank lines and what follows a # are passed over. Numbers are whole.
 
@@ -54,6 +57,7 @@ UNITS = """\
 # An hour as text; tools/hour.py help explains the lines.
 # RAM, capacity, quantity, volume, flow: tenths of a MW. PTDF, LTA share: hundred-thousandths, 100000 is 1.
 # Order price, system price, shadow price: cents per MWh. Tolerance: cents.
+# After "at": the offset in its file of each field of the line.
 """
 
 # Least and greatest value of each struct code.
@@ -85,6 +89,9 @@ FIELDS = {
     "shadow": (("shadow price", "I"),),
 }
 
+# Records of a proposal: the record of the case that each belongs to.
+OWNERS = {"volume": "order", "flow": "link", "shadow": "branch"}
+
 SIDES = ("buy", "sell")
 
 # Fields of a margin sheet's line, each with the decimals of our unit and its greatest size in it.
@@ -97,6 +104,7 @@ WHOLE_NUMBER = re.compile(r"-?[0-9]+")
 SHEET_NUMBER = re.compile(rb"(-?)([0-9]+)(?:\.([0-9]+))?")
 HEX_PAIRS = re.compile(r"([0-9a-fA-F]{2})*")
 MARK = re.compile(r"[!-~]{3}|[0-9a-fA-F]{6}")
+OFFSET = re.compile(r"[0-9]+|0[xX][0-9a-fA-F]+")
 HEX_BYTES_PER_LINE = 32
 
 
@@ -105,6 +113,10 @@ class TextError(ValueError):
 
     def __init__(self, line, message):
         super().__init__(f"line {line}: {message}")
+
+
+class OffsetError(ValueError):
+    """An offset that is not one of the file."""
 
 
 def record_fields(kind, zones):
@@ -117,6 +129,12 @@ def record_layout(kind, zones):
 
 def header_layout(file):
     return struct.Struct("<3s" + "".join(code for _, code in HEADERS[file]))
+
+
+def offsets_from(position, fields):
+    """The offset of each field, the first of which stands at the position."""
+    sizes = [struct.calcsize("<" + code) for _, code in fields]
+    return [position + sum(sizes[:n]) for n in range(len(sizes))]
 
 
 # Text to bytes.
@@ -398,9 +416,17 @@ def show_hex(file, data):
         yield f"append {file} {data[start : start + HEX_BYTES_PER_LINE].hex()}"
 
 
+def show_offsets(offsets):
+    return "at " + " ".join(map(str, offsets))
+
+
 def show_header(file, mark, header):
-    names = [name for name, _ in HEADERS[file] if name not in COUNTS]
-    yield f"{file} " + " ".join(f"{name} {header[name]}" for name in names)
+    places = dict(zip((name for name, _ in HEADERS[file]), offsets_from(3, HEADERS[file])))
+    names = [name for name in places if name not in COUNTS]
+    note = show_offsets(places[name] for name in names)
+    if file == "case":
+        note += f"; {', '.join(COUNTS)} {show_offsets(places[name] for name in COUNTS)}"
+    yield f"{file} " + " ".join(f"{name} {header[name]}" for name in names) + f"  # {note}"
     if mark != MARKS[file]:
         yield f"mark {show_mark(mark)}"
 
@@ -419,15 +445,14 @@ def show_short_header(file, data):
     yield from show_hex(file, data)
 
 
-def notes_of(kind, rows, case_rows):
-    """What each record is: its index, and for a proposal the record of the case it belongs to."""
-    if FILE_OF[kind] == "case":
-        return [f"{kind} {index}" for index in range(len(rows))]
-    owner = {"volume": "order", "flow": "link", "shadow": "branch"}[kind]
+def notes_of(kind, rows, position, zones, case_rows):
+    """What each record is: its offsets, its index, and for a proposal the record of the case it belongs to."""
+    owner, size = OWNERS.get(kind), record_layout(kind, zones).size
     notes = []
     for index in range(len(rows)):
-        note = f"{owner} {index}"
-        if index < len(case_rows.get(owner, ())):
+        offsets = offsets_from(position + index * size, record_fields(kind, zones))
+        note = f"{show_offsets(offsets)}, {owner or kind} {index}"
+        if owner and index < len(case_rows.get(owner, ())):
             words = show_row(owner, case_rows[owner][index])
             note += f": RAM {words[0]}" if owner == "branch" else f": {' '.join(words)}"
         notes.append(note)
@@ -466,8 +491,10 @@ def show_file(file, data, counts, case_rows):
         case_rows.update(tables)
         if missing is not None:
             yield "counts " + " ".join(f"{name} {header[name]}" for name in COUNTS)
+    start, zones = layout.size, counts.get("zones", 0)
     for kind, rows in tables.items():
-        yield from show_records(kind, rows, notes_of(kind, rows, case_rows))
+        yield from show_records(kind, rows, notes_of(kind, rows, start, zones, case_rows))
+        start += len(rows) * record_layout(kind, zones).size
     rest = data[position:]
     if missing is not None:
         yield f"# The {file} ends before the end of {missing}; bytes left: {len(rest)}."
@@ -481,6 +508,53 @@ def show(case, proposal=b""):
     counts, case_rows = {}, {}
     shown = [list(show_file(file, data, counts, case_rows)) for file, data in (("case", case), ("proposal", proposal))]
     return UNITS + "".join("\n" + "\n".join(lines) + "\n" for lines in shown if lines)
+
+
+# The field at an offset.
+
+
+def case_counts(case):
+    """The header of a case, empty where it is not whole."""
+    layout = header_layout("case")
+    if len(case) < layout.size:
+        return {}
+    return dict(zip((name for name, _ in HEADERS["case"]), layout.unpack_from(case)[1:]))
+
+
+def whole_fields(file, data, counts):
+    """Every whole field of a file in file order, each with its offset, its size and its name and value."""
+    header = (("mark", "3s"),) + HEADERS[file]
+    position = header_layout(file).size
+    for (name, code), offset in zip(header, offsets_from(0, header)):
+        field = struct.Struct("<" + code)
+        if offset + field.size <= len(data):
+            (content,) = field.unpack_from(data, offset)
+            yield offset, field.size, f"{name} {show_mark(content) if name == 'mark' else content}"
+    zones = counts.get("zones", 0)
+    for kind, rows in whole_records(file, data, counts)[0].items():
+        fields = record_fields(kind, zones)
+        for index, row in enumerate(rows):
+            places = offsets_from(position, fields)
+            position += record_layout(kind, zones).size
+            for n, ((name, code), word) in enumerate(zip(fields, show_row(kind, row))):
+                name = f"PTDF of zone {n - 1}:" if name == "PTDF" else name
+                yield places[n], struct.calcsize("<" + code), f"{OWNERS.get(kind, kind)} {index}, {name} {word}"
+
+
+def field_at(offset, case, proposal=None):
+    """What stands at an offset of the proposal, or without one of the case."""
+    file, data = ("case", case) if proposal is None else ("proposal", proposal)
+    if offset >= len(data):
+        raise OffsetError(f"offset {offset} (0x{offset:x}) is not in the {file} of {len(data)} bytes")
+    counts = case_counts(case)
+    place = f"offset {offset} (0x{offset:x}) of the {file}"
+    for start, size, content in whole_fields(file, data, counts):
+        if start <= offset < start + size:
+            return f"{place}: {content}, bytes {data[start : start + size].hex(' ')} at {start} (0x{start:x})"
+    if len(data) < header_layout(file).size:
+        return f"{place}: in the header, which is not whole"
+    missing = whole_records(file, data, counts)[1]
+    return f"{place}: " + ("past the last field" if missing is None else f"in {missing}, which is not whole")
 
 
 # Commands.
@@ -521,6 +595,17 @@ def run_show(options):
     sys.stdout.write(show(read_bytes(options.case), proposal))
 
 
+def offset_of(word):
+    if not OFFSET.fullmatch(word):
+        raise argparse.ArgumentTypeError(f"{word!r} is not a whole number, nor hex digits after 0x")
+    return int(word, 16 if word[1:2] in ("x", "X") else 10)
+
+
+def run_field(options):
+    proposal = None if options.proposal is None else read_bytes(options.proposal)
+    print(field_at(options.offset, read_bytes(options.case), proposal))
+
+
 def run_help(_options):
     sys.stdout.write(HELP)
 
@@ -538,6 +623,11 @@ def main(arguments):
     shower.add_argument("case")
     shower.add_argument("proposal", nargs="?")
     shower.set_defaults(run=run_show)
+    finder = commands.add_parser("field", add_help=False)
+    finder.add_argument("case")
+    finder.add_argument("proposal", nargs="?")
+    finder.add_argument("offset", type=offset_of)
+    finder.set_defaults(run=run_field)
     commands.add_parser("help", add_help=False).set_defaults(run=run_help)
     options = parser.parse_args(arguments)
     try:
@@ -545,7 +635,7 @@ def main(arguments):
     except (TextError, UnicodeDecodeError) as fault:
         print(f"hour.py: {options.text}: {fault}", file=sys.stderr)
         return 1
-    except OSError as fault:
+    except (OSError, OffsetError) as fault:
         print(f"hour.py: {fault}", file=sys.stderr)
         return 1
     return 0

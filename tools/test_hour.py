@@ -153,13 +153,25 @@ class ShownText(unittest.TestCase):
             lines = hour.show(case).split("\n")
             self.assertIn("tenths of a MW", lines[1])
             self.assertIn("cents per MWh", lines[2])
+            self.assertIn("offset in its file", lines[3])
 
     def test_indices_and_orders_are_named(self):
         text = hour.show(P1_CASE, P1_PROPOSAL)
-        self.assertIn("order 2  buy 10000 5000  # order 4\n", text)
-        self.assertIn("volume 1375  # order 1: 0 sell 6000 2000\n", text)
-        self.assertIn("flow 3500  # link 0: 0 1 4000\n", text)
-        self.assertIn("shadow 5500  # branch 0: RAM 2500\n", text)
+        self.assertIn(", order 4\n", text)
+        self.assertIn(", order 1: 0 sell 6000 2000\n", text)
+        self.assertIn(", link 0: 0 1 4000\n", text)
+        self.assertIn(", branch 0: RAM 2500\n", text)
+
+    def test_each_field_has_its_offset(self):
+        text = hour.show(P1_CASE, P1_PROPOSAL)
+        self.assertIn("\ncase version 1 zones 3 tolerance 0  # at 3 5 10; branches, links, orders at 6 7 8\n", text)
+        self.assertIn("\nbranch 15000 -100000     0     0  # at 30 34 38 42, branch 1\n", text)
+        self.assertIn("\nlink 0 1 4000  # at 46 47 48, link 0\n", text)
+        self.assertIn("\norder 2  buy 10000 5000  # at 92 93 94 98, order 4\n", text)
+        self.assertIn("\nproposal version 1 share 87500 system 2250  # at 3 5 9\n", text)
+        self.assertIn("\nvolume 1375  # at 17, order 1: ", text)
+        self.assertIn("\nflow 3500  # at 33, link 0: ", text)
+        self.assertIn("\nshadow  250  # at 41, branch 1: ", text)
 
     def test_whole_fields_of_a_short_header(self):
         text = hour.show(P1_CASE[:6], P1_PROPOSAL[:2])
@@ -169,7 +181,7 @@ class ShownText(unittest.TestCase):
     def test_records_before_a_cut_are_shown(self):
         text = hour.show(P1_CASE[:-1])
         self.assertIn("counts branches 2 links 1 orders 5\n", text)
-        self.assertIn("order 1  buy 9000 6000  # order 3\n", text)
+        self.assertIn("order 1  buy 9000 6000  # at 82 83 84 88, order 3\n", text)
         self.assertIn("# The case ends before the end of order 4; bytes left: 9.\n", text)
         self.assertIn("append case 020010270000881300\n", text)
 
@@ -178,6 +190,113 @@ class ShownText(unittest.TestCase):
         text = hour.show(P1_CASE[: 14 + 16 + 8])
         self.assertNotIn("\nlink", text)
         self.assertIn("append case 983a00006079feff\n", text)
+
+
+class FieldAtOffset(unittest.TestCase):
+    """Every offset of a file has the field whose byte stands there."""
+
+    # P1's fields by hand, each with its first offset.
+    CASE = {
+        0: "mark LTC",
+        3: "version 1",
+        5: "zones 3",
+        6: "branches 2",
+        7: "links 1",
+        8: "orders 5",
+        10: "tolerance 0",
+        14: "branch 0, RAM 2500",
+        18: "branch 0, PTDF of zone 0: 0",
+        22: "branch 0, PTDF of zone 1: 75000",
+        26: "branch 0, PTDF of zone 2: 50000",
+        30: "branch 1, RAM 15000",
+        34: "branch 1, PTDF of zone 0: -100000",
+        38: "branch 1, PTDF of zone 1: 0",
+        42: "branch 1, PTDF of zone 2: 0",
+        46: "link 0, from zone 0",
+        47: "link 0, to zone 1",
+        48: "link 0, capacity 4000",
+        52: "order 0, zone 0",
+        53: "order 0, side sell",
+        54: "order 0, quantity 4000",
+        58: "order 0, price 1000",
+        62: "order 1, zone 0",
+        63: "order 1, side sell",
+        64: "order 1, quantity 6000",
+        68: "order 1, price 2000",
+        72: "order 2, zone 1",
+        73: "order 2, side buy",
+        74: "order 2, quantity 1000",
+        78: "order 2, price 7000",
+        82: "order 3, zone 1",
+        83: "order 3, side buy",
+        84: "order 3, quantity 9000",
+        88: "order 3, price 6000",
+        92: "order 4, zone 2",
+        93: "order 4, side buy",
+        94: "order 4, quantity 10000",
+        98: "order 4, price 5000",
+        102: None,
+    }
+    PROPOSAL = {
+        0: "mark LTP",
+        3: "version 1",
+        5: "share 87500",
+        9: "system 2250",
+        13: "order 0, volume 4000",
+        17: "order 1, volume 1375",
+        21: "order 2, volume 1000",
+        25: "order 3, volume 0",
+        29: "order 4, volume 4375",
+        33: "link 0, flow 3500",
+        37: "branch 0, shadow price 5500",
+        41: "branch 1, shadow price 250",
+        45: None,
+    }
+
+    def assert_fields(self, file, data, by_hand, *files):
+        starts = list(by_hand)
+        for start, end in zip(starts, starts[1:]):
+            for offset in range(start, end):
+                shown = f"{by_hand[start]}, bytes {data[start:end].hex(' ')} at {start} (0x{start:x})"
+                due = f"offset {offset} (0x{offset:x}) of the {file}: {shown}"
+                self.assertEqual(hour.field_at(offset, *files), due)
+
+    def test_every_offset_of_the_three_zone_hour(self):
+        self.assert_fields("case", P1_CASE, self.CASE, P1_CASE)
+        self.assert_fields("proposal", P1_PROPOSAL, self.PROPOSAL, P1_CASE, P1_PROPOSAL)
+
+    def test_an_offset_past_the_file_is_refused(self):
+        for offset, files, message in (
+            (102, (P1_CASE,), "offset 102 (0x66) is not in the case of 102 bytes"),
+            (45, (P1_CASE, P1_PROPOSAL), "offset 45 (0x2d) is not in the proposal of 45 bytes"),
+            (0, (b"",), "offset 0 (0x0) is not in the case of 0 bytes"),
+        ):
+            with self.assertRaises(hour.OffsetError) as caught:
+                hour.field_at(offset, *files)
+            self.assertEqual(str(caught.exception), message)
+
+    def test_bytes_of_no_whole_field(self):
+        for offset, files, message in (
+            (102, (P1_CASE + b"\x00",), "offset 102 (0x66) of the case: past the last field"),
+            (45, (P1_CASE, P1_PROPOSAL + b"\x00"), "offset 45 (0x2d) of the proposal: past the last field"),
+            (92, (P1_CASE[:-1],), "offset 92 (0x5c) of the case: in order 4, which is not whole"),
+            (11, (P1_CASE[:13],), "offset 11 (0xb) of the case: in the header, which is not whole"),
+        ):
+            self.assertEqual(hour.field_at(offset, *files), message)
+        # What stands before is named all the same.
+        self.assertIn("case: orders 5, bytes", hour.field_at(9, P1_CASE[:13]))
+        self.assertIn("case: order 3, price 6000, bytes", hour.field_at(91, P1_CASE[:-1]))
+
+    def test_a_stored_refusal_names_where_a_field_of_its_part_begins(self):
+        parts = {6: "branch", 7: "link", 8: "order", 14: "branch"}
+        for name, text in stored_hours().items():
+            number, index = map(int, EXPECT.search(text).groups())
+            if number in parts and name.startswith(("refused-", "run-")):
+                with self.subTest(name):
+                    case, proposal = hour.build(text)
+                    found = hour.field_at(index, case, *([proposal] if number == 14 else []))
+                    self.assertRegex(found, rf": {parts[number]} \d+, .* at {index} ")
+                    self.assertEqual("shadow price" in found, number == 14)
 
 
 class WrongHours(unittest.TestCase):
@@ -423,6 +542,18 @@ class CommandLine(unittest.TestCase):
         status, out, _ = run_tool(hour.main, "build", SAMPLES / "three-zone.txt")
         self.assertEqual((status, out), (0, "case 102 bytes, proposal 45 bytes\n"))
 
+    def test_field_by_number_and_hex(self):
+        case, proposal = SAMPLES / "three-zone.case", SAMPLES / "three-zone.proposal"
+        to_zone, shadow = hour.field_at(47, P1_CASE), hour.field_at(41, P1_CASE, P1_PROPOSAL)
+        for word in ("47", "0x2f", "0X2F"):
+            self.assertEqual(run_tool(hour.main, "field", case, word), (0, to_zone + "\n", ""))
+        self.assertEqual(run_tool(hour.main, "field", case, proposal, "41"), (0, shadow + "\n", ""))
+        refusal = "hour.py: offset 102 (0x66) is not in the case of 102 bytes\n"
+        self.assertEqual(run_tool(hour.main, "field", case, "102"), (1, "", refusal))
+        for word in ("2f", "-1", "0x", "1.0", ""):
+            self.assertEqual(run_tool(hour.main, "field", case, word)[:2], (2, ""))
+        self.assertEqual(run_tool(hour.main, "field", case)[0], 2)
+
     def test_bad_text_names_file_and_line_and_writes_nothing(self):
         text, joined = self.folder / "bad.txt", self.folder / "joined"
         text.write_text("case version 1 zones 1 tolerance 0\nlink 0\n")
@@ -485,6 +616,12 @@ class StoredHours(unittest.TestCase):
                 self.assertEqual(len(totals), EXPECT.search(text)[1] in ("0", "26"))
                 for welfare, bound, gap, *_ in totals:
                     self.assertEqual(Decimal(gap), Decimal(bound) - Decimal(welfare))
+
+    def test_the_desk_printed_each_expected_verdict(self):
+        printed = (ROOT / "crates" / "desk_runs" / "stdout").read_text()
+        found = dict(re.findall(r"^(\S+)\.bin\nverdict (\d+ \d+)$", printed, re.MULTILINE))
+        expected = {name: " ".join(EXPECT.search(text).groups()) for name, text in stored_hours().items()}
+        self.assertEqual(found, expected)
 
     def test_every_number_and_header_offset_is_expected_somewhere(self):
         found = [EXPECT.search(text).groups() for text in stored_hours().values()]
