@@ -48,7 +48,11 @@ extern "C" {
 #define LTA_INDEX(verdict) ((uint32_t)((verdict) / 256))
 
 /* The numbers. LTA_NO_ROOM is asked first of all; among the others the smallest number that has a cause wins, and then the smallest
- * index. No number is returned for another cause than its own. The index is 0 where none is named. Places are counted from 0. */
+ * index. No number is returned for another cause than its own.
+ *
+ * The index is 0 where none is named, else a place counted from 0. For 4, 6, 7, 8 and 14 it is an offset: how many bytes stand in the
+ * file, the case or for 14 the proposal, before the field that is refused. That is the first field in file order that is at fault: row by
+ * row, and within a row in the order named here. For 21 and 23 to 25 it is the row or the zone. */
 enum lta_number {
     LTA_ACCEPTED = 0,               /* none of these causes */
     LTA_CASE_SHORT = 1,             /* case shorter than 14 bytes */
@@ -56,15 +60,16 @@ enum lta_number {
     LTA_CASE_VERSION = 3,           /* case version is not 1 */
     LTA_CASE_HEADER = 4,            /* header field outside its range; index: its offset, 5, 6, 7, 8 or 10 */
     LTA_CASE_LENGTH = 5,            /* case length is not what the header demands */
-    LTA_CASE_BRANCH = 6,            /* branch field out of range; index: the branch */
-    LTA_CASE_LINK = 7,              /* link: unknown zone, equal zones, capacity, repeated pair; index: the link (the later one) */
-    LTA_CASE_ORDER = 8,             /* order field out of range; index: the order */
+    LTA_CASE_BRANCH = 6,            /* branch field out of range; index: its offset; margin, then each PTDF */
+    LTA_CASE_LINK = 7,              /* link field at fault; index: its offset; from zone (unknown, or the pair repeats an earlier
+                                     * link's), to zone (unknown, or equal to the from zone), capacity (out of range) */
+    LTA_CASE_ORDER = 8,             /* order field out of range; index: its offset; zone, side, quantity, price */
     LTA_PROPOSAL_SHORT = 9,         /* proposal shorter than 13 bytes */
     LTA_PROPOSAL_MARK = 10,         /* proposal does not begin with LTP */
     LTA_PROPOSAL_VERSION = 11,      /* proposal version is not 1 */
     LTA_PROPOSAL_LENGTH = 12,       /* proposal length is wrong for this case */
     LTA_SHARE = 13,                 /* LTA share above 100,000 */
-    LTA_SHADOW_PRICE = 14,          /* shadow price above 1,000,000; index: the branch */
+    LTA_SHADOW_PRICE = 14,          /* shadow price above 1,000,000; index: its offset in the proposal */
     LTA_VOLUME = 21,                /* volume above its order's quantity; index: the order */
     LTA_BALANCE = 22,               /* rule 3 fails: the net positions do not sum to zero */
     LTA_LINK_RULE = 23,             /* rule 4 fails: flow * 100,000 > share * capacity; index: the link */

@@ -185,7 +185,7 @@ fn main() {
     field.branches[63].ram = 500_001;
     print(
         "largest, refused at the last branch (6)",
-        &of(&field, 6, 63),
+        &of(&field, 6, 14 + 63 * (4 + 4 * 16)),
     );
     let mut rule = largest.clone();
     rule.branches[63].ram = -500_000;

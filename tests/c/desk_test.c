@@ -171,6 +171,15 @@ static void refused(void)
     about("P11");
     printed(&input, "verdict 25 0\n");
     input = sample;
+    put(&input, 37 + 102, 4, 1000001);
+    about("the first shadow price: its offset is counted in the proposal");
+    printed(&input, "verdict 14 37\n");
+    h = largest_hour(0);
+    h.order[511].price = 400001;
+    input = input_of(&h);
+    about("the largest offset, of the last of 512 prices");
+    printed(&input, "verdict 8 9866\n");
+    input = sample;
     put(&input, 10, 4, 1000000001);
     about("a header that is not good: all is the case");
     printed(&input, "verdict 4 10\n");

@@ -146,11 +146,11 @@ static void run_only(void)
     refused_files(&none, &none, LTA_CASE_SHORT, 0);
     about("shadow price 1,000,001 of the first branch");
     h.shadow[0] = 1000001;
-    refused(&h, LTA_SHADOW_PRICE, 0);
+    refused(&h, LTA_SHADOW_PRICE, 37);
     about("shadow price 1,000,001 of the second branch");
     h.shadow[0] = 5500;
     h.shadow[1] = 1000001;
-    refused(&h, LTA_SHADOW_PRICE, 1);
+    refused(&h, LTA_SHADOW_PRICE, 41);
     about("a proposal one byte too long");
     p.length++;
     refused_files(&c, &p, LTA_PROPOSAL_LENGTH, 0);
@@ -188,22 +188,22 @@ static void one_field(void)
         {"a link more than fields", CASE, 7, 1, 2, LTA_CASE_LENGTH, 0},
         {"an order less than fields", CASE, 8, 2, 4, LTA_CASE_LENGTH, 0},
         {"512 orders of 5", CASE, 8, 2, 512, LTA_CASE_LENGTH, 0},
-        {"first margin 500,001", CASE, 14, 4, 500001, LTA_CASE_BRANCH, 0},
-        {"first margin -500,001", CASE, 14, 4, -500001, LTA_CASE_BRANCH, 0},
-        {"second margin 500,001", CASE, 30, 4, 500001, LTA_CASE_BRANCH, 1},
-        {"first branch, last PTDF 200,001", CASE, 26, 4, 200001, LTA_CASE_BRANCH, 0},
-        {"second branch, last PTDF -200,001", CASE, 42, 4, -200001, LTA_CASE_BRANCH, 1},
-        {"link from an unknown zone", CASE, 46, 1, 3, LTA_CASE_LINK, 0},
-        {"link to an unknown zone", CASE, 47, 1, 3, LTA_CASE_LINK, 0},
-        {"link from a zone to itself", CASE, 46, 1, 1, LTA_CASE_LINK, 0},
-        {"capacity 100,001", CASE, 48, 4, 100001, LTA_CASE_LINK, 0},
-        {"capacity of all bits", CASE, 48, 4, -1, LTA_CASE_LINK, 0},
-        {"last order in an unknown zone", CASE, 92, 1, 3, LTA_CASE_ORDER, 4},
-        {"first order on side 2", CASE, 53, 1, 2, LTA_CASE_ORDER, 0},
-        {"second quantity 0", CASE, 64, 4, 0, LTA_CASE_ORDER, 1},
-        {"third quantity 100,001", CASE, 74, 4, 100001, LTA_CASE_ORDER, 2},
-        {"fourth price 400,001", CASE, 88, 4, 400001, LTA_CASE_ORDER, 3},
-        {"last price -50,001", CASE, 98, 4, -50001, LTA_CASE_ORDER, 4},
+        {"first margin 500,001", CASE, 14, 4, 500001, LTA_CASE_BRANCH, 14},
+        {"first margin -500,001", CASE, 14, 4, -500001, LTA_CASE_BRANCH, 14},
+        {"second margin 500,001", CASE, 30, 4, 500001, LTA_CASE_BRANCH, 30},
+        {"first branch, last PTDF 200,001", CASE, 26, 4, 200001, LTA_CASE_BRANCH, 26},
+        {"second branch, last PTDF -200,001", CASE, 42, 4, -200001, LTA_CASE_BRANCH, 42},
+        {"link from an unknown zone", CASE, 46, 1, 3, LTA_CASE_LINK, 46},
+        {"link to an unknown zone", CASE, 47, 1, 3, LTA_CASE_LINK, 47},
+        {"link from a zone to itself", CASE, 46, 1, 1, LTA_CASE_LINK, 47},
+        {"capacity 100,001", CASE, 48, 4, 100001, LTA_CASE_LINK, 48},
+        {"capacity of all bits", CASE, 48, 4, -1, LTA_CASE_LINK, 48},
+        {"last order in an unknown zone", CASE, 92, 1, 3, LTA_CASE_ORDER, 92},
+        {"first order on side 2", CASE, 53, 1, 2, LTA_CASE_ORDER, 53},
+        {"second quantity 0", CASE, 64, 4, 0, LTA_CASE_ORDER, 64},
+        {"third quantity 100,001", CASE, 74, 4, 100001, LTA_CASE_ORDER, 74},
+        {"fourth price 400,001", CASE, 88, 4, 400001, LTA_CASE_ORDER, 88},
+        {"last price -50,001", CASE, 98, 4, -50001, LTA_CASE_ORDER, 98},
         {"proposal mark, first byte", PROPOSAL, 0, 1, 'l', LTA_PROPOSAL_MARK, 0},
         {"proposal mark, second byte", PROPOSAL, 1, 1, 't', LTA_PROPOSAL_MARK, 0},
         {"proposal mark, third byte", PROPOSAL, 2, 1, 'C', LTA_PROPOSAL_MARK, 0},
@@ -211,7 +211,7 @@ static void one_field(void)
         {"proposal version 257", PROPOSAL, 3, 2, 257, LTA_PROPOSAL_VERSION, 0},
         {"share 100,001", PROPOSAL, 5, 4, 100001, LTA_SHARE, 0},
         {"share of all bits", PROPOSAL, 5, 4, -1, LTA_SHARE, 0},
-        {"second shadow price of all bits", PROPOSAL, 41, 4, -1, LTA_SHADOW_PRICE, 1},
+        {"second shadow price of all bits", PROPOSAL, 41, 4, -1, LTA_SHADOW_PRICE, 41},
         {"last volume of all bits", PROPOSAL, 29, 4, -1, LTA_VOLUME, 4},
         {"flow of all bits", PROPOSAL, 33, 4, -1, LTA_LINK_RULE, 0},
         {"share 100,000, so that no margin is left", PROPOSAL, 5, 4, 100000, LTA_BRANCH_RULE, 0},
@@ -228,14 +228,113 @@ static void one_field(void)
     }
 }
 
+/* One field at an offset of P1's case (0) or proposal (1), put one past either limit, where under 0 is all bits, and at its highest bit
+ * alone: its own offset is named. Gives the offset of the next field. */
+static size_t field_damaged(int file, size_t offset, size_t width, int64_t least, int64_t greatest, uint32_t number)
+{
+    const int64_t values[] = {least - 1, greatest + 1, INT64_C(1) << (8 * width - 1)};
+    struct hour h = three_zone_hour();
+    for (size_t k = 0; k < sizeof values / sizeof *values; k++) {
+        struct file files[2] = {case_file(&h), proposal_file(&h)};
+        put(&files[file], offset, width, (uint64_t)values[k]);
+        about("%" PRId64 " at offset %zu of the %s", values[k], offset, file == 0 ? "case" : "proposal");
+        refused_files(&files[0], &files[1], number, (uint32_t)offset);
+    }
+    return offset + width;
+}
+
+/* Every field of the rows that can be at fault, in file order. */
+static void each_field(void)
+{
+    struct hour h = three_zone_hour();
+    size_t at = 14;
+    for (size_t b = 0; b < h.branches; b++) {
+        at = field_damaged(0, at, 4, -500000, 500000, LTA_CASE_BRANCH);
+        for (size_t z = 0; z < h.zones; z++)
+            at = field_damaged(0, at, 4, -200000, 200000, LTA_CASE_BRANCH);
+    }
+    for (size_t l = 0; l < h.links; l++) {
+        at = field_damaged(0, at, 1, 0, h.zones - 1, LTA_CASE_LINK);
+        at = field_damaged(0, at, 1, 0, h.zones - 1, LTA_CASE_LINK);
+        at = field_damaged(0, at, 4, 0, 100000, LTA_CASE_LINK);
+    }
+    for (size_t i = 0; i < h.orders; i++) {
+        at = field_damaged(0, at, 1, 0, h.zones - 1, LTA_CASE_ORDER);
+        at = field_damaged(0, at, 1, 0, 1, LTA_CASE_ORDER);
+        at = field_damaged(0, at, 4, 1, 100000, LTA_CASE_ORDER);
+        at = field_damaged(0, at, 4, -50000, 400000, LTA_CASE_ORDER);
+    }
+    about("the walk ends with the case");
+    check(at == 102);
+    at = 13 + 4 * ((size_t)h.orders + h.links);
+    for (size_t b = 0; b < h.branches; b++)
+        at = field_damaged(1, at, 4, 0, 1000000, LTA_SHADOW_PRICE);
+    about("the walk ends with the proposal");
+    check(at == 45);
+}
+
+/* Rows with two faults, or the same fault in two rows: the first field in file order is named. P1's branches begin at 14 and 30, its
+ * links at 46, 52 and 58 if there are so many, the orders after one link at 52, 62, 72, 82 and 92, the shadow prices at 37 and 41. */
+static void first_in_file_order(void)
+{
+    struct hour h = three_zone_hour();
+    h.shadow[0] = h.shadow[1] = 1000001;
+    about("two shadow prices: the first is named, in the proposal");
+    refused(&h, LTA_SHADOW_PRICE, 37);
+
+    h.order[1] = (struct order){0, 1, 6000, 400001};
+    h.order[2].zone = 3;
+    about("a price, and a zone in the next order: row by row");
+    refused(&h, LTA_CASE_ORDER, 68);
+    h.order[1].quantity = 0;
+    about("price and quantity: the quantity is named");
+    refused(&h, LTA_CASE_ORDER, 64);
+    h.order[1].side = 2;
+    about("price, quantity and side: the side is named");
+    refused(&h, LTA_CASE_ORDER, 63);
+    h.order[1].zone = 3;
+    about("all four: the zone is named");
+    refused(&h, LTA_CASE_ORDER, 62);
+
+    h.links = 3;
+    h.link[1] = (struct link){1, 0, 100001};
+    h.link[2] = (struct link){0, 1, 4000};
+    about("a capacity before a repeated pair: row by row");
+    refused(&h, LTA_CASE_LINK, 54);
+    h.link[1].to = 1;
+    about("equal zones and the capacity: the second of the two is named");
+    refused(&h, LTA_CASE_LINK, 53);
+    h.link[1].to = 3;
+    about("an unknown zone and the capacity: the zone is named");
+    refused(&h, LTA_CASE_LINK, 53);
+    h.link[1].from = 3;
+    about("equal zones that are unknown: the first of the two is named");
+    refused(&h, LTA_CASE_LINK, 52);
+    h.link[1] = (struct link){1, 0, 4000};
+    h.link[2].capacity = 100001;
+    about("a repeated pair and the capacity: the later link's first byte is named");
+    refused(&h, LTA_CASE_LINK, 58);
+
+    h.branch[0].ptdf[2] = 200001;
+    h.branch[1].ram = 500001;
+    about("a PTDF, and the margin of the next branch: row by row");
+    refused(&h, LTA_CASE_BRANCH, 26);
+    h.branch[0].ptdf[0] = -200001;
+    about("two PTDFs: the first is named");
+    refused(&h, LTA_CASE_BRANCH, 18);
+    h.branch[0].ram = -500001;
+    about("margin and PTDFs: the margin is named");
+    refused(&h, LTA_CASE_BRANCH, 14);
+}
+
 /* Hours at which two causes meet, or the index is not the first. */
 static void causes(void)
 {
     struct hour h = three_zone_hour();
     h.links = 2;
     h.link[1] = h.link[0];
-    about("a repeated pair names the later link");
-    refused(&h, LTA_CASE_LINK, 1);
+    about("a repeated pair names the later link's first byte");
+    refused(&h, LTA_CASE_LINK, 52);
 
     h.link[1] = (struct link){1, 0, 4000};
     h.flow[1] = 3501;
@@ -250,11 +349,11 @@ static void causes(void)
     h.order[3].side = 2;
     h.order[1].quantity = 0;
     h.branch[1].ram = 500001;
-    about("two orders and a branch out of range: the branch is named");
-    refused(&h, LTA_CASE_BRANCH, 1);
+    about("two orders and a branch out of range: the branch's margin is named");
+    refused(&h, LTA_CASE_BRANCH, 30);
     h.branch[1].ram = 15000;
-    about("two orders out of range: the first is named");
-    refused(&h, LTA_CASE_ORDER, 1);
+    about("two orders out of range: the first one's quantity is named");
+    refused(&h, LTA_CASE_ORDER, 64);
 
     h = three_zone_hour();
     h.volume[0] = 4001;
@@ -395,7 +494,7 @@ static void largest(void)
     h = largest_hour(0);
     h.order[511].price = 400001;
     about("the last of 512 orders out of range");
-    refused(&h, LTA_CASE_ORDER, 511);
+    refused(&h, LTA_CASE_ORDER, 9866);
     h = largest_hour(0);
     h.volume[511]++;
     about("the last of 512 volumes too large");
@@ -403,7 +502,7 @@ static void largest(void)
     h = largest_hour(0);
     h.link[63] = h.link[0];
     about("the last of 64 links repeats the first");
-    refused(&h, LTA_CASE_LINK, 63);
+    refused(&h, LTA_CASE_LINK, 4744);
     h = largest_hour(0);
     h.flow[63]++;
     about("the last of 64 flows too large");
@@ -411,11 +510,11 @@ static void largest(void)
     h = largest_hour(0);
     h.branch[63].ptdf[15] = -200001;
     about("the last of 64 times 16 PTDFs out of range");
-    refused(&h, LTA_CASE_BRANCH, 63);
+    refused(&h, LTA_CASE_BRANCH, 4362);
     h = largest_hour(0);
     h.shadow[63] = 1000001;
     about("the last of 64 shadow prices too large");
-    refused(&h, LTA_SHADOW_PRICE, 63);
+    refused(&h, LTA_SHADOW_PRICE, 2569);
 
     /* The last zone's price is a cent above the others'. What a buy gains less by that a sell gains more. One branch of 500,000 at a
      * shadow price of 100,000 has 5e15, and four links of 100,000 lead to the zone. */
@@ -493,7 +592,7 @@ static void header(void)
     check(LTA_REPORT_SIZE(16) == report.length && LTA_REPORT_ROOM == report.length && LTA_REPORT_SIZE(1) == 56);
     about("number and index of a verdict");
     uint64_t verdict = 25 + 256 * UINT64_C(15);
-    check(LTA_NUMBER(verdict) == LTA_ZONE_PRICE && LTA_INDEX(verdict) == 15 && LTA_INDEX(8 + 256 * UINT64_C(511)) == 511);
+    check(LTA_NUMBER(verdict) == LTA_ZONE_PRICE && LTA_INDEX(verdict) == 15 && LTA_INDEX(8 + 256 * UINT64_C(9866)) == 9866);
 }
 
 static bool same_file(const char *name, const struct file *f)
@@ -537,6 +636,8 @@ int main(int count, char **words)
     group("P1 to P12", paper);
     group("run only", run_only);
     group("one field damaged", one_field);
+    group("each field of the rows damaged", each_field);
+    group("the first field in file order", first_in_file_order);
     group("which cause and which index", causes);
     group("cases of 0 to 200 bytes", case_lengths);
     group("proposals of 0 to 200 bytes", proposal_lengths);
