@@ -1,0 +1,2 @@
+-- A set of zones and what it holds
+pub mod Zones
