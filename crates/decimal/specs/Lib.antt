@@ -7,4 +7,3 @@ pub mod Places
 pub mod Value
 pub mod Digits
 pub mod Sizes
-mod Worked

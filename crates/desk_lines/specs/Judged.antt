@@ -10,8 +10,8 @@ use lib.IntN.{ℤ}
 use Rattle.rules.specs.Hour.{caseOf, planOf, pricesOf, zonePrice}
 use Rattle.rules.specs.Verdict.{outcome}
 use Rattle.rules.specs.Passed.{sound, case-sound}
-use Rattle.rules.specs.Report.{Totals, totalsOf, reportedPrice, reports, bufferAfter}
-use Rattle.rules.specs.Reported.{Reported, reported, same-length}
+use Rattle.rules.specs.Report.{Reported, Totals, totalsOf, reportedPrice, reports, bufferAfter}
+use Rattle.rules.specs.Reported.{reported, same-length}
 use Rattle.desk_lines.specs.Lines.{verdictLine, priceLines, totalLines, hourLines, linesOf, hourText}
 use Rattle.desk_lines.specs.Read.{totalsIn, linesIn, prices-same}
 

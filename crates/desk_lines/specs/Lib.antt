@@ -2,8 +2,6 @@
 pub mod Cut
 pub mod Lines
 pub mod Printed
--- THE WORKED HOUR
-mod Worked
 -- WHAT HOLDS OF THEM: all lines have room, and a long input is judged by its start
 pub mod Room
 pub mod Prefix

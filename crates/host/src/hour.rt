@@ -1,13 +1,9 @@
 // The judgement as the host calls it: three byte slices, and a number returned.
 ghost use mathlib.Core.Path.{_≡_};
-ghost use Prim.Native.Nat.{ℕ, _+_, _*_};
+ghost use Prim.Native.Nat.{_+_, _*_, _/_, _%_};
 ghost use lib.ListN.{length};
-ghost use lib.IntN.{ℤ, pos, _+ℤ_, _-ℤ_, _*ℤ_};
-ghost use lib.Signed.{_≤ℤ_};
-ghost use Rattle.measures.specs.Limits.{microcentsOf};
-ghost use Rattle.rules.specs.Hour.{Plan, caseOf, planOf, welfare};
-ghost use Rattle.rules.specs.Clearing.{Clearing};
-ghost use Rattle.rules.specs.Report.{bufferAfter, reportedWelfare, reportedGap, reportedRent, reportedOwed};
+ghost use Rattle.rules.specs.Promise.{TotalsReported, Allowed, Accurate, GapWithin, Covered, Best, CoveredInFull};
+ghost use Rattle.rules.specs.Report.{bufferAfter};
 ghost use Rattle.rules.specs.Verdict.{outcome};
 ghost use Rattle.rules.specs.AnnexHour.{AnnexDemand3};
 use judgement::judge;
@@ -23,11 +19,16 @@ fn packed(number: u32, index: u32) -> u64
 #[no_mangle]
 pub extern "C" fn lta_judge(case: &[u8], proposal: &[u8], report: &mut [u8]) -> u64
     ensures outcome { λ r. ⌜ r ≡ (outcome (now («case» .entry)) (now (proposal .entry)) (length (now (report .entry)))) .number + 256 * (outcome (now («case» .entry)) (now (proposal .entry)) (length (now (report .entry)))) .index ⌝ }
+    ensures number { λ r. ⌜ r % 256 ≡ (outcome (now («case» .entry)) (now (proposal .entry)) (length (now (report .entry)))) .number ⌝ }
+    ensures index { λ r. ⌜ r / 256 ≡ (outcome (now («case» .entry)) (now (proposal .entry)) (length (now (report .entry)))) .index ⌝ }
     ensures report { λ r. ⌜ now (report .exit) ≡ bufferAfter (now («case» .entry)) (now (proposal .entry)) (now (report .entry)) ⌝ }
-    ensures allowed { λ r. ⌜ (r ≡ 0 → Clearing (caseOf (now («case» .entry))) (planOf (now («case» .entry)) (now (proposal .entry)))) ⌝ }
-    ensures accuracy { λ r. ⌜ (r ≡ 0 → (q : Plan) → Clearing (caseOf (now («case» .entry))) q → welfare (caseOf (now («case» .entry))) q ≤ℤ (pos (q .den) *ℤ (reportedWelfare (now (report .exit)) +ℤ reportedGap (now (report .exit))))) ⌝ }
-    ensures gap { λ r. ⌜ (r ≡ 0 → (pos 0 ≤ℤ reportedGap (now (report .exit))) × (reportedGap (now (report .exit)) ≤ℤ microcentsOf (pos ((caseOf (now («case» .entry))) .tolerance)))) ⌝ }
-    ensures coverage { λ r. ⌜ (r ≡ 0 → (reportedOwed (now (report .exit)) -ℤ reportedGap (now (report .exit))) ≤ℤ reportedRent (now (report .exit))) ⌝ }
+    ensures totals { λ r. ⌜ TotalsReported (now («case» .entry)) (now (proposal .entry)) (length (now (report .entry))) (now (report .exit)) ⌝ }
+    ensures allowed { λ r. ⌜ (r ≡ 0 → Allowed (now («case» .entry)) (now (proposal .entry))) ⌝ }
+    ensures accuracy { λ r. ⌜ (r ≡ 0 → Accurate (now («case» .entry)) (now (report .exit))) ⌝ }
+    ensures gap { λ r. ⌜ (r ≡ 0 → GapWithin (now («case» .entry)) (now (report .exit))) ⌝ }
+    ensures coverage { λ r. ⌜ (r ≡ 0 → Covered (now (report .exit))) ⌝ }
+    ensures best { λ r. ⌜ (r ≡ 0 → Best (now («case» .entry)) (now (report .exit))) ⌝ }
+    ensures covered_in_full { λ r. ⌜ (r ≡ 0 → CoveredInFull (now (report .exit))) ⌝ }
     ensures annex { λ r. ⌜ (r ≡ 0 → AnnexDemand3 (now («case» .entry)) (now (proposal .entry)) (now (report .exit))) ⌝ }
 {
     let v = judge(case, proposal, report);

@@ -1,15 +1,14 @@
--- From the whole table to the judgement's contract: the outcome, the buffer, and demand 3 in the numbers that the report's bytes hold. Assumes nothing.
+-- From the whole table to the judgement's contract: the outcome, the buffer, and what is promised in the numbers that the report's bytes hold.
+-- Assumes nothing.
 use mathlib.Core.Path.{_≡_, sym, ap, subst, _∙_}
 use mathlib.Core.List.{List}
 use Prim.Native.Nat.{ℕ}
 use lib.ListN.{length}
-use lib.IntN.{pos, _+ℤ_, _-ℤ_, _*ℤ_}
-use lib.Signed.{_≤ℤ_}
-use Rattle.measures.specs.Limits.{microcentsOf}
-use Rattle.rules.specs.Hour.{Plan, caseOf, planOf, pricesOf, welfare}
-use Rattle.rules.specs.Clearing.{Clearing}
+use Rattle.rules.specs.Hour.{caseOf, planOf, pricesOf}
 use Rattle.rules.specs.Verdict.{table, outcome}
-use Rattle.rules.specs.Report.{bufferAfter, reportedWelfare, reportedGap, reportedRent, reportedOwed}
+use Rattle.rules.specs.Report.{Reported, bufferAfter}
+use Rattle.rules.specs.Reported.{reported}
+use Rattle.rules.specs.Promise.{TotalsReported, Allowed, Accurate, GapWithin, Covered, Best, CoveredInFull}
 use Rattle.rules.specs.Guarantee.{Accepted, Demand3, demand-3}
 use Rattle.rules.specs.AnnexHour.{AnnexDemand3, annex-demand-3}
 use Rattle.judgement.specs.declared.Verdict.{Verdict}
@@ -33,13 +32,43 @@ module _ (s t b : List ℕ) (r : Verdict) (b′ : List ℕ) (j : Judged (table s
   annexed : r .number ≡ 0 → AnnexDemand3 s t b′
   annexed e = subst (λ (x : List ℕ). AnnexDemand3 s t x) (sym buffered) (annex-demand-3 s t b (accepted e))
 
+  totals : TotalsReported s t (length b) b′
+  totals w = subst (λ (x : List ℕ). Reported ((outcome s t (length b)) .number) (caseOf s) (planOf s t) (pricesOf s t) x) (sym buffered) (reported s t b w)
+
   pub promises : (r ≡ verdictOf (outcome s t (length b))) × ((b′ ≡ bufferAfter s t b)
-      × ((r .number ≡ 0 → Clearing (caseOf s) (planOf s t))
-      × ((r .number ≡ 0 → (q : Plan) → Clearing (caseOf s) q → welfare (caseOf s) q ≤ℤ (pos (q .den) *ℤ (reportedWelfare b′ +ℤ reportedGap b′)))
-      × ((r .number ≡ 0 → (pos 0 ≤ℤ reportedGap b′) × (reportedGap b′ ≤ℤ microcentsOf (pos ((caseOf s) .tolerance))))
-      × ((r .number ≡ 0 → (reportedOwed b′ -ℤ reportedGap b′) ≤ℤ reportedRent b′)
-      × (r .number ≡ 0 → AnnexDemand3 s t b′))))))
+      × (TotalsReported s t (length b) b′
+      × ((r .number ≡ 0 → Allowed s t)
+      × ((r .number ≡ 0 → Accurate s b′)
+      × ((r .number ≡ 0 → GapWithin s b′)
+      × ((r .number ≡ 0 → Covered b′)
+      × ((r .number ≡ 0 → Best s b′)
+      × ((r .number ≡ 0 → CoveredInFull b′)
+      × (r .number ≡ 0 → AnnexDemand3 s t b′)))))))))
   promises = (
     answered,
-    (buffered, (λ e. (kept e) .is-allowed, (λ e. (kept e) .is-accurate, (λ e. ((kept e) .gap-least, (kept e) .gap-greatest), (λ e. (kept e) .is-covered, annexed))))),
+    (
+      buffered,
+      (
+        totals,
+        (
+          λ e. (kept e) .is-allowed,
+          (
+            λ e. (kept e) .is-accurate,
+            (
+              λ e. (kept e) .gap-in,
+              (
+                λ e. (kept e) .is-covered,
+                (
+                  λ e. (kept e) .is-best,
+                  (
+                    λ e. (kept e) .covered-in-full,
+                    annexed,
+                  ),
+                ),
+              ),
+            ),
+          ),
+        ),
+      ),
+    ),
   )

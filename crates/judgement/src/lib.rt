@@ -2,14 +2,9 @@
 ghost use mathlib.Core.Path.{_≡_};
 ghost use Prim.Native.Nat.{ℕ, _+_, _*_, _<_, _≤_};
 ghost use lib.ListN.{length};
-ghost use lib.IntN.{ℤ, pos, _+ℤ_, _-ℤ_, _*ℤ_};
-ghost use lib.Signed.{_≤ℤ_};
 ghost use Rattle.rules.specs.Hour.{caseOf, planOf, pricesOf, net};
-ghost use Rattle.rules.specs.Hour as rules;
-ghost use Rattle.measures.specs.Limits.{microcentsOf};
-ghost use Rattle.rules.specs.Hour.{Plan};
-ghost use Rattle.rules.specs.Clearing.{Clearing};
-ghost use Rattle.rules.specs.Report.{totalsOf, bufferAfter, reportedWelfare, reportedGap, reportedRent, reportedOwed};
+ghost use Rattle.rules.specs.Promise.{TotalsReported, Allowed, Accurate, GapWithin, Covered, Best, CoveredInFull};
+ghost use Rattle.rules.specs.Report.{totalsOf, bufferAfter};
 ghost use Rattle.rules.specs.Verdict.{outcome};
 ghost use Rattle.rules.specs.AnnexHour.{AnnexDemand3};
 ghost use Rattle.fields.specs.Walk.{outcomeOf};
@@ -245,10 +240,13 @@ pub const REPORT_ROOM: usize = 176;
 pub fn judge(case: &[u8], proposal: &[u8], report: &mut [u8]) -> Verdict
     ensures outcome { λ r. ⌜ r ≡ verdictOf (outcome (now («case» .entry)) (now (proposal .entry)) (length (now (report .entry)))) ⌝ }
     ensures report { λ r. ⌜ now (report .exit) ≡ bufferAfter (now («case» .entry)) (now (proposal .entry)) (now (report .entry)) ⌝ }
-    ensures allowed { λ r. ⌜ (r .number ≡ 0 → Clearing (caseOf (now («case» .entry))) (planOf (now («case» .entry)) (now (proposal .entry)))) ⌝ }
-    ensures accuracy { λ r. ⌜ (r .number ≡ 0 → (q : Plan) → Clearing (caseOf (now («case» .entry))) q → rules.welfare (caseOf (now («case» .entry))) q ≤ℤ (pos (q .den) *ℤ (reportedWelfare (now (report .exit)) +ℤ reportedGap (now (report .exit))))) ⌝ }
-    ensures gap { λ r. ⌜ (r .number ≡ 0 → (pos 0 ≤ℤ reportedGap (now (report .exit))) × (reportedGap (now (report .exit)) ≤ℤ microcentsOf (pos ((caseOf (now («case» .entry))) .tolerance)))) ⌝ }
-    ensures coverage { λ r. ⌜ (r .number ≡ 0 → (reportedOwed (now (report .exit)) -ℤ reportedGap (now (report .exit))) ≤ℤ reportedRent (now (report .exit))) ⌝ }
+    ensures totals { λ r. ⌜ TotalsReported (now («case» .entry)) (now (proposal .entry)) (length (now (report .entry))) (now (report .exit)) ⌝ }
+    ensures allowed { λ r. ⌜ (r .number ≡ 0 → Allowed (now («case» .entry)) (now (proposal .entry))) ⌝ }
+    ensures accuracy { λ r. ⌜ (r .number ≡ 0 → Accurate (now («case» .entry)) (now (report .exit))) ⌝ }
+    ensures gap { λ r. ⌜ (r .number ≡ 0 → GapWithin (now («case» .entry)) (now (report .exit))) ⌝ }
+    ensures coverage { λ r. ⌜ (r .number ≡ 0 → Covered (now (report .exit))) ⌝ }
+    ensures best { λ r. ⌜ (r .number ≡ 0 → Best (now («case» .entry)) (now (report .exit))) ⌝ }
+    ensures covered_in_full { λ r. ⌜ (r .number ≡ 0 → CoveredInFull (now (report .exit))) ⌝ }
     ensures annex { λ r. ⌜ (r .number ≡ 0 → AnnexDemand3 (now («case» .entry)) (now (proposal .entry)) (now (report .exit))) ⌝ }
 {
     if report.len() < REPORT_ROOM {

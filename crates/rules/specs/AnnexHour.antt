@@ -17,10 +17,10 @@ use Rattle.rules.specs.Hour.{Case, Plan, caseOf, planOf, pricesOf, zoneP
 use Rattle.rules.specs.Clearing.{Clearing}
 use Rattle.rules.specs.Annex.{Solution, Network, Feasible, PairsOnce, Complementary, Connected, everyPair, PriceConditions, capacityLTA, congestionRent, liabilities, objective}
 use Rattle.rules.specs.Verdict.{outcome, Readable}
-use Rattle.rules.specs.Report.{reports, bufferAfter, reportedWelfare, reportedGap, reportedRent, reportedOwed, reportedPrice}
+use Rattle.rules.specs.Report.{Reported, reports, bufferAfter, reportedWelfare, reportedGap, reportedRent, reportedOwed, reportedPrice}
 use Rattle.rules.specs.Duality.{Placed}
 use Rattle.rules.specs.Passed.{case-sound, case-pairs, sound}
-use Rattle.rules.specs.Reported.{Reported, reported}
+use Rattle.rules.specs.Reported.{reported}
 use Rattle.rules.specs.Guarantee.{Accepted, Demand3, demand-3}
 use Rattle.rules.specs.CommercialFlows.{every-pair-connected}
 use Rattle.rules.specs.Extended as extended
