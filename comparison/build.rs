@@ -13,9 +13,5 @@ pub fn main() {
     if !archive.is_file() {
         println!("cargo:warning=no archive at {}", archive.display());
     }
-    // An archive built without the standard library brings a panic handler of
-    // its own. It stands last, and the first of two definitions is taken, so a
-    // panic of this program is still reported and not left to the archive.
     println!("cargo:rustc-link-arg-bins={}", archive.display());
-    println!("cargo:rustc-link-arg-bins=-Wl,--allow-multiple-definition");
 }
