@@ -4,10 +4,7 @@
   build_hours.py OUTDIR            writes OUTDIR/NAME.bin for each hours/NAME.txt, prints the file names, sorted
   build_hours.py --check OUTDIR    writes nothing; fails if a .bin file there is missing, different or left over
 
-Each hours/NAME.txt opens with what it protects and what the paper says of it:
-  # expect N I          number and index for the joined file, as the desk cuts it
-  # expect-apart N I    number and index for the two files handed over apart, where that differs
-  # totals ...          the totals of the report in euros, for 0 and 26
+What stands in a stored hour, hour.py help says.
 """
 
 import pathlib

@@ -9,6 +9,7 @@ import os
 import re
 import struct
 import sys
+from decimal import Decimal
 
 HELP = """\
 Converts an hour between readable text and its two binary files, the case and the proposal.
@@ -51,6 +52,14 @@ For wrong hours any value that fits its bits is taken, a side as a number too, a
   byte FILE OFFSET VALUE                   puts VALUE in place of one byte
 
 cut, append and byte act in the order of the text, on the files as written by all other lines.
+
+A stored hour, hours/NAME.txt, opens with what it protects and says in comments what the paper says of it:
+
+  # expect N I                             number and index for the joined file, as the desk cuts it
+  # expect-apart N I                       those for the two files handed over apart, where they are others
+  # totals welfare W bound B gap G rent R owed O    the report's totals in euros, where a number is 0 or 26
+
+tests/stored_hours holds each of these to both judges.
 """
 
 UNITS = """\
@@ -105,6 +114,12 @@ SHEET_NUMBER = re.compile(rb"(-?)([0-9]+)(?:\.([0-9]+))?")
 HEX_PAIRS = re.compile(r"([0-9a-fA-F]{2})*")
 MARK = re.compile(r"[!-~]{3}|[0-9a-fA-F]{6}")
 OFFSET = re.compile(r"[0-9]+|0[xX][0-9a-fA-F]+")
+EXPECTATION = re.compile(r"#\s*(expect-apart|expect|totals)\b(.*)")
+VERDICT = re.compile(r" ([0-9]+) ([0-9]+)")
+TOTALS = ("welfare", "bound", "gap", "rent", "owed")
+EUROS = re.compile("".join(rf" {name} (-?[0-9]+(?:\.[0-9]{{1,8}})?)" for name in TOTALS))
+MICROCENT_DECIMALS = 8
+REPORTED = (0, 26)
 HEX_BYTES_PER_LINE = 32
 
 
@@ -384,6 +399,35 @@ def build(text, folder=""):
             except ValueError as fault:
                 raise TextError(line, str(fault)) from None
     return hour.files()
+
+
+# What a stored hour expects.
+
+
+def expected(text):
+    """The verdict of the joined file, that of the two files apart, and the totals in microcents by name."""
+    found = {}
+    for line, content in enumerate(text.split("\n"), 1):
+        match = EXPECTATION.match(content)
+        if match is None:
+            continue
+        name, rest = match.groups()
+        values = (EUROS if name == "totals" else VERDICT).fullmatch(rest)
+        if values is None:
+            raise TextError(line, f"{content!r} is no {name} line")
+        if name in found:
+            raise TextError(line, f"a second {name} line")
+        found[name] = values.groups()
+    if "expect" not in found:
+        raise ValueError("no expect line")
+    joined = tuple(map(int, found["expect"]))
+    apart = tuple(map(int, found.get("expect-apart", joined)))
+    if "expect-apart" in found and apart == joined:
+        raise ValueError("expect-apart says what expect does")
+    if ("totals" in found) != (joined[0] in REPORTED or apart[0] in REPORTED):
+        raise ValueError("a totals line stands where a number is 0 or 26, and nowhere else")
+    totals = [int(Decimal(euros).scaleb(MICROCENT_DECIMALS)) for euros in found.get("totals", ())]
+    return joined, apart, dict(zip(TOTALS, totals))
 
 
 # Bytes to text.

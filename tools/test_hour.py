@@ -10,7 +10,6 @@ import struct
 import sys
 import tempfile
 import unittest
-from decimal import Decimal
 
 import build_hours
 import hour
@@ -39,9 +38,6 @@ P1_PROPOSAL = bytes.fromhex(
 )
 
 P1_TEXT = hour.read_text(SAMPLES / "three-zone.txt")
-
-EXPECT = re.compile(r"^# expect (\d+) (\d+)$", re.MULTILINE)
-TOTALS = re.compile(r"^# totals welfare (\S+) bound (\S+) gap (\S+) rent (\S+) owed (\S+)$", re.MULTILINE)
 
 
 def stored_hours():
@@ -290,7 +286,7 @@ class FieldAtOffset(unittest.TestCase):
     def test_a_stored_refusal_names_where_a_field_of_its_part_begins(self):
         parts = {6: "branch", 7: "link", 8: "order", 14: "branch"}
         for name, text in stored_hours().items():
-            number, index = map(int, EXPECT.search(text).groups())
+            (number, index), *_ = hour.expected(text)
             if number in parts and name.startswith(("refused-", "run-")):
                 with self.subTest(name):
                     case, proposal = hour.build(text)
@@ -594,38 +590,56 @@ class CommandLine(unittest.TestCase):
         self.assertEqual(run_tool(build_hours.main, "--check", out), (1, "", complaints))
 
 
-class StoredHours(unittest.TestCase):
-    """The stored hours name what they are, and together hold every verdict of the table."""
+class ExpectationLines(unittest.TestCase):
+    """What the comments of a stored hour expect is read whole or refused."""
 
-    def test_each_opens_with_a_comment_and_one_expected_verdict(self):
+    TOTALS = "# totals welfare 1 bound 2.5 gap 1.50000001 rent -0.3 owed 0\n"
+
+    def test_verdicts_and_totals_in_microcents(self):
+        totals = {"welfare": 10**8, "bound": 250_000_000, "gap": 150_000_001, "rent": -30_000_000, "owed": 0}
+        self.assertEqual(hour.expected("# An hour.\n# expect 8 98\n# expect-apart 5 0\n"), ((8, 98), (5, 0), {}))
+        self.assertEqual(hour.expected("# expect 26 0\n" + self.TOTALS), ((26, 0), (26, 0), totals))
+        self.assertEqual(hour.expected("# expect 10 0\n# expect-apart 0 0\n" + self.TOTALS), ((10, 0), (0, 0), totals))
+
+    def test_refusals(self):
+        nowhere_else = "a totals line stands where a number is 0 or 26, and nowhere else"
+        refusals = {
+            "": "no expect line",
+            "# expected 1 0": "no expect line",
+            "# expect-apart 5 0": "no expect line",
+            "# expect 1": "line 1: '# expect 1' is no expect line",
+            "#expect 1 0 0": "line 1: '#expect 1 0 0' is no expect line",
+            "# expect 1 0\n# expect 1 0": "line 2: a second expect line",
+            "# expect 1 0\n# expect-apart 1 0": "expect-apart says what expect does",
+            "# expect 0 0": nowhere_else,
+            "# expect 1 0\n" + self.TOTALS: nowhere_else,
+            "# expect 0 0\n# totals welfare 1": "line 2: '# totals welfare 1' is no totals line",
+            "# expect 0 0\n# totals welfare 1.000000001 bound 2 gap 1 rent 0 owed 0": (
+                "line 2: '# totals welfare 1.000000001 bound 2 gap 1 rent 0 owed 0' is no totals line"
+            ),
+        }
+        for text, message in refusals.items():
+            with self.subTest(text), self.assertRaises(ValueError) as caught:
+                hour.expected(text)
+            self.assertEqual(str(caught.exception), message)
+
+
+class StoredHours(unittest.TestCase):
+    """The stored hours name what they are, and together hold every verdict of the table. tests/stored_hours judges them."""
+
+    def test_each_opens_with_a_comment(self):
         for name, text in stored_hours().items():
             with self.subTest(name):
-                self.assertRegex(text, r"\A# \S")
-                self.assertEqual(len(EXPECT.findall(text)), 1)
+                self.assertRegex(text, r"\A# (?!expect|totals)\S")
 
     def test_a_refusal_is_named_after_its_number(self):
         for name, text in stored_hours().items():
             if name.startswith("refused-"):
                 with self.subTest(name):
-                    self.assertEqual(int(name.split("-")[1]), int(EXPECT.search(text)[1]))
-
-    def test_totals_stand_where_a_report_is_printed(self):
-        for name, text in stored_hours().items():
-            with self.subTest(name):
-                totals = TOTALS.findall(text)
-                self.assertEqual(len(totals), EXPECT.search(text)[1] in ("0", "26"))
-                for welfare, bound, gap, *_ in totals:
-                    self.assertEqual(Decimal(gap), Decimal(bound) - Decimal(welfare))
-
-    def test_the_desk_printed_each_expected_verdict(self):
-        printed = (ROOT / "crates" / "desk_runs" / "stdout").read_text()
-        found = dict(re.findall(r"^(\S+)\.bin\nverdict (\d+ \d+)$", printed, re.MULTILINE))
-        expected = {name: " ".join(EXPECT.search(text).groups()) for name, text in stored_hours().items()}
-        self.assertEqual(found, expected)
+                    self.assertEqual(int(name.split("-")[1]), hour.expected(text)[0][0])
 
     def test_every_number_and_header_offset_is_expected_somewhere(self):
-        found = [EXPECT.search(text).groups() for text in stored_hours().values()]
-        expected = {(int(number), int(index)) for number, index in found}
+        expected = {hour.expected(text)[0] for text in stored_hours().values()}
         self.assertEqual({number for number, _ in expected}, {0, *range(1, 15), *range(21, 27)})
         self.assertEqual({index for number, index in expected if number == 4}, {5, 6, 7, 8, 10})
 
