@@ -41,7 +41,7 @@ fn feed_hour(run: &mut Run, rng: &mut Rng, hour: &Hour) {
 }
 
 /// A good hour: optimal or feasible.
-fn good(rng: &mut Rng, shape: Shape) -> Hour {
+pub fn good(rng: &mut Rng, shape: Shape) -> Hour {
     if rng.one_in(2) {
         optimal(rng, shape)
     } else {
@@ -50,9 +50,9 @@ fn good(rng: &mut Rng, shape: Shape) -> Hour {
 }
 
 /// The hours the paper names, a check for each.
-pub fn stored_hours(run: &mut Run) {
+pub fn paper_hours(run: &mut Run) {
     const EURO: i64 = 100_000_000;
-    run.stored = true;
+    run.of_paper = true;
     for hour in stored() {
         run.begin(hour.name);
         for lent in [LEAST_BUFFER, LEAST_BUFFER + 1, 256] {
@@ -69,7 +69,7 @@ pub fn stored_hours(run: &mut Run) {
         }
         run.end();
     }
-    run.stored = false;
+    run.of_paper = false;
 }
 
 fn random_hours(run: &mut Run, rng: &mut Rng) {

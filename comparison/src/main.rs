@@ -1,5 +1,9 @@
 //! Compares the proved judge's archive with the second judge over made inputs.
 //!
+//! The wrong builds here are the second judge's: the inputs must tell each of
+//! them from the archive. Wrong builds of the proved judge are the edits in
+//! crates/NAME/must-fail, and it is the prover that refuses them.
+//!
 //! Arguments, both optional: the seed, the number of inputs for the judgement.
 
 mod archive;
@@ -11,6 +15,7 @@ mod families;
 mod fields;
 mod make;
 mod offsets;
+mod places;
 mod rng;
 mod run;
 #[cfg(feature = "sheet")]
@@ -44,8 +49,8 @@ fn main() -> ExitCode {
     let start = Instant::now();
     let mut run = Run::new(seed);
 
-    run.section("stored hours");
-    families::stored_hours(&mut run);
+    run.section("the paper's hours");
+    families::paper_hours(&mut run);
     run.section("made inputs");
     for (n, (name, hundredths, feed)) in families::FAMILIES.iter().enumerate() {
         // A source of its own for each family: none depends on the one before.
@@ -59,6 +64,7 @@ fn main() -> ExitCode {
     families::widest_totals(&mut run);
     families::buffer_lengths(&mut run, &mut Rng::new(seed));
     families::null_pointers(&mut run);
+    places::made(&mut run, &mut Rng::new(seed));
     offsets::offsets(&mut run, &mut Rng::new(seed));
     #[cfg(feature = "desk")]
     {
@@ -75,14 +81,18 @@ fn main() -> ExitCode {
         let times = run.verdicts[number];
         run.check(format!("{number}"), times > 0, format!("{times}"));
     }
+    places::named(&mut run);
     run.section("met, times");
     for (name, times) in MET.iter().zip(run.met) {
         run.check(name.to_string(), times > 0, format!("{times}"));
     }
-    run.section("wrong builds, times found");
-    for ((_, name), found) in Build::WRONG.iter().zip(run.wrong) {
-        let tried = run.wrong_tried;
-        let note = format!("{} stored, {} of {tried} made", found.stored, found.made);
+    run.section("the second judge's wrong builds, times told from the archive");
+    for ((_, name), found) in Build::WRONG.iter().zip(run.second_wrong) {
+        let tried = run.second_wrong_tried;
+        let note = format!(
+            "{} of the paper, {} of {tried} made",
+            found.of_paper, found.made
+        );
         run.check(name.to_string(), found.made > 0, note);
     }
 

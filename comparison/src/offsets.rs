@@ -8,7 +8,7 @@ use crate::run::Run;
 
 const INPUTS: u64 = 60_000;
 /// Each number, each cause and each row at an end of its part is met so often.
-const LEAST: u64 = 100;
+pub const LEAST: u64 = 100;
 
 /// What is done to the two zones of a link before any field is put outside.
 #[derive(Clone, Copy)]
@@ -108,7 +108,7 @@ pub fn offsets(run: &mut Run, rng: &mut Rng) {
     }
 }
 
-fn at_least(run: &mut Run, name: String, times: u64) {
+pub fn at_least(run: &mut Run, name: String, times: u64) {
     run.check(name, times >= LEAST, format!("{times}"));
 }
 

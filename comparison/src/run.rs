@@ -1,6 +1,7 @@
 //! Feeds both judges the same input, compares all they leave behind, and counts.
 
 use crate::archive;
+use crate::places::PLACES;
 use second_judge::{judge, judge_as, Build, Verdict};
 
 /// Bytes kept on either side of the lent buffer, which no judge may touch.
@@ -8,7 +9,7 @@ const GUARD: usize = 32;
 const MOST_LENT: usize = 256;
 const SPACE: usize = GUARD + MOST_LENT + GUARD;
 
-/// The wrong builds run along on one input out of so many.
+/// The second judge's wrong builds run along on one input out of so many.
 const WRONG_EVERY: u64 = 6;
 /// Disagreements shown in full for each check.
 const SHOWN: u64 = 3;
@@ -21,15 +22,21 @@ pub struct Check {
     pub note: String,
 }
 
-/// How often a wrong build was told from the right one.
+/// How often a wrong build of the second judge was told from the archive, by the
+/// paper's hours and by made ones.
 #[derive(Clone, Copy, Default)]
 pub struct Found {
-    pub stored: u64,
+    pub of_paper: u64,
     pub made: u64,
 }
 
+/// A total above this fills most of its 64 bits.
+const LARGE: i64 = 1_000_000_000_000_000_000;
+/// The most that can be owed: every link, full, across all prices.
+const MOST_OWED: i64 = 64 * 100_000 * 450_000 * 100_000;
+
 /// Things a good stream of inputs must come across, counted.
-pub const MET: [&str; 8] = [
+pub const MET: [&str; 15] = [
     "accepted with gap zero",
     "accepted, gap at the tolerance",
     "refused, gap a microcent over",
@@ -38,17 +45,25 @@ pub const MET: [&str; 8] = [
     "accepted with a negative rent",
     "accepted with sixteen zones",
     "accepted with some LTA flow",
+    "welfare above 10^18",
+    "welfare below -10^18",
+    "bound above 10^18",
+    "gap above 10^18",
+    "rent above 10^18",
+    "rent below -10^18",
+    "owed 288 * 10^15, its most",
 ];
 
 pub struct Run {
     pub checks: Vec<Check>,
     pub verdicts: [u64; 31],
-    pub wrong: [Found; Build::WRONG.len()],
-    pub wrong_tried: u64,
-    pub met: [u64; 8],
+    pub second_wrong: [Found; Build::WRONG.len()],
+    pub second_wrong_tried: u64,
+    pub met: [u64; MET.len()],
+    pub places: [u64; PLACES.len()],
     pub inputs: u64,
-    /// Inputs of the stored hours, not of the generator.
-    pub stored: bool,
+    /// Inputs of the paper's hours, not of the generator.
+    pub of_paper: bool,
     #[cfg(feature = "desk")]
     pub desk: crate::desk::Desk,
 
@@ -66,11 +81,12 @@ impl Run {
         Run {
             checks: Vec::new(),
             verdicts: [0; 31],
-            wrong: Default::default(),
-            wrong_tried: 0,
-            met: [0; 8],
+            second_wrong: Default::default(),
+            second_wrong_tried: 0,
+            met: [0; MET.len()],
+            places: [0; PLACES.len()],
             inputs: 0,
-            stored: false,
+            of_paper: false,
             #[cfg(feature = "desk")]
             desk: crate::desk::Desk::new(_seed),
             section: "",
@@ -180,7 +196,7 @@ impl Run {
         self.space = filled;
         self.verdict = judge(case, proposal, &mut self.space[lent.clone()]);
 
-        let ours = u64::from(self.verdict.number) + 256 * u64::from(self.verdict.index);
+        let ours = returned(self.verdict);
         if answer != ours {
             self.fault(|| {
                 let shown = |answer| format!("{} {}", answer % 256, answer / 256);
@@ -207,9 +223,12 @@ impl Run {
         }
 
         self.verdicts[self.verdict.number as usize] += 1;
+        for (times, place) in self.places.iter_mut().zip(PLACES) {
+            *times += u64::from(place == (self.verdict.number, self.verdict.index));
+        }
         self.meet(case, proposal);
-        if self.stored || self.inputs.is_multiple_of(WRONG_EVERY) {
-            self.try_wrong_builds(case, proposal, &filled, lent);
+        if self.of_paper || self.inputs.is_multiple_of(WRONG_EVERY) {
+            self.try_second_wrong(case, proposal, &filled, lent, (answer, &their_space));
         }
         #[cfg(feature = "desk")]
         self.desk.feed(case, proposal);
@@ -248,7 +267,7 @@ impl Run {
         let zones = usize::from(case[5]);
         let (branches, links) = (usize::from(case[6]), usize::from(case[7]));
         let orders = usize::from(case[8]) + 256 * usize::from(case[9]);
-        let (gap, rent) = (self.total(2), self.total(3));
+        let [welfare, bound, gap, rent, owed] = [0, 1, 2, 3, 4].map(|n| self.total(n));
         let tolerance = i64::from(u32_at(case, 10)) * 1_000_000;
         let negative = |b: usize| (u32_at(case, 14 + b * (4 + 4 * zones)) as i32) < 0;
         let flow = |l: usize| u32_at(proposal, 13 + 4 * (orders + l));
@@ -262,34 +281,47 @@ impl Run {
             accepted && rent < 0,
             accepted && zones == 16,
             accepted && (0..links).any(|l| flow(l) > 0),
+            welfare > LARGE,
+            welfare < -LARGE,
+            bound > LARGE,
+            gap > LARGE,
+            rent > LARGE,
+            rent < -LARGE,
+            owed == MOST_OWED,
         ];
         for (count, met) in self.met.iter_mut().zip(met) {
             *count += u64::from(met);
         }
     }
 
-    /// Each wrong build in place of the right one: told from it, or not.
-    fn try_wrong_builds(
+    /// Each wrong build of the second judge in place of the right one: told from
+    /// the archive, by what it answered and left in the buffer, or not.
+    fn try_second_wrong(
         &mut self,
         case: &[u8],
         proposal: &[u8],
         filled: &[u8; SPACE],
         lent: std::ops::Range<usize>,
+        archive: (u64, &[u8; SPACE]),
     ) {
-        self.wrong_tried += u64::from(!self.stored);
-        for (n, (build, _)) in Build::WRONG.iter().enumerate() {
+        self.second_wrong_tried += u64::from(!self.of_paper);
+        for (found, (build, _)) in self.second_wrong.iter_mut().zip(Build::WRONG) {
             let mut space = *filled;
-            let verdict = judge_as(*build, case, proposal, &mut space[lent.clone()]);
-            if verdict != self.verdict || space != self.space {
-                let found = &mut self.wrong[n];
-                *(if self.stored {
-                    &mut found.stored
+            let verdict = judge_as(build, case, proposal, &mut space[lent.clone()]);
+            if (returned(verdict), &space) != archive {
+                *(if self.of_paper {
+                    &mut found.of_paper
                 } else {
                     &mut found.made
                 }) += 1;
             }
         }
     }
+}
+
+/// A verdict as the archive returns one.
+fn returned(verdict: Verdict) -> u64 {
+    u64::from(verdict.number) + 256 * u64::from(verdict.index)
 }
 
 /// Both files in hexadecimal digits, unless they are too long to be read.

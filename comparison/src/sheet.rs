@@ -42,7 +42,7 @@ struct Sheets<'a> {
     inputs: u64,
     numbers: [u64; 56],
     met: [u64; MET.len()],
-    wrong: [u64; SheetBuild::WRONG.len()],
+    second_wrong: [u64; SheetBuild::WRONG.len()],
 }
 
 impl Sheets<'_> {
@@ -89,10 +89,10 @@ impl Sheets<'_> {
 
         self.numbers[ours.number as usize] += 1;
         self.meet(sheet, zones, ours);
-        for (n, (build, _)) in SheetBuild::WRONG.iter().enumerate() {
+        for (found, (build, _)) in self.second_wrong.iter_mut().zip(SheetBuild::WRONG) {
             let mut wrong_space = filled.clone();
-            let wrong = sheet_branches_as(*build, sheet, zones, &mut wrong_space[lent.clone()]);
-            self.wrong[n] += u64::from(wrong != ours || wrong_space != space);
+            let wrong = sheet_branches_as(build, sheet, zones, &mut wrong_space[lent.clone()]);
+            *found += u64::from(wrong != theirs || wrong_space != their_space);
         }
         (ours, space[lent].to_vec())
     }
@@ -436,7 +436,7 @@ pub fn sheets(run: &mut Run, rng: &mut Rng) {
         inputs: 0,
         numbers: [0; 56],
         met: Default::default(),
-        wrong: Default::default(),
+        second_wrong: Default::default(),
     };
 
     sheets.run.begin("good sheets");
@@ -521,7 +521,7 @@ pub fn sheets(run: &mut Run, rng: &mut Rng) {
         inputs,
         numbers,
         met,
-        wrong,
+        second_wrong,
     } = sheets;
     run.section("margin sheets, numbers, times met");
     run.check("inputs".into(), inputs >= LEAST_INPUTS, format!("{inputs}"));
@@ -537,8 +537,8 @@ pub fn sheets(run: &mut Run, rng: &mut Rng) {
     for (name, times) in MET.iter().zip(met) {
         run.check(name.to_string(), times > 0, format!("{times}"));
     }
-    run.section("margin sheets, wrong builds, times found");
-    for ((_, name), times) in SheetBuild::WRONG.iter().zip(wrong) {
+    run.section("margin sheets, the second judge's wrong builds, times told from the archive");
+    for ((_, name), times) in SheetBuild::WRONG.iter().zip(second_wrong) {
         run.check(name.to_string(), times > 0, format!("{times} of {inputs}"));
     }
 }
