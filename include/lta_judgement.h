@@ -43,7 +43,7 @@ extern "C" {
 #define LTA_MICROCENTS_PER_CENT 1000000
 #define LTA_MICROCENTS_PER_EURO 100000000
 
-/* THE VERDICT. Number and index of what lta_judge returns. */
+/* THE VERDICT. Number and index of what lta_judge returns. [number] [index] */
 #define LTA_NUMBER(verdict) ((uint32_t)((verdict) % 256))
 #define LTA_INDEX(verdict) ((uint32_t)((verdict) / 256))
 
@@ -103,11 +103,14 @@ enum lta_number {
  * The bytes of the report buffer afterwards [report]: if the number is 0 or 26, its first LTA_REPORT_SIZE(zones) bytes are the report,
  * and all past them are as they were. For any other number every byte is as it was.
  *
+ * What stands in a report, of an hour that is accepted or refused by 26 [totals]: each total and each zone price is what its rule below
+ * gives, as an integer.
+ *
  * What holds of an accepted hour, that is if lta_judge returns 0, of the numbers that then stand in the report:
  *   [allowed]   The proposal is a clearing of the case.
- *   [accuracy]  No clearing of the case has a welfare above welfare + gap. At gap 0 none is better than the proposal.
+ *   [accuracy]  No clearing of the case has a welfare above welfare + gap. [best] At gap 0 none has more than the proposal.
  *   [gap]       The gap is at least 0 and at most 1,000,000 * tolerance.
- *   [coverage]  The rent is at least owed - gap. At gap 0 it covers all that is owed.
+ *   [coverage]  The rent is at least owed - gap. [covered_in_full] At gap 0 it covers all that is owed.
  *   [annex]     In the terms of Annex 14.29: the proposal solves (60) to (72), no solution has an objective (59) above welfare + gap, the
  *               zone prices are those of (73) to (79), rent and owed the two sides of (81), and at these prices no import and export that
  *               the network allows earns more than rent + gap (82).

@@ -1,6 +1,6 @@
 // The judgement: 30 first, then the verdict table in its order; the report is written for 0 and 26 alone.
 ghost use mathlib.Core.Path.{_≡_};
-ghost use Prim.Native.Nat.{ℕ, _+_, _*_, _<_, _≤_};
+ghost use Prim.Native.Nat.{_<_, _≤_};
 ghost use lib.ListN.{length};
 ghost use Rattle.rules.specs.Hour.{caseOf, planOf, pricesOf, net};
 ghost use Rattle.rules.specs.Promise.{TotalsReported, Allowed, Accurate, GapWithin, Covered, Best, CoveredInFull};

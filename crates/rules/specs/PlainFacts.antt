@@ -1,19 +1,19 @@
 -- READABLE IN PLAIN FACTS, both ways: a case is readable if and only if its lengths, ranges and links are these, and a proposal passes 9 to 14 for it if and
 -- only if its are. A link's reverse pair is free: nothing here forbids it. Assumes nothing.
-use mathlib.Core.Path.{_≡_, refl, sym, _∙_}
+use mathlib.Core.Path.{_≡_, _∙_}
 use mathlib.Core.Logic.{_≢_}
-use mathlib.Core.Bool.{Bool, true, false, not, _&&_, _||_}
-use mathlib.Core.List.{List, [], _∷_}
+use mathlib.Core.Bool.{Bool, true, false, not, _&&_}
+use mathlib.Core.List.{List}
 use mathlib.Core.Option.{none}
 use Prim.Native.Nat.{ℕ, zero, suc, _+_, _≤_, _<_}
 use native.Mathlib.Omega.{arith}
 use lib.ListN.{length, getD}
-use lib.Dec.{T, eqb, leb, ltb, eqb→eq, eqb-refl, leb→le, ltb→lt, nleb→lt, nltb→le, T-not, not-T}
+use lib.Dec.{T, eqb, leb, ltb, eqb→eq, eqb-refl, leb→le, ltb→lt, nltb→le, T-not, not-T}
 use lib.IntN.{pos}
-use Rattle.integers.specs.Ranges.{Within, within, inside, nat-within, nat-inside, nor-left, nor-right, nor-both, and-both, and-left, and-right, is-false}
+use Rattle.integers.specs.Ranges.{Within, inside, nat-within, nat-inside, nor-right, nor-both, and-both, and-left, and-right, is-false}
 use Rattle.measures.specs.Limits as limits
 use Rattle.rules.specs.Layout.{u8At, caseVersion, zonesIn, branchesIn, linksIn, ordersIn, toleranceIn, ramIn, ptdfIn, fromIn, toIn, capacityIn, zoneIn, sideIn, quantityIn, priceIn, caseLength, proposalVersion, shareIn, shadowIn, proposalLength, linkFields, orderFields}
-use Rattle.rules.specs.Hour.{Case, caseOf, planOf, pricesOf}
+use Rattle.rules.specs.Hour.{caseOf, planOf, pricesOf}
 use Rattle.rules.specs.Rows.{anyBelow, refusal}
 use Rattle.rules.specs.RowLaws.{Pass, empty, all-pass, any-none, no-place, row-passes}
 use Rattle.rules.specs.Verdict.{unknown, notMark, branchFault, repeated, linkFault, rowFault, orderFault, caseRows, proposalRows, Readable, caseRefusal, proposalRefusal}
