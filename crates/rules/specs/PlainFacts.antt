@@ -7,14 +7,14 @@ use mathlib.Core.List.{List}
 use mathlib.Core.Option.{none}
 use Prim.Native.Nat.{ℕ, zero, suc, _+_, _≤_, _<_}
 use native.Mathlib.Omega.{arith}
-use lib.ListN.{length, getD}
+use lib.ListN.{length, getD, drop}
 use lib.Dec.{T, eqb, leb, ltb, eqb→eq, eqb-refl, leb→le, ltb→lt, nltb→le, T-not, not-T}
 use lib.IntN.{pos}
 use Rattle.integers.specs.Ranges.{Within, inside, nat-within, nat-inside, nor-right, nor-both, and-both, and-left, and-right, is-false}
 use Rattle.measures.specs.Limits as limits
 use Rattle.rules.specs.Layout.{u8At, caseVersion, zonesIn, branchesIn, linksIn, ordersIn, toleranceIn, ramIn, ptdfIn, fromIn, toIn, capacityIn, zoneIn, sideIn, quantityIn, priceIn, caseLength, proposalVersion, shareIn, shadowIn, proposalLength, linkFields, orderFields}
 use Rattle.rules.specs.Hour.{caseOf, planOf, pricesOf}
-use Rattle.rules.specs.Rows.{anyBelow, refusal}
+use Rattle.rules.specs.Rows.{Row, anyBelow, refusal}
 use Rattle.rules.specs.RowLaws.{Pass, empty, all-pass, any-none, no-place, row-passes}
 use Rattle.rules.specs.Verdict.{unknown, notMark, branchFault, repeated, linkFault, rowFault, orderFault, caseRows, proposalRows, Readable, caseRefusal, proposalRefusal}
 use Rattle.rules.specs.Passed.{not-not, case-sound, case-length, case-pairs, proposal-sound, proposal-length}
@@ -150,19 +150,22 @@ module _ (s : List ℕ) (f : CaseFacts s) where
   unfolding caseRefusal caseRows caseOf refusal
   facts-readable = record {
     none-holds =
-        row-passes _ _ (record { pass = λ k h. le-nltb (length s) 14 (f .header-there) })
-        ∙ row-passes _ _ (record { pass = λ k h. mark-passes 76 84 67 s (f .mark-is) })
-        ∙ row-passes _ _ (record { pass = λ k h. yes-not-not (eqb (caseVersion s) 1) (eq-eqb (caseVersion s) 1 (f .version-is)) })
-        ∙ row-passes _ _ (record { pass = λ k h. nat-inside 1 16 (zonesIn s) ((f .zones-in) .0) ((f .zones-in) .1) })
-        ∙ row-passes _ _ (record { pass = λ k h. nat-inside 0 64 (branchesIn s) (omega arith) (f .branches-in) })
-        ∙ row-passes _ _ (record { pass = λ k h. nat-inside 0 64 (linksIn s) (omega arith) (f .links-in) })
-        ∙ row-passes _ _ (record { pass = λ k h. nat-inside 0 512 (ordersIn s) (omega arith) (f .orders-in) })
-        ∙ row-passes _ _ (record { pass = λ k h. nat-inside 0 1000000000 (toleranceIn s) (omega arith) (f .tolerance-in) })
-        ∙ row-passes _ _ (record { pass = λ k h. yes-not-not (eqb (length s) (caseLength s)) (eq-eqb (length s) (caseLength s) (f .length-is)) })
-        ∙ row-passes _ _ (record { pass = λ m h. none-at-fault (1 + zonesIn s) (branchFault (caseOf s) m) (branch-passes m h) })
-        ∙ row-passes _ _ (record { pass = λ l h. none-at-fault linkFields (linkFault (caseOf s) l) (link-passes l h) })
-        ∙ row-passes _ _ (record { pass = λ i h. none-at-fault orderFields (orderFault (caseOf s) i) (order-passes i h) });
+        row-passes _ (rest 1) (record { pass = λ k h. le-nltb (length s) 14 (f .header-there) })
+        ∙ row-passes _ (rest 2) (record { pass = λ k h. mark-passes 76 84 67 s (f .mark-is) })
+        ∙ row-passes _ (rest 3) (record { pass = λ k h. yes-not-not (eqb (caseVersion s) 1) (eq-eqb (caseVersion s) 1 (f .version-is)) })
+        ∙ row-passes _ (rest 4) (record { pass = λ k h. nat-inside 1 16 (zonesIn s) ((f .zones-in) .0) ((f .zones-in) .1) })
+        ∙ row-passes _ (rest 5) (record { pass = λ k h. nat-inside 0 64 (branchesIn s) (omega arith) (f .branches-in) })
+        ∙ row-passes _ (rest 6) (record { pass = λ k h. nat-inside 0 64 (linksIn s) (omega arith) (f .links-in) })
+        ∙ row-passes _ (rest 7) (record { pass = λ k h. nat-inside 0 512 (ordersIn s) (omega arith) (f .orders-in) })
+        ∙ row-passes _ (rest 8) (record { pass = λ k h. nat-inside 0 1000000000 (toleranceIn s) (omega arith) (f .tolerance-in) })
+        ∙ row-passes _ (rest 9) (record { pass = λ k h. yes-not-not (eqb (length s) (caseLength s)) (eq-eqb (length s) (caseLength s) (f .length-is)) })
+        ∙ row-passes _ (rest 10) (record { pass = λ m h. none-at-fault (1 + zonesIn s) (branchFault (caseOf s) m) (branch-passes m h) })
+        ∙ row-passes _ (rest 11) (record { pass = λ l h. none-at-fault linkFields (linkFault (caseOf s) l) (link-passes l h) })
+        ∙ row-passes _ (rest 12) (record { pass = λ i h. none-at-fault orderFields (orderFault (caseOf s) i) (order-passes i h) });
   }
+    where
+      rest : ℕ → List Row
+      rest n = drop n (caseRows s (caseOf s))
 
 -- A PROPOSAL for the case s
 pub proposal-facts : (s t : List ℕ) → proposalRefusal s t ≡ none → ProposalFacts s t
@@ -182,9 +185,12 @@ proposal-facts s t e = record {
 pub facts-pass : (s t : List ℕ) → ProposalFacts s t → proposalRefusal s t ≡ none
 unfolding proposalRefusal proposalRows caseOf planOf pricesOf refusal
 facts-pass s t f =
-    row-passes _ _ (record { pass = λ k h. le-nltb (length t) 13 (f .header-there) })
-    ∙ row-passes _ _ (record { pass = λ k h. mark-passes 76 84 80 t (f .mark-is) })
-    ∙ row-passes _ _ (record { pass = λ k h. yes-not-not (eqb (proposalVersion t) 1) (eq-eqb (proposalVersion t) 1 (f .version-is)) })
-    ∙ row-passes _ _ (record { pass = λ k h. yes-not-not (eqb (length t) (proposalLength s)) (eq-eqb (length t) (proposalLength s) (f .length-is)) })
-    ∙ row-passes _ _ (record { pass = λ k h. nat-inside 0 100000 (shareIn t) (omega arith) (f .share-in) })
-    ∙ row-passes _ _ (record { pass = λ m h. nat-inside 0 1000000 (shadowIn s t m) (omega arith) (f .shadow-in m h) })
+    row-passes _ (rest 1) (record { pass = λ k h. le-nltb (length t) 13 (f .header-there) })
+    ∙ row-passes _ (rest 2) (record { pass = λ k h. mark-passes 76 84 80 t (f .mark-is) })
+    ∙ row-passes _ (rest 3) (record { pass = λ k h. yes-not-not (eqb (proposalVersion t) 1) (eq-eqb (proposalVersion t) 1 (f .version-is)) })
+    ∙ row-passes _ (rest 4) (record { pass = λ k h. yes-not-not (eqb (length t) (proposalLength s)) (eq-eqb (length t) (proposalLength s) (f .length-is)) })
+    ∙ row-passes _ (rest 5) (record { pass = λ k h. nat-inside 0 100000 (shareIn t) (omega arith) (f .share-in) })
+    ∙ row-passes _ (rest 6) (record { pass = λ m h. nat-inside 0 1000000 (shadowIn s t m) (omega arith) (f .shadow-in m h) })
+  where
+    rest : ℕ → List Row
+    rest n = drop n (proposalRows s t (caseOf s) (planOf s t) (pricesOf s t))
