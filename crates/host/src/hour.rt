@@ -5,7 +5,7 @@ ghost use lib.ListN.{length};
 ghost use Rattle.rules.specs.Promise.{TotalsReported, Allowed, Accurate, GapWithin, Covered, Best, CoveredInFull};
 ghost use Rattle.rules.specs.Report.{bufferAfter};
 ghost use Rattle.rules.specs.Verdict.{outcome};
-ghost use Rattle.rules.specs.AnnexHour.{AnnexDemand3};
+ghost use Rattle.rules.specs.AnnexPromise.{AnnexDemand3};
 use judgement::judge;
 
 fn packed(number: u32, index: u32) -> u64

@@ -10,7 +10,8 @@ use Rattle.rules.specs.Report.{Reported, bufferAfter}
 use Rattle.rules.specs.Reported.{reported}
 use Rattle.rules.specs.Promise.{TotalsReported, Allowed, Accurate, GapWithin, Covered, Best, CoveredInFull}
 use Rattle.rules.specs.Guarantee.{Accepted, Demand3, demand-3}
-use Rattle.rules.specs.AnnexHour.{AnnexDemand3, annex-demand-3}
+use Rattle.rules.specs.AnnexPromise.{AnnexDemand3}
+use Rattle.rules.specs.AnnexHour.{annex-demand-3}
 use Rattle.judgement.specs.declared.Verdict.{Verdict}
 use Rattle.judgement.specs.Judged.{verdictOf, Judged}
 

@@ -6,7 +6,7 @@ ghost use Rattle.rules.specs.Hour.{caseOf, planOf, pricesOf, net};
 ghost use Rattle.rules.specs.Promise.{TotalsReported, Allowed, Accurate, GapWithin, Covered, Best, CoveredInFull};
 ghost use Rattle.rules.specs.Report.{totalsOf, bufferAfter};
 ghost use Rattle.rules.specs.Verdict.{outcome};
-ghost use Rattle.rules.specs.AnnexHour.{AnnexDemand3};
+ghost use Rattle.rules.specs.AnnexPromise.{AnnexDemand3};
 ghost use Rattle.fields.specs.Walk.{outcomeOf};
 ghost use Rattle.case_header.specs.Opened.{Opened};
 ghost use Rattle.clearing.specs.Held.{Holds};

@@ -16,6 +16,7 @@ use Rattle.integers.specs.Sums.{sum-ext}
 use Rattle.rules.specs.Hour.{Case, Plan, caseOf, planOf, pricesOf, zonePrice, welfare, bound, gap}
 use Rattle.rules.specs.Clearing.{Clearing}
 use Rattle.rules.specs.Annex.{Solution, Network, Feasible, PairsOnce, Complementary, Connected, everyPair, PriceConditions, capacityLTA, congestionRent, liabilities, objective}
+use Rattle.rules.specs.AnnexPromise.{IsClearing, IsFeasible, AnnexDemand3, multipliersOf}
 use Rattle.rules.specs.Verdict.{outcome, Readable}
 use Rattle.rules.specs.Report.{Reported, reports, bufferAfter, reportedWelfare, reportedGap, reportedRent, reportedOwed, reportedPrice}
 use Rattle.rules.specs.Duality.{Placed}
@@ -25,32 +26,13 @@ use Rattle.rules.specs.Guarantee.{Accepted, Demand3, demand-3}
 use Rattle.rules.specs.CommercialFlows.{every-pair-connected}
 use Rattle.rules.specs.Extended as extended
 use Rattle.rules.specs.AnnexPrices as prices
-use Rattle.rules.specs.AnnexPrices.{multipliersOf}
 
 -- THE CLEARINGS OF A READABLE CASE are the solutions of (60) to (72), over any commercial lines that connect the zones
-pub solution-clears : (s : List ℕ) → Readable s → (x : Solution) → Feasible (caseOf s) x → extended.IsClearing (caseOf s) x
+pub solution-clears : (s : List ℕ) → Readable s → (x : Solution) → Feasible (caseOf s) x → IsClearing (caseOf s) x
 solution-clears s r x fe = extended.sound (caseOf s) ((case-sound s r) .placed) (case-pairs s r) x fe
 
-pub clearing-solves : (s : List ℕ) → Readable s → (p : Plan) → Clearing (caseOf s) p → (line : ℕ → ℕ → Bool) → Connected ((caseOf s) .zones) line → extended.IsFeasible (caseOf s) line p
+pub clearing-solves : (s : List ℕ) → Readable s → (p : Plan) → Clearing (caseOf s) p → (line : ℕ → ℕ → Bool) → Connected ((caseOf s) .zones) line → IsFeasible (caseOf s) line p
 clearing-solves s r p cl line q = extended.complete (caseOf s) ((case-sound s r) .placed) p cl (case-pairs s r) line q
-
--- DEMAND 3 IN THE ANNEX'S TERMS, of what stands in the report of an accepted hour
-pub record AnnexDemand3 (s t : List ℕ) (report : List ℕ) : Type 0 where
-  -- the proposal solves (60) to (72), with commercial flows between any two zones
-  pub is-feasible : extended.IsFeasible (caseOf s) everyPair (planOf s t)
-  pub welfare-is : objective (caseOf s) (is-feasible .solution) ≡ reportedWelfare report
-  -- (59): no solution does better than welfare and gap together
-  pub is-accurate : (x : Solution) → Feasible (caseOf s) x → objective (caseOf s) x ≤ℤ (pos (x .den) *ℤ (reportedWelfare report +ℤ reportedGap report))
-  -- (73) to (79): the reported prices are multipliers, with the proposal's system and shadow prices; (77), which holds of an optimum, at a gap of zero
-  pub is-priced : PriceConditions (caseOf s) everyPair (multipliersOf (caseOf s) (pricesOf s t))
-  pub price-is : (l : ℕ) → l < (caseOf s) .zones → reportedPrice report l ≡ (multipliersOf (caseOf s) (pricesOf s t)) .price l
-  pub is-complementary : reportedGap report ≡ pos 0 → Complementary (caseOf s) (is-feasible .solution) (multipliersOf (caseOf s) (pricesOf s t))
-  -- (82): at these prices no import and export that the network allows earns more than rent and gap together
-  pub is-network-best : (x : Solution) → Network (caseOf s) x → congestionRent (caseOf s) x (reportedPrice report) ≤ℤ (pos (x .den) *ℤ (reportedRent report +ℤ reportedGap report))
-  -- (81): its two sides, and their order up to the gap
-  pub rent-is : congestionRent (caseOf s) (is-feasible .solution) (reportedPrice report) ≡ reportedRent report
-  pub liabilities-is : liabilities (caseOf s) (reportedPrice report) ≡ reportedOwed report
-  pub is-covered : (liabilities (caseOf s) (reportedPrice report) -ℤ reportedGap report) ≤ℤ congestionRent (caseOf s) (is-feasible .solution) (reportedPrice report)
 
 -- a bound over a denominator, where what is bounded and the denominator are known by other names
 same-bound : (b : ℤ) {v w : ℤ} {d e : ℕ} → w ≡ v → e ≡ d → w ≤ℤ (pos e *ℤ b) → v ≤ℤ (pos d *ℤ b)
@@ -103,7 +85,7 @@ annex-demand-3 s t buffer a = record {
     demand : Demand3 s t (bufferAfter s t buffer)
     demand = demand-3 s t buffer a
 
-    proposal : extended.IsFeasible c everyPair (planOf s t)
+    proposal : IsFeasible c everyPair (planOf s t)
     proposal = clearing-solves s readable (planOf s t) (demand .is-allowed) everyPair (every-pair-connected (c .zones))
 
     rent-here : congestionRent c (proposal .solution) (reportedPrice (bufferAfter s t buffer)) ≡ reportedRent (bufferAfter s t buffer)

@@ -14,6 +14,7 @@ use Rattle.integers.specs.Sums.{sumTo, only, sum-ext, sum-le, sum-zero, sum-add
 use Rattle.rules.specs.Hour.{Case, Plan, Prices, zonePrice, branchPrice, welfare, surplus, branchValue, branchTotal, spread, linkOwed, owed, networkBound, bound, gap, rent}
 use Rattle.rules.specs.Clearing.{Clearing}
 use Rattle.rules.specs.Annex.{Solution, Network, Feasible, PairsOnce, AlongLines, Route, here, onward, Connected, Multipliers, PriceConditions, Complementary, joins, byPair, capacityLTA, netFlow, congestionRent, marginValue, capacityValue, liabilities}
+use Rattle.rules.specs.AnnexPromise.{Same, Agree, multipliersOf}
 use Rattle.rules.specs.Duality.{Placed, welfare-le}
 use Rattle.rules.specs.Gap.{linkShort, link-exact}
 use Rattle.rules.specs.CommercialFlows.{net-priced}
@@ -40,16 +41,6 @@ module _ (c : Case) {line : ℕ → ℕ → Bool} (q : Connected (c .zones) line
   price-is l h = conditions .price-FB l h ∙ ap (λ (z : ℤ). pos 100000 *ℤ z +ℤ sumTo (c .branches) (λ m. c .ptdf m l *ℤ pos (y .shadow m))) (one-system-price l h)
 
 -- and rule 6's zone prices meet (73) to (76) and (78), with the positive spreads as w
-unfoldable pub multipliersOf : Case → Prices → Multipliers
-multipliersOf c d = record {
-  price = zonePrice c d;
-  priceSplit = zonePrice c d;
-  priceFB = λ l. d .system;
-  priceLTA = zonePrice c d;
-  shadow = d .shadow;
-  w = λ l k. positive (zonePrice c d k -ℤ zonePrice c d l);
-}
-
 pub priced-of : (c : Case) (line : ℕ → ℕ → Bool) (d : Prices) → PriceConditions c line (multipliersOf c d)
 unfolding multipliersOf zonePrice branchPrice
 priced-of c line d = record {
@@ -80,7 +71,7 @@ unfolding pricesFrom
 multiplier-spread-is c q y conditions l k hl hk = (cc (price-is c q y conditions k hk, price-is c q y conditions l hl)) ∙ spread-is c (pricesFrom y) l k
 
 -- (81), left side: rule 11's rent
-pub rent-is : (c : Case) (p : Plan) (x : Solution) → extended.Agree c p x → (d : Prices) → congestionRent c x (zonePrice c d) ≡ rent c p d
+pub rent-is : (c : Case) (p : Plan) (x : Solution) → Agree c p x → (d : Prices) → congestionRent c x (zonePrice c d) ≡ rent c p d
 unfolding congestionRent rent
 rent-is c p x same d = sum-ext (c .zones) _ _ (λ l h. ap (λ (z : ℤ). z *ℤ zonePrice c d l) (sym (same .net-is l h)))
 
@@ -105,7 +96,7 @@ unfolding liabilities capacityLTA owed linkOwed spread
 liabilities-are c ok d = pairs-weighed c ok (λ j. pos (c .capacity j)) (λ l k. positive (zonePrice c d k -ℤ zonePrice c d l))
 
 -- (77): at a gap of zero no link with a flow has a negative spread
-pub complementary : (c : Case) (ok : Placed c) (o : PairsOnce c) (d : Prices) (p : Plan) (cl : Clearing c p) (x : Solution) → extended.Same c p x → Feasible c x
+pub complementary : (c : Case) (ok : Placed c) (o : PairsOnce c) (d : Prices) (p : Plan) (cl : Clearing c p) (x : Solution) → Same c p x → Feasible c x
     → pos (p .den) *ℤ bound c d ≡ welfare c p → Complementary c x (multipliersOf c d)
 unfolding multipliersOf linkShort linkOwed spread
 complementary c ok o d p cl x same fe no-gap = record {

@@ -15,6 +15,7 @@ use Rattle.integers.specs.Sums.{sumTo, only, sum-ext, sum-zero, sum-add, sum-su
 use Rattle.rules.specs.Hour.{Case, Plan, signed, buys, orderNet, net, inflow, outflow, ltaPart, fbPart, netSum, linkUse, linkRoom, branchUse, branchRoom, orderWelfare, welfare}
 use Rattle.rules.specs.Clearing.{Clearing}
 use Rattle.rules.specs.Annex.{Solution, Feasible, PairsOnce, Connected, AlongLines, joins, byPair, capacityLTA, netFlow, objective}
+use Rattle.rules.specs.AnnexPromise.{Same, Agree, IsClearing, IsFeasible}
 use Rattle.rules.specs.Duality.{Placed}
 use Rattle.rules.specs.Rows.{firstBelow}
 use Rattle.rules.specs.RowLaws.{first-is, not-below}
@@ -76,20 +77,6 @@ module _ (c : Case) (ok : Placed c) where
       net-ext (c .zones) g (byPair c (λ j. pos (p .flow j))) e z h
       ∙ net-plain (c .zones) (byPair c (λ j. pos (p .flow j))) z
       ∙ (cc (into-zone (λ j. pos (p .flow j)) z, out-of-zone (λ j. pos (p .flow j)) z))
-
--- THE SAME CLEARING: volumes, LTA flows and share agree
-pub record Same (c : Case) (p : Plan) (x : Solution) : Type 0 where
-  pub den : p .den ≡ x .den
-  pub share : pos (p .share) ≡ x .alpha2
-  pub volume : (i : ℕ) → i < c .orders → pos (p .volume i) ≡ x .accepted i
-  pub flow : (j : ℕ) → j < c .links → pos (p .flow j) ≡ x .flowLTA (c .from j) (c .to j)
-
--- and then welfare, net positions and their two parts agree
-pub record Agree (c : Case) (p : Plan) (x : Solution) : Type 0 where
-  pub welfare-is : welfare c p ≡ objective c x
-  pub net-is : (l : ℕ) → l < c .zones → net c p l ≡ x .netpos l
-  pub lta-part-is : (l : ℕ) → l < c .zones → ltaPart c p l ≡ x .netposLTA l
-  pub fb-part-is : (l : ℕ) → l < c .zones → fbPart c p l ≡ x .netposFB l
 
 -- a flow from zero to a part of a capacity of zero
 no-flow : (f a k : ℤ) → pos 0 ≤ℤ f → (pos 100000 *ℤ f) ≤ℤ (a *ℤ k) → k ≡ pos 0 → f ≡ pos 0
@@ -176,13 +163,6 @@ planFrom c x = record {
   flow = λ j. natAbs (x .flowLTA (c .from j) (c .to j));
 }
 
--- a clearing that is the solution x
-pub record IsClearing (c : Case) (x : Solution) : Type 0 where
-  pub plan : Plan
-  pub clearing : Clearing c plan
-  pub same : Same c plan x
-  pub agree : Agree c plan x
-
 pub sound : (c : Case) → Placed c → PairsOnce c → (x : Solution) → Feasible c x → IsClearing c x
 unfolding planFrom
 sound c ok o x fe = record {
@@ -218,14 +198,6 @@ solutionFrom c p g = record {
   alpha1 = pos (100000 * p .den) -ℤ pos (p .share);
   alpha2 = pos (p .share);
 }
-
--- a feasible solution that is the plan p, with commercial flow along lines only
-pub record IsFeasible (c : Case) (line : ℕ → ℕ → Bool) (p : Plan) : Type 0 where
-  pub solution : Solution
-  pub feasible : Feasible c solution
-  pub same : Same c p solution
-  pub agree : Agree c p solution
-  pub along-lines : AlongLines c line solution
 
 module _ (c : Case) (ok : Placed c) (p : Plan) (cl : Clearing c p) where
   -- the flow-based parts sum to zero, since the net positions do and each LTA flow leaves one zone and enters another

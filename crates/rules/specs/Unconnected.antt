@@ -14,7 +14,8 @@ use Rattle.rules.specs.Hour.{Case, Plan, buys, orderNet, net, inflow, ou
 use Rattle.rules.specs.Clearing.{Clearing}
 use Rattle.rules.specs.Annex.{Solution, Feasible, PairsOnce, AlongLines, netFlow}
 use Rattle.rules.specs.Duality.{Placed}
-use Rattle.rules.specs.Extended.{Same, agree}
+use Rattle.rules.specs.AnnexPromise.{Same}
+use Rattle.rules.specs.Extended.{agree}
 
 -- order 0 sells in zone 0, order 1 buys in zone 1, a tenth each
 unfoldable pub twoZones : Case
