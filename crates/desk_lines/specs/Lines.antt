@@ -7,7 +7,7 @@ use Rattle.decimal.specs.Ascii.{ascii}
 use Rattle.decimal.specs.Text.{countText, amountText}
 use Rattle.rules.specs.Layout.{reportRoom}
 use Rattle.rules.specs.Hour.{caseOf, planOf, pricesOf, zonePrice}
-use Rattle.rules.specs.Rows.{Outcome}
+use Rattle.rows.specs.declared.Outcome.{Outcome}
 use Rattle.rules.specs.Verdict.{outcome}
 use Rattle.rules.specs.Report.{Totals, totalsOf, reports}
 use Rattle.desk_lines.specs.Cut.{casePart, proposalPart}

@@ -2,7 +2,6 @@
 use mathlib.Core.Path.{_≡_, refl}
 use mathlib.Core.Bool.{Bool, true, false}
 use mathlib.Core.List.{List}
-use mathlib.Core.Option.{Option, none, some}
 use Prim.Native.Nat.{ℕ, _+_, _<_, _≤_}
 use borrow.Author.Tests.{leb-true, leb-false}
 use lib.ListN.{length}
@@ -10,10 +9,6 @@ use lib.Dec.{leb}
 use lib.IntN.{ℤ}
 use Rattle.measures.specs.declared.Raw.{Raw}
 use Rattle.rules.specs.Layout.{u8At, u16At, u32At, i32At}
-use Rattle.rules.specs.Rows.{Outcome, verdict}
-use Rattle.fields.specs.declared.Refusal.{Refusal}
-use Rattle.fields.specs.declared.Place.{Place}
-use Rattle.fields.specs.declared.Place.the-variants.{At, Nowhere}
 use Rattle.fields.specs.declared.Mark.{Mark}
 use Rattle.fields.specs.declared.Cursor.{Cursor}
 use Rattle.fields.specs.declared.MarkField.{MarkField}
@@ -24,17 +19,6 @@ use Rattle.fields.specs.declared.WordField.{WordField}
 use Rattle.fields.specs.declared.WordField.the-variants as word
 use Rattle.fields.specs.declared.SignedField.{SignedField}
 use Rattle.fields.specs.declared.SignedField.the-variants as signed
-
--- a refusal is an outcome of the verdict table
-abbrev pub outcomeOf : Refusal → Outcome
-outcomeOf r = verdict (r .number) (r .index)
-
-abbrev pub refusalOf : Outcome → Refusal
-refusalOf o = record { number = o .number; index = o .index }
-
-abbrev pub placeOf : Place → Option ℕ
-placeOf (At k) = some k
-placeOf Nowhere = none
 
 abbrev pub cursor : ℕ → Cursor
 cursor n = record { at = n }

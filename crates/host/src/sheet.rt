@@ -3,7 +3,7 @@ ghost use mathlib.Core.Path.{_≡_};
 ghost use mathlib.Core.List.{List, _++_};
 ghost use Prim.Native.Nat.{ℕ};
 ghost use lib.ListN.{length, take};
-ghost use Rattle.rules.specs.Rows.{verdict};
+ghost use Rattle.rows.specs.Rows.{verdict};
 ghost use Rattle.margin_sheet.specs.Sheet.{lineCount, sheetOutcome, sheetWritten, sheetOutput};
 ghost use Rattle.margin_sheet.specs.ReadBack.{Header, Holds};
 use margin_sheet::Written;

@@ -3,29 +3,22 @@ use mathlib.Core.Path.{_≡_, refl, sym, ap, _∙_}
 use mathlib.Core.Bool.{Bool, true, false, cond, _||_}
 use mathlib.Core.List.{List, _++_}
 use mathlib.Core.Option.{Option, none, some}
-use Prim.Native.Nat.{ℕ, zero, suc, _+_, _*_, _≤_, _<_}
+use Prim.Native.Nat.{ℕ, zero, suc, _+_, _*_, _<_}
 use native.Mathlib.Omega.{arith}
 use lib.ListN.{drop, getD}
 use lib.Dec.{T, eqb, eqb→eq}
 use lib.IntN.{ℤ}
 use Rattle.integers.specs.Bytes.{signed64}
 use Rattle.rules.specs.Hour.{Case, Plan, Prices, caseOf, planOf, pricesOf, zonePrice}
-use Rattle.rules.specs.Rows.{Row, Outcome, verdict, firstBelow, refusal, answer}
-use Rattle.rules.specs.RowLaws.{empty, first-is, else-refusal, refusal-append, lacks, not-refused}
-use Rattle.fields.specs.Walk.{placeOf}
-use Rattle.fields.specs.declared.Place.{Place}
-use Rattle.fields.specs.declared.Place.the-variants.{At, Nowhere}
+use Rattle.rows.specs.declared.Outcome.{Outcome}
+use Rattle.rows.specs.Rows.{Row, verdict, refusal, answer}
+use Rattle.rows.specs.RowLaws.{empty, else-refusal, refusal-append, lacks, not-refused}
 use Rattle.rules.specs.Report.{Totals, headerBytes, totalBytes, priceBytes, reportText, totalsOf, reports, reportBytes, reportSize, written}
 use Rattle.rules.specs.Verdict.{proposalRows, clearingRows}
-use Rattle.judgement.specs.declared.Verdict.{Verdict}
-
--- a verdict as the code returns it
-abbrev pub verdictOf : Outcome → Verdict
-verdictOf o = record { number = o .number; index = o .index }
 
 -- for the case s, the proposal t and the buffer b: the verdict r, and the buffer b′ afterwards
-pub record Judged (rows : List Row) (s t b : List ℕ) (r : Verdict) (b′ : List ℕ) : Type 0 where
-  pub given : r ≡ verdictOf (answer (refusal rows))
+pub record Judged (rows : List Row) (s t b : List ℕ) (r : Outcome) (b′ : List ℕ) : Type 0 where
+  pub given : r ≡ answer (refusal rows)
   pub buffer : b′ ≡ written (answer (refusal rows)) (caseOf s) (planOf s t) (pricesOf s t) b
 
 -- the rows of the clearing that are asked after the first n
@@ -33,27 +26,27 @@ abbrev pub rowsFrom : ℕ → List ℕ → List ℕ → List Row
 rowsFrom n s t = drop n (clearingRows (caseOf s) (planOf s t) (pricesOf s t))
 
 -- a row that refuses by a number that writes no report
-pub refused : (rows : List Row) (s t b : List ℕ) (n k : ℕ) → reports n ≡ false → refusal rows ≡ some (verdict n k) → Judged rows s t b (record { number = n; index = k }) b
+pub refused : (rows : List Row) (s t b : List ℕ) (n k : ℕ) → reports n ≡ false → refusal rows ≡ some (verdict n k) → Judged rows s t b (verdict n k) b
 unfolding written
 refused rows s t b n k w e = record {
-  given = ap (λ (o : Option Outcome). verdictOf (answer o)) (sym e);
+  given = ap (λ (o : Option Outcome). answer o) (sym e);
   buffer = sym (ap (λ (o : Option Outcome). written (answer o) (caseOf s) (planOf s t) (pricesOf s t) b) e
       ∙ ap (λ (x : Bool). cond x (reportBytes n (caseOf s) (planOf s t) (pricesOf s t) ++ drop (reportSize (caseOf s)) b) b) w);
 }
 
 -- rows that come to the same
-pub same-rows : {qs rs : List Row} {s t b : List ℕ} {r : Verdict} {b′ : List ℕ} → refusal qs ≡ refusal rs → Judged rs s t b r b′ → Judged qs s t b r b′
+pub same-rows : {qs rs : List Row} {s t b : List ℕ} {r : Outcome} {b′ : List ℕ} → refusal qs ≡ refusal rs → Judged rs s t b r b′ → Judged qs s t b r b′
 same-rows {s = s} {t = t} {b = b} {r = r} {b′ = b′} e j = record {
-  given = j .given ∙ ap (λ (o : Option Outcome). verdictOf (answer o)) (sym e);
+  given = j .given ∙ ap (λ (o : Option Outcome). answer o) (sym e);
   buffer = j .buffer ∙ ap (λ (o : Option Outcome). written (answer o) (caseOf s) (planOf s t) (pricesOf s t) b) (sym e);
 }
 
 -- no row that refuses but by 26: the report is written
-pub reporting : (rows : List Row) (s t b : List ℕ) (o : Option Outcome) (r : Verdict) (b′ : List ℕ) → refusal rows ≡ o → reports ((answer o) .number) ≡ true → r ≡ verdictOf (answer o)
+pub reporting : (rows : List Row) (s t b : List ℕ) (o : Option Outcome) (r : Outcome) (b′ : List ℕ) → refusal rows ≡ o → reports ((answer o) .number) ≡ true → r ≡ answer o
     → b′ ≡ reportBytes ((answer o) .number) (caseOf s) (planOf s t) (pricesOf s t) ++ drop (reportSize (caseOf s)) b → Judged rows s t b r b′
 unfolding written
 reporting rows s t b o r b′ e w q h = record {
-  given = q ∙ ap (λ (o : Option Outcome). verdictOf (answer o)) (sym e);
+  given = q ∙ ap (λ (o : Option Outcome). answer o) (sym e);
   buffer = h ∙ sym (ap (λ (o : Option Outcome). written (answer o) (caseOf s) (planOf s t) (pricesOf s t) b) e
       ∙ ap (λ (x : Bool). cond x (reportBytes ((answer o) .number) (caseOf s) (planOf s t) (pricesOf s t) ++ drop (reportSize (caseOf s)) b) b) w);
 }
@@ -96,23 +89,3 @@ silent rows o a b e = λ j.
 -- THE ROWS ONE BY ONE. The n-th row of the clearing
 abbrev pub rowAt : ℕ → List ℕ → List ℕ → Row
 rowAt n s t = getD (clearingRows (caseOf s) (planOf s t) (pricesOf s t)) n empty
-
--- what a search found
-pub at-place : (p : Place) (x : Option ℕ) (k : ℕ) → placeOf p ≡ x → p ≡ At k → x ≡ some k
-at-place p x k e q = sym e ∙ ap placeOf q
-
-pub at-none : (p : Place) (x : Option ℕ) → placeOf p ≡ x → p ≡ Nowhere → x ≡ none
-at-none p x e q = sym e ∙ ap placeOf q
-
-pub first-ext : (n : ℕ) (f g : ℕ → Bool) → ((k : ℕ) → k < n → f k ≡ g k) → firstBelow n f ≡ firstBelow n g
-unfolding firstBelow
-first-ext zero f g h = refl
-first-ext (suc n) f g h = step (firstBelow n f) (firstBelow n g) (first-ext n f g (λ k l. h k (omega arith))) (f n) (g n) (h n (omega arith))
-  where
-    step : (x y : Option ℕ) → x ≡ y → (a b : Bool) → a ≡ b
-        → _≡_ {A = Option ℕ} (elim x [ some k ↦ some k | none ↦ cond a (some n) none ]) (elim y [ some k ↦ some k | none ↦ cond b (some n) none ])
-    step x y e a b q = λ j. elim (e j) [ some k ↦ some k | none ↦ cond (q j) (some n) none ]
-
--- the place of a row's first failure is below its count
-pub below : (n : ℕ) (f : ℕ → Bool) (k m : ℕ) → firstBelow n f ≡ some k → n ≤ m → k < m
-below n f k m e h = omega (arith, (first-is n f k e) .place-in)

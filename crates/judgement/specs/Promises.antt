@@ -12,11 +12,11 @@ use Rattle.rules.specs.Promise.{TotalsReported, Allowed, Accurate, GapWithin, C
 use Rattle.rules.specs.Guarantee.{Accepted, Demand3, demand-3}
 use Rattle.rules.specs.AnnexPromise.{AnnexDemand3}
 use Rattle.rules.specs.AnnexHour.{annex-demand-3}
-use Rattle.judgement.specs.declared.Verdict.{Verdict}
-use Rattle.judgement.specs.Judged.{verdictOf, Judged}
+use Rattle.rows.specs.declared.Outcome.{Outcome}
+use Rattle.judgement.specs.Judged.{Judged}
 
-module _ (s t b : List ℕ) (r : Verdict) (b′ : List ℕ) (j : Judged (table s t (length b) (caseOf s) (planOf s t) (pricesOf s t)) s t b r b′) where
-  answered : r ≡ verdictOf (outcome s t (length b))
+module _ (s t b : List ℕ) (r : Outcome) (b′ : List ℕ) (j : Judged (table s t (length b) (caseOf s) (planOf s t) (pricesOf s t)) s t b r b′) where
+  answered : r ≡ outcome s t (length b)
   unfolding outcome
   answered = j .given
 
@@ -25,7 +25,7 @@ module _ (s t b : List ℕ) (r : Verdict) (b′ : List ℕ) (j : Judged (table s
   buffered = j .buffer
 
   accepted : r .number ≡ 0 → Accepted s t (length b)
-  accepted e = record { answer = sym (ap (λ (v : Verdict). v .number) answered) ∙ e }
+  accepted e = record { answer = sym (ap (λ (v : Outcome). v .number) answered) ∙ e }
 
   kept : r .number ≡ 0 → Demand3 s t b′
   kept e = subst (λ (x : List ℕ). Demand3 s t x) (sym buffered) (demand-3 s t b (accepted e))
@@ -36,7 +36,7 @@ module _ (s t b : List ℕ) (r : Verdict) (b′ : List ℕ) (j : Judged (table s
   totals : TotalsReported s t (length b) b′
   totals w = subst (λ (x : List ℕ). Reported ((outcome s t (length b)) .number) (caseOf s) (planOf s t) (pricesOf s t) x) (sym buffered) (reported s t b w)
 
-  pub promises : (r ≡ verdictOf (outcome s t (length b))) × ((b′ ≡ bufferAfter s t b)
+  pub promises : (r ≡ outcome s t (length b)) × ((b′ ≡ bufferAfter s t b)
       × (TotalsReported s t (length b) b′
       × ((r .number ≡ 0 → Allowed s t)
       × ((r .number ≡ 0 → Accurate s b′)

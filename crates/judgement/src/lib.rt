@@ -7,7 +7,6 @@ ghost use Rattle.rules.specs.Promise.{TotalsReported, Allowed, Accurate, GapWit
 ghost use Rattle.rules.specs.Report.{totalsOf, bufferAfter};
 ghost use Rattle.rules.specs.Verdict.{outcome};
 ghost use Rattle.rules.specs.AnnexPromise.{AnnexDemand3};
-ghost use Rattle.fields.specs.Walk.{outcomeOf};
 ghost use Rattle.case_header.specs.Opened.{Opened};
 ghost use Rattle.clearing.specs.Held.{Holds};
 ghost use Rattle.clearing.specs.Stages.{VolumesIn, FlowsIn};
@@ -16,7 +15,7 @@ ghost use Rattle.proposal_file.specs.Proposed.{Proposed};
 ghost use Rattle.proposal_file.specs.Answer.{openingOf};
 ghost use Rattle.report.specs.Written.{totalsIn};
 ghost use Rattle.valuation.specs.Prices.{Priced, PricesIn};
-ghost use Rattle.judgement.specs.Judged.{verdictOf, Judged, rowsFrom, proposalOn};
+ghost use Rattle.judgement.specs.Judged.{Judged, rowsFrom, proposalOn};
 use case_branches::ptdf_table;
 use case_file::CaseAnswer;
 use case_file::read_case;
@@ -27,8 +26,6 @@ use clearing::first_overused_link;
 use clearing::flow_based_parts;
 use clearing::net_positions;
 use clearing::net_sum;
-use fields::Place;
-use fields::Refusal;
 use measures::Grains;
 use measures::Tenths;
 use proposal_file::Opening;
@@ -36,6 +33,8 @@ use proposal_file::ProposalAnswer;
 use proposal_file::read_proposal;
 use report::Totals;
 use report::write_report;
+use rows::Outcome;
+use rows::Place;
 use valuation::branch_total;
 use valuation::first_price_outside;
 use valuation::owed;
@@ -43,12 +42,6 @@ use valuation::rent;
 use valuation::surpluses;
 use valuation::welfare;
 use valuation::zone_prices;
-
-// The verdict of the table: its number and its index.
-pub struct Verdict {
-    pub number: u32,
-    pub index: u32,
-}
 
 // Rules 7 to 11: the five totals of a cleared hour with its prices within their limits.
 fn totals(
@@ -83,11 +76,11 @@ fn totals(
 }
 
 // A verdict at a place.
-fn verdict_at(number: u32, place: usize) -> Verdict
+fn verdict_at(number: u32, place: usize) -> Outcome
     requires { ⌜ place < 4294967296 ⌝ }
     ensures { λ r. ⌜ r ≡ record { number = number; index = place } ⌝ }
 {
-    Verdict {
+    Outcome {
         number,
         index: place as u32,
     }
@@ -108,7 +101,7 @@ fn judge_priced(
     nets: [Tenths; 16],
     prices: [Grains; 16],
     report: &mut [u8],
-) -> Verdict
+) -> Outcome
     requires { ⌜ Proposed (now «case») k (now proposal) ⌝ }
     requires { ⌜ VolumesIn (caseOf (now «case»)) (planOf (now «case») (now proposal)) ⌝ }
     requires { ⌜ Holds (net (caseOf (now «case»)) (planOf (now «case») (now proposal))) nets ⌝ }
@@ -137,7 +130,7 @@ fn judge_cleared(
     nets: [Tenths; 16],
     table: [[i32; 16]; 64],
     report: &mut [u8],
-) -> Verdict
+) -> Outcome
     requires { ⌜ Proposed (now «case») k (now proposal) ⌝ }
     requires { ⌜ VolumesIn (caseOf (now «case»)) (planOf (now «case») (now proposal)) ⌝ }
     requires { ⌜ Holds (net (caseOf (now «case»)) (planOf (now «case») (now proposal))) nets ⌝ }
@@ -164,7 +157,7 @@ fn judge_balanced(
     opening: Opening,
     nets: [Tenths; 16],
     report: &mut [u8],
-) -> Verdict
+) -> Outcome
     requires { ⌜ Proposed (now «case») k (now proposal) ⌝ }
     requires { ⌜ VolumesIn (caseOf (now «case»)) (planOf (now «case») (now proposal)) ⌝ }
     requires { ⌜ Holds (net (caseOf (now «case»)) (planOf (now «case») (now proposal))) nets ⌝ }
@@ -193,7 +186,7 @@ fn judge_proposed(
     proposal: &[u8],
     opening: Opening,
     report: &mut [u8],
-) -> Verdict
+) -> Outcome
     requires { ⌜ Proposed (now «case») k (now proposal) ⌝ }
     requires { ⌜ opening ≡ openingOf (now proposal) ⌝ }
     requires { ⌜ 176 ≤ length (now report) ⌝ }
@@ -211,23 +204,14 @@ fn judge_proposed(
     judge_balanced(case, k, proposal, opening, nets, report)
 }
 
-fn verdict_of(refusal: Refusal) -> Verdict
-    ensures { λ r. ⌜ r ≡ verdictOf (outcomeOf refusal) ⌝ }
-{
-    Verdict {
-        number: refusal.number,
-        index: refusal.index,
-    }
-}
-
 // Verdicts 9 and on: a readable case.
-fn judge_readable(case: &[u8], k: Counts, proposal: &[u8], report: &mut [u8]) -> Verdict
+fn judge_readable(case: &[u8], k: Counts, proposal: &[u8], report: &mut [u8]) -> Outcome
     requires { ⌜ Opened (now «case») k ⌝ }
     requires { ⌜ 176 ≤ length (now report) ⌝ }
     ensures { λ r. ⌜ Judged (proposalOn (now («case» .entry)) (now (proposal .entry))) (now («case» .entry)) (now (proposal .entry)) (now (report .entry)) r (now (report .exit)) ⌝ }
 {
     match read_proposal(case, k, proposal) {
-        ProposalAnswer::Refused(refusal) => verdict_of(refusal),
+        ProposalAnswer::Refused(refusal) => refusal,
         ProposalAnswer::Sound(opening) => judge_proposed(case, k, proposal, opening, report),
     }
 }
@@ -237,8 +221,8 @@ pub const REPORT_ROOM: usize = 176;
 
 // THE JUDGEMENT of a case and a proposal. The answer is the verdict table's, the buffer afterwards is `bufferAfter`'s, and an accepted hour, of which
 // the number is 0, keeps demand 3 in the numbers that the report's bytes then hold, by document 01's rules and in the Annex's terms.
-pub fn judge(case: &[u8], proposal: &[u8], report: &mut [u8]) -> Verdict
-    ensures outcome { λ r. ⌜ r ≡ verdictOf (outcome (now («case» .entry)) (now (proposal .entry)) (length (now (report .entry)))) ⌝ }
+pub fn judge(case: &[u8], proposal: &[u8], report: &mut [u8]) -> Outcome
+    ensures outcome { λ r. ⌜ r ≡ outcome (now («case» .entry)) (now (proposal .entry)) (length (now (report .entry))) ⌝ }
     ensures report { λ r. ⌜ now (report .exit) ≡ bufferAfter (now («case» .entry)) (now (proposal .entry)) (now (report .entry)) ⌝ }
     ensures totals { λ r. ⌜ TotalsReported (now («case» .entry)) (now (proposal .entry)) (length (now (report .entry))) (now (report .exit)) ⌝ }
     ensures allowed { λ r. ⌜ (r .number ≡ 0 → Allowed (now («case» .entry)) (now (proposal .entry))) ⌝ }
@@ -253,7 +237,7 @@ pub fn judge(case: &[u8], proposal: &[u8], report: &mut [u8]) -> Verdict
         return verdict_at(30, 0);
     }
     match read_case(case) {
-        CaseAnswer::Refused(refusal) => verdict_of(refusal),
+        CaseAnswer::Refused(refusal) => refusal,
         CaseAnswer::Readable(k) => judge_readable(case, k, proposal, report),
     }
 }

@@ -9,7 +9,7 @@ use borrow.Author.Tests.{eqb-true, not-false}
 use lib.Dec.{T, eqb, nltb→le}
 use lib.ListN.{length, getD}
 use Rattle.integers.specs.Ranges.{outside, Within, within, nat-within, nor-left, nor-right, not-is}
-use Rattle.rules.specs.RowLaws.{Pass, empty, all-pass, no-place}
+use Rattle.rows.specs.RowLaws.{Pass, empty, all-pass, no-place}
 use Rattle.decimal.specs.Value.{valueOf}
 use Rattle.numerals.specs.Numeral.{whole, decimals, isNumber, units, finer}
 use Rattle.numerals.specs.Exact.{exact}

@@ -14,13 +14,11 @@ use Rattle.measures.specs.Limits as limits
 use Rattle.orders.specs.Admitted.{orderOf, surplusAt}
 use Rattle.orders.specs.declared.Order.{Order}
 use Rattle.rules.specs.Layout.{zoneCounts, orderCounts}
-use Rattle.rules.specs.Rows.{firstBelow}
+use Rattle.rows.specs.Rows.{firstBelow}
 use Rattle.rules.specs.Verdict.{badRow}
 use Rattle.rules.specs.Book.{priceAt}
 use Rattle.order_book.specs.declared.Account.{Account}
 use Rattle.order_book.specs.declared.OrderRow.{OrderRow}
-use Rattle.order_book.specs.declared.Place.{Place}
-use Rattle.order_book.specs.declared.Place.the-variants.{At, Nowhere}
 use Rattle.order_book.specs.declared.Surplus.{Surplus}
 
 -- no row taken yet
@@ -40,10 +38,6 @@ withRow a x = record { number = a .number; index = a .index; taken = a .taken + 
 -- OPENED: by the number of prices, the number of rows, and the first price out of range
 unfoldable pub firstUnpriced : List ℤ → Option ℕ
 firstUnpriced prices = firstBelow (length prices) (λ z. outside limits.zonePrice (priceAt prices z))
-
-abbrev pub placeOf : Option ℕ → Place
-placeOf (some z) = At z
-placeOf none = Nowhere
 
 abbrev pub openBy : Bool → Bool → Option ℕ → Account
 openBy true b z = standing 4 5

@@ -16,8 +16,9 @@ use Rattle.integers.specs.Size.{Near, near-sum}
 use Rattle.measures.specs.Limits as limits
 use Rattle.rules.specs.Layout.{zoneCounts, orderCounts}
 use Rattle.rules.specs.Hour.{surplusOf}
-use Rattle.rules.specs.Rows.{Row, Outcome, firstBelow, refusal, field, each}
-use Rattle.rules.specs.RowLaws.{field-fails, field-passes, row-found, row-clear, first-is, not-below}
+use Rattle.rows.specs.declared.Outcome.{Outcome}
+use Rattle.rows.specs.Rows.{Row, firstBelow, refusal, field, each}
+use Rattle.rows.specs.RowLaws.{field-fails, field-passes, row-found, row-clear, first-is, not-below}
 use Rattle.rules.specs.Verdict.{badRow}
 use Rattle.rules.specs.Book.{BookRow, priceAt, badBookRow, bookRows, bookRefusal, rowSurplus, bookSurplus, bookAnswerBy, bookAnswer}
 use Rattle.order_book.specs.declared.Account.{Account}

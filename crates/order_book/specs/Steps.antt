@@ -3,7 +3,7 @@
 use mathlib.Core.Path.{_≡_, refl, ap, sym, subst, _∙_}
 use mathlib.Core.Bool.{Bool, true, false, not}
 use mathlib.Core.List.{List}
-use mathlib.Core.Option.{Option, none, some}
+use mathlib.Core.Option.{Option}
 use Prim.Native.Nat.{ℕ}
 use native.Mathlib.Omega.{arith}
 use lib.Dec.{T, leb, ltb, nleb→lt, eqb}
@@ -20,28 +20,18 @@ use Rattle.orders.specs.declared.Order.{Order}
 use Rattle.orders.specs.declared.OrderAnswer.the-variants.{Held, Outside}
 use Rattle.rules.specs.Layout.{zoneCounts, orderCounts}
 use Rattle.rules.specs.Hour.{surplusOf}
-use Rattle.rules.specs.Rows.{anyBelow}
+use Rattle.rows.specs.Rows.{anyBelow}
 use Rattle.rules.specs.Verdict.{rowFault, badRow}
 use Rattle.rules.specs.Passed.{nor-4}
 use Rattle.rules.specs.Fits.{surplus-near}
 use Rattle.rules.specs.Book.{priceAt}
 use Rattle.order_book.specs.declared.Account.{Account}
 use Rattle.order_book.specs.declared.OrderRow.{OrderRow}
-use Rattle.order_book.specs.declared.Place.the-variants.{At, Nowhere}
-use Rattle.order_book.specs.Account.{placeOf, openBy, openOf, firstUnpriced, counted, badIn, rowOrder, isSettled, addBy, addOf, answered, closeOf, OrderIn, Ready}
+use Rattle.order_book.specs.Account.{openBy, openOf, firstUnpriced, counted, badIn, rowOrder, isSettled, addBy, addOf, answered, closeOf, OrderIn, Ready}
 
 pub opened-by : (count : ℕ) (prices : List ℤ) {a b : Bool} {z : Option ℕ} → outside zoneCounts (pos (length prices)) ≡ a → outside orderCounts (pos count) ≡ b → firstUnpriced prices ≡ z
     → openBy a b z ≡ openOf count prices
 opened-by count prices ha hb hz = sym (λ j. openBy (ha j) (hb j) (hz j))
-
--- the place that was found, read back
-pub place-at : (z : Option ℕ) (k : ℕ) → placeOf z ≡ At k → z ≡ some k
-place-at (some z) k e = cc
-place-at none k e = cc
-
-pub place-nowhere : (z : Option ℕ) → placeOf z ≡ Nowhere → z ≡ none
-place-nowhere (some z) e = cc
-place-nowhere none e = refl
 
 pub added-by : (a : Account) (o : OrderRow) (prices : List ℤ) {s b : Bool} → isSettled a ≡ s → badIn prices o ≡ b → addBy a s b (counted (rowOrder o) prices) ≡ addOf a o prices
 added-by a o prices hs hb = sym (λ j. addBy a (hs j) (hb j) (counted (rowOrder o) prices))

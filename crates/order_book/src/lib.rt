@@ -1,17 +1,17 @@
 // An order book lent in memory: rows beside zone prices in grains. Its rows go one by one into an account, which in the end gives the sum of rule 8 or a refusal.
 ghost use mathlib.Core.Path.{_≡_};
-ghost use Prim.Native.Nat.{_+_, _<_, _≤_};
+ghost use Prim.Native.Nat.{_+_, _<_};
 ghost use lib.ListN.{length};
-ghost use lib.IntN.{pos, _+ℤ_};
+ghost use lib.IntN.{_+ℤ_};
 ghost use mir.Syntax.{w64};
 ghost use mir.Val.{SFits};
-ghost use Rattle.integers.specs.Ranges.{range};
 ghost use Rattle.integers.specs.Ranges as ranges;
 ghost use Rattle.measures.specs.Limits as limits;
 ghost use Rattle.measures.specs.Held.{grainsIn};
 ghost use Rattle.orders.specs.Admitted.{admitted};
+ghost use Rattle.rows.specs.Rows.{placeOf};
 ghost use Rattle.rules.specs.Book.{priceAt};
-ghost use Rattle.order_book.specs.Account.{standing, isSettled, refusedRow, withRow, placeOf, firstUnpriced, openOf, addOf, answered, closeOf, counted, OrderIn, Ready};
+ghost use Rattle.order_book.specs.Account.{standing, isSettled, refusedRow, withRow, firstUnpriced, openOf, addOf, answered, closeOf, counted, OrderIn, Ready};
 use measures::Grains;
 use measures::GrainsAnswer;
 use measures::Microcents;
@@ -20,6 +20,8 @@ use orders::Order;
 use orders::OrderAnswer;
 use orders::admit;
 use orders::surplus;
+use rows::Place;
+use rows::count_outside;
 
 // A row as the host lends it. Side 0 buys, 1 sells; the quantity is in tenths, the price in cents.
 #[repr(C)]
@@ -44,11 +46,6 @@ pub struct Account {
     index: u32,
     taken: u32,
     sum: Microcents,
-}
-
-enum Place {
-    At(u32),
-    Nowhere,
 }
 
 impl Account {
@@ -110,15 +107,6 @@ pub const ROWS_LEAST: usize = 0;
 
 pub const ROWS_GREATEST: usize = 512;
 
-fn count_outside(least: usize, greatest: usize, n: usize) -> bool
-    ensures { λ r. ⌜ r ≡ ranges.outside (range (pos least) (pos greatest)) (pos n) ⌝ }
-{
-    if n < least {
-        return true;
-    }
-    greatest < n
-}
-
 fn price_at(prices: &[i64], zone: usize) -> Raw
     requires { ⌜ zone < length (now prices) ⌝ }
     ensures { λ r. ⌜ r .0 ≡ priceAt (now (prices .entry)) zone ⌝ }
@@ -146,13 +134,12 @@ fn unpriced(prices: &[i64], zone: usize) -> bool
 
 // The first zone whose price is out of range.
 fn first_unpriced(prices: &[i64]) -> Place
-    requires { ⌜ length (now prices) ≤ 16 ⌝ }
-    ensures { λ r. ⌜ r ≡ placeOf (firstUnpriced (now (prices .entry))) ⌝ }
+    ensures { λ r. ⌜ placeOf r ≡ firstUnpriced (now (prices .entry)) ⌝ }
 {
     let mut zone = 0;
     while zone < prices.len() {
         if unpriced(prices, zone) {
-            return Place::At(zone as u32);
+            return Place::At(zone);
         }
         zone += 1;
     }
@@ -172,7 +159,7 @@ pub fn open_book(count: usize, prices: &[i64]) -> Account
     let Place::At(zone) = first_unpriced(prices) else {
         return Account::new(0, 0);
     };
-    Account::new(25, zone)
+    Account::new(25, zone as u32)
 }
 
 fn wide(x: u8) -> usize

@@ -9,7 +9,7 @@ use Rattle.integers.specs.Ranges.{outside}
 use Rattle.measures.specs.Limits.{grainsOf}
 use Rattle.measures.specs.Limits as limits
 use Rattle.rules.specs.Hour.{above}
-use Rattle.rules.specs.Rows.{anyBelow}
+use Rattle.rows.specs.Rows.{anyBelow}
 use Rattle.rules.specs.Verdict.{rowFault, badRow}
 use Rattle.orders.specs.declared.Order.{Order}
 use Rattle.orders.specs.declared.OrderAnswer.{OrderAnswer}

@@ -8,10 +8,10 @@ use borrow.Author.Tests.{ltb-false}
 use lib.ListN.{length}
 use lib.IntN.{pos}
 use Rattle.rules.specs.Layout.{proposalHeader, proposalVersion, shareIn, systemIn}
-use Rattle.rules.specs.Rows.{Outcome, verdict}
+use Rattle.rows.specs.declared.Outcome.{Outcome}
+use Rattle.rows.specs.Rows.{verdict}
 use Rattle.rules.specs.Verdict.{under, proposalRefusal}
-use Rattle.fields.specs.declared.Refusal.{Refusal}
-use Rattle.fields.specs.Walk.{markAt, raw, refusalOf}
+use Rattle.fields.specs.Walk.{markAt, raw}
 use Rattle.proposal_file.specs.declared.Opening.{Opening}
 use Rattle.proposal_file.specs.declared.Header.{Header}
 use Rattle.proposal_file.specs.declared.HeaderField.{HeaderField}
@@ -24,7 +24,7 @@ openingOf t = record { share = record { 0 = pos (shareIn t) }; system = record {
 
 -- ROWS 9 TO 14
 abbrev pub proposalBy : Opening → Option Outcome → ProposalAnswer
-proposalBy p (some o) = answer.Refused (refusalOf o)
+proposalBy p (some o) = answer.Refused o
 proposalBy p none = answer.Sound p
 
 abbrev pub proposalAnswer : List ℕ → List ℕ → ProposalAnswer
@@ -36,7 +36,7 @@ headerIn t = record { mark = markAt t 0; version = proposalVersion t; share = sh
 
 -- ROW 9, by its test
 abbrev pub takenBy : Header → Bool → HeaderField
-takenBy h true = taken.Refused (refusalOf (verdict 9 0))
+takenBy h true = taken.Refused (verdict 9 0)
 takenBy h false = taken.Taken h
 
 abbrev pub headerTaken : List ℕ → HeaderField
@@ -50,9 +50,9 @@ header-taken t {h} e = by (under proposalHeader (length t)) refl e
     by true q e = (ltb-false (length t) proposalHeader cc, cc)
     by false q e = (ltb-false (length t) proposalHeader q, cc)
 
-pub header-refused : (t : List ℕ) {r : Refusal} → headerTaken t ≡ taken.Refused r → (under proposalHeader (length t) ≡ true) × (r ≡ refusalOf (verdict 9 0))
+pub header-refused : (t : List ℕ) {r : Outcome} → headerTaken t ≡ taken.Refused r → (under proposalHeader (length t) ≡ true) × (r ≡ verdict 9 0)
 header-refused t {r} e = by (under proposalHeader (length t)) refl e
   where
-    by : (b : Bool) → under proposalHeader (length t) ≡ b → takenBy (headerIn t) b ≡ taken.Refused r → (under proposalHeader (length t) ≡ true) × (r ≡ refusalOf (verdict 9 0))
+    by : (b : Bool) → under proposalHeader (length t) ≡ b → takenBy (headerIn t) b ≡ taken.Refused r → (under proposalHeader (length t) ≡ true) × (r ≡ verdict 9 0)
     by true q e = (q, cc)
     by false q e = (cc, cc)

@@ -17,8 +17,8 @@ use Rattle.rules.specs.Clearing.{Clearing}
 use Rattle.rules.specs.Annex.{Solution, Feasible, PairsOnce, Connected, AlongLines, joins, byPair, capacityLTA, netFlow, objective}
 use Rattle.rules.specs.AnnexPromise.{Same, Agree, IsClearing, IsFeasible}
 use Rattle.rules.specs.Duality.{Placed}
-use Rattle.rules.specs.Rows.{firstBelow}
-use Rattle.rules.specs.RowLaws.{first-is, not-below}
+use Rattle.rows.specs.Rows.{firstBelow}
+use Rattle.rows.specs.RowLaws.{first-is, not-below}
 use Rattle.rules.specs.CommercialFlows.{net-plain, net-sum, net-ext, Carried, balanced-carried}
 
 -- LINKS BY ORDERED PAIR

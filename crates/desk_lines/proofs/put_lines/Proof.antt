@@ -6,7 +6,7 @@ use Prim.Native.Nat.{ℕ, _+_, _*_, _≤_}
 use native.Mathlib.Omega.{arith}
 use lib.ListN.{length, getD, replicate, length-append}
 use Rattle.decimal.specs.Put.{Put, put-as, put-length, put-then}
-use Rattle.rules.specs.Rows.{Outcome, verdict}
+use Rattle.rows.specs.declared.Outcome.{Outcome}
 use Rattle.rules.specs.Verdict.{outcome}
 use Rattle.rules.specs.Report.{reports, bufferAfter}
 use Rattle.desk_lines.specs.Lines.{verdictLine, hourText}
@@ -28,8 +28,8 @@ module _ (c : tie.After-judge) where
   abbrev t : List ℕ
   t = start .args .proposal .now
 
-  answered : verdict (c .judge .result .number) (c .judge .result .index) ≡ outcome s t 176
-  answered = λ i. verdict ((c .judge .ensures .0 i) .number) ((c .judge .ensures .0 i) .index)
+  answered : c .judge .result ≡ outcome s t 176
+  answered = c .judge .ensures .0
 
   left : c .judge .last .1 .1 .0 ≡ bufferAfter s t (replicate 176 0)
   left = c .judge .ensures .1 .0

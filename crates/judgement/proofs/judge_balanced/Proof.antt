@@ -5,12 +5,12 @@ use borrow.Author.Needs.{needs}
 use denote.Ref.{now}
 use lib.IntN.{ℤ, pos, _-ℤ_}
 use mir.Syntax.{w64}
-use Rattle.rules.specs.RowLaws.{row-found, row-clear, not-below}
+use Rattle.rows.specs.RowLaws.{row-found, row-clear, not-below, at-place, at-none, place-below}
 use Rattle.rules.specs.Passed.{case-sound, proposal-sound}
 use Rattle.rules.specs.Report.{reports}
 use Rattle.proposal_file.specs.declared.Opening.{Opening}
-use Rattle.judgement.specs.declared.Verdict.{Verdict}
-use Rattle.judgement.specs.Judged.{Judged, rowsFrom, rowAt, refused, same-rows, at-place, at-none, below}
+use Rattle.rows.specs.declared.Outcome.{Outcome}
+use Rattle.judgement.specs.Judged.{Judged, rowsFrom, rowAt, refused, same-rows}
 use lib.Dec.{nltb→le}
 use Rattle.integers.specs.Size.{near-fits, near-sub, near-pos, near-unsigned}
 use Rattle.integers.specs.Machine.{sfits-by}
@@ -18,8 +18,7 @@ use Rattle.rules.specs.Hour.{caseOf, planOf}
 use Rattle.rules.specs.Verdict.{clearingRows}
 use Rattle.rules.specs.Fits.{flow-in}
 use Rattle.clearing.specs.Stages.{FlowsIn}
-use Rattle.fields.specs.declared.Place.the-variants.{Nowhere}
-use borrow.Author.Needs.{needs}
+use Rattle.rows.specs.declared.Place.the-variants.{Nowhere}
 use Rattle.judgement.proofs.judge_balanced.Statement.{statement}
 use Rattle.judgement.proofs.judge_balanced.Tie as tie
 
@@ -38,7 +37,7 @@ verdict-at-requires : tie.Need-verdict-at-requires
 verdict-at-requires c κs =
     let o = c .before in
     let f = o .before .before in
-    below _ _ _ 4294967296 (at-place _ _ _ (f .first-overused-link .ensures) (o .overused .given .1)) (omega (arith, (case-sound _ (f .before .before .before .before .before .pre .0 .opened .readable)) .links-in))
+    place-below _ _ _ 4294967296 (at-place _ _ _ (f .first-overused-link .ensures) (o .overused .given .1)) (omega (arith, (case-sound _ (f .before .before .before .before .before .pre .0 .opened .readable)) .links-in))
 
 returns : tie.Need-returns
 unfolding clearingRows reports
@@ -46,7 +45,7 @@ returns c =
     let o = c .before .before in
     let f = o .before .before in
     let a = f .before .before .before .before .before in
-    subst (λ (r : Verdict). Judged (rowsFrom 2 (now (a .args .«case»)) (now (a .args .proposal))) (now (a .args .«case»)) (now (a .args .proposal)) (now (a .args .report)) r (now (a .args .report))) (sym (c .verdict-at .ensures))
+    subst (λ (r : Outcome). Judged (rowsFrom 2 (now (a .args .«case»)) (now (a .args .proposal))) (now (a .args .«case»)) (now (a .args .proposal)) (now (a .args .report)) r (now (a .args .report))) (sym (c .verdict-at .ensures))
     (refused (rowsFrom 2 (now (a .args .«case»)) (now (a .args .proposal))) (now (a .args .«case»)) (now (a .args .proposal)) (now (a .args .report)) 23 _ refl
     (row-found (rowAt 2 (now (a .args .«case»)) (now (a .args .proposal))) (rowsFrom 3 (now (a .args .«case»)) (now (a .args .proposal))) _ (at-place _ _ _ (f .first-overused-link .ensures) (o .overused .given .1))))
 
@@ -89,7 +88,7 @@ verdict-at-requires-2 : tie.Need-verdict-at-requires-2
 verdict-at-requires-2 c κs =
     let o = c .before in
     let f = o .before .before in
-    below _ _ _ 4294967296 (at-place _ _ _ (f .first-overloaded-branch .ensures) (o .overloaded .given .1)) (omega (arith, (case-sound _ (f .before .before .before .before .before .before .before .before .before .before .before .pre .0 .opened .readable)) .branches-in))
+    place-below _ _ _ 4294967296 (at-place _ _ _ (f .first-overloaded-branch .ensures) (o .overloaded .given .1)) (omega (arith, (case-sound _ (f .before .before .before .before .before .before .before .before .before .before .before .pre .0 .opened .readable)) .branches-in))
 
 returns-2 : tie.Need-returns-2
 unfolding clearingRows reports
@@ -99,7 +98,7 @@ returns-2 c =
     let l = f .before .before .before .before .before .before in
     let a = l .before .before .before .before .before in
     same-rows (row-clear (rowAt 2 (now (a .args .«case»)) (now (a .args .proposal))) (rowsFrom 3 (now (a .args .«case»)) (now (a .args .proposal))) (at-none _ _ (l .first-overused-link .ensures) (f .before .before .before .before .enum-told .given .1)))
-    (subst (λ (r : Verdict). Judged (rowsFrom 3 (now (a .args .«case»)) (now (a .args .proposal))) (now (a .args .«case»)) (now (a .args .proposal)) (now (a .args .report)) r (now (a .args .report))) (sym (c .verdict-at2 .ensures))
+    (subst (λ (r : Outcome). Judged (rowsFrom 3 (now (a .args .«case»)) (now (a .args .proposal))) (now (a .args .«case»)) (now (a .args .proposal)) (now (a .args .report)) r (now (a .args .report))) (sym (c .verdict-at2 .ensures))
     (refused (rowsFrom 3 (now (a .args .«case»)) (now (a .args .proposal))) (now (a .args .«case»)) (now (a .args .proposal)) (now (a .args .report)) 24 _ refl
     (row-found (rowAt 3 (now (a .args .«case»)) (now (a .args .proposal))) (rowsFrom 4 (now (a .args .«case»)) (now (a .args .proposal))) _ (at-place _ _ _ (f .first-overloaded-branch .ensures) (o .overloaded .given .1)))))
 

@@ -1,10 +1,9 @@
 -- `judgement::judge_readable` meets its contract: rows 9 to 14, and the rows after them. Assumes nothing.
-use mathlib.Core.Path.{sym, subst, _∙_}
+use mathlib.Core.Path.{sym, _∙_}
 use denote.Ref.{now}
 use Rattle.rules.specs.Hour.{caseOf, planOf, pricesOf}
-use Rattle.rules.specs.RowLaws.{lacks}
-use Rattle.judgement.specs.declared.Verdict.{Verdict}
-use Rattle.judgement.specs.Judged.{Judged, proposalOn, refused, same-rows, first-refuses, first-passes, silent}
+use Rattle.rows.specs.RowLaws.{lacks}
+use Rattle.judgement.specs.Judged.{proposalOn, refused, same-rows, first-refuses, first-passes, silent}
 use Rattle.rules.specs.Verdict.{proposalRows, clearingRows, proposalRefusal}
 use Rattle.proposal_file.specs.Proposed.{opening-is, proposed-of, refused-of}
 use borrow.Author.Needs.{needs}
@@ -16,9 +15,6 @@ read-proposal-requires c κs = search needs
 
 enum-known-refusal : tie.Need-enum-known-refusal
 enum-known-refusal c = search needs
-
-verdict-of-requires : tie.Need-verdict-of-requires
-verdict-of-requires c κs = search needs
 
 enum-known-opening : tie.Need-enum-known-opening
 enum-known-opening c = search needs
@@ -34,13 +30,12 @@ judge-proposed-requires c κs =
 returns : tie.Need-returns
 unfolding proposalRefusal proposalRows lacks
 returns c =
-    let o = c .before .before in
+    let o = c .before in
     let p = o .before .before in
     let a = p .before .before .before .before in
     let e = refused-of (now (a .args .«case»)) (now (a .args .proposal)) (sym (p .read-proposal .ensures) ∙ o .refusal .given .1) in
-    subst (λ (r : Verdict). Judged (proposalOn (now (a .args .«case»)) (now (a .args .proposal))) (now (a .args .«case»)) (now (a .args .proposal)) (now (a .args .report)) r (now (a .args .report))) (sym (c .verdict-of .ensures))
-    (refused (proposalOn (now (a .args .«case»)) (now (a .args .proposal))) (now (a .args .«case»)) (now (a .args .proposal)) (now (a .args .report)) _ _ (silent (proposalRows (now (a .args .«case»)) (now (a .args .proposal)) (caseOf (now (a .args .«case»))) (planOf (now (a .args .«case»)) (now (a .args .proposal))) (pricesOf (now (a .args .«case»)) (now (a .args .proposal)))) _ tt tt e)
-    (first-refuses (proposalRows (now (a .args .«case»)) (now (a .args .proposal)) (caseOf (now (a .args .«case»))) (planOf (now (a .args .«case»)) (now (a .args .proposal))) (pricesOf (now (a .args .«case»)) (now (a .args .proposal)))) (clearingRows (caseOf (now (a .args .«case»))) (planOf (now (a .args .«case»)) (now (a .args .proposal))) (pricesOf (now (a .args .«case»)) (now (a .args .proposal)))) _ e))
+    refused (proposalOn (now (a .args .«case»)) (now (a .args .proposal))) (now (a .args .«case»)) (now (a .args .proposal)) (now (a .args .report)) _ _ (silent (proposalRows (now (a .args .«case»)) (now (a .args .proposal)) (caseOf (now (a .args .«case»))) (planOf (now (a .args .«case»)) (now (a .args .proposal))) (pricesOf (now (a .args .«case»)) (now (a .args .proposal)))) _ tt tt e)
+    (first-refuses (proposalRows (now (a .args .«case»)) (now (a .args .proposal)) (caseOf (now (a .args .«case»))) (planOf (now (a .args .«case»)) (now (a .args .proposal))) (pricesOf (now (a .args .«case»)) (now (a .args .proposal)))) (clearingRows (caseOf (now (a .args .«case»))) (planOf (now (a .args .«case»)) (now (a .args .proposal))) (pricesOf (now (a .args .«case»)) (now (a .args .proposal)))) _ e)
 
 same-length : tie.Need-same-length
 same-length c = search needs
@@ -60,7 +55,6 @@ judge-readable-spec =
     (tie.spec
     read-proposal-requires
     enum-known-refusal
-    verdict-of-requires
     enum-known-opening
     judge-proposed-requires
     returns

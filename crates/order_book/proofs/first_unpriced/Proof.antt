@@ -1,5 +1,5 @@
 -- `order_book::first_unpriced` meets its contract. The loop's invariant: no price before `zone` is out of range. Assumes nothing.
-use mathlib.Core.Path.{_≡_, refl, ap, sym, _∙_}
+use mathlib.Core.Path.{_≡_, refl, sym, _∙_}
 use mathlib.Core.Option.{none}
 use Prim.Native.Nat.{ℕ, _-_, _<_, _≤_}
 use native.Mathlib.Omega.{arith}
@@ -7,9 +7,9 @@ use lib.ListN.{length}
 use Rattle.integers.specs.Ranges.{outside}
 use Rattle.measures.specs.Limits as limits
 use Rattle.rules.specs.Book.{priceAt}
-use Rattle.rules.specs.Rows.{firstBelow}
-use Rattle.rules.specs.RowLaws.{first-here, first-later, first-nowhere}
-use Rattle.order_book.specs.Account.{firstUnpriced, placeOf}
+use Rattle.rows.specs.Rows.{firstBelow}
+use Rattle.rows.specs.RowLaws.{first-here, first-later, first-nowhere}
+use Rattle.order_book.specs.Account.{firstUnpriced}
 use Rattle.order_book.proofs.first_unpriced.Statement.{statement}
 use Rattle.order_book.proofs.first_unpriced.Tie as tie
 
@@ -26,14 +26,11 @@ loop-holds c = (omega arith, refl)
 unpriced-requires : tie.Need-unpriced-requires Inv-loop μ-loop
 unpriced-requires c κs = omega arith
 
-cast-t6 : tie.Need-cast-t6 Inv-loop μ-loop
-cast-t6 c = omega arith
-
 returns : tie.Need-returns Inv-loop μ-loop
 unfolding firstUnpriced
 returns c =
     let l = c .before .before .before in
-    sym (ap placeOf (first-here _ (l .loop .zone) (c .before .before .loop-test .taken) (l .loop .inv .1) (sym (c .before .unpriced .ensures) ∙ c .if1 .taken)))
+    sym (first-here _ (l .loop .zone) (c .before .before .loop-test .taken) (l .loop .inv .1) (sym (c .before .unpriced .ensures) ∙ c .if1 .taken))
 
 add-zone : tie.Need-add-zone Inv-loop μ-loop
 add-zone c = omega arith
@@ -48,7 +45,7 @@ loop-again c =
 
 returns-2 : tie.Need-returns-2 Inv-loop μ-loop
 unfolding firstUnpriced
-returns-2 c = let l = c .before in sym (ap placeOf (first-nowhere _ (l .loop .zone) (omega arith) (omega arith) (l .loop .inv .1)))
+returns-2 c = let l = c .before in sym (first-nowhere _ (l .loop .zone) (omega arith) (omega arith) (l .loop .inv .1))
 
 pub first-unpriced-spec : {M : Type 1} → statement M
 first-unpriced-spec =
@@ -58,7 +55,6 @@ first-unpriced-spec =
     μ-loop
     loop-holds
     unpriced-requires
-    cast-t6
     returns
     add-zone
     loop-less

@@ -1,12 +1,15 @@
 -- `order_book::open_book` meets its contract: each return goes by the tests passed on the way. Assumes nothing.
 use mathlib.Core.Path.{_≡_, refl, sym, _∙_}
 use mathlib.Core.Bool.{false}
+use native.Mathlib.Omega.{arith}
 use lib.ListN.{length}
 use lib.IntN.{pos}
 use Rattle.integers.specs.Ranges.{outside, nat-within}
 use Rattle.rules.specs.Layout.{zoneCounts, orderCounts}
 use Rattle.integers.specs.Ranges.{is-false}
-use Rattle.order_book.specs.Steps.{opened-by, place-at, place-nowhere}
+use Rattle.rows.specs.RowLaws.{at-place, at-none, place-below}
+use Rattle.order_book.specs.Account.{firstUnpriced}
+use Rattle.order_book.specs.Steps.{opened-by}
 use borrow.Author.Needs.{needs}
 use Rattle.order_book.proofs.open_book.Statement.{statement}
 use Rattle.order_book.proofs.open_book.Tie as tie
@@ -42,7 +45,7 @@ returns-2 c =
     c .new2 .ensures ∙ opened-by (a .count) (a .prices .now) (prices-in e) (sym (c .before .before .count-outside2 .ensures) ∙ c .before .if2 .taken) refl
 
 first-unpriced-requires : tie.Need-first-unpriced-requires
-first-unpriced-requires c κs = (nat-within 1 16 (length (c .before .before .before .before .args .prices .now)) (is-false (prices-in (c .before .before)))) .1
+first-unpriced-requires c κs = search needs
 
 enum-known-zone : tie.Need-enum-known-zone
 enum-known-zone c = search needs
@@ -59,7 +62,14 @@ returns-3 c =
     let e = f .before in
     let a = e .before .before .before .before .args in
     c .new3 .ensures
-    ∙ opened-by (a .count) (a .prices .now) (prices-in (e .before .before)) (rows-in e) (place-nowhere _ (sym (f .first-unpriced .ensures) ∙ c .before .enum-told .given .1))
+    ∙ opened-by (a .count) (a .prices .now) (prices-in (e .before .before)) (rows-in e) (at-none _ _ (f .first-unpriced .ensures) (c .before .enum-told .given .1))
+
+cast-new : tie.Need-cast-new
+unfolding firstUnpriced
+cast-new c =
+    let f = c .before .before .before in
+    let e = f .before .before .before in
+    record { fits = place-below _ _ _ 4294967296 (at-place _ _ _ (f .first-unpriced .ensures) (c .before .zone .given .1)) (omega (arith, (nat-within 1 16 (length (e .before .before .args .prices .now)) (is-false (prices-in e))) .1)) }
 
 new-requires-4 : tie.Need-new-requires-4
 new-requires-4 c κs = search needs
@@ -70,7 +80,7 @@ returns-4 c =
     let e = f .before in
     let a = e .before .before .before .before .args in
     c .new4 .ensures
-    ∙ opened-by (a .count) (a .prices .now) (prices-in (e .before .before)) (rows-in e) (place-at _ _ (sym (f .first-unpriced .ensures) ∙ c .before .before .zone .given .1))
+    ∙ opened-by (a .count) (a .prices .now) (prices-in (e .before .before)) (rows-in e) (at-place _ _ _ (f .first-unpriced .ensures) (c .before .before .zone .given .1))
 
 pub open-book-spec : {M : Type 1} → statement M
 open-book-spec =
@@ -87,5 +97,6 @@ open-book-spec =
     enum-told
     new-requires-3
     returns-3
+    cast-new
     new-requires-4
     returns-4)

@@ -8,8 +8,8 @@ use Rattle.integers.specs.Ranges.{outside}
 use Rattle.measures.specs.Limits as limits
 use Rattle.measures.specs.Held.{grainsIn, grains-outside, grains-held}
 use Rattle.measures.specs.declared.Raw.{Raw}
-use Rattle.rules.specs.Rows.{firstBelow}
-use Rattle.rules.specs.RowLaws.{first-here, first-later, first-nowhere}
+use Rattle.rows.specs.Rows.{firstBelow}
+use Rattle.rows.specs.RowLaws.{first-here, first-later, first-nowhere}
 use Rattle.valuation.specs.Prices.{grainsAt}
 use Rattle.valuation.proofs.first_price_outside.Statement.{statement}
 use Rattle.valuation.proofs.first_price_outside.Tie as tie

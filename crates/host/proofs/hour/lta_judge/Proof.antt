@@ -6,7 +6,7 @@ use lib.ListN.{length}
 use native.Mathlib.Omega.{arith}
 use borrow.Author.Needs.{needs}
 use Rattle.rules.specs.Causes.{outcome-below}
-use Rattle.judgement.specs.declared.Verdict.{Verdict}
+use Rattle.rows.specs.declared.Outcome.{Outcome}
 use Rattle.host.proofs.hour.lta_judge.Statement.{statement}
 use Rattle.host.proofs.hour.lta_judge.Tie as tie
 
@@ -33,7 +33,7 @@ returns : tie.Need-returns
 returns c =
     let a = c .before .before .before .before .before .before .before .before in
     let j = c .before .before .before .judge .ensures in
-    let is = c .packed .ensures ∙ ap (λ (v : Verdict). v .number + 256 * v .index) (j .0) in
+    let is = c .packed .ensures ∙ ap (λ (v : Outcome). v .number + 256 * v .index) (j .0) in
     let below = outcome-below (now (a .args .«case»)) (now (a .args .proposal)) (length (now (a .args .report))) in (
       is,
       (
