@@ -27,8 +27,8 @@ abbrev pub raw : ℤ → Raw
 raw x = record { 0 = x }
 
 -- n bytes stand at an offset
-abbrev pub there : List ℕ → ℕ → ℕ → Bool
-there s at n = leb (at + n) (length s)
+abbrev pub fieldFits : List ℕ → ℕ → ℕ → Bool
+fieldFits s at n = leb (at + n) (length s)
 
 -- by the test that they do
 abbrev pub markBy : Mark → Cursor → Bool → MarkField
@@ -52,19 +52,19 @@ abbrev pub markAt : List ℕ → ℕ → Mark
 markAt s at = record { 0 = u8At s at; 1 = u8At s (at + 1); 2 = u8At s (at + 2) }
 
 abbrev pub markField : List ℕ → ℕ → MarkField
-markField s at = markBy (markAt s at) (cursor (at + 3)) (there s at 3)
+markField s at = markBy (markAt s at) (cursor (at + 3)) (fieldFits s at 3)
 
 abbrev pub byteField : List ℕ → ℕ → ByteField
-byteField s at = byteBy (u8At s at) (cursor (at + 1)) (there s at 1)
+byteField s at = byteBy (u8At s at) (cursor (at + 1)) (fieldFits s at 1)
 
 abbrev pub halfField : List ℕ → ℕ → WordField
-halfField s at = wordBy (u16At s at) (cursor (at + 2)) (there s at 2)
+halfField s at = wordBy (u16At s at) (cursor (at + 2)) (fieldFits s at 2)
 
 abbrev pub wordField : List ℕ → ℕ → WordField
-wordField s at = wordBy (u32At s at) (cursor (at + 4)) (there s at 4)
+wordField s at = wordBy (u32At s at) (cursor (at + 4)) (fieldFits s at 4)
 
 abbrev pub signedField : List ℕ → ℕ → SignedField
-signedField s at = signedBy (raw (i32At s at)) (cursor (at + 4)) (there s at 4)
+signedField s at = signedBy (raw (i32At s at)) (cursor (at + 4)) (fieldFits s at 4)
 
 -- A FIELD THAT WAS TAKEN: its n bytes stand there, v is its number x, and the cursor is past it
 pub record Took {A : Type 0} (s : List ℕ) (at n : ℕ) (x v : A) (c : Cursor) : Type 0 where
@@ -106,38 +106,38 @@ signed-missing x d true e = cc
 signed-missing x d false e = refl
 
 module _ (s : List ℕ) (at : ℕ) where
-  took : {A : Type 0} (n : ℕ) {x v : A} {c : Cursor} → (there s at n ≡ true) × (v ≡ x) × (c ≡ cursor (at + n)) → Took s at n x v c
+  took : {A : Type 0} (n : ℕ) {x v : A} {c : Cursor} → (fieldFits s at n ≡ true) × (v ≡ x) × (c ≡ cursor (at + n)) → Took s at n x v c
   took n w = record { inside = leb-true (at + n) (length s) (w .0); is = w .1; past = w .2 }
 
-  missing : (n : ℕ) → there s at n ≡ false → length s < at + n
+  missing : (n : ℕ) → fieldFits s at n ≡ false → length s < at + n
   missing n e = leb-false (at + n) (length s) e
 
   pub mark-took : {v : Mark} {c : Cursor} → markField s at ≡ mark.Taken v c → Took s at 3 (markAt s at) v c
-  mark-took e = took 3 (mark-taken _ _ (there s at 3) e)
+  mark-took e = took 3 (mark-taken _ _ (fieldFits s at 3) e)
 
   pub mark-short : markField s at ≡ mark.Short → length s < at + 3
-  mark-short e = missing 3 (mark-missing _ _ (there s at 3) e)
+  mark-short e = missing 3 (mark-missing _ _ (fieldFits s at 3) e)
 
   pub byte-took : {v : ℕ} {c : Cursor} → byteField s at ≡ byte.Taken v c → Took s at 1 (u8At s at) v c
-  byte-took e = took 1 (byte-taken _ _ (there s at 1) e)
+  byte-took e = took 1 (byte-taken _ _ (fieldFits s at 1) e)
 
   pub byte-short : byteField s at ≡ byte.Short → length s < at + 1
-  byte-short e = missing 1 (byte-missing _ _ (there s at 1) e)
+  byte-short e = missing 1 (byte-missing _ _ (fieldFits s at 1) e)
 
   pub half-took : {v : ℕ} {c : Cursor} → halfField s at ≡ word.Taken v c → Took s at 2 (u16At s at) v c
-  half-took e = took 2 (word-taken _ _ (there s at 2) e)
+  half-took e = took 2 (word-taken _ _ (fieldFits s at 2) e)
 
   pub half-short : halfField s at ≡ word.Short → length s < at + 2
-  half-short e = missing 2 (word-missing _ _ (there s at 2) e)
+  half-short e = missing 2 (word-missing _ _ (fieldFits s at 2) e)
 
   pub word-took : {v : ℕ} {c : Cursor} → wordField s at ≡ word.Taken v c → Took s at 4 (u32At s at) v c
-  word-took e = took 4 (word-taken _ _ (there s at 4) e)
+  word-took e = took 4 (word-taken _ _ (fieldFits s at 4) e)
 
   pub word-short : wordField s at ≡ word.Short → length s < at + 4
-  word-short e = missing 4 (word-missing _ _ (there s at 4) e)
+  word-short e = missing 4 (word-missing _ _ (fieldFits s at 4) e)
 
   pub signed-took : {v : Raw} {c : Cursor} → signedField s at ≡ signed.Taken v c → Took s at 4 (raw (i32At s at)) v c
-  signed-took e = took 4 (signed-taken _ _ (there s at 4) e)
+  signed-took e = took 4 (signed-taken _ _ (fieldFits s at 4) e)
 
   pub signed-short : signedField s at ≡ signed.Short → length s < at + 4
-  signed-short e = missing 4 (signed-missing _ _ (there s at 4) e)
+  signed-short e = missing 4 (signed-missing _ _ (fieldFits s at 4) e)

@@ -80,9 +80,9 @@ not-by : (b : Bool) → (T b → ⊥) → b ≡ false
 not-by true f = absurd (f tt)
 not-by false f = refl
 
-pub silent : (rows : List Row) (o : Outcome) → T (lacks 0 rows) → T (lacks 26 rows) → refusal rows ≡ some o → reports (o .number) ≡ false
+pub writes-no-report : (rows : List Row) (o : Outcome) → T (lacks 0 rows) → T (lacks 26 rows) → refusal rows ≡ some o → reports (o .number) ≡ false
 unfolding reports
-silent rows o a b e = λ j.
+writes-no-report rows o a b e = λ j.
     not-by (eqb (o .number) 0) (λ t. not-refused 0 rows a o e (eqb→eq (o .number) 0 t)) j
     || not-by (eqb (o .number) 26) (λ t. not-refused 26 rows b o e (eqb→eq (o .number) 26 t)) j
 

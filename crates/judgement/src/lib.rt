@@ -59,15 +59,15 @@ fn totals(
     ensures { λ r. ⌜ totalsIn r ≡ totalsOf (caseOf (now («case» .entry))) (planOf (now («case» .entry)) (now (proposal .entry))) (pricesOf (now («case» .entry)) (now (proposal .entry))) ⌝ }
 {
     let zones = k.zones;
-    let gained = welfare(case, k, proposal);
+    let total_welfare = welfare(case, k, proposal);
     let on_links = owed(case, k, proposal, prices);
     let on_branches = branch_total(case, k, proposal);
     let network = on_branches.larger(on_links);
     let bound = surpluses(case, k, proposal, prices).plus(network);
-    let gap = bound.minus(gained);
+    let gap = bound.minus(total_welfare);
     let congestion = rent(nets, prices, zones);
     Totals {
-        welfare: gained,
+        welfare: total_welfare,
         bound,
         gap,
         rent: congestion,

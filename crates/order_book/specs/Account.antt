@@ -22,12 +22,12 @@ use Rattle.order_book.specs.declared.OrderRow.{OrderRow}
 use Rattle.order_book.specs.declared.Surplus.{Surplus}
 
 -- no row taken yet
-abbrev pub standing : ℕ → ℕ → Account
-standing number index = record { number = number; index = index; taken = 0; sum = record { 0 = pos 0 } }
+abbrev pub newAccount : ℕ → ℕ → Account
+newAccount number index = record { number = number; index = index; taken = 0; sum = record { 0 = pos 0 } }
 
 -- refused by 4 or 8: no row changes it any more
-abbrev pub isSettled : Account → Bool
-isSettled a = not (eqb (a .number) 0 || eqb (a .number) 25)
+abbrev pub isFinal : Account → Bool
+isFinal a = not (eqb (a .number) 0 || eqb (a .number) 25)
 
 abbrev pub refusedRow : Account → Account
 refusedRow a = record { number = 8; index = a .taken; taken = a .taken; sum = a .sum }
@@ -36,17 +36,17 @@ abbrev pub withRow : Account → ℤ → Account
 withRow a x = record { number = a .number; index = a .index; taken = a .taken + 1; sum = record { 0 = a .sum .0 +ℤ x } }
 
 -- OPENED: by the number of prices, the number of rows, and the first price out of range
-unfoldable pub firstUnpriced : List ℤ → Option ℕ
-firstUnpriced prices = firstBelow (length prices) (λ z. outside limits.zonePrice (priceAt prices z))
+unfoldable pub firstPriceOutside : List ℤ → Option ℕ
+firstPriceOutside prices = firstBelow (length prices) (λ z. outside limits.zonePrice (priceAt prices z))
 
 abbrev pub openBy : Bool → Bool → Option ℕ → Account
-openBy true b z = standing 4 5
-openBy false true z = standing 4 8
-openBy false false (some z) = standing 25 z
-openBy false false none = standing 0 0
+openBy true b z = newAccount 4 5
+openBy false true z = newAccount 4 8
+openBy false false (some z) = newAccount 25 z
+openBy false false none = newAccount 0 0
 
 abbrev pub openOf : ℕ → List ℤ → Account
-openOf count prices = openBy (outside zoneCounts (pos (length prices))) (outside orderCounts (pos count)) (firstUnpriced prices)
+openOf count prices = openBy (outside zoneCounts (pos (length prices))) (outside orderCounts (pos count)) (firstPriceOutside prices)
 
 -- ONE ROW MORE: its order's surplus counts where the zone's price is in range
 abbrev pub counted : Order → List ℤ → ℤ
@@ -64,7 +64,7 @@ addBy a false true x = refusedRow a
 addBy a false false x = withRow a x
 
 abbrev pub addOf : Account → OrderRow → List ℤ → Account
-addOf a o prices = addBy a (isSettled a) (badIn prices o) (counted (rowOrder o) prices)
+addOf a o prices = addBy a (isFinal a) (badIn prices o) (counted (rowOrder o) prices)
 
 -- CLOSED: a refusal's sum is 0
 abbrev pub answered : ℕ → ℕ → ℤ → Surplus

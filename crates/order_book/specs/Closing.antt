@@ -24,7 +24,7 @@ use Rattle.rules.specs.Book.{BookRow, priceAt, badBookRow, bookRows, bookRefusa
 use Rattle.order_book.specs.declared.Account.{Account}
 use Rattle.order_book.specs.declared.OrderRow.{OrderRow}
 use Rattle.order_book.specs.Lent.{bookRow, given, lentAnswer}
-use Rattle.order_book.specs.Account.{standing, firstUnpriced, openBy, openOf, counted, badIn, rowOrder, isSettled, addBy, addOf, closeOf, noOrder, accountAt, Ready}
+use Rattle.order_book.specs.Account.{newAccount, firstPriceOutside, openBy, openOf, counted, badIn, rowOrder, isFinal, addBy, addOf, closeOf, noOrder, accountAt, Ready}
 use Rattle.integers.specs.Ranges.{is-false, not-is}
 use Rattle.order_book.specs.Steps.{opened-by, added-by, counted-by, order-in, counted-near}
 
@@ -37,7 +37,7 @@ pub no-cause : refusal [] ≡ none
 unfolding refusal
 no-cause = refl
 
-ready-first : (number index : ℕ) → Ready (standing number index)
+ready-first : (number index : ℕ) → Ready (newAccount number index)
 ready-first number index = record { taken-in = omega arith; sum-near = omega arith }
 
 module _ (orders : List OrderRow) (prices : List ℤ) where
@@ -50,11 +50,11 @@ module _ (orders : List OrderRow) (prices : List ℤ) where
   abbrev term : ℕ → ℤ
   term i = counted (rowOrder (at i)) prices
 
-  abbrev unpriced : ℕ → Bool
-  unpriced z = outside limits.zonePrice (priceAt prices z)
+  abbrev priceOutside : ℕ → Bool
+  priceOutside z = outside limits.zonePrice (priceAt prices z)
 
   -- REFUSED BY 4: no row is looked at
-  stays : isSettled (openOf (length orders) prices) ≡ true → (i : ℕ) → accountAt orders prices i ≡ openOf (length orders) prices
+  stays : isFinal (openOf (length orders) prices) ≡ true → (i : ℕ) → accountAt orders prices i ≡ openOf (length orders) prices
   unfolding accountAt
   stays s zero = refl
   stays s (suc i) = ap (λ (a : Account). addOf a (at i) prices) (stays s i) ∙ sym (added-by (openOf (length orders) prices) (at i) prices s refl)
@@ -69,9 +69,9 @@ module _ (orders : List OrderRow) (prices : List ℤ) where
     starts (some k) = refl
     starts none = refl
 
-    unsettled : (y : Option ℕ) (i : ℕ) → isSettled (reached (openBy false false y) i term none) ≡ false
-    unsettled (some k) i = refl
-    unsettled none i = refl
+    not-final : (y : Option ℕ) (i : ℕ) → isFinal (reached (openBy false false y) i term none) ≡ false
+    not-final (some k) i = refl
+    not-final none i = refl
 
     by-row : (i : ℕ) (b : Bool) → addBy (reached opened i term none) false b (term i) ≡ reached opened (suc i) term (cond b (some i) none)
     unfolding sumTo
@@ -80,7 +80,7 @@ module _ (orders : List OrderRow) (prices : List ℤ) where
 
     next : (i : ℕ) (x : Option ℕ) → addOf (reached opened i term x) (at i) prices ≡ reached opened (suc i) term (elim x [ some k ↦ some k | none ↦ cond (bad i) (some i) none ])
     next i (some k) = refl
-    next i none = sym (added-by (reached opened i term none) (at i) prices (unsettled z i) refl) ∙ by-row i (bad i)
+    next i none = sym (added-by (reached opened i term none) (at i) prices (not-final z i) refl) ∙ by-row i (bad i)
 
     taken : openOf (length orders) prices ≡ opened → (i : ℕ) → accountAt orders prices i ≡ reached opened i term (firstBelow i bad)
     unfolding accountAt firstBelow
@@ -92,14 +92,14 @@ module _ (orders : List OrderRow) (prices : List ℤ) where
   rows = map bookRow orders
 
   abbrev tests : List Row
-  tests = field 4 5 (outside zoneCounts (pos (length prices))) ∷ field 4 8 (outside orderCounts (pos (length orders))) ∷ each 8 (length orders) bad ∷ each 25 (length prices) unpriced ∷ []
+  tests = field 4 5 (outside zoneCounts (pos (length prices))) ∷ field 4 8 (outside orderCounts (pos (length orders))) ∷ each 8 (length orders) bad ∷ each 25 (length prices) priceOutside ∷ []
 
   tests-are : bookRows rows prices ≡ tests
   unfolding bookRows badBookRow
   tests-are = λ j. field 4 5 (outside zoneCounts (pos (length prices)))
       ∷ field 4 8 (outside orderCounts (pos (length-map orders bookRow j)))
       ∷ each 8 (length-map orders bookRow j) (λ i. badOf (List·getD-map bookRow orders i noOrder j))
-      ∷ each 25 (length prices) unpriced ∷ []
+      ∷ each 25 (length prices) priceOutside ∷ []
     where
       badOf : BookRow → Bool
       badOf r = badRow (length prices) (r .zone) (r .side) (r .quantity) (r .price)
@@ -116,40 +116,40 @@ module _ (orders : List OrderRow) (prices : List ℤ) where
   answer-by e = sym (ap (λ (x : Option Outcome). given (bookAnswerBy (bookSurplus rows prices) x)) (ap refusal tests-are ∙ e))
 
   -- every row and every price in range: each row's surplus counts
-  term-is : firstBelow (length orders) bad ≡ none → firstUnpriced prices ≡ none → (i : ℕ) → i < length orders
+  term-is : firstBelow (length orders) bad ≡ none → firstPriceOutside prices ≡ none → (i : ℕ) → i < length orders
       → term i ≡ surplusOf (eqb ((at i) .side) 0) ((at i) .quantity) ((at i) .price) (priceAt prices ((at i) .zone))
-  unfolding surplusOf firstUnpriced
+  unfolding surplusOf firstPriceOutside
   term-is er ez i h =
-      sym (counted-by (rowOrder (at i)) prices (not-is _ (not-below (length prices) unpriced ez ((at i) .zone) ((order-in prices (at i) (not-below (length orders) bad er i h)) .zone-in))))
+      sym (counted-by (rowOrder (at i)) prices (not-is _ (not-below (length prices) priceOutside ez ((at i) .zone) ((order-in prices (at i) (not-below (length orders) bad er i h)) .zone-in))))
 
   closed-by : {a : Account} {x : Option Outcome} → accountAt orders prices (length orders) ≡ a → refusal tests ≡ x → closeOf a ≡ given (bookAnswerBy (bookSurplus rows prices) x)
       → closeOf (accountAt orders prices (length orders)) ≡ lentAnswer orders prices
   closed-by ea ex e = ap closeOf ea ∙ e ∙ answer-by ex
 
   -- by the tests of the counts, the first price out of range and the first row out of range
-  by-tests : (a b : Bool) → outside zoneCounts (pos (length prices)) ≡ a → outside orderCounts (pos (length orders)) ≡ b → (z : Option ℕ) → firstUnpriced prices ≡ z
+  by-tests : (a b : Bool) → outside zoneCounts (pos (length prices)) ≡ a → outside orderCounts (pos (length orders)) ≡ b → (z : Option ℕ) → firstPriceOutside prices ≡ z
       → (k : Option ℕ) → firstBelow (length orders) bad ≡ k → closeOf (accountAt orders prices (length orders)) ≡ lentAnswer orders prices
-  unfolding firstUnpriced
+  unfolding firstPriceOutside
   by-tests true b ea eb z ez k ek =
       let e = sym (opened-by (length orders) prices ea refl refl) in
-      closed-by (stays (ap isSettled e) (length orders) ∙ e) (field-fails 4 5 _ ea) refl
+      closed-by (stays (ap isFinal e) (length orders) ∙ e) (field-fails 4 5 _ ea) refl
   by-tests false true ea eb z ez k ek =
       let e = sym (opened-by (length orders) prices ea eb refl) in
-      closed-by (stays (ap isSettled e) (length orders) ∙ e) (field-passes 4 5 _ ea ∙ field-fails 4 8 _ eb) refl
+      closed-by (stays (ap isFinal e) (length orders) ∙ e) (field-passes 4 5 _ ea ∙ field-fails 4 8 _ eb) refl
   by-tests false false ea eb z ez (some k) ek =
       closed-by (taken z (sym (opened-by (length orders) prices ea eb ez)) (length orders) ∙ ap (reached (openBy false false z) (length orders) term) ek)
       (field-passes 4 5 _ ea ∙ field-passes 4 8 _ eb ∙ row-found (each 8 (length orders) bad) _ k ek) refl
   by-tests false false ea eb (some z) ez none ek =
-      closed-by (taken (some z) (sym (opened-by (length orders) prices ea eb ez)) (length orders) ∙ ap (reached (standing 25 z) (length orders) term) ek)
-      (field-passes 4 5 _ ea ∙ field-passes 4 8 _ eb ∙ row-clear (each 8 (length orders) bad) _ ek ∙ row-found (each 25 (length prices) unpriced) _ z ez) refl
+      closed-by (taken (some z) (sym (opened-by (length orders) prices ea eb ez)) (length orders) ∙ ap (reached (newAccount 25 z) (length orders) term) ek)
+      (field-passes 4 5 _ ea ∙ field-passes 4 8 _ eb ∙ row-clear (each 8 (length orders) bad) _ ek ∙ row-found (each 25 (length prices) priceOutside) _ z ez) refl
   by-tests false false ea eb none ez none ek =
-      closed-by (taken none (sym (opened-by (length orders) prices ea eb ez)) (length orders) ∙ ap (reached (standing 0 0) (length orders) term) ek)
-      (field-passes 4 5 _ ea ∙ field-passes 4 8 _ eb ∙ row-clear (each 8 (length orders) bad) _ ek ∙ row-clear (each 25 (length prices) unpriced) [] ez ∙ no-cause)
+      closed-by (taken none (sym (opened-by (length orders) prices ea eb ez)) (length orders) ∙ ap (reached (newAccount 0 0) (length orders) term) ek)
+      (field-passes 4 5 _ ea ∙ field-passes 4 8 _ eb ∙ row-clear (each 8 (length orders) bad) _ ek ∙ row-clear (each 25 (length prices) priceOutside) [] ez ∙ no-cause)
       (ap (λ (x : ℤ). given (bookAnswerBy x none)) (sum-ext (length orders) _ _ (term-is ek ez) ∙ sym sum-is))
 
   -- CLOSED AFTER THE LAST ROW: the answer
   pub closing : closeOf (accountAt orders prices (length orders)) ≡ lentAnswer orders prices
-  closing = by-tests (outside zoneCounts (pos (length prices))) (outside orderCounts (pos (length orders))) refl refl (firstUnpriced prices) refl (firstBelow (length orders) bad) refl
+  closing = by-tests (outside zoneCounts (pos (length prices))) (outside orderCounts (pos (length orders))) refl refl (firstPriceOutside prices) refl (firstBelow (length orders) bad) refl
 
   -- ROOM FOR EACH ROW
   sum-near : (i : ℕ) → ((j : ℕ) → j < i → T (not (bad j))) → Near (i * 4500000000000000) (sumTo i term)
@@ -160,11 +160,11 @@ module _ (orders : List OrderRow) (prices : List ℤ) where
   ready-at o i none e h = record { taken-in = h; sum-near = sum-near i (not-below i bad e) }
 
   ready-before : (a b : Bool) → outside zoneCounts (pos (length prices)) ≡ a → outside orderCounts (pos (length orders)) ≡ b → (i : ℕ) → i < length orders → Ready (accountAt orders prices i)
-  ready-before true b ea eb i h = let e = sym (opened-by (length orders) prices ea refl refl) in subst Ready (sym (stays (ap isSettled e) i ∙ e)) (ready-first 4 5)
-  ready-before false true ea eb i h = let e = sym (opened-by (length orders) prices ea eb refl) in subst Ready (sym (stays (ap isSettled e) i ∙ e)) (ready-first 4 8)
+  ready-before true b ea eb i h = let e = sym (opened-by (length orders) prices ea refl refl) in subst Ready (sym (stays (ap isFinal e) i ∙ e)) (ready-first 4 5)
+  ready-before false true ea eb i h = let e = sym (opened-by (length orders) prices ea eb refl) in subst Ready (sym (stays (ap isFinal e) i ∙ e)) (ready-first 4 8)
   ready-before false false ea eb i h =
-      subst Ready (sym (taken (firstUnpriced prices) (sym (opened-by (length orders) prices ea eb refl)) i))
-      (ready-at (openBy false false (firstUnpriced prices)) i (firstBelow i bad) refl (omega (arith, h, (nat-within 0 512 (length orders) (is-false eb)) .1)))
+      subst Ready (sym (taken (firstPriceOutside prices) (sym (opened-by (length orders) prices ea eb refl)) i))
+      (ready-at (openBy false false (firstPriceOutside prices)) i (firstBelow i bad) refl (omega (arith, h, (nat-within 0 512 (length orders) (is-false eb)) .1)))
 
   pub ready : (i : ℕ) → i < length orders → Ready (accountAt orders prices i)
   ready i h = ready-before (outside zoneCounts (pos (length prices))) (outside orderCounts (pos (length orders))) refl refl i h

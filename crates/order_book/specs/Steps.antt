@@ -27,13 +27,13 @@ use Rattle.rules.specs.Fits.{surplus-near}
 use Rattle.rules.specs.Book.{priceAt}
 use Rattle.order_book.specs.declared.Account.{Account}
 use Rattle.order_book.specs.declared.OrderRow.{OrderRow}
-use Rattle.order_book.specs.Account.{openBy, openOf, firstUnpriced, counted, badIn, rowOrder, isSettled, addBy, addOf, answered, closeOf, OrderIn, Ready}
+use Rattle.order_book.specs.Account.{openBy, openOf, firstPriceOutside, counted, badIn, rowOrder, isFinal, addBy, addOf, answered, closeOf, OrderIn, Ready}
 
-pub opened-by : (count : ℕ) (prices : List ℤ) {a b : Bool} {z : Option ℕ} → outside zoneCounts (pos (length prices)) ≡ a → outside orderCounts (pos count) ≡ b → firstUnpriced prices ≡ z
+pub opened-by : (count : ℕ) (prices : List ℤ) {a b : Bool} {z : Option ℕ} → outside zoneCounts (pos (length prices)) ≡ a → outside orderCounts (pos count) ≡ b → firstPriceOutside prices ≡ z
     → openBy a b z ≡ openOf count prices
 opened-by count prices ha hb hz = sym (λ j. openBy (ha j) (hb j) (hz j))
 
-pub added-by : (a : Account) (o : OrderRow) (prices : List ℤ) {s b : Bool} → isSettled a ≡ s → badIn prices o ≡ b → addBy a s b (counted (rowOrder o) prices) ≡ addOf a o prices
+pub added-by : (a : Account) (o : OrderRow) (prices : List ℤ) {s b : Bool} → isFinal a ≡ s → badIn prices o ≡ b → addBy a s b (counted (rowOrder o) prices) ≡ addOf a o prices
 added-by a o prices hs hb = sym (λ j. addBy a (hs j) (hb j) (counted (rowOrder o) prices))
 
 pub closed-by : (a : Account) {b : Bool} {x : ℤ} → eqb (a .number) 0 ≡ b → x ≡ only b (a .sum .0) → answered (a .number) (a .index) x ≡ closeOf a

@@ -11,7 +11,7 @@ ghost use Rattle.measures.specs.Held.{grainsIn};
 ghost use Rattle.orders.specs.Admitted.{admitted};
 ghost use Rattle.rows.specs.Rows.{placeOf};
 ghost use Rattle.rules.specs.Book.{priceAt};
-ghost use Rattle.order_book.specs.Account.{standing, isSettled, refusedRow, withRow, firstUnpriced, openOf, addOf, answered, closeOf, counted, OrderIn, Ready};
+ghost use Rattle.order_book.specs.Account.{newAccount, isFinal, refusedRow, withRow, firstPriceOutside, openOf, addOf, answered, closeOf, counted, OrderIn, Ready};
 use measures::Grains;
 use measures::GrainsAnswer;
 use measures::Microcents;
@@ -50,7 +50,7 @@ pub struct Account {
 
 impl Account {
     fn new(number: u32, index: u32) -> Account
-        ensures { λ r. ⌜ r ≡ standing number index ⌝ }
+        ensures { λ r. ⌜ r ≡ newAccount number index ⌝ }
     {
         Account {
             number,
@@ -61,8 +61,8 @@ impl Account {
     }
 
     // No row changes it any more.
-    fn settled(self) -> bool
-        ensures { λ r. ⌜ r ≡ isSettled self ⌝ }
+    fn is_final(self) -> bool
+        ensures { λ r. ⌜ r ≡ isFinal self ⌝ }
     {
         if self.number == 0 {
             return false;
@@ -122,7 +122,7 @@ fn zone_price(prices: &[i64], zone: usize) -> GrainsAnswer
     Grains::zone_price(price_at(prices, zone))
 }
 
-fn unpriced(prices: &[i64], zone: usize) -> bool
+fn price_outside(prices: &[i64], zone: usize) -> bool
     requires { ⌜ zone < length (now prices) ⌝ }
     ensures { λ r. ⌜ r ≡ ranges.outside limits.zonePrice (priceAt (now (prices .entry)) zone) ⌝ }
 {
@@ -133,12 +133,12 @@ fn unpriced(prices: &[i64], zone: usize) -> bool
 }
 
 // The first zone whose price is out of range.
-fn first_unpriced(prices: &[i64]) -> Place
-    ensures { λ r. ⌜ placeOf r ≡ firstUnpriced (now (prices .entry)) ⌝ }
+fn first_price_outside(prices: &[i64]) -> Place
+    ensures { λ r. ⌜ placeOf r ≡ firstPriceOutside (now (prices .entry)) ⌝ }
 {
     let mut zone = 0;
     while zone < prices.len() {
-        if unpriced(prices, zone) {
+        if price_outside(prices, zone) {
             return Place::At(zone);
         }
         zone += 1;
@@ -156,7 +156,7 @@ pub fn open_book(count: usize, prices: &[i64]) -> Account
     if count_outside(ROWS_LEAST, ROWS_GREATEST, count) {
         return Account::new(4, 8);
     }
-    let Place::At(zone) = first_unpriced(prices) else {
+    let Place::At(zone) = first_price_outside(prices) else {
         return Account::new(0, 0);
     };
     Account::new(25, zone as u32)
@@ -202,7 +202,7 @@ pub fn add_row(account: Account, row: OrderRow, prices: &[i64]) -> Account
     requires { ⌜ Ready account ⌝ }
     ensures { λ r. ⌜ r ≡ addOf account row (now (prices .entry)) ⌝ }
 {
-    if account.settled() {
+    if account.is_final() {
         return account;
     }
     let OrderAnswer::Held(order) = admit_row(prices.len(), row) else {

@@ -3,7 +3,7 @@ use mathlib.Core.Path.{sym, _∙_}
 use denote.Ref.{now}
 use Rattle.rules.specs.Hour.{caseOf, planOf, pricesOf}
 use Rattle.rows.specs.RowLaws.{lacks}
-use Rattle.judgement.specs.Judged.{proposalOn, refused, same-rows, first-refuses, first-passes, silent}
+use Rattle.judgement.specs.Judged.{proposalOn, refused, same-rows, first-refuses, first-passes, writes-no-report}
 use Rattle.rules.specs.Verdict.{proposalRows, clearingRows, proposalRefusal}
 use Rattle.proposal_file.specs.Proposed.{opening-is, proposed-of, refused-of}
 use borrow.Author.Needs.{needs}
@@ -34,7 +34,7 @@ returns c =
     let p = o .before .before in
     let a = p .before .before .before .before in
     let e = refused-of (now (a .args .«case»)) (now (a .args .proposal)) (sym (p .read-proposal .ensures) ∙ o .refusal .given .1) in
-    refused (proposalOn (now (a .args .«case»)) (now (a .args .proposal))) (now (a .args .«case»)) (now (a .args .proposal)) (now (a .args .report)) _ _ (silent (proposalRows (now (a .args .«case»)) (now (a .args .proposal)) (caseOf (now (a .args .«case»))) (planOf (now (a .args .«case»)) (now (a .args .proposal))) (pricesOf (now (a .args .«case»)) (now (a .args .proposal)))) _ tt tt e)
+    refused (proposalOn (now (a .args .«case»)) (now (a .args .proposal))) (now (a .args .«case»)) (now (a .args .proposal)) (now (a .args .report)) _ _ (writes-no-report (proposalRows (now (a .args .«case»)) (now (a .args .proposal)) (caseOf (now (a .args .«case»))) (planOf (now (a .args .«case»)) (now (a .args .proposal))) (pricesOf (now (a .args .«case»)) (now (a .args .proposal)))) _ tt tt e)
     (first-refuses (proposalRows (now (a .args .«case»)) (now (a .args .proposal)) (caseOf (now (a .args .«case»))) (planOf (now (a .args .«case»)) (now (a .args .proposal))) (pricesOf (now (a .args .«case»)) (now (a .args .proposal)))) (clearingRows (caseOf (now (a .args .«case»))) (planOf (now (a .args .«case»)) (now (a .args .proposal))) (pricesOf (now (a .args .«case»)) (now (a .args .proposal)))) _ e)
 
 same-length : tie.Need-same-length

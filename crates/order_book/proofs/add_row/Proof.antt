@@ -13,13 +13,13 @@ use borrow.Author.Needs.{needs}
 use Rattle.order_book.proofs.add_row.Statement.{statement}
 use Rattle.order_book.proofs.add_row.Tie as tie
 
-settled-requires : tie.Need-settled-requires
-settled-requires c κs = search needs
+is-final-requires : tie.Need-is-final-requires
+is-final-requires c κs = search needs
 
 returns : tie.Need-returns
 returns c =
     let a = c .before .before .args in
-    added-by (a .account) (a .row) (a .prices .now) (sym (c .before .settled .ensures) ∙ c .if1 .taken) refl
+    added-by (a .account) (a .row) (a .prices .now) (sym (c .before .is-final .ensures) ∙ c .if1 .taken) refl
 
 admit-row-requires : tie.Need-admit-row-requires
 admit-row-requires c κs = search needs
@@ -38,7 +38,7 @@ returns-2 c =
     let r = c .before .before .before in
     let a = r .before .before .before .args in
     c .refuse-row .ensures
-    ∙ added-by (a .account) (a .row) (a .prices .now) (sym (r .before .before .settled .ensures) ∙ r .before .if1 .left)
+    ∙ added-by (a .account) (a .row) (a .prices .now) (sym (r .before .before .is-final .ensures) ∙ r .before .if1 .left)
     (order-outside (rowOrder (a .row)) _ (sym (r .admit-row .ensures) ∙ c .before .enum-told .given .1))
 
 -- the order that is held is the row's, and the row is in range
@@ -69,13 +69,13 @@ returns-3 c =
     let a = e .before .before .args in
     c .take-row .ensures
     ∙ ap (withRow (a .account)) (row-surplus (c .before))
-    ∙ added-by (a .account) (a .row) (a .prices .now) (sym (e .before .settled .ensures) ∙ e .if1 .left) ((held (c .before .before)) .0)
+    ∙ added-by (a .account) (a .row) (a .prices .now) (sym (e .before .is-final .ensures) ∙ e .if1 .left) ((held (c .before .before)) .0)
 
 pub add-row-spec : {M : Type 1} → statement M
 add-row-spec =
     tie.close
     (tie.spec
-    settled-requires
+    is-final-requires
     returns
     admit-row-requires
     enum-known-order

@@ -8,7 +8,7 @@ use Rattle.integers.specs.Ranges.{outside, nat-within}
 use Rattle.rules.specs.Layout.{zoneCounts, orderCounts}
 use Rattle.integers.specs.Ranges.{is-false}
 use Rattle.rows.specs.RowLaws.{at-place, at-none, place-below}
-use Rattle.order_book.specs.Account.{firstUnpriced}
+use Rattle.order_book.specs.Account.{firstPriceOutside}
 use Rattle.order_book.specs.Steps.{opened-by}
 use borrow.Author.Needs.{needs}
 use Rattle.order_book.proofs.open_book.Statement.{statement}
@@ -44,8 +44,8 @@ returns-2 c =
     let a = e .before .before .args in
     c .new2 .ensures ∙ opened-by (a .count) (a .prices .now) (prices-in e) (sym (c .before .before .count-outside2 .ensures) ∙ c .before .if2 .taken) refl
 
-first-unpriced-requires : tie.Need-first-unpriced-requires
-first-unpriced-requires c κs = search needs
+first-price-outside-requires : tie.Need-first-price-outside-requires
+first-price-outside-requires c κs = search needs
 
 enum-known-zone : tie.Need-enum-known-zone
 enum-known-zone c = search needs
@@ -62,14 +62,14 @@ returns-3 c =
     let e = f .before in
     let a = e .before .before .before .before .args in
     c .new3 .ensures
-    ∙ opened-by (a .count) (a .prices .now) (prices-in (e .before .before)) (rows-in e) (at-none _ _ (f .first-unpriced .ensures) (c .before .enum-told .given .1))
+    ∙ opened-by (a .count) (a .prices .now) (prices-in (e .before .before)) (rows-in e) (at-none _ _ (f .first-price-outside .ensures) (c .before .enum-told .given .1))
 
 cast-new : tie.Need-cast-new
-unfolding firstUnpriced
+unfolding firstPriceOutside
 cast-new c =
     let f = c .before .before .before in
     let e = f .before .before .before in
-    record { fits = place-below _ _ _ 4294967296 (at-place _ _ _ (f .first-unpriced .ensures) (c .before .zone .given .1)) (omega (arith, (nat-within 1 16 (length (e .before .before .args .prices .now)) (is-false (prices-in e))) .1)) }
+    record { fits = place-below _ _ _ 4294967296 (at-place _ _ _ (f .first-price-outside .ensures) (c .before .zone .given .1)) (omega (arith, (nat-within 1 16 (length (e .before .before .args .prices .now)) (is-false (prices-in e))) .1)) }
 
 new-requires-4 : tie.Need-new-requires-4
 new-requires-4 c κs = search needs
@@ -80,7 +80,7 @@ returns-4 c =
     let e = f .before in
     let a = e .before .before .before .before .args in
     c .new4 .ensures
-    ∙ opened-by (a .count) (a .prices .now) (prices-in (e .before .before)) (rows-in e) (at-place _ _ _ (f .first-unpriced .ensures) (c .before .before .zone .given .1))
+    ∙ opened-by (a .count) (a .prices .now) (prices-in (e .before .before)) (rows-in e) (at-place _ _ _ (f .first-price-outside .ensures) (c .before .before .zone .given .1))
 
 pub open-book-spec : {M : Type 1} → statement M
 open-book-spec =
@@ -92,7 +92,7 @@ open-book-spec =
     count-outside-requires-2
     new-requires-2
     returns-2
-    first-unpriced-requires
+    first-price-outside-requires
     enum-known-zone
     enum-told
     new-requires-3

@@ -7,21 +7,21 @@ use borrow.Author.Needs.{needs}
 use borrow.Author.Tests.{leb-true, not-true, not-false}
 use lib.ListN.{length}
 use Rattle.rules.specs.Layout.{u16At}
-use Rattle.fields.specs.Walk.{there, cursor, wordBy}
+use Rattle.fields.specs.Walk.{fieldFits, cursor, wordBy}
 use Rattle.fields.proofs.Cursor.half.Statement.{statement}
 use Rattle.fields.proofs.Cursor.half.Tie as tie
 
-there-requires : tie.Need-there-requires
-there-requires c κs = search needs
+field-fits-requires : tie.Need-field-fits-requires
+field-fits-requires c κs = search needs
 
 returns : tie.Need-returns
-returns c = let a = c .before .before .before .args in ap (wordBy (u16At (a .s .now) (a .self .at)) (cursor (a .self .at + 2))) (sym (not-true _ (c .if1 .taken)) ∙ c .before .there .ensures)
+returns c = let a = c .before .before .before .args in ap (wordBy (u16At (a .s .now) (a .self .at)) (cursor (a .self .at + 2))) (sym (not-true _ (c .if1 .taken)) ∙ c .before .field-fits .ensures)
 
-is-there : (c : tie.Else1) → there (c .before .before .before .args .s .now) (c .before .before .before .args .self .at) 2 ≡ true
-is-there c = sym (c .before .there .ensures) ∙ not-false _ (c .if1 .left)
+it-fits : (c : tie.Else1) → fieldFits (c .before .before .before .args .s .now) (c .before .before .before .args .self .at) 2 ≡ true
+it-fits c = sym (c .before .field-fits .ensures) ∙ not-false _ (c .if1 .left)
 
 inside : (c : tie.Else1) → c .before .before .before .args .self .at + 2 ≤ length (c .before .before .before .args .s .now)
-inside c = leb-true _ _ (is-there c)
+inside c = leb-true _ _ (it-fits c)
 
 half-at-requires : tie.Need-half-at-requires
 half-at-requires c κs = inside c
@@ -32,7 +32,7 @@ add-t7 c = omega (arith, inside (c .before))
 returns-2 : tie.Need-returns-2
 returns-2 c =
     let a = c .before .before .before .before .args in
-    ap (λ (x : ℕ). wordBy x (cursor (a .self .at + 2)) true) (c .half-at .ensures) ∙ ap (wordBy (u16At (a .s .now) (a .self .at)) (cursor (a .self .at + 2))) (sym (is-there (c .before)))
+    ap (λ (x : ℕ). wordBy x (cursor (a .self .at + 2)) true) (c .half-at .ensures) ∙ ap (wordBy (u16At (a .s .now) (a .self .at)) (cursor (a .self .at + 2))) (sym (it-fits (c .before)))
 
 pub half-spec : {M : Type 1} → statement M
-half-spec = tie.close (tie.spec there-requires returns half-at-requires add-t7 returns-2)
+half-spec = tie.close (tie.spec field-fits-requires returns half-at-requires add-t7 returns-2)

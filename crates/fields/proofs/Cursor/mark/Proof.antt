@@ -7,21 +7,21 @@ use borrow.Author.Needs.{needs}
 use borrow.Author.Tests.{leb-true, not-true, not-false}
 use lib.ListN.{length}
 use Rattle.rules.specs.Layout.{u8At}
-use Rattle.fields.specs.Walk.{there, cursor, markAt, markBy}
+use Rattle.fields.specs.Walk.{fieldFits, cursor, markAt, markBy}
 use Rattle.fields.proofs.Cursor.mark.Statement.{statement}
 use Rattle.fields.proofs.Cursor.mark.Tie as tie
 
-there-requires : tie.Need-there-requires
-there-requires c κs = search needs
+field-fits-requires : tie.Need-field-fits-requires
+field-fits-requires c κs = search needs
 
 returns : tie.Need-returns
-returns c = let a = c .before .before .before .args in ap (markBy (markAt (a .s .now) (a .self .at)) (cursor (a .self .at + 3))) (sym (not-true _ (c .if1 .taken)) ∙ c .before .there .ensures)
+returns c = let a = c .before .before .before .args in ap (markBy (markAt (a .s .now) (a .self .at)) (cursor (a .self .at + 3))) (sym (not-true _ (c .if1 .taken)) ∙ c .before .field-fits .ensures)
 
-is-there : (c : tie.Else1) → there (c .before .before .before .args .s .now) (c .before .before .before .args .self .at) 3 ≡ true
-is-there c = sym (c .before .there .ensures) ∙ not-false _ (c .if1 .left)
+it-fits : (c : tie.Else1) → fieldFits (c .before .before .before .args .s .now) (c .before .before .before .args .self .at) 3 ≡ true
+it-fits c = sym (c .before .field-fits .ensures) ∙ not-false _ (c .if1 .left)
 
 inside : (c : tie.Else1) → c .before .before .before .args .self .at + 3 ≤ length (c .before .before .before .args .s .now)
-inside c = leb-true _ _ (is-there c)
+inside c = leb-true _ _ (it-fits c)
 
 shared-slice-read-t7 : tie.Need-shared-slice-read-t7
 shared-slice-read-t7 c = omega (arith, inside (c .before))
@@ -46,13 +46,13 @@ unfolding u8At
 returns-2 c =
     let e = c .before .before .before in
     let a = e .before .before .before .args in
-    ap (markBy (markAt (a .s .now) (a .self .at)) (cursor (a .self .at + 3))) (sym (is-there e))
+    ap (markBy (markAt (a .s .now) (a .self .at)) (cursor (a .self .at + 3))) (sym (it-fits e))
 
 pub mark-spec : {M : Type 1} → statement M
 mark-spec =
     tie.close
     (tie.spec
-    there-requires
+    field-fits-requires
     returns
     shared-slice-read-t7
     add-t8

@@ -8,21 +8,21 @@ use borrow.Author.Tests.{leb-true, not-true, not-false}
 use lib.ListN.{length}
 use lib.IntN.{ℤ}
 use Rattle.rules.specs.Layout.{i32At}
-use Rattle.fields.specs.Walk.{there, cursor, raw, signedBy}
+use Rattle.fields.specs.Walk.{fieldFits, cursor, raw, signedBy}
 use Rattle.fields.proofs.Cursor.signed.Statement.{statement}
 use Rattle.fields.proofs.Cursor.signed.Tie as tie
 
-there-requires : tie.Need-there-requires
-there-requires c κs = search needs
+field-fits-requires : tie.Need-field-fits-requires
+field-fits-requires c κs = search needs
 
 returns : tie.Need-returns
-returns c = let a = c .before .before .before .args in ap (signedBy (raw (i32At (a .s .now) (a .self .at))) (cursor (a .self .at + 4))) (sym (not-true _ (c .if1 .taken)) ∙ c .before .there .ensures)
+returns c = let a = c .before .before .before .args in ap (signedBy (raw (i32At (a .s .now) (a .self .at))) (cursor (a .self .at + 4))) (sym (not-true _ (c .if1 .taken)) ∙ c .before .field-fits .ensures)
 
-is-there : (c : tie.Else1) → there (c .before .before .before .args .s .now) (c .before .before .before .args .self .at) 4 ≡ true
-is-there c = sym (c .before .there .ensures) ∙ not-false _ (c .if1 .left)
+it-fits : (c : tie.Else1) → fieldFits (c .before .before .before .args .s .now) (c .before .before .before .args .self .at) 4 ≡ true
+it-fits c = sym (c .before .field-fits .ensures) ∙ not-false _ (c .if1 .left)
 
 inside : (c : tie.Else1) → c .before .before .before .args .self .at + 4 ≤ length (c .before .before .before .args .s .now)
-inside c = leb-true _ _ (is-there c)
+inside c = leb-true _ _ (it-fits c)
 
 signed-at-requires : tie.Need-signed-at-requires
 signed-at-requires c κs = inside c
@@ -33,7 +33,7 @@ add-t7 c = omega (arith, inside (c .before))
 returns-2 : tie.Need-returns-2
 returns-2 c =
     let a = c .before .before .before .before .args in
-    ap (λ (x : ℤ). signedBy (raw x) (cursor (a .self .at + 4)) true) (c .signed-at .ensures) ∙ ap (signedBy (raw (i32At (a .s .now) (a .self .at))) (cursor (a .self .at + 4))) (sym (is-there (c .before)))
+    ap (λ (x : ℤ). signedBy (raw x) (cursor (a .self .at + 4)) true) (c .signed-at .ensures) ∙ ap (signedBy (raw (i32At (a .s .now) (a .self .at))) (cursor (a .self .at + 4))) (sym (it-fits (c .before)))
 
 pub signed-spec : {M : Type 1} → statement M
-signed-spec = tie.close (tie.spec there-requires returns signed-at-requires add-t7 returns-2)
+signed-spec = tie.close (tie.spec field-fits-requires returns signed-at-requires add-t7 returns-2)

@@ -7,21 +7,21 @@ use borrow.Author.Needs.{needs}
 use borrow.Author.Tests.{leb-true, not-true, not-false}
 use lib.ListN.{length}
 use Rattle.rules.specs.Layout.{u32At}
-use Rattle.fields.specs.Walk.{there, cursor, wordBy}
+use Rattle.fields.specs.Walk.{fieldFits, cursor, wordBy}
 use Rattle.fields.proofs.Cursor.word.Statement.{statement}
 use Rattle.fields.proofs.Cursor.word.Tie as tie
 
-there-requires : tie.Need-there-requires
-there-requires c κs = search needs
+field-fits-requires : tie.Need-field-fits-requires
+field-fits-requires c κs = search needs
 
 returns : tie.Need-returns
-returns c = let a = c .before .before .before .args in ap (wordBy (u32At (a .s .now) (a .self .at)) (cursor (a .self .at + 4))) (sym (not-true _ (c .if1 .taken)) ∙ c .before .there .ensures)
+returns c = let a = c .before .before .before .args in ap (wordBy (u32At (a .s .now) (a .self .at)) (cursor (a .self .at + 4))) (sym (not-true _ (c .if1 .taken)) ∙ c .before .field-fits .ensures)
 
-is-there : (c : tie.Else1) → there (c .before .before .before .args .s .now) (c .before .before .before .args .self .at) 4 ≡ true
-is-there c = sym (c .before .there .ensures) ∙ not-false _ (c .if1 .left)
+it-fits : (c : tie.Else1) → fieldFits (c .before .before .before .args .s .now) (c .before .before .before .args .self .at) 4 ≡ true
+it-fits c = sym (c .before .field-fits .ensures) ∙ not-false _ (c .if1 .left)
 
 inside : (c : tie.Else1) → c .before .before .before .args .self .at + 4 ≤ length (c .before .before .before .args .s .now)
-inside c = leb-true _ _ (is-there c)
+inside c = leb-true _ _ (it-fits c)
 
 word-at-requires : tie.Need-word-at-requires
 word-at-requires c κs = inside c
@@ -32,7 +32,7 @@ add-t7 c = omega (arith, inside (c .before))
 returns-2 : tie.Need-returns-2
 returns-2 c =
     let a = c .before .before .before .before .args in
-    ap (λ (x : ℕ). wordBy x (cursor (a .self .at + 4)) true) (c .word-at .ensures) ∙ ap (wordBy (u32At (a .s .now) (a .self .at)) (cursor (a .self .at + 4))) (sym (is-there (c .before)))
+    ap (λ (x : ℕ). wordBy x (cursor (a .self .at + 4)) true) (c .word-at .ensures) ∙ ap (wordBy (u32At (a .s .now) (a .self .at)) (cursor (a .self .at + 4))) (sym (it-fits (c .before)))
 
 pub word-spec : {M : Type 1} → statement M
-word-spec = tie.close (tie.spec there-requires returns word-at-requires add-t7 returns-2)
+word-spec = tie.close (tie.spec field-fits-requires returns word-at-requires add-t7 returns-2)

@@ -1,4 +1,4 @@
--- `fields::there` meets its contract: the difference that is tested cannot wrap, and says the same as the sum. Assumes nothing.
+-- `fields::field_fits` meets its contract: the difference that is tested cannot wrap, and says the same as the sum. Assumes nothing.
 use mathlib.Core.Path.{_≡_, sym, _∙_}
 use Prim.Native.Nat.{ℕ, _+_, _-_, _≤_}
 use native.Mathlib.Omega.{arith}
@@ -7,8 +7,8 @@ use borrow.Author.Needs.{needs}
 use borrow.Author.Tests.{le-leb, lt-leb}
 use lib.Dec.{leb}
 use lib.ListN.{length}
-use Rattle.fields.proofs.there.Statement.{statement}
-use Rattle.fields.proofs.there.Tie as tie
+use Rattle.fields.proofs.field_fits.Statement.{statement}
+use Rattle.fields.proofs.field_fits.Tie as tie
 
 -- the two tests
 same : (at n w : ℕ) → w ≤ n → leb at (n - w) ≡ leb (at + w) n
@@ -23,5 +23,5 @@ sub-result c = search needs
 returns-2 : tie.Need-returns-2
 returns-2 c = same _ _ _ (c .if1 .left)
 
-pub there-spec : {M : Type 1} → statement M
-there-spec = tie.close (tie.spec returns sub-result returns-2)
+pub field-fits-spec : {M : Type 1} → statement M
+field-fits-spec = tie.close (tie.spec returns sub-result returns-2)

@@ -1,9 +1,9 @@
--- `order_book::unpriced` meets its contract: the constructor's answer, read back as its test. Assumes nothing.
+-- `order_book::price_outside` meets its contract: the constructor's answer, read back as its test. Assumes nothing.
 use mathlib.Core.Path.{sym, _∙_}
 use Rattle.measures.specs.Held.{grains-outside, grains-held}
 use borrow.Author.Needs.{needs}
-use Rattle.order_book.proofs.unpriced.Statement.{statement}
-use Rattle.order_book.proofs.unpriced.Tie as tie
+use Rattle.order_book.proofs.price_outside.Statement.{statement}
+use Rattle.order_book.proofs.price_outside.Tie as tie
 
 zone-price-requires : tie.Need-zone-price-requires
 zone-price-requires c κs = search needs
@@ -20,6 +20,6 @@ returns c = sym (grains-outside _ _ (sym (c .before .before .zone-price .ensures
 returns-2 : tie.Need-returns-2
 returns-2 c = sym ((grains-held _ _ _ (sym (c .before .before .before .zone-price .ensures) ∙ c .before .-price .given .1)) .0)
 
-pub unpriced-spec : {M : Type 1} → statement M
-unpriced-spec =
+pub price-outside-spec : {M : Type 1} → statement M
+price-outside-spec =
     tie.close (tie.spec zone-price-requires enum-known--price enum-told returns returns-2)

@@ -1,4 +1,4 @@
--- `order_book::first_unpriced` meets its contract. The loop's invariant: no price before `zone` is out of range. Assumes nothing.
+-- `order_book::first_price_outside` meets its contract. The loop's invariant: no price before `zone` is out of range. Assumes nothing.
 use mathlib.Core.Path.{_≡_, refl, sym, _∙_}
 use mathlib.Core.Option.{none}
 use Prim.Native.Nat.{ℕ, _-_, _<_, _≤_}
@@ -9,9 +9,9 @@ use Rattle.measures.specs.Limits as limits
 use Rattle.rules.specs.Book.{priceAt}
 use Rattle.rows.specs.Rows.{firstBelow}
 use Rattle.rows.specs.RowLaws.{first-here, first-later, first-nowhere}
-use Rattle.order_book.specs.Account.{firstUnpriced}
-use Rattle.order_book.proofs.first_unpriced.Statement.{statement}
-use Rattle.order_book.proofs.first_unpriced.Tie as tie
+use Rattle.order_book.specs.Account.{firstPriceOutside}
+use Rattle.order_book.proofs.first_price_outside.Statement.{statement}
+use Rattle.order_book.proofs.first_price_outside.Tie as tie
 
 abbrev Inv-loop : tie.InvT-loop
 Inv-loop prices zone₀ zone = (zone ≤ length prices) × (firstBelow zone (λ z. outside limits.zonePrice (priceAt prices z)) ≡ none)
@@ -23,14 +23,14 @@ loop-holds : tie.Need-loop-holds Inv-loop μ-loop
 unfolding firstBelow
 loop-holds c = (omega arith, refl)
 
-unpriced-requires : tie.Need-unpriced-requires Inv-loop μ-loop
-unpriced-requires c κs = omega arith
+price-outside-requires : tie.Need-price-outside-requires Inv-loop μ-loop
+price-outside-requires c κs = omega arith
 
 returns : tie.Need-returns Inv-loop μ-loop
-unfolding firstUnpriced
+unfolding firstPriceOutside
 returns c =
     let l = c .before .before .before in
-    sym (first-here _ (l .loop .zone) (c .before .before .loop-test .taken) (l .loop .inv .1) (sym (c .before .unpriced .ensures) ∙ c .if1 .taken))
+    sym (first-here _ (l .loop .zone) (c .before .before .loop-test .taken) (l .loop .inv .1) (sym (c .before .price-outside .ensures) ∙ c .if1 .taken))
 
 add-zone : tie.Need-add-zone Inv-loop μ-loop
 add-zone c = omega arith
@@ -41,20 +41,20 @@ loop-less c = omega arith
 loop-again : tie.Need-loop-again Inv-loop μ-loop
 loop-again c =
     let l = c .before .before .before in
-    (omega arith, first-later _ (l .loop .zone) (l .loop .inv .1) (sym (c .before .unpriced .ensures) ∙ c .if1 .left))
+    (omega arith, first-later _ (l .loop .zone) (l .loop .inv .1) (sym (c .before .price-outside .ensures) ∙ c .if1 .left))
 
 returns-2 : tie.Need-returns-2 Inv-loop μ-loop
-unfolding firstUnpriced
+unfolding firstPriceOutside
 returns-2 c = let l = c .before in sym (first-nowhere _ (l .loop .zone) (omega arith) (omega arith) (l .loop .inv .1))
 
-pub first-unpriced-spec : {M : Type 1} → statement M
-first-unpriced-spec =
+pub first-price-outside-spec : {M : Type 1} → statement M
+first-price-outside-spec =
     tie.close
     (tie.spec
     Inv-loop
     μ-loop
     loop-holds
-    unpriced-requires
+    price-outside-requires
     returns
     add-zone
     loop-less

@@ -1,12 +1,12 @@
--- `clearing::moved` meets its contract. Assumes nothing.
+-- `clearing::net_with_order` meets its contract. Assumes nothing.
 use mathlib.Core.Path.{ap, sym, subst, _∙_}
 use mathlib.Core.Bool.{Bool}
 use lib.IntN.{_+ℤ_}
 use mir.Syntax.{w64}
 use mir.Val.{SFits}
 use Rattle.rules.specs.Hour.{signed}
-use Rattle.clearing.proofs.moved.Statement.{statement}
-use Rattle.clearing.proofs.moved.Tie as tie
+use Rattle.clearing.proofs.net_with_order.Statement.{statement}
+use Rattle.clearing.proofs.net_with_order.Tie as tie
 
 plus-requires : tie.Need-plus-requires
 plus-requires c κs = subst (λ (b : Bool). SFits w64 (c .before .args .net .0 +ℤ signed b (c .before .args .volume .0))) (c .if1 .taken) (c .before .pre)
@@ -20,5 +20,5 @@ minus-requires c κs = subst (λ (b : Bool). SFits w64 (c .before .args .net .0 
 returns-2 : tie.Need-returns-2
 returns-2 c = c .minus .ensures ∙ ap (λ (b : Bool). c .before .before .args .net .0 +ℤ signed b (c .before .before .args .volume .0)) (sym (c .before .if1 .left))
 
-pub moved-spec : {M : Type 1} → statement M
-moved-spec = tie.close (tie.spec plus-requires returns minus-requires returns-2)
+pub net-with-order-spec : {M : Type 1} → statement M
+net-with-order-spec = tie.close (tie.spec plus-requires returns minus-requires returns-2)
