@@ -1,6 +1,6 @@
 -- The pairs of the links before one, as a set of zones for each zone: zone b is in the set of zone a where a link before goes from a to b. Assumes nothing.
 use mathlib.Core.Path.{_≡_, refl, sym, ap, _∙_}
-use mathlib.Core.Bool.{Bool, true, false, _&&_, _||_}
+use mathlib.Core.Bool.{Bool, true, false, _&&_, _||_, or-false}
 use mathlib.Core.List.{List}
 use Prim.Native.Nat.{ℕ, zero, suc, _+_, _<_}
 use native.Mathlib.Numerals.{add-one}
@@ -19,10 +19,6 @@ holds seen a b = member (getD seen a 0) b
 -- with one pair more
 abbrev pub withPair : List ℕ → ℕ → ℕ → List ℕ
 withPair seen a b = set seen a (added (getD seen a 0) b)
-
-or-false : (a : Bool) → a || false ≡ a
-or-false true = refl
-or-false false = refl
 
 holds-more : (seen : List ℕ) (f t : ℕ) → f < length seen → t < 16 → (a b : ℕ) → holds (withPair seen f t) a b ≡ (holds seen a b || (eqb f a && eqb t b))
 holds-more seen f t h l a b = by (eqb f a) refl

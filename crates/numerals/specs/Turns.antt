@@ -1,6 +1,6 @@
 -- What a turn of the walk over digits does: one that counts, one past those that count, and the end of them. Assumes nothing.
 use mathlib.Core.Path.{_≡_, refl, sym, ap, _∙_}
-use mathlib.Core.Bool.{Bool, true, false, not, _&&_, _||_}
+use mathlib.Core.Bool.{Bool, true, false, not, _&&_, _||_, or-false, or-assoc}
 use mathlib.Core.List.{List, [], _∷_}
 use Prim.Native.Nat.{ℕ, zero, suc, _+_, _*_, _-_, _≤_, _<_}
 use native.Mathlib.Omega.{arith}
@@ -14,14 +14,6 @@ use Rattle.numerals.specs.Numeral.{isDigit, firstOf, nonZero}
 use Rattle.numerals.specs.Scan.{leading, lead-digit}
 use Rattle.numerals.specs.Capped.{cap, capped, capped-le, capped-within, capped-from}
 use Rattle.numerals.specs.Pieces.{digitsFrom, digitsAt}
-
-or-false : (b : Bool) → b || false ≡ b
-or-false true = refl
-or-false false = refl
-
-or-assoc : (a b c : Bool) → a || (b || c) ≡ (a || b) || c
-or-assoc true b c = refl
-or-assoc false b c = refl
 
 pub digit-least : (b : ℕ) → isDigit b ≡ true → 48 ≤ b
 unfolding isDigit
@@ -66,7 +58,7 @@ module _ (s : List ℕ) (i v : ℕ) (f : Bool) (h : i < length s) (e : isDigit (
   unfolding nonZero
   digit-past =
       ap (from 0) (lead-digit s i h e)
-      ∙ (λ j. record { value = capped (valueFrom v []); missing = none j; finer = or-assoc f (not (eqb d 48)) (nonZero ds) j; end = onward j })
+      ∙ (λ j. record { value = capped (valueFrom v []); missing = none j; finer = sym (or-assoc f (not (eqb d 48)) (nonZero ds)) j; end = onward j })
     where
       none : 0 - suc (length ds) ≡ 0 - length ds
       none = omega arith
