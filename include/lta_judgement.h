@@ -179,10 +179,23 @@ struct lta_surplus {
 struct lta_surplus lta_book_surplus(const struct lta_order *orders, size_t order_count,
                                     const int64_t *zone_prices, size_t price_count);
 
-/* The desk's text: room that is enough for every input. */
-#define LTA_DESK_ROOM 1024
+/* WRITTEN INTO AN OUTPUT. What lta_desk_lines and lta_sheet_branches answer. */
+struct lta_written {
+    uint32_t number; /* 0, or that of the refusal */
+    uint64_t index;
+    uint64_t length; /* bytes written; 0 in a refusal */
+};
 
-/* Writes the lines that the desk program prints for an input, and returns their length in bytes. [count]
+/* THE DESK'S TEXT. The number by which lta_desk_lines refuses. It is of the call and not of the hour, whose verdict is the text's first
+ * line. */
+enum lta_desk_number {
+    LTA_DESK_NO_ROOM = 31           /* out_len is under LTA_DESK_ROOM; index 0 */
+};
+
+#define LTA_DESK_ROOM 1024          /* bytes that an output must have, whatever the input: room that is enough for every text */
+
+/* Writes the lines that the desk program prints for an input, and answers with number 0, index 0 [outcome] and their length in bytes
+ * [length]; or it refuses, with length 0.
  *
  *   input, input_len           a case and at once its proposal. If the header is good and as many bytes as it demands are there, the case
  *                              is cut at that length and the rest is the proposal; else all is the case, and the proposal is empty.
@@ -192,20 +205,12 @@ struct lta_surplus lta_book_surplus(const struct lta_order *orders, size_t order
  * rent and owed, in euros with eight decimals, and a line `price ZONE PRICE` for each zone, in euros per MWh with seven. A newline ends
  * each line; no zero byte ends the text.
  *
- * The bytes of `out` afterwards [bytes]: the text, and all past it as they were. If out_len is under LTA_DESK_ROOM, 0 is returned and
- * every byte is as it was.
+ * The bytes of `out` afterwards [output]: the text, and all past it as they were. In a refusal every byte is as it was.
  */
-uint64_t lta_desk_lines(const uint8_t *input, size_t input_len, uint8_t *out, size_t out_len);
+struct lta_written lta_desk_lines(const uint8_t *input, size_t input_len, uint8_t *out, size_t out_len);
 
-/* THE MARGIN SHEET. What lta_sheet_branches answers. */
-struct lta_written {
-    uint32_t number; /* 0, or that of the refusal */
-    uint64_t index;
-    uint64_t length; /* bytes written; 0 in a refusal */
-};
-
-/* The numbers of lta_sheet_branches, in the order in which they are asked, each of the whole sheet before the next. 51 to 53 name the
- * first such line; the index of the others is 0. No number is returned for another cause than its own. */
+/* THE MARGIN SHEET. The numbers of lta_sheet_branches, in the order in which they are asked, each of the whole sheet before the next.
+ * 51 to 53 name the first such line; the index of the others is 0. No number is returned for another cause than its own. */
 enum lta_sheet_number {
     LTA_SHEET_ZONES = 50,           /* zones is 0 or over 16 */
     LTA_SHEET_FIELD = 51,           /* a line has not 1 + zones fields, or one is no number; index: the line */

@@ -7,6 +7,8 @@ mod archive;
 mod sheet;
 
 use second_judge::hours::{three_zone_hour, Branch, Hour, Link};
+#[cfg(feature = "desk")]
+use second_judge::limits::LEAST_OUTPUT;
 use second_judge::limits::{BUYS, LEAST_BUFFER, SELLS};
 use second_judge::{judge, Row};
 use std::hint::black_box;
@@ -219,8 +221,8 @@ fn main() {
         heading("desk lines");
         let hour = three_zone_hour();
         let input = [hour.case(), hour.proposal()].concat();
-        let mut out = [0; 1_024];
-        let length = archive::desk_lines(&input, &mut out) as usize;
+        let mut out = [0; LEAST_OUTPUT];
+        let length = archive::desk_lines(&input, &mut out).length as usize;
         assert_eq!(
             out[..length],
             second_judge::desk_lines(&input),

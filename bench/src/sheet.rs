@@ -1,7 +1,7 @@
 //! The margin sheet's entry against a plain C parser of the same grammar.
 
 use crate::{archive, heading_against, measure, print, Times};
-use second_judge::{sheet_branches, SheetAnswer};
+use second_judge::{sheet_branches, OutputAnswer};
 use std::fmt::Write;
 use std::hint::black_box;
 
@@ -19,7 +19,7 @@ const MOST_ZONES: usize = 16;
 const MOST_LINES: usize = 64;
 const ROOM: usize = 4 * (MOST_ZONES + 1) * MOST_LINES;
 
-fn plain(sheet: &[u8], zones: usize, out: &mut [u8]) -> SheetAnswer {
+fn plain(sheet: &[u8], zones: usize, out: &mut [u8]) -> OutputAnswer {
     // Safe: each pointer comes with the length of its own slice.
     unsafe {
         plain_sheet_branches(

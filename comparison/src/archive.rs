@@ -1,7 +1,7 @@
 //! The proved judge, called over the C interface of its archive.
 
-#[cfg(feature = "sheet")]
-use second_judge::SheetAnswer;
+#[cfg(any(feature = "desk", feature = "sheet"))]
+use second_judge::OutputAnswer;
 #[cfg(feature = "book")]
 use second_judge::{BookAnswer, Row};
 
@@ -24,7 +24,7 @@ extern "C" {
     ) -> Surplus;
 
     #[cfg(feature = "desk")]
-    fn lta_desk_lines(input: *const u8, input_len: usize, out: *mut u8, out_len: usize) -> u64;
+    fn lta_desk_lines(input: *const u8, input_len: usize, out: *mut u8, out_len: usize) -> Written;
 
     #[cfg(feature = "sheet")]
     fn lta_sheet_branches(
@@ -69,7 +69,7 @@ struct Surplus {
 }
 
 /// struct lta_written.
-#[cfg(feature = "sheet")]
+#[cfg(any(feature = "desk", feature = "sheet"))]
 #[repr(C)]
 pub struct Written {
     number: u32,
@@ -77,10 +77,10 @@ pub struct Written {
     length: u64,
 }
 
-#[cfg(feature = "sheet")]
-impl From<Written> for SheetAnswer {
-    fn from(written: Written) -> SheetAnswer {
-        SheetAnswer {
+#[cfg(any(feature = "desk", feature = "sheet"))]
+impl From<Written> for OutputAnswer {
+    fn from(written: Written) -> OutputAnswer {
+        OutputAnswer {
             number: written.number,
             index: written.index,
             length: written.length,
@@ -151,17 +151,17 @@ pub fn book_surplus(orders: &[Order], prices: &[i64], null: bool) -> BookAnswer 
     }
 }
 
-/// The desk's lines, written to `out`; gives their length.
+/// The desk's lines, written to `out`.
 #[cfg(feature = "desk")]
-pub fn desk_lines(input: &[u8], out: &mut [u8]) -> u64 {
+pub fn desk_lines(input: &[u8], out: &mut [u8]) -> OutputAnswer {
     // Safe: each pointer comes with the length of its own slice.
-    unsafe { lta_desk_lines(input.as_ptr(), input.len(), out.as_mut_ptr(), out.len()) }
+    unsafe { lta_desk_lines(input.as_ptr(), input.len(), out.as_mut_ptr(), out.len()) }.into()
 }
 
 /// A sheet's branches, written to `out`; `null` gives a null pointer for each
 /// empty slice.
 #[cfg(feature = "sheet")]
-pub fn sheet_branches(sheet: &[u8], zones: usize, out: &mut [u8], null: bool) -> SheetAnswer {
+pub fn sheet_branches(sheet: &[u8], zones: usize, out: &mut [u8], null: bool) -> OutputAnswer {
     let sheet_at = if null && sheet.is_empty() {
         std::ptr::null()
     } else {

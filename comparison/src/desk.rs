@@ -3,22 +3,27 @@
 use crate::archive;
 use crate::rng::Rng;
 use crate::run::Run;
-use second_judge::desk_lines;
+use second_judge::limits::LEAST_OUTPUT;
+use second_judge::{desk_output, OutputAnswer};
 
-/// At least 1,024 bytes are enough for the lines.
-const ROOM: usize = 1_024;
-const FILL: u8 = 0x5A;
+/// Bytes kept on either side of the lent output, which nobody may touch.
+const GUARD: usize = 32;
+/// Outputs are longer than they must be by at most so many bytes.
+const MORE: usize = 64;
+const SPACE: usize = GUARD + LEAST_OUTPUT + MORE + GUARD;
 
-/// What was done to the joined files.
-const NAMES: [&str; 3] = [
+/// What was done to the joined files or to the output.
+const NAMES: [&str; 5] = [
     "joined files",
     "joined files cut short",
     "joined files made longer",
+    "output a byte too short",
+    "output too short",
 ];
 
 pub struct Desk {
-    inputs: [u64; 3],
-    faults: [u64; 3],
+    inputs: [u64; NAMES.len()],
+    faults: [u64; NAMES.len()],
     rng: Rng,
     joined: Vec<u8>,
 }
@@ -26,8 +31,8 @@ pub struct Desk {
 impl Desk {
     pub fn new(seed: u64) -> Desk {
         Desk {
-            inputs: [0; 3],
-            faults: [0; 3],
+            inputs: [0; NAMES.len()],
+            faults: [0; NAMES.len()],
             rng: Rng::new(seed),
             joined: Vec::new(),
         }
@@ -38,45 +43,58 @@ impl Desk {
         joined.clear();
         joined.extend(case);
         joined.extend(proposal);
-        self.compare(0, &joined);
-        match self.rng.below(6) {
+        let room = LEAST_OUTPUT + self.rng.below(MORE + 1);
+        self.compare(0, &joined, room);
+        match self.rng.below(8) {
             0 => {
                 joined.truncate(self.rng.below(joined.len() + 1));
-                self.compare(1, &joined);
+                self.compare(1, &joined, LEAST_OUTPUT);
             }
             1 => {
                 for _ in 0..1 + self.rng.below(20) {
                     joined.push(self.rng.next() as u8);
                 }
-                self.compare(2, &joined);
+                self.compare(2, &joined, LEAST_OUTPUT);
+            }
+            2 => self.compare(3, &joined, LEAST_OUTPUT - 1),
+            3 => {
+                let room = self.rng.below(LEAST_OUTPUT);
+                self.compare(4, &joined, room);
             }
             _ => {}
         }
         self.joined = joined;
     }
 
-    fn compare(&mut self, kind: usize, input: &[u8]) {
+    /// Gives both this input and so much room.
+    fn compare(&mut self, kind: usize, input: &[u8], room: usize) {
         self.inputs[kind] += 1;
-        let ours = desk_lines(input);
-        let mut theirs = [FILL; ROOM];
-        let length = archive::desk_lines(input, &mut theirs);
-        // Past the lines nothing may change.
-        let same = length == ours.len() as u64
-            && theirs[..ours.len()] == ours
-            && theirs[ours.len()..].iter().all(|byte| *byte == FILL);
-        if !same {
+        // A pattern of its own for each input, so that no byte is right by luck.
+        let salt = self.rng.next() as usize;
+        let filled: [u8; SPACE] = std::array::from_fn(|n| (n * 37).wrapping_add(salt) as u8);
+        let lent = GUARD..GUARD + room;
+        let mut their_space = filled;
+        let theirs = archive::desk_lines(input, &mut their_space[lent.clone()]);
+        let mut space = filled;
+        let ours = desk_output(input, &mut space[lent.clone()]);
+        if (theirs, their_space) != (ours, space) {
             self.faults[kind] += 1;
             if self.faults[kind] == 1 {
-                let shown = (length as usize).min(ROOM);
                 println!(
-                    "amiss in the desk lines, {}, length {length}, archive:",
+                    "amiss in the desk lines, {}, room {room}: {theirs:?}, archive:",
                     NAMES[kind]
                 );
-                println!("{}", String::from_utf8_lossy(&theirs[..shown]));
-                println!("second judge:\n{}", String::from_utf8_lossy(&ours));
+                println!("{}", shown(&their_space[lent.clone()], theirs));
+                println!("second judge: {ours:?}\n{}", shown(&space[lent], ours));
             }
         }
     }
+}
+
+/// What an answer says that it wrote.
+fn shown(out: &[u8], answer: OutputAnswer) -> String {
+    let length = out.len().min(answer.length as usize);
+    String::from_utf8_lossy(&out[..length]).into()
 }
 
 /// Closes the checks of the desk's lines.
@@ -92,14 +110,19 @@ pub fn end(run: &mut Run) {
 pub fn three_zone_lines(run: &mut Run) {
     run.begin("the nine lines of P1");
     let hour = second_judge::hours::three_zone_hour();
-    let mut lines = [FILL; ROOM];
-    let length = archive::desk_lines(&[hour.case(), hour.proposal()].concat(), &mut lines);
+    let mut lines = [0x5A; LEAST_OUTPUT];
+    let answer = archive::desk_lines(&[hour.case(), hour.proposal()].concat(), &mut lines);
     let due = "verdict 0 0\nwelfare 22125.00000000\nbound 22125.00000000\ngap 0.00000000\n\
         rent 17500.00000000\nowed 17500.00000000\nprice 0 20.0000000\nprice 1 63.7500000\n\
         price 2 50.0000000\n";
     run.count();
-    if length != due.len() as u64 || &lines[..due.len()] != due.as_bytes() {
-        run.fault(|| String::from_utf8_lossy(&lines[..(length as usize).min(ROOM)]).into());
+    let good = OutputAnswer {
+        number: 0,
+        index: 0,
+        length: due.len() as u64,
+    };
+    if answer != good || &lines[..due.len()] != due.as_bytes() {
+        run.fault(|| format!("{answer:?}\n{}", shown(&lines, answer)));
     }
     run.end();
 }

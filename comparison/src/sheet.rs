@@ -4,7 +4,7 @@
 use crate::archive;
 use crate::rng::Rng;
 use crate::run::Run;
-use second_judge::{sheet_branches_as, SheetAnswer, SheetBuild};
+use second_judge::{sheet_branches_as, OutputAnswer, SheetBuild};
 
 /// So many sheets at least, and each number at least so many times.
 const LEAST_INPUTS: u64 = 50_000;
@@ -47,7 +47,7 @@ struct Sheets<'a> {
 
 impl Sheets<'_> {
     /// Gives both this sheet and so much room.
-    fn feed(&mut self, sheet: &[u8], zones: usize, room: usize) -> (SheetAnswer, Vec<u8>) {
+    fn feed(&mut self, sheet: &[u8], zones: usize, room: usize) -> (OutputAnswer, Vec<u8>) {
         self.feed_as(sheet, zones, room, false)
     }
 
@@ -57,7 +57,7 @@ impl Sheets<'_> {
         zones: usize,
         room: usize,
         null: bool,
-    ) -> (SheetAnswer, Vec<u8>) {
+    ) -> (OutputAnswer, Vec<u8>) {
         self.run.count();
         self.inputs += 1;
         let copy = sheet.to_vec();
@@ -106,8 +106,8 @@ impl Sheets<'_> {
         });
     }
 
-    fn meet(&mut self, sheet: &[u8], zones: usize, answer: SheetAnswer) {
-        let SheetAnswer {
+    fn meet(&mut self, sheet: &[u8], zones: usize, answer: OutputAnswer) {
+        let OutputAnswer {
             number,
             index,
             length,
@@ -138,7 +138,7 @@ impl Sheets<'_> {
             0 => made.branches(),
             _ => Vec::new(),
         };
-        let due = SheetAnswer {
+        let due = OutputAnswer {
             number,
             index,
             length: written.len() as u64,

@@ -1,8 +1,9 @@
 //! The desk's printing: cuts an input, judges it and gives the lines.
 
 use crate::judge::judge;
-use crate::limits::LEAST_BUFFER;
+use crate::limits::{LEAST_BUFFER, LEAST_OUTPUT};
 use crate::read::Case;
+use crate::OutputAnswer;
 use std::io::Write;
 
 /// Microcents in a euro, and the decimals that shows.
@@ -31,7 +32,7 @@ pub fn desk_lines(input: &[u8]) -> Vec<u8> {
     let mut report = [0; LEAST_BUFFER];
     let verdict = judge(case, proposal, &mut report);
 
-    let mut lines = Vec::with_capacity(1024);
+    let mut lines = Vec::with_capacity(LEAST_OUTPUT);
     let mut line = |text: std::fmt::Arguments| {
         writeln!(lines, "{text}").expect("a vector takes every write");
     };
@@ -55,6 +56,20 @@ pub fn desk_lines(input: &[u8]) -> Vec<u8> {
     lines
 }
 
+/// The same lines written to an output, and how long they are.
+pub fn desk_output(input: &[u8], out: &mut [u8]) -> OutputAnswer {
+    let (number, lines) = match out.len() {
+        LEAST_OUTPUT.. => (0, desk_lines(input)),
+        _ => (31, Vec::new()),
+    };
+    out[..lines.len()].copy_from_slice(&lines);
+    OutputAnswer {
+        number,
+        index: 0,
+        length: lines.len() as u64,
+    }
+}
+
 #[cfg(test)]
 mod tests {
     use super::*;
@@ -68,5 +83,25 @@ mod tests {
         assert_eq!(amount(i64::MIN, MONEY), "-92233720368.54775808");
         assert_eq!(amount(-5_000_000_000, PRICE), "-500.0000000");
         assert_eq!(amount(40_000_000_001, PRICE), "4000.0000001");
+    }
+
+    #[test]
+    fn outputs() {
+        for room in [0, 12, 1_023, 1_024, 1_025] {
+            let mut out = vec![7; room];
+            let answer = desk_output(b"", &mut out);
+            let due: (u32, &[u8]) = match room {
+                ..1_024 => (31, b""),
+                _ => (0, b"verdict 1 0\n"),
+            };
+            let length = due.1.len() as u64;
+            assert_eq!(
+                (answer.number, answer.index, answer.length),
+                (due.0, 0, length)
+            );
+            let (written, rest) = out.split_at(due.1.len());
+            assert_eq!(written, due.1);
+            assert!(rest.iter().all(|byte| *byte == 7));
+        }
     }
 }

@@ -16,9 +16,9 @@ mod read;
 mod sheet;
 
 pub use book::{book_surplus, BookAnswer, Row};
-pub use desk::desk_lines;
+pub use desk::{desk_lines, desk_output};
 pub use judge::{judge, judge_as, Build};
-pub use sheet::{sheet_branches, sheet_branches_as, SheetAnswer, SheetBuild};
+pub use sheet::{sheet_branches, sheet_branches_as, SheetBuild};
 
 /// Number and index as the paper's table returns them.
 #[derive(Clone, Copy, Debug, PartialEq, Eq)]
@@ -35,6 +35,14 @@ impl Verdict {
             index: index as u32,
         }
     }
+}
+
+/// What an entry answers that writes into an output; a refusal has length 0.
+#[derive(Clone, Copy, Debug, PartialEq, Eq)]
+pub struct OutputAnswer {
+    pub number: u32,
+    pub index: u64,
+    pub length: u64,
 }
 
 #[cfg(test)]

@@ -34,6 +34,8 @@ pub const MOST_ZONES: usize = 16;
 pub const MOST_ORDERS: usize = 512;
 /// A report buffer shorter than this is refused with 30.
 pub const LEAST_BUFFER: usize = 176;
+/// An output for the desk's lines shorter than this is refused with 31.
+pub const LEAST_OUTPUT: usize = 1_024;
 
 pub const CASE_HEADER: usize = 14;
 pub const PROPOSAL_HEADER: usize = 13;

@@ -4,6 +4,7 @@
 //! its limit, so that no width has to be argued about.
 
 use crate::limits::*;
+use crate::OutputAnswer;
 use std::ops::RangeInclusive;
 
 /// The right reading and the wrong ones that a comparison must tell from it.
@@ -35,16 +36,8 @@ impl SheetBuild {
     ];
 }
 
-/// What the sheet entry answers; a refusal has length 0.
-#[derive(Clone, Copy, Debug, PartialEq, Eq)]
-pub struct SheetAnswer {
-    pub number: u32,
-    pub index: u64,
-    pub length: u64,
-}
-
 /// Writes the branches of a sheet, and answers with how long they are.
-pub fn sheet_branches(sheet: &[u8], zones: usize, out: &mut [u8]) -> SheetAnswer {
+pub fn sheet_branches(sheet: &[u8], zones: usize, out: &mut [u8]) -> OutputAnswer {
     sheet_branches_as(SheetBuild::Right, sheet, zones, out)
 }
 
@@ -54,17 +47,17 @@ pub fn sheet_branches_as(
     sheet: &[u8],
     zones: usize,
     out: &mut [u8],
-) -> SheetAnswer {
+) -> OutputAnswer {
     match branches(build, sheet, zones, out.len()) {
         Ok(bytes) => {
             out[..bytes.len()].copy_from_slice(&bytes);
-            SheetAnswer {
+            OutputAnswer {
                 number: 0,
                 index: 0,
                 length: bytes.len() as u64,
             }
         }
-        Err((number, line)) => SheetAnswer {
+        Err((number, line)) => OutputAnswer {
             number,
             index: line as u64,
             length: 0,
@@ -269,7 +262,7 @@ mod tests {
         build: SheetBuild,
         sheet: &[u8],
         zones: usize,
-    ) -> (SheetAnswer, Vec<i32>) {
+    ) -> (OutputAnswer, Vec<i32>) {
         let mut out = vec![FILL; room];
         let answer = sheet_branches_as(build, sheet, zones, &mut out);
         let (written, rest) = out.split_at(answer.length as usize);
@@ -283,7 +276,7 @@ mod tests {
 
     fn gives(sheet: &str, zones: usize, numbers: &[i32]) {
         let (answer, written) = read_in(ROOM, SheetBuild::Right, sheet.as_bytes(), zones);
-        let due = SheetAnswer {
+        let due = OutputAnswer {
             number: 0,
             index: 0,
             length: 4 * numbers.len() as u64,
@@ -293,7 +286,7 @@ mod tests {
 
     fn refuses_in(room: usize, sheet: &[u8], zones: usize, number: u32, index: u64) {
         let (answer, _) = read_in(room, SheetBuild::Right, sheet, zones);
-        let due = SheetAnswer {
+        let due = OutputAnswer {
             number,
             index,
             length: 0,

@@ -1,5 +1,5 @@
 /* lta_desk_lines through the archive: document 01's nine lines, hours that end after the first line, where the input is cut, and outputs
- * too short. Every call is made with input and output at both places between unreadable pages, the input unwritable, and every byte of
+ * too short, which are refused. Every call is made with input and output at both places between unreadable pages, the input unwritable, and every byte of
  * the output is compared afterwards.
  *
  *     desk_test CASE PROPOSAL     the three-zone hour's files
@@ -54,27 +54,42 @@ static const char largest_lines[] =
     "price 14 0.0000000\n"
     "price 15 0.0000000\n";
 
-/* The length returned, and the output's bytes, with both arguments at each of their places. */
-static void printed_in(size_t room, const struct file *input, const char *text)
+static bool answers(struct lta_written answer, uint32_t number, size_t length)
+{
+    if (answer.number == number && answer.index == 0 && answer.length == length)
+        return true;
+    wrong("number %" PRIu32 ", index %" PRIu64 ", %" PRIu64 " bytes, and should be %" PRIu32 ", 0, %zu", answer.number, answer.index,
+          answer.length, number, length);
+    return false;
+}
+
+/* The answer, and the output's bytes, with both arguments at each of their places. */
+static void answered_in(size_t room, const struct file *input, uint32_t number, const char *text)
 {
     bool ok = true;
     for (unsigned k = 0; k < PLACES * PLACES && ok; k++) {
         enum place input_place = k % PLACES, out_place = k / PLACES;
         const uint8_t *bytes = lend(input_arena, input_place, input->bytes, input->length);
         uint8_t *out = lend_room(out_arena, out_place, room);
-        uint64_t length = lta_desk_lines(bytes, input->length, out, room);
-        if (length != strlen(text)) {
-            wrong("%" PRIu64 " bytes, and should be %zu", length, strlen(text));
-            ok = false;
-        }
+        struct lta_written answer = lta_desk_lines(bytes, input->length, out, room);
+        ok = answers(answer, number, strlen(text));
         ok = holds(out_arena, out_place, room, (const uint8_t *)text, strlen(text)) && ok;
         if (!ok)
-            wrong("it is: %.*s", (int)(length < room ? length : room), (const char *)out);
+            wrong("it is: %.*s", (int)(answer.length < room ? answer.length : room), (const char *)out);
     }
     check(ok);
 }
 
-static void printed(const struct file *input, const char *text) { printed_in(ROOM, input, text); }
+static void printed(const struct file *input, const char *text) { answered_in(ROOM, input, 0, text); }
+
+/* A text where there is room, else the refusal: 31, index 0, length 0, and every byte as it was. */
+static void printed_or_refused(size_t room, const struct file *input, const char *text)
+{
+    if (room < 1024)
+        answered_in(room, input, 31, "");
+    else
+        answered_in(room, input, 0, text);
+}
 
 /* Case and at once proposal. */
 static struct file input_of(const struct hour *h)
@@ -207,12 +222,12 @@ static void rooms(void)
     struct file none = {0};
     for (size_t k = 0; k < sizeof rooms / sizeof *rooms; k++) {
         about("the sample, with an output of %zu bytes", rooms[k]);
-        printed_in(rooms[k], &sample, rooms[k] < 1024 ? "" : three_zone_lines);
+        printed_or_refused(rooms[k], &sample, three_zone_lines);
         about("empty input, with an output of %zu bytes", rooms[k]);
-        printed_in(rooms[k], &none, rooms[k] < 1024 ? "" : "verdict 1 0\n");
+        printed_or_refused(rooms[k], &none, "verdict 1 0\n");
     }
-    about("the room that the header names");
-    check(LTA_DESK_ROOM == 1024);
+    about("the room and the number that the header names");
+    check(LTA_DESK_ROOM == 1024 && LTA_DESK_NO_ROOM == 31);
 }
 
 static void nulls(void)
@@ -220,20 +235,20 @@ static void nulls(void)
     const uint8_t *bytes = lend(input_arena, AT_END, sample.bytes, sample.length);
     uint8_t *out = lend_room(out_arena, AT_END, ROOM);
     about("null for the output");
-    check(lta_desk_lines(bytes, sample.length, NULL, 0) == 0);
+    check(answers(lta_desk_lines(bytes, sample.length, NULL, 0), 31, 0));
     about("null for both");
-    check(lta_desk_lines(NULL, 0, NULL, 0) == 0);
+    check(answers(lta_desk_lines(NULL, 0, NULL, 0), 31, 0));
     about("null for the input");
-    check(lta_desk_lines(NULL, 0, out, ROOM) == 12 && holds(out_arena, AT_END, ROOM, (const uint8_t *)"verdict 1 0\n", 12));
+    check(answers(lta_desk_lines(NULL, 0, out, ROOM), 0, 12) && holds(out_arena, AT_END, ROOM, (const uint8_t *)"verdict 1 0\n", 12));
 }
 
 static struct {
     struct file input;
     uint8_t out[LTA_DESK_ROOM];
-    uint64_t length;
+    struct lta_written answer;
 } call;
 
-static void call_lines(void) { call.length = lta_desk_lines(call.input.bytes, call.input.length, call.out, sizeof call.out); }
+static void call_lines(void) { call.answer = lta_desk_lines(call.input.bytes, call.input.length, call.out, sizeof call.out); }
 
 static void small_stack(void)
 {
@@ -241,7 +256,7 @@ static void small_stack(void)
     call.input = input_of(&h);
     about("the largest hour on a stack of %d bytes", STACK_ENOUGH);
     on_stack(STACK_ENOUGH, call_lines);
-    check(call.length == strlen(largest_lines) && memcmp(call.out, largest_lines, strlen(largest_lines)) == 0);
+    check(answers(call.answer, 0, strlen(largest_lines)) && memcmp(call.out, largest_lines, strlen(largest_lines)) == 0);
 }
 
 static void append_file(struct file *f, const char *name)

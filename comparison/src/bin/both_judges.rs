@@ -10,12 +10,10 @@
 #[allow(dead_code)] // two of its entries are asked
 mod archive;
 
-use second_judge::limits::LEAST_BUFFER;
+use second_judge::limits::{LEAST_BUFFER, LEAST_OUTPUT};
 use std::io::{Error, Write};
 
 const TOTALS: [&str; 5] = ["welfare", "bound", "gap", "rent", "owed"];
-/// Enough for the desk's lines.
-const ROOM: usize = 1_024;
 
 fn main() -> std::io::Result<()> {
     let mut out = std::io::stdout().lock();
@@ -87,7 +85,7 @@ fn verdict_and_totals(number: u64, index: u64, report: &[u8]) -> Vec<String> {
 }
 
 fn archive_lines(input: &[u8]) -> Vec<u8> {
-    let mut out = [0; ROOM];
-    let length = archive::desk_lines(input, &mut out) as usize;
+    let mut out = [0; LEAST_OUTPUT];
+    let length = archive::desk_lines(input, &mut out).length as usize;
     out[..length].to_vec()
 }

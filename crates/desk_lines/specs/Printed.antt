@@ -1,19 +1,32 @@
--- What is put into a lent buffer: the desk's lines where it has 1,024 bytes, else nothing. Assumes nothing.
-use mathlib.Core.Path.{_≡_, ap}
-use mathlib.Core.Bool.{Bool, cond}
-use mathlib.Core.List.{List, []}
-use Prim.Native.Nat.{ℕ, _≤_, _<_}
-use borrow.Author.Tests.{lt-ltb, le-ltb}
-use lib.Dec.{ltb}
+-- The desk's text in a lent output: its lines where the output has the room that the lines of every input have (`Room.desk-room`), else the refusal by 31.
+-- Assumes nothing.
+use mathlib.Core.List.{List, [], _∷_}
+use mathlib.Core.Option.{Option}
+use Prim.Native.Nat.{ℕ}
+use lib.ListN.{length}
+use Rattle.rows.specs.declared.Outcome.{Outcome}
+use Rattle.rows.specs.Rows.{Row, refusal, answer, once}
+use Rattle.rules.specs.Verdict.{under}
+use Rattle.output.specs.Output.{writtenBy, outputAfter}
 use Rattle.desk_lines.specs.Lines.{deskText}
 
-unfoldable pub printed : ℕ → List ℕ → List ℕ
-printed room input = cond (ltb room 1024) [] (deskText input)
+abbrev pub deskRoom : ℕ
+deskRoom = 1024
 
-pub printed-none : (room : ℕ) (input : List ℕ) → room < 1024 → printed room input ≡ []
-unfolding printed
-printed-none room input h = ap (λ (b : Bool). cond b [] (deskText input)) (lt-ltb room 1024 h)
+-- the cause, for an output of `room` bytes
+unfoldable pub deskRows : ℕ → List Row
+deskRows room = once 31 (under deskRoom room) ∷ []
 
-pub printed-all : (room : ℕ) (input : List ℕ) → 1024 ≤ room → printed room input ≡ deskText input
-unfolding printed
-printed-all room input h = ap (λ (b : Bool). cond b [] (deskText input)) (le-ltb room 1024 h)
+unfoldable pub deskRefusal : ℕ → Option Outcome
+deskRefusal room = refusal (deskRows room)
+
+unfoldable pub deskOutcome : ℕ → Outcome
+deskOutcome room = answer (deskRefusal room)
+
+-- what is written into an output: the lines, or for a refusal nothing
+unfoldable pub deskWritten : ℕ → List ℕ → List ℕ
+deskWritten room input = writtenBy (deskRefusal room) (deskText input)
+
+-- the output afterwards: what is written, and then what stood past it
+unfoldable pub deskOutput : List ℕ → List ℕ → List ℕ
+deskOutput input out = outputAfter (deskWritten (length out) input) out

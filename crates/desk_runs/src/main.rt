@@ -3,7 +3,7 @@ use libc::STDOUT_FILENO;
 
 fn print(input: &[u8]) {
     let mut out = [0u8; desk_lines::ROOM];
-    let n = desk_lines::lines(input, &mut out);
+    let n = desk_lines::lines(input, &mut out).length;
     io::write_all(STDOUT_FILENO, &out[..n]);
 }
 

@@ -6,8 +6,8 @@ ghost use lib.ListN.{length, take};
 ghost use Rattle.rows.specs.Rows.{verdict};
 ghost use Rattle.margin_sheet.specs.Sheet.{lineCount, sheetOutcome, sheetWritten, sheetOutput};
 ghost use Rattle.margin_sheet.specs.ReadBack.{Header, Holds};
-use margin_sheet::Written;
 use margin_sheet::sheet_branches;
+use output::Written;
 
 // The branches at the start of `out`, and how many bytes they are; or a refusal, 50 to 55 in that order, with length 0 and `out` as it was. An answer's bytes,
 // behind any header of these zones and that many branches and before whatever follows, hold the sheet's margins and, turned, its PTDFs, and row 6 passes.

@@ -1,15 +1,18 @@
 // The desk program's text for an input, for a host that prints it itself.
 ghost use mathlib.Core.Path.{_≡_};
-ghost use mathlib.Core.List.{_++_};
-ghost use lib.ListN.{length, drop};
-ghost use Rattle.desk_lines.specs.Printed.{printed};
+ghost use lib.ListN.{length};
+ghost use Rattle.rows.specs.Rows.{verdict};
+ghost use Rattle.desk_lines.specs.Printed.{deskOutcome, deskWritten, deskOutput};
 use desk_lines::lines;
+use output::Written;
 
-// The lines for a case and at once its proposal, at the start of `out`, and how many bytes they are; nothing where `out` has under 1,024 bytes.
+// The lines for a case and at once its proposal, at the start of `out`, and how many bytes they are; or the refusal by 31, where `out` has less than the
+// desk's room, with length 0 and `out` as it was. The verdict on the hour is the text's first line and not this number.
 #[no_mangle]
-pub extern "C" fn lta_desk_lines(input: &[u8], out: &mut [u8]) -> usize
-    ensures count { λ r. ⌜ r ≡ length (printed (length (now (out .entry))) (now (input .entry))) ⌝ }
-    ensures bytes { λ r. ⌜ now (out .exit) ≡ printed (length (now (out .entry))) (now (input .entry)) ++ drop r (now (out .entry)) ⌝ }
+pub extern "C" fn lta_desk_lines(input: &[u8], out: &mut [u8]) -> Written
+    ensures outcome { λ r. ⌜ verdict (r .number) (r .index) ≡ deskOutcome (length (now (out .entry))) ⌝ }
+    ensures length { λ r. ⌜ r .length ≡ length (deskWritten (length (now (out .entry))) (now (input .entry))) ⌝ }
+    ensures output { λ r. ⌜ now (out .exit) ≡ deskOutput (now (input .entry)) (now (out .entry)) ⌝ }
 {
     lines(input, out)
 }
