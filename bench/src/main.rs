@@ -19,6 +19,10 @@ const REPETITIONS: usize = 401;
 /// A repetition lasts about so long: short, so that the two halves of a pair
 /// meet the same machine, and one that is disturbed falls out of the median.
 const LENGTH: Duration = Duration::from_micros(60);
+/// In a case of sixteen zones and 64 branches: a branch, and what stands before
+/// the links.
+const BRANCH_BYTES: u32 = 4 + 4 * 16;
+const LINKS_AT: u32 = 14 + 64 * BRANCH_BYTES;
 
 /// Nanoseconds of one call and the ratio, each the median of the repetitions.
 struct Times {
@@ -187,7 +191,25 @@ fn main() {
     field.branches[63].ram = 500_001;
     print(
         "largest, refused at the last branch (6)",
-        &of(&field, 6, 14 + 63 * (4 + 4 * 16)),
+        &of(&field, 6, 14 + 63 * BRANCH_BYTES),
+    );
+    let mut link = largest.clone();
+    link.links[63].capacity = 100_001;
+    print(
+        "largest, refused at the last link (7)",
+        &of(&link, 7, LINKS_AT + 63 * 6 + 2),
+    );
+    let mut order = largest.clone();
+    order.orders[511].price = 400_001;
+    print(
+        "largest, refused at the last order (8)",
+        &of(&order, 8, LINKS_AT + 64 * 6 + 511 * 10 + 6),
+    );
+    let mut shadow = largest.clone();
+    shadow.shadow_prices[63] = 1_000_001;
+    print(
+        "largest, refused at the last price (14)",
+        &of(&shadow, 14, 13 + 4 * (512 + 64 + 63)),
     );
     let mut rule = largest.clone();
     rule.branches[63].ram = -500_000;
