@@ -2,11 +2,12 @@
 use mathlib.Core.Path.{_≡_, sym, ap, subst, _∙_}
 use mathlib.Core.Bool.{Bool, true, false, cond}
 use mathlib.Core.List.{List, [], _++_, append-nil}
-use Prim.Native.Nat.{ℕ, _+_, _*_, _≤_}
+use Prim.Native.Nat.{ℕ, _≤_}
 use native.Mathlib.Omega.{arith}
 use lib.ListN.{length, getD, replicate}
 use lib.Dec.{T}
 use lib.IntN.{ℤ}
+use Rattle.rules.specs.Layout.{reportRoom, reportZonesAt, zonePriceAt}
 use Rattle.rules.specs.Hour.{caseOf, planOf, pricesOf, zonePrice}
 use Rattle.rules.specs.Verdict.{outcome}
 use Rattle.rules.specs.Passed.{sound, case-sound}
@@ -26,17 +27,17 @@ module _ (s t : List ℕ) where
   price = zonePrice (caseOf s) (pricesOf s t)
 
   -- for numbers other than 0 and 26
-  pub one-line : reports ((outcome s t 176) .number) ≡ false → hourText s t ≡ verdictLine (outcome s t 176)
+  pub one-line : reports ((outcome s t reportRoom) .number) ≡ false → hourText s t ≡ verdictLine (outcome s t reportRoom)
   unfolding hourText linesOf
-  one-line e = ap (λ (b : Bool). verdictLine (outcome s t 176) ++ cond b (hourLines zones totals price) []) e ∙ append-nil (verdictLine (outcome s t 176))
+  one-line e = ap (λ (b : Bool). verdictLine (outcome s t reportRoom) ++ cond b (hourLines zones totals price) []) e ∙ append-nil (verdictLine (outcome s t reportRoom))
 
   -- for 0 and 26
-  module _ (e : reports ((outcome s t 176) .number) ≡ true) where
+  module _ (e : reports ((outcome s t reportRoom) .number) ≡ true) where
     abbrev buffer : List ℕ
-    buffer = bufferAfter s t (replicate 176 0)
+    buffer = bufferAfter s t (replicate reportRoom 0)
 
-    stands : Reported ((outcome s t 176) .number) (caseOf s) (planOf s t) (pricesOf s t) buffer
-    stands = reported s t (replicate 176 0) (subst T (sym e) tt)
+    stands : Reported ((outcome s t reportRoom) .number) (caseOf s) (planOf s t) (pricesOf s t) buffer
+    stands = reported s t (replicate reportRoom 0) (subst T (sym e) tt)
 
     totals-stand : totalsIn buffer ≡ totals
     unfolding totalsOf
@@ -55,17 +56,17 @@ module _ (s t : List ℕ) where
     unfolding hourLines
     hour-stands = (λ i. totalLines (totals-stand i) ++ priceLines (stands .zones-at i) (reportedPrice buffer)) ∙ ap (λ (l : List ℕ). totalLines totals ++ l) prices-stand
 
-    pub all-lines : hourText s t ≡ verdictLine (outcome s t 176) ++ linesIn buffer
+    pub all-lines : hourText s t ≡ verdictLine (outcome s t reportRoom) ++ linesIn buffer
     unfolding hourText linesOf
     all-lines =
-        ap (λ (b : Bool). verdictLine (outcome s t 176) ++ cond b (hourLines zones totals price) []) e
-        ∙ ap (λ (l : List ℕ). verdictLine (outcome s t 176) ++ l) (sym hour-stands)
+        ap (λ (b : Bool). verdictLine (outcome s t reportRoom) ++ cond b (hourLines zones totals price) []) e
+        ∙ ap (λ (l : List ℕ). verdictLine (outcome s t reportRoom) ++ l) (sym hour-stands)
 
     -- the report has its zones within the buffer
-    pub zones-within : 48 + 8 * getD buffer 6 0 ≤ length buffer
+    pub zones-within : zonePriceAt (getD buffer reportZonesAt 0) ≤ length buffer
     zones-within = omega (
       arith,
       stands .zones-at,
-      same-length s t (replicate 176 0),
-      (case-sound s ((sound s t 176 (subst T (sym e) tt)) .readable)) .zones-in .1,
+      same-length s t (replicate reportRoom 0),
+      (case-sound s ((sound s t reportRoom (subst T (sym e) tt)) .readable)) .zones-in .1,
     )

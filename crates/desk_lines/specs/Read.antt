@@ -7,6 +7,7 @@ use native.Mathlib.Decide.{decLt}
 use native.Mathlib.Omega.{arith}
 use lib.ListN.{length, getD, length-append}
 use lib.IntN.{ℤ}
+use Rattle.rules.specs.Layout.{reportZonesAt}
 use Rattle.rules.specs.Report.{Totals, reportedWelfare, reportedBound, reportedGap, reportedRent, reportedOwed, reportedPrice}
 use Rattle.desk_lines.specs.Lines.{priceLine, priceLines, hourLines}
 
@@ -15,7 +16,7 @@ totalsIn b = record { welfare = reportedWelfare b; bound = reportedBound b; gap 
 
 -- the lines after the first
 abbrev pub linesIn : List ℕ → List ℕ
-linesIn b = hourLines (getD b 6 0) (totalsIn b) (reportedPrice b)
+linesIn b = hourLines (getD b reportZonesAt 0) (totalsIn b) (reportedPrice b)
 
 -- one zone more
 pub prices-more : (z : ℕ) (price : ℕ → ℤ) → priceLines z price ++ priceLine z (price z) ≡ priceLines (z + 1) price

@@ -3,12 +3,13 @@ use mathlib.Core.Path.{_≡_, refl, sym, ap, _∙_}
 use mathlib.Core.Bool.{Bool, true, false, cond, _||_}
 use mathlib.Core.List.{List, _++_}
 use mathlib.Core.Option.{Option, none, some}
-use Prim.Native.Nat.{ℕ, zero, suc, _+_, _*_, _<_}
+use Prim.Native.Nat.{ℕ, zero, suc, _<_}
 use native.Mathlib.Omega.{arith}
 use lib.ListN.{drop, getD}
 use lib.Dec.{T, eqb, eqb→eq}
 use lib.IntN.{ℤ}
 use Rattle.integers.specs.Bytes.{signed64}
+use Rattle.rules.specs.Layout.{zonePriceAt}
 use Rattle.rules.specs.Hour.{Case, Plan, Prices, caseOf, planOf, pricesOf, zonePrice}
 use Rattle.rows.specs.declared.Outcome.{Outcome}
 use Rattle.rows.specs.Rows.{Row, verdict, refusal, answer}
@@ -58,11 +59,11 @@ price-ext zero f g h = refl
 price-ext (suc n) f g h = λ j. price-ext n f g (λ z l. h z (omega arith)) j ++ signed64 (h n (omega arith) j)
 
 pub same-report : (number zones : ℕ) (x : Totals) (price : ℕ → ℤ) (c : Case) (p : Plan) (d : Prices) (b : List ℕ) → zones ≡ c .zones → x ≡ totalsOf c p d → ((z : ℕ) → z < c .zones → price z ≡ zonePrice c d z)
-    → reportText number zones x price ++ drop (48 + 8 * zones) b ≡ reportBytes number c p d ++ drop (reportSize c) b
+    → reportText number zones x price ++ drop (zonePriceAt zones) b ≡ reportBytes number c p d ++ drop (reportSize c) b
 unfolding reportBytes reportText reportSize
 same-report number zones x price c p d b e t h =
-    ap (λ (n : ℕ). headerBytes number n ++ totalBytes x ++ priceBytes n price ++ drop (48 + 8 * n) b) e
-    ∙ (λ j. headerBytes number (c .zones) ++ totalBytes (t j) ++ price-ext (c .zones) price (zonePrice c d) h j ++ drop (48 + 8 * c .zones) b)
+    ap (λ (n : ℕ). headerBytes number n ++ totalBytes x ++ priceBytes n price ++ drop (zonePriceAt n) b) e
+    ∙ (λ j. headerBytes number (c .zones) ++ totalBytes (t j) ++ price-ext (c .zones) price (zonePrice c d) h j ++ drop (zonePriceAt (c .zones)) b)
 
 -- the rows from 9 on
 abbrev pub proposalOn : List ℕ → List ℕ → List Row

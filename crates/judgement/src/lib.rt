@@ -2,6 +2,7 @@
 ghost use mathlib.Core.Path.{_≡_};
 ghost use Prim.Native.Nat.{_<_, _≤_};
 ghost use lib.ListN.{length};
+ghost use Rattle.rules.specs.Layout.{reportRoom};
 ghost use Rattle.rules.specs.Hour.{caseOf, planOf, pricesOf, net};
 ghost use Rattle.rules.specs.Promise.{TotalsReported, Allowed, Accurate, GapWithin, Covered, Best, CoveredInFull};
 ghost use Rattle.rules.specs.Report.{totalsOf, bufferAfter};
@@ -107,7 +108,7 @@ fn judge_priced(
     requires { ⌜ Holds (net (caseOf (now «case»)) (planOf (now «case») (now proposal))) nets ⌝ }
     requires { ⌜ Priced (caseOf (now «case»)) (pricesOf (now «case») (now proposal)) prices ⌝ }
     requires { ⌜ PricesIn (caseOf (now «case»)) (pricesOf (now «case») (now proposal)) ⌝ }
-    requires { ⌜ 176 ≤ length (now report) ⌝ }
+    requires { ⌜ reportRoom ≤ length (now report) ⌝ }
     ensures { λ r. ⌜ Judged (rowsFrom 5 (now («case» .entry)) (now (proposal .entry))) (now («case» .entry)) (now (proposal .entry)) (now (report .entry)) r (now (report .exit)) ⌝ }
 {
     let all = totals(case, k, proposal, nets, prices);
@@ -136,7 +137,7 @@ fn judge_cleared(
     requires { ⌜ Holds (net (caseOf (now «case»)) (planOf (now «case») (now proposal))) nets ⌝ }
     requires { ⌜ table ≡ tableOf (now «case») ⌝ }
     requires { ⌜ opening ≡ openingOf (now proposal) ⌝ }
-    requires { ⌜ 176 ≤ length (now report) ⌝ }
+    requires { ⌜ reportRoom ≤ length (now report) ⌝ }
     ensures { λ r. ⌜ Judged (rowsFrom 4 (now («case» .entry)) (now (proposal .entry))) (now («case» .entry)) (now (proposal .entry)) (now (report .entry)) r (now (report .exit)) ⌝ }
 {
     let system = opening.system;
@@ -162,7 +163,7 @@ fn judge_balanced(
     requires { ⌜ VolumesIn (caseOf (now «case»)) (planOf (now «case») (now proposal)) ⌝ }
     requires { ⌜ Holds (net (caseOf (now «case»)) (planOf (now «case») (now proposal))) nets ⌝ }
     requires { ⌜ opening ≡ openingOf (now proposal) ⌝ }
-    requires { ⌜ 176 ≤ length (now report) ⌝ }
+    requires { ⌜ reportRoom ≤ length (now report) ⌝ }
     ensures { λ r. ⌜ Judged (rowsFrom 2 (now («case» .entry)) (now (proposal .entry))) (now («case» .entry)) (now (proposal .entry)) (now (report .entry)) r (now (report .exit)) ⌝ }
 {
     let share = opening.share;
@@ -189,7 +190,7 @@ fn judge_proposed(
 ) -> Outcome
     requires { ⌜ Proposed (now «case») k (now proposal) ⌝ }
     requires { ⌜ opening ≡ openingOf (now proposal) ⌝ }
-    requires { ⌜ 176 ≤ length (now report) ⌝ }
+    requires { ⌜ reportRoom ≤ length (now report) ⌝ }
     ensures { λ r. ⌜ Judged (rowsFrom 0 (now («case» .entry)) (now (proposal .entry))) (now («case» .entry)) (now (proposal .entry)) (now (report .entry)) r (now (report .exit)) ⌝ }
 {
     let excess = first_excess_volume(case, k, proposal);
@@ -207,7 +208,7 @@ fn judge_proposed(
 // Verdicts 9 and on: a readable case.
 fn judge_readable(case: &[u8], k: Counts, proposal: &[u8], report: &mut [u8]) -> Outcome
     requires { ⌜ Opened (now «case») k ⌝ }
-    requires { ⌜ 176 ≤ length (now report) ⌝ }
+    requires { ⌜ reportRoom ≤ length (now report) ⌝ }
     ensures { λ r. ⌜ Judged (proposalOn (now («case» .entry)) (now (proposal .entry))) (now («case» .entry)) (now (proposal .entry)) (now (report .entry)) r (now (report .exit)) ⌝ }
 {
     match read_proposal(case, k, proposal) {

@@ -16,6 +16,7 @@ use lib.IntN.{ℤ, pos, _+ℤ_, _-ℤ_, _*ℤ_}
 use lib.Signed.{_≤ℤ_, _<ℤ_}
 use Rattle.integers.specs.Order.{positive}
 use Rattle.integers.specs.Sums.{sumTo, only}
+use Rattle.measures.specs.Limits.{partsInOne}
 use Rattle.rules.specs.Hour.{Case, signed, buys}
 
 -- VARIABLES: whole numbers over the common positive denominator `den`
@@ -57,7 +58,7 @@ netFlow n f l = sumTo n (λ k. only (not (eqb k l)) (f k l -ℤ f l k))
 
 -- (59): Σ_i Q^i P^i x_i, in microcents over the denominator
 unfoldable pub objective : Case → Solution → ℤ
-objective c x = pos 100000 *ℤ sumTo (c .orders) (λ i. signed (buys c i) (x .accepted i) *ℤ c .price i)
+objective c x = pos partsInOne *ℤ sumTo (c .orders) (λ i. signed (buys c i) (x .accepted i) *ℤ c .price i)
 
 -- CONSTRAINTS
 -- of the network, (63) to (72)
@@ -68,7 +69,7 @@ pub record Network (c : Case) (x : Solution) : Type 0 where
   -- (64) flow_{l,k} = flow^FB_{l,k} + flow^LTA_{l,k}
   pub flow-is : (l k : ℕ) → l < c .zones → k < c .zones → x .flow l k ≡ x .flowFB l k +ℤ x .flowLTA l k
   -- (65) α₁ + α₂ = 1
-  pub alpha-sum : x .alpha1 +ℤ x .alpha2 ≡ pos (100000 * x .den)
+  pub alpha-sum : x .alpha1 +ℤ x .alpha2 ≡ pos (partsInOne * x .den)
   -- (66) α ≥ 0
   pub alpha-in : (pos 0 ≤ℤ x .alpha1) × (pos 0 ≤ℤ x .alpha2)
   -- (67) Σ_l ptdf_{m,l} netpos^FB_l ≤ α₁ RAM_m
@@ -78,7 +79,7 @@ pub record Network (c : Case) (x : Solution) : Type 0 where
   -- (69) flow^FB ≥ 0
   pub flowFB-in : (l k : ℕ) → l < c .zones → k < c .zones → pos 0 ≤ℤ x .flowFB l k
   -- (70) flow^LTA_{l,k} ≤ α₂ capacity^LTA_{l,k}
-  pub link : (l k : ℕ) → l < c .zones → k < c .zones → (pos 100000 *ℤ x .flowLTA l k) ≤ℤ (x .alpha2 *ℤ capacityLTA c l k)
+  pub link : (l k : ℕ) → l < c .zones → k < c .zones → (pos partsInOne *ℤ x .flowLTA l k) ≤ℤ (x .alpha2 *ℤ capacityLTA c l k)
   -- (71) netpos^LTA_l = Σ_{k ≠ l} (flow^LTA_{k,l} - flow^LTA_{l,k})
   pub netposLTA-is : (l : ℕ) → l < c .zones → x .netposLTA l ≡ netFlow (c .zones) (x .flowLTA) l
   -- (72) flow^LTA ≥ 0
@@ -100,8 +101,8 @@ pub data Route (n : ℕ) (line : ℕ → ℕ → Bool) : ℕ → ℕ → Type 0 
 
 -- each of n zones can be reached from zone 0, and zone 0 from it
 pub record Connected (n : ℕ) (line : ℕ → ℕ → Bool) : Type 0 where
-  pub there : (z : ℕ) → z < n → Route n line 0 z
-  pub back : (z : ℕ) → z < n → Route n line z 0
+  pub from-first : (z : ℕ) → z < n → Route n line 0 z
+  pub to-first : (z : ℕ) → z < n → Route n line z 0
 
 -- commercial flow goes along lines only
 pub record AlongLines (c : Case) (line : ℕ → ℕ → Bool) (x : Solution) : Type 0 where
@@ -126,7 +127,7 @@ pub record PriceConditions (c : Case) (line : ℕ → ℕ → Bool) (y : Multipl
   -- (73)
   pub price-split : (l : ℕ) → l < c .zones → y .priceSplit l ≡ y .price l
   -- (74) price_l = price^FB_l + Σ_m ptdf_{m,l} ShadowPrice_m
-  pub price-FB : (l : ℕ) → l < c .zones → y .price l ≡ pos 100000 *ℤ y .priceFB l +ℤ sumTo (c .branches) (λ m. c .ptdf m l *ℤ pos (y .shadow m))
+  pub price-FB : (l : ℕ) → l < c .zones → y .price l ≡ pos partsInOne *ℤ y .priceFB l +ℤ sumTo (c .branches) (λ m. c .ptdf m l *ℤ pos (y .shadow m))
   -- (75) price_l = price^LTA_l
   pub price-LTA : (l : ℕ) → l < c .zones → y .price l ≡ y .priceLTA l
   -- (76) w^LTA_{l,k} ≥ price^LTA_k - price^LTA_l
@@ -157,7 +158,7 @@ liabilities c price = sumTo (c .zones) (λ l. sumTo (c .zones) (λ k. capacityLT
 -- APPENDIX B: the two domains that are combined, each at its full weight: where the weight is positive, its factor on both sides of (91) to (96)
 -- cancels. A point of the flow-based domain, (91) to (93), over a denominator
 pub record FBDomain (c : Case) (den : ℕ) (netpos : ℕ → ℤ) (flow : ℕ → ℕ → ℤ) : Type 0 where
-  pub branch : (m : ℕ) → m < c .branches → sumTo (c .zones) (λ l. c .ptdf m l *ℤ netpos l) ≤ℤ (pos (100000 * den) *ℤ c .ram m)
+  pub branch : (m : ℕ) → m < c .branches → sumTo (c .zones) (λ l. c .ptdf m l *ℤ netpos l) ≤ℤ (pos (partsInOne * den) *ℤ c .ram m)
   pub netpos-is : (l : ℕ) → l < c .zones → netpos l ≡ netFlow (c .zones) flow l
   pub flow-in : (l k : ℕ) → l < c .zones → k < c .zones → pos 0 ≤ℤ flow l k
 

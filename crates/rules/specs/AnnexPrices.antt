@@ -11,6 +11,7 @@ use lib.Signed.{_≤ℤ_, _<ℤ_, ≤ℤ-refl, ltZ, ltZ-no}
 use Rattle.integers.specs.Difference.{up, dn, at, _⊕_, _⊖_, _⊗_, le-by, eq-by, le-fact, eq-fact}
 use Rattle.integers.specs.Order.{positive, cond-ind, diff-nonneg, mul-nonneg, larger-left, larger-right, le-trans, le-antisym}
 use Rattle.integers.specs.Sums.{sumTo, only, sum-ext, sum-le, sum-zero, sum-add, sum-sub, sum-scale, sum-scale-l, sum-swap, sum-only, only-both, only-swap, sum-weights}
+use Rattle.measures.specs.Limits.{partsInOne}
 use Rattle.rules.specs.Hour.{Case, Plan, Prices, zonePrice, branchPrice, welfare, surplus, branchValue, branchTotal, spread, linkOwed, owed, networkBound, bound, gap, rent}
 use Rattle.rules.specs.Clearing.{Clearing}
 use Rattle.rules.specs.Annex.{Solution, Network, Feasible, PairsOnce, AlongLines, Route, here, onward, Connected, Multipliers, PriceConditions, Complementary, joins, byPair, capacityLTA, netFlow, congestionRent, marginValue, capacityValue, liabilities}
@@ -34,11 +35,11 @@ module _ (c : Case) {line : ℕ → ℕ → Bool} (q : Connected (c .zones) line
       less u v h = le-by (at u) (at v) (omega (arith, le-fact (at u ⊖ at v) (at (pos 0)) h))
 
   pub one-system-price : (l : ℕ) → l < c .zones → y .priceFB l ≡ y .priceFB 0
-  one-system-price l h = le-antisym (falls (q .there l h)) (falls (q .back l h))
+  one-system-price l h = le-antisym (falls (q .from-first l h)) (falls (q .to-first l h))
 
   pub price-is : (l : ℕ) → l < c .zones → y .price l ≡ zonePrice c (pricesFrom y) l
   unfolding zonePrice branchPrice pricesFrom
-  price-is l h = conditions .price-FB l h ∙ ap (λ (z : ℤ). pos 100000 *ℤ z +ℤ sumTo (c .branches) (λ m. c .ptdf m l *ℤ pos (y .shadow m))) (one-system-price l h)
+  price-is l h = conditions .price-FB l h ∙ ap (λ (z : ℤ). pos partsInOne *ℤ z +ℤ sumTo (c .branches) (λ m. c .ptdf m l *ℤ pos (y .shadow m))) (one-system-price l h)
 
 -- and rule 6's zone prices meet (73) to (76) and (78), with the positive spreads as w
 pub priced-of : (c : Case) (line : ℕ → ℕ → Bool) (d : Prices) → PriceConditions c line (multipliersOf c d)
@@ -55,7 +56,7 @@ priced-of c line d = record {
 -- (80) price_k - price_l = Σ_m ShadowPrice_m (ptdf_{m,k} - ptdf_{m,l})
 pub spread-is : (c : Case) (d : Prices) (l k : ℕ) → zonePrice c d k -ℤ zonePrice c d l ≡ sumTo (c .branches) (λ m. pos (d .shadow m) *ℤ (c .ptdf m k -ℤ c .ptdf m l))
 unfolding zonePrice branchPrice
-spread-is c d l k = common (pos 100000 *ℤ d .system) (sumTo (c .branches) (λ m. c .ptdf m k *ℤ pos (d .shadow m))) (sumTo (c .branches) (λ m. c .ptdf m l *ℤ pos (d .shadow m)))
+spread-is c d l k = common (pos partsInOne *ℤ d .system) (sumTo (c .branches) (λ m. c .ptdf m k *ℤ pos (d .shadow m))) (sumTo (c .branches) (λ m. c .ptdf m l *ℤ pos (d .shadow m)))
     ∙ sym (sum-sub (c .branches) (λ m. c .ptdf m k *ℤ pos (d .shadow m)) (λ m. c .ptdf m l *ℤ pos (d .shadow m)))
     ∙ sum-ext (c .branches) _ _ (λ m h. factor (c .ptdf m k) (c .ptdf m l) (pos (d .shadow m)))
   where
@@ -111,9 +112,9 @@ complementary c ok o d p cl x same fe no-gap = record {
     nothing-above : pos 0 <ℤ pos 0 → ⊥
     nothing-above h = absurd (h .lt)
 
-    not-negative : (s : ℤ) (a k f : ℕ) → 0 < f → pos a *ℤ (pos k *ℤ positive s) -ℤ pos 100000 *ℤ (pos f *ℤ s) ≡ pos 0 → s ≡ positive s
+    not-negative : (s : ℤ) (a k f : ℕ) → 0 < f → pos a *ℤ (pos k *ℤ positive s) -ℤ pos partsInOne *ℤ (pos f *ℤ s) ≡ pos 0 → s ≡ positive s
     not-negative (pos n) a k f h e = cond-ind (ltZ (pos 0) (pos n)) (pos n) (pos 0) (λ z. pos n ≡ z) (λ t. refl) (λ t. le-antisym (ltZ-no t) (le-by (at (pos 0)) (at (pos n)) (omega arith)))
-    not-negative (negsuc n) a k f h e = let one : 0 < n + 1 = omega arith in absurd (omega (arith, mul-pos h one, eq-fact (at (pos a) ⊗ (at (pos k) ⊗ at (pos 0)) ⊖ at (pos 100000) ⊗ (at (pos f) ⊗ at (negsuc n))) (at (pos 0)) e))
+    not-negative (negsuc n) a k f h e = let one : 0 < n + 1 = omega arith in absurd (omega (arith, mul-pos h one, eq-fact (at (pos a) ⊗ (at (pos k) ⊗ at (pos 0)) ⊖ at (pos partsInOne) ⊗ (at (pos f) ⊗ at (negsuc n))) (at (pos 0)) e))
 
 -- (82): THE NETWORK'S PROFIT, whatever the orders. Multipliers that meet (73) to (76) and (78) bound what any network-feasible choice earns: commercial
 -- flow gains nothing by (78), the flow-based part at most the margins at their shadow prices, the LTA flows at most the capacities at w.
@@ -121,19 +122,19 @@ module _ (c : Case) {line : ℕ → ℕ → Bool} (x : Solution) (nw : Network c
   n : ℕ
   n = c .zones
 
-  commercial-le : sumTo n (λ l. x .netposFB l *ℤ (pos 100000 *ℤ y .priceFB l)) ≤ℤ pos 0
+  commercial-le : sumTo n (λ l. x .netposFB l *ℤ (pos partsInOne *ℤ y .priceFB l)) ≤ℤ pos 0
   unfolding n
   commercial-le = rw (
-    sum-ext n _ _ (λ l h. ap (λ (z : ℤ). z *ℤ (pos 100000 *ℤ y .priceFB l)) (nw .netposFB-is l h)),
-    net-priced n (x .flowFB) (λ l. pos 100000 *ℤ y .priceFB l),
+    sum-ext n _ _ (λ l h. ap (λ (z : ℤ). z *ℤ (pos partsInOne *ℤ y .priceFB l)) (nw .netposFB-is l h)),
+    net-priced n (x .flowFB) (λ l. pos partsInOne *ℤ y .priceFB l),
     ← sum-zero n,
   )
       (sum-le n _ _ (λ l h. rw (← sum-zero n) (sum-le n _ _ (λ k g.
       no-gain (line l k) (x .flowFB l k) (y .priceFB k) (y .priceFB l) (nw .flowFB-in l k h g) (λ t. conditions .no-spread l k h g t) (λ t. along .elsewhere l k h g t)))))
     where
-      no-gain : (b : Bool) (f u v : ℤ) → pos 0 ≤ℤ f → (T b → (u -ℤ v) ≤ℤ pos 0) → (T (not b) → f ≡ pos 0) → (f *ℤ (pos 100000 *ℤ u -ℤ pos 100000 *ℤ v)) ≤ℤ pos 0
-      no-gain true f u v h g z = le-by (at f ⊗ (at (pos 100000) ⊗ at u ⊖ at (pos 100000) ⊗ at v)) (at (pos 0)) (omega (arith, le-fact (at (pos 0)) (at f ⊗ (at (pos 0) ⊖ (at u ⊖ at v))) (mul-nonneg f (pos 0 -ℤ (u -ℤ v)) h (diff-nonneg (g tt)))))
-      no-gain false f u v h g z = rw (z tt) (le-by (at (pos 0) ⊗ (at (pos 100000) ⊗ at u ⊖ at (pos 100000) ⊗ at v)) (at (pos 0)) (omega arith))
+      no-gain : (b : Bool) (f u v : ℤ) → pos 0 ≤ℤ f → (T b → (u -ℤ v) ≤ℤ pos 0) → (T (not b) → f ≡ pos 0) → (f *ℤ (pos partsInOne *ℤ u -ℤ pos partsInOne *ℤ v)) ≤ℤ pos 0
+      no-gain true f u v h g z = le-by (at f ⊗ (at (pos partsInOne) ⊗ at u ⊖ at (pos partsInOne) ⊗ at v)) (at (pos 0)) (omega (arith, le-fact (at (pos 0)) (at f ⊗ (at (pos 0) ⊖ (at u ⊖ at v))) (mul-nonneg f (pos 0 -ℤ (u -ℤ v)) h (diff-nonneg (g tt)))))
+      no-gain false f u v h g z = rw (z tt) (le-by (at (pos 0) ⊗ (at (pos partsInOne) ⊗ at u ⊖ at (pos partsInOne) ⊗ at v)) (at (pos 0)) (omega arith))
 
   margins-le : sumTo n (λ l. x .netposFB l *ℤ sumTo (c .branches) (λ m. c .ptdf m l *ℤ pos (y .shadow m))) ≤ℤ (x .alpha1 *ℤ marginValue c y)
   unfolding n marginValue
@@ -143,49 +144,49 @@ module _ (c : Case) {line : ℕ → ℕ → Bool} (x : Solution) (nw : Network c
       at-shadow : (u a r : ℤ) (s : ℕ) → u ≤ℤ (a *ℤ r) → (u *ℤ pos s) ≤ℤ (a *ℤ (r *ℤ pos s))
       at-shadow u a r s h = le-by (at u ⊗ at (pos s)) (at a ⊗ (at r ⊗ at (pos s))) (omega (arith, le-fact (at (pos 0)) ((at a ⊗ at r ⊖ at u) ⊗ at (pos s)) (mul-nonneg (a *ℤ r -ℤ u) (pos s) (diff-nonneg h) (le-by (at (pos 0)) (at (pos s)) (omega arith)))))
 
-  capacities-le : (pos 100000 *ℤ sumTo n (λ l. x .netposLTA l *ℤ y .price l)) ≤ℤ (x .alpha2 *ℤ capacityValue c y)
+  capacities-le : (pos partsInOne *ℤ sumTo n (λ l. x .netposLTA l *ℤ y .price l)) ≤ℤ (x .alpha2 *ℤ capacityValue c y)
   unfolding n capacityValue
   capacities-le = rw (
     sum-ext n (λ l. x .netposLTA l *ℤ y .price l) (λ l. netFlow n (x .flowLTA) l *ℤ y .priceLTA l) (λ l h. cc (nw .netposLTA-is l h, conditions .price-LTA l h)),
     net-priced n (x .flowLTA) (y .priceLTA),
-    ← sum-scale-l n (λ l. sumTo n (λ k. x .flowLTA l k *ℤ (y .priceLTA k -ℤ y .priceLTA l))) (pos 100000),
+    ← sum-scale-l n (λ l. sumTo n (λ k. x .flowLTA l k *ℤ (y .priceLTA k -ℤ y .priceLTA l))) (pos partsInOne),
     ← sum-scale-l n (λ l. sumTo n (λ k. capacityLTA c l k *ℤ y .w l k)) (x .alpha2),
   )
       (sum-le n _ _ (λ l h. rw (
-        ← sum-scale-l n (λ k. x .flowLTA l k *ℤ (y .priceLTA k -ℤ y .priceLTA l)) (pos 100000),
+        ← sum-scale-l n (λ k. x .flowLTA l k *ℤ (y .priceLTA k -ℤ y .priceLTA l)) (pos partsInOne),
         ← sum-scale-l n (λ k. capacityLTA c l k *ℤ y .w l k) (x .alpha2),
       )
       (sum-le n _ _ (λ k g. at-w (x .flowLTA l k) (y .priceLTA k -ℤ y .priceLTA l) (y .w l k) (x .alpha2) (capacityLTA c l k) (nw .flowLTA-in l k h g) (conditions .w-spread l k h g) (conditions .w-in l k h g) (nw .link l k h g)))))
     where
-      at-w : (f s w a k : ℤ) → pos 0 ≤ℤ f → s ≤ℤ w → pos 0 ≤ℤ w → (pos 100000 *ℤ f) ≤ℤ (a *ℤ k) → (pos 100000 *ℤ (f *ℤ s)) ≤ℤ (a *ℤ (k *ℤ w))
-      at-w f s w a k hf hs hw h = le-by (at (pos 100000) ⊗ (at f ⊗ at s)) (at a ⊗ (at k ⊗ at w)) (omega (
+      at-w : (f s w a k : ℤ) → pos 0 ≤ℤ f → s ≤ℤ w → pos 0 ≤ℤ w → (pos partsInOne *ℤ f) ≤ℤ (a *ℤ k) → (pos partsInOne *ℤ (f *ℤ s)) ≤ℤ (a *ℤ (k *ℤ w))
+      at-w f s w a k hf hs hw h = le-by (at (pos partsInOne) ⊗ (at f ⊗ at s)) (at a ⊗ (at k ⊗ at w)) (omega (
         arith,
         le-fact (at (pos 0)) (at f ⊗ (at w ⊖ at s)) (mul-nonneg f (w -ℤ s) hf (diff-nonneg hs)),
-        le-fact (at (pos 0)) ((at a ⊗ at k ⊖ at (pos 100000) ⊗ at f) ⊗ at w) (mul-nonneg (a *ℤ k -ℤ pos 100000 *ℤ f) w (diff-nonneg h) hw),
+        le-fact (at (pos 0)) ((at a ⊗ at k ⊖ at (pos partsInOne) ⊗ at f) ⊗ at w) (mul-nonneg (a *ℤ k -ℤ pos partsInOne *ℤ f) w (diff-nonneg h) hw),
       ))
 
-  pub weak-duality : (pos 100000 *ℤ congestionRent c x (y .priceSplit)) ≤ℤ (pos 100000 *ℤ (x .alpha1 *ℤ marginValue c y) +ℤ x .alpha2 *ℤ capacityValue c y)
+  pub weak-duality : (pos partsInOne *ℤ congestionRent c x (y .priceSplit)) ≤ℤ (pos partsInOne *ℤ (x .alpha1 *ℤ marginValue c y) +ℤ x .alpha2 *ℤ capacityValue c y)
   unfolding n congestionRent
   weak-duality = rw (parts-are) (together _ _ _ _ _ commercial-le margins-le capacities-le)
     where
       shadows : ℕ → ℤ
       shadows l = sumTo (c .branches) (λ m. c .ptdf m l *ℤ pos (y .shadow m))
 
-      apart : (f g b s : ℤ) → (f +ℤ g) *ℤ (pos 100000 *ℤ b +ℤ s) ≡ (f *ℤ (pos 100000 *ℤ b) +ℤ f *ℤ s) +ℤ g *ℤ (pos 100000 *ℤ b +ℤ s)
-      apart f g b s = eq-by ((at f ⊕ at g) ⊗ (at (pos 100000) ⊗ at b ⊕ at s)) ((at f ⊗ (at (pos 100000) ⊗ at b) ⊕ at f ⊗ at s) ⊕ at g ⊗ (at (pos 100000) ⊗ at b ⊕ at s)) (omega arith)
+      apart : (f g b s : ℤ) → (f +ℤ g) *ℤ (pos partsInOne *ℤ b +ℤ s) ≡ (f *ℤ (pos partsInOne *ℤ b) +ℤ f *ℤ s) +ℤ g *ℤ (pos partsInOne *ℤ b +ℤ s)
+      apart f g b s = eq-by ((at f ⊕ at g) ⊗ (at (pos partsInOne) ⊗ at b ⊕ at s)) ((at f ⊗ (at (pos partsInOne) ⊗ at b) ⊕ at f ⊗ at s) ⊕ at g ⊗ (at (pos partsInOne) ⊗ at b ⊕ at s)) (omega arith)
 
       parts-are : sumTo n (λ l. x .netpos l *ℤ y .priceSplit l)
-          ≡ (sumTo n (λ l. x .netposFB l *ℤ (pos 100000 *ℤ y .priceFB l)) +ℤ sumTo n (λ l. x .netposFB l *ℤ shadows l)) +ℤ sumTo n (λ l. x .netposLTA l *ℤ y .price l)
+          ≡ (sumTo n (λ l. x .netposFB l *ℤ (pos partsInOne *ℤ y .priceFB l)) +ℤ sumTo n (λ l. x .netposFB l *ℤ shadows l)) +ℤ sumTo n (λ l. x .netposLTA l *ℤ y .price l)
       parts-are =
           sum-ext n _ _ (λ l h.
           (cc (nw .netpos-is l h, conditions .price-split l h, conditions .price-FB l h))
           ∙ apart (x .netposFB l) (x .netposLTA l) (y .priceFB l) (shadows l)
-          ∙ ap (λ (z : ℤ). (x .netposFB l *ℤ (pos 100000 *ℤ y .priceFB l) +ℤ x .netposFB l *ℤ shadows l) +ℤ x .netposLTA l *ℤ z) (sym (conditions .price-FB l h)))
+          ∙ ap (λ (z : ℤ). (x .netposFB l *ℤ (pos partsInOne *ℤ y .priceFB l) +ℤ x .netposFB l *ℤ shadows l) +ℤ x .netposLTA l *ℤ z) (sym (conditions .price-FB l h)))
           ∙ sum-add n _ _
           ∙ ap (λ (z : ℤ). z +ℤ sumTo n (λ l. x .netposLTA l *ℤ y .price l)) (sum-add n _ _)
 
-      together : (a b e m v : ℤ) → a ≤ℤ pos 0 → b ≤ℤ m → (pos 100000 *ℤ e) ≤ℤ v → (pos 100000 *ℤ ((a +ℤ b) +ℤ e)) ≤ℤ (pos 100000 *ℤ m +ℤ v)
-      together a b e m v h g i = le-by (at (pos 100000) ⊗ ((at a ⊕ at b) ⊕ at e)) (at (pos 100000) ⊗ at m ⊕ at v) (omega (arith, le-fact (at a) (at (pos 0)) h, le-fact (at b) (at m) g, le-fact (at (pos 100000) ⊗ at e) (at v) i))
+      together : (a b e m v : ℤ) → a ≤ℤ pos 0 → b ≤ℤ m → (pos partsInOne *ℤ e) ≤ℤ v → (pos partsInOne *ℤ ((a +ℤ b) +ℤ e)) ≤ℤ (pos partsInOne *ℤ m +ℤ v)
+      together a b e m v h g i = le-by (at (pos partsInOne) ⊗ ((at a ⊕ at b) ⊕ at e)) (at (pos partsInOne) ⊗ at m ⊕ at v) (omega (arith, le-fact (at a) (at (pos 0)) h, le-fact (at b) (at m) g, le-fact (at (pos partsInOne) ⊗ at e) (at v) i))
 
 -- so at rule 6's prices no choice earns more than rule 10's larger total
 pub network-le : (c : Case) → Placed c → (x : Solution) → Network c x → (d : Prices) → congestionRent c x (zonePrice c d) ≤ℤ (pos (x .den) *ℤ networkBound c d)
@@ -198,13 +199,13 @@ network-le c ok x nw d =
     y : Multipliers
     y = multipliersOf c d
 
-    weighed : (r m o t a b : ℤ) (e : ℕ) → (pos 100000 *ℤ r) ≤ℤ (pos 100000 *ℤ (a *ℤ m) +ℤ b *ℤ o) → (pos 100000 *ℤ m) ≤ℤ t → o ≤ℤ t → pos 0 ≤ℤ a → pos 0 ≤ℤ b → a +ℤ b ≡ pos (100000 * e) → r ≤ℤ (pos e *ℤ t)
+    weighed : (r m o t a b : ℤ) (e : ℕ) → (pos partsInOne *ℤ r) ≤ℤ (pos partsInOne *ℤ (a *ℤ m) +ℤ b *ℤ o) → (pos partsInOne *ℤ m) ≤ℤ t → o ≤ℤ t → pos 0 ≤ℤ a → pos 0 ≤ℤ b → a +ℤ b ≡ pos (partsInOne * e) → r ≤ℤ (pos e *ℤ t)
     weighed r m o t a b e h hm ho ha hb s = le-by (at r) (at (pos e) ⊗ at t) (omega (
       arith,
-      le-fact (at (pos 100000) ⊗ at r) (at (pos 100000) ⊗ (at a ⊗ at m) ⊕ at b ⊗ at o) h,
-      le-fact (at (pos 0)) (at a ⊗ (at t ⊖ at (pos 100000) ⊗ at m)) (mul-nonneg a (t -ℤ pos 100000 *ℤ m) ha (diff-nonneg hm)),
+      le-fact (at (pos partsInOne) ⊗ at r) (at (pos partsInOne) ⊗ (at a ⊗ at m) ⊕ at b ⊗ at o) h,
+      le-fact (at (pos 0)) (at a ⊗ (at t ⊖ at (pos partsInOne) ⊗ at m)) (mul-nonneg a (t -ℤ pos partsInOne *ℤ m) ha (diff-nonneg hm)),
       le-fact (at (pos 0)) (at b ⊗ (at t ⊖ at o)) (mul-nonneg b (t -ℤ o) hb (diff-nonneg ho)),
-      eq-fact ((at a ⊕ at b) ⊗ at t) (at (pos (100000 * e)) ⊗ at t) (ap (λ (z : ℤ). z *ℤ t) s),
+      eq-fact ((at a ⊕ at b) ⊗ at t) (at (pos (partsInOne * e)) ⊗ at t) (ap (λ (z : ℤ). z *ℤ t) s),
     ))
 
 -- and the rent of a clearing earns it up to the gap

@@ -11,6 +11,7 @@ use lib.Signed.{_≤ℤ_, _<ℤ_, yes-nonNeg, pos-natAbs}
 use Rattle.integers.specs.Difference.{at, _⊕_, _⊗_, le-by, eq-by, le-fact, eq-fact}
 use Rattle.integers.specs.Order.{scaled, times-nonneg}
 use Rattle.integers.specs.Sums.{sumTo, sum-ext, sum-scale-l}
+use Rattle.measures.specs.Limits.{partsInOne}
 use Rattle.rules.specs.Hour.{Case}
 use Rattle.rules.specs.Annex.{Solution, Network, FBDomain, TwoPoints, Combines, capacityLTA, netFlow}
 use Rattle.rules.specs.CommercialFlows.{net-ext, net-zero, net-scale}
@@ -33,8 +34,8 @@ combination c y = record {
   flow = λ l k. pos (y .a1) *ℤ y .flowFB l k +ℤ pos (y .a2) *ℤ y .flowLTA l k;
   flowFB = λ l k. pos (y .a1) *ℤ y .flowFB l k;
   flowLTA = λ l k. pos (y .a2) *ℤ y .flowLTA l k;
-  alpha1 = pos (100000 * (y .a1 * y .den));
-  alpha2 = pos (100000 * (y .a2 * y .den));
+  alpha1 = pos (partsInOne * (y .a1 * y .den));
+  alpha2 = pos (partsInOne * (y .a2 * y .den));
 }
 
 -- every convex combination is allowed
@@ -48,10 +49,10 @@ allowed c y = record {
   den-positive = mul-pos (y .weights-positive) (y .den-positive);
   netpos-is = λ l h. refl;
   flow-is = λ l k hl hk. refl;
-  alpha-sum = eq-by (at (pos (100000 * (y .a1 * y .den))) ⊕ at (pos (100000 * (y .a2 * y .den)))) (at (pos (100000 * ((y .a1 + y .a2) * y .den)))) (omega arith);
-  alpha-in = (le-by (at (pos 0)) (at (pos (100000 * (y .a1 * y .den)))) (omega arith), le-by (at (pos 0)) (at (pos (100000 * (y .a2 * y .den)))) (omega arith));
+  alpha-sum = eq-by (at (pos (partsInOne * (y .a1 * y .den))) ⊕ at (pos (partsInOne * (y .a2 * y .den)))) (at (pos (partsInOne * ((y .a1 + y .a2) * y .den)))) (omega arith);
+  alpha-in = (le-by (at (pos 0)) (at (pos (partsInOne * (y .a1 * y .den)))) (omega arith), le-by (at (pos 0)) (at (pos (partsInOne * (y .a2 * y .den)))) (omega arith));
   branch = λ m h. rw (scaled-use (c .zones) (pos (y .a1)) (c .ptdf m) (y .netposFB), ← regroup (y .a1) (y .den) (c .ram m))
-      (weighed-le (y .a1) (sumTo (c .zones) (λ l. c .ptdf m l *ℤ y .netposFB l)) (pos (100000 * y .den) *ℤ c .ram m) (λ w. (y .flow-based w) .branch m h));
+      (weighed-le (y .a1) (sumTo (c .zones) (λ l. c .ptdf m l *ℤ y .netposFB l)) (pos (partsInOne * y .den) *ℤ c .ram m) (λ w. (y .flow-based w) .branch m h));
   netposFB-is = λ l h. weighed-eq (y .a1) (y .netposFB l) (netFlow (c .zones) (y .flowFB) l) (λ w. (y .flow-based w) .netpos-is l h) ∙ sym (net-scale (c .zones) (pos (y .a1)) (y .flowFB) l);
   flowFB-in = λ l k hl hk. weighed-in (y .a1) (y .flowFB l k) (λ w. (y .flow-based w) .flow-in l k hl hk);
   link = λ l k hl hk. rw (← regroup (y .a2) (y .den) (capacityLTA c l k)) (hundred-thousand (pos (y .a2) *ℤ y .flowLTA l k) (y .a2) (y .den) (capacityLTA c l k)
@@ -73,45 +74,45 @@ allowed c y = record {
     weighed-in zero u h = le-by (at (pos 0)) (at (pos 0) ⊗ at u) (omega arith)
     weighed-in (suc a) u h = times-nonneg (suc a) (h (omega arith))
 
-    regroup : (a d : ℕ) (r : ℤ) → pos a *ℤ (pos (100000 * d) *ℤ r) ≡ pos (100000 * (a * d)) *ℤ r
-    regroup a d r = eq-by (at (pos a) ⊗ (at (pos (100000 * d)) ⊗ at r)) (at (pos (100000 * (a * d))) ⊗ at r) (omega arith)
+    regroup : (a d : ℕ) (r : ℤ) → pos a *ℤ (pos (partsInOne * d) *ℤ r) ≡ pos (partsInOne * (a * d)) *ℤ r
+    regroup a d r = eq-by (at (pos a) ⊗ (at (pos (partsInOne * d)) ⊗ at r)) (at (pos (partsInOne * (a * d))) ⊗ at r) (omega arith)
 
-    hundred-thousand : (f : ℤ) (a d : ℕ) (k : ℤ) → f ≤ℤ (pos a *ℤ (pos d *ℤ k)) → (pos 100000 *ℤ f) ≤ℤ (pos a *ℤ (pos (100000 * d) *ℤ k))
-    hundred-thousand f a d k h = le-by (at (pos 100000) ⊗ at f) (at (pos a) ⊗ (at (pos (100000 * d)) ⊗ at k)) (omega (arith, le-fact (at f) (at (pos a) ⊗ (at (pos d) ⊗ at k)) h))
+    hundred-thousand : (f : ℤ) (a d : ℕ) (k : ℤ) → f ≤ℤ (pos a *ℤ (pos d *ℤ k)) → (pos partsInOne *ℤ f) ≤ℤ (pos a *ℤ (pos (partsInOne * d) *ℤ k))
+    hundred-thousand f a d k h = le-by (at (pos partsInOne) ⊗ at f) (at (pos a) ⊗ (at (pos (partsInOne * d)) ⊗ at k)) (omega (arith, le-fact (at f) (at (pos a) ⊗ (at (pos d) ⊗ at k)) h))
 
 -- WITH BOTH WEIGHTS POSITIVE nothing else is
 module _ (c : Case) (x : Solution) (nw : Network c x) (a b : ℕ) (is-a : pos a ≡ x .alpha1) (is-b : pos b ≡ x .alpha2) (a-positive : 0 < a) (b-positive : 0 < b) where
-  whole : a + b ≡ 100000 * x .den
-  whole = omega (arith, eq-fact (at (pos a) ⊕ at (pos b)) (at (pos (100000 * x .den))) (cc (is-a, is-b, nw .alpha-sum)))
+  whole : a + b ≡ partsInOne * x .den
+  whole = omega (arith, eq-fact (at (pos a) ⊕ at (pos b)) (at (pos (partsInOne * x .den))) (cc (is-a, is-b, nw .alpha-sum)))
 
   points : TwoPoints c
   points = record {
     den = a * b;
-    netposFB = λ l. pos (100000 * b) *ℤ x .netposFB l;
-    flowFB = λ l k. pos (100000 * b) *ℤ x .flowFB l k;
-    netposLTA = λ l. pos (100000 * a) *ℤ x .netposLTA l;
-    flowLTA = λ l k. pos (100000 * a) *ℤ x .flowLTA l k;
+    netposFB = λ l. pos (partsInOne * b) *ℤ x .netposFB l;
+    flowFB = λ l k. pos (partsInOne * b) *ℤ x .flowFB l k;
+    netposLTA = λ l. pos (partsInOne * a) *ℤ x .netposLTA l;
+    flowLTA = λ l k. pos (partsInOne * a) *ℤ x .flowLTA l k;
     a1 = a;
     a2 = b;
     den-positive = mul-pos a-positive b-positive;
     weights-positive = omega arith;
     flow-based = λ w. record {
-      branch = λ m h. rw (scaled-use (c .zones) (pos (100000 * b)) (c .ptdf m) (x .netposFB)) (branch-le (sumTo (c .zones) (λ l. c .ptdf m l *ℤ x .netposFB l)) (c .ram m) (rw (← is-a) at (nw .branch m h)));
-      netpos-is = λ l h. ap (λ (z : ℤ). pos (100000 * b) *ℤ z) (nw .netposFB-is l h) ∙ sym (net-scale (c .zones) (pos (100000 * b)) (x .flowFB) l);
-      flow-in = λ l k hl hk. times-nonneg (100000 * b) (nw .flowFB-in l k hl hk);
+      branch = λ m h. rw (scaled-use (c .zones) (pos (partsInOne * b)) (c .ptdf m) (x .netposFB)) (branch-le (sumTo (c .zones) (λ l. c .ptdf m l *ℤ x .netposFB l)) (c .ram m) (rw (← is-a) at (nw .branch m h)));
+      netpos-is = λ l h. ap (λ (z : ℤ). pos (partsInOne * b) *ℤ z) (nw .netposFB-is l h) ∙ sym (net-scale (c .zones) (pos (partsInOne * b)) (x .flowFB) l);
+      flow-in = λ l k hl hk. times-nonneg (partsInOne * b) (nw .flowFB-in l k hl hk);
     };
     long-term = λ w. record {
       link = λ l k hl hk. link-le (x .flowLTA l k) (capacityLTA c l k) (rw (← is-b) at (nw .link l k hl hk));
-      netpos-is = λ l h. ap (λ (z : ℤ). pos (100000 * a) *ℤ z) (nw .netposLTA-is l h) ∙ sym (net-scale (c .zones) (pos (100000 * a)) (x .flowLTA) l);
-      flow-in = λ l k hl hk. times-nonneg (100000 * a) (nw .flowLTA-in l k hl hk);
+      netpos-is = λ l h. ap (λ (z : ℤ). pos (partsInOne * a) *ℤ z) (nw .netposLTA-is l h) ∙ sym (net-scale (c .zones) (pos (partsInOne * a)) (x .flowLTA) l);
+      flow-in = λ l k hl hk. times-nonneg (partsInOne * a) (nw .flowLTA-in l k hl hk);
     };
   }
     where
-      branch-le : (u r : ℤ) → u ≤ℤ (pos a *ℤ r) → (pos (100000 * b) *ℤ u) ≤ℤ (pos (100000 * (a * b)) *ℤ r)
-      branch-le u r h = le-by (at (pos (100000 * b)) ⊗ at u) (at (pos (100000 * (a * b))) ⊗ at r) (omega (arith, mul-le-mul-left b (le-fact (at u) (at (pos a) ⊗ at r) h)))
+      branch-le : (u r : ℤ) → u ≤ℤ (pos a *ℤ r) → (pos (partsInOne * b) *ℤ u) ≤ℤ (pos (partsInOne * (a * b)) *ℤ r)
+      branch-le u r h = le-by (at (pos (partsInOne * b)) ⊗ at u) (at (pos (partsInOne * (a * b))) ⊗ at r) (omega (arith, mul-le-mul-left b (le-fact (at u) (at (pos a) ⊗ at r) h)))
 
-      link-le : (f k : ℤ) → (pos 100000 *ℤ f) ≤ℤ (pos b *ℤ k) → (pos (100000 * a) *ℤ f) ≤ℤ (pos (a * b) *ℤ k)
-      link-le f k h = le-by (at (pos (100000 * a)) ⊗ at f) (at (pos (a * b)) ⊗ at k) (omega (arith, mul-le-mul-left a (le-fact (at (pos 100000) ⊗ at f) (at (pos b) ⊗ at k) h)))
+      link-le : (f k : ℤ) → (pos partsInOne *ℤ f) ≤ℤ (pos b *ℤ k) → (pos (partsInOne * a) *ℤ f) ≤ℤ (pos (a * b) *ℤ k)
+      link-le f k h = le-by (at (pos (partsInOne * a)) ⊗ at f) (at (pos (a * b)) ⊗ at k) (omega (arith, mul-le-mul-left a (le-fact (at (pos partsInOne) ⊗ at f) (at (pos b) ⊗ at k) h)))
 
   combined : Combines c points x
   unfolding points
@@ -120,8 +121,8 @@ module _ (c : Case) (x : Solution) (nw : Network c x) (a b : ℕ) (is-a : pos a 
     flow-is = λ l k hl hk. rw (nw .flow-is l k hl hk) (sums (x .flowFB l k) (x .flowLTA l k));
   }
     where
-      sums : (f g : ℤ) → pos ((a + b) * (a * b)) *ℤ (f +ℤ g) ≡ pos (x .den) *ℤ (pos a *ℤ (pos (100000 * b) *ℤ f) +ℤ pos b *ℤ (pos (100000 * a) *ℤ g))
-      sums f g = rw whole (eq-by (at (pos (100000 * x .den * (a * b))) ⊗ (at f ⊕ at g)) (at (pos (x .den)) ⊗ (at (pos a) ⊗ (at (pos (100000 * b)) ⊗ at f) ⊕ at (pos b) ⊗ (at (pos (100000 * a)) ⊗ at g))) (omega arith))
+      sums : (f g : ℤ) → pos ((a + b) * (a * b)) *ℤ (f +ℤ g) ≡ pos (x .den) *ℤ (pos a *ℤ (pos (partsInOne * b) *ℤ f) +ℤ pos b *ℤ (pos (partsInOne * a) *ℤ g))
+      sums f g = rw whole (eq-by (at (pos (partsInOne * x .den * (a * b))) ⊗ (at f ⊕ at g)) (at (pos (x .den)) ⊗ (at (pos a) ⊗ (at (pos (partsInOne * b)) ⊗ at f) ⊕ at (pos b) ⊗ (at (pos (partsInOne * a)) ⊗ at g))) (omega arith))
 
 -- x combines a point of each domain, with its own weights
 pub record IsCombination (c : Case) (x : Solution) : Type 0 where
@@ -152,14 +153,14 @@ flow-based-alone c x nw e = record {
   flow-in = λ l k hl hk. rw (flow-FB l k hl hk) (nw .flowFB-in l k hl hk);
 }
   where
-    none : (f a k : ℤ) → a ≡ pos 0 → pos 0 ≤ℤ f → (pos 100000 *ℤ f) ≤ℤ (a *ℤ k) → f ≡ pos 0
-    none f a k e h l = eq-by (at f) (at (pos 0)) (omega (arith, le-fact (at (pos 0)) (at f) h, le-fact (at (pos 100000) ⊗ at f) (at (pos 0) ⊗ at k) (rw e at l)))
+    none : (f a k : ℤ) → a ≡ pos 0 → pos 0 ≤ℤ f → (pos partsInOne *ℤ f) ≤ℤ (a *ℤ k) → f ≡ pos 0
+    none f a k e h l = eq-by (at f) (at (pos 0)) (omega (arith, le-fact (at (pos 0)) (at f) h, le-fact (at (pos partsInOne) ⊗ at f) (at (pos 0) ⊗ at k) (rw e at l)))
 
     less : (a f g : ℤ) → a ≡ f +ℤ g → g ≡ pos 0 → a ≡ f
     less a f g h z = eq-by (at a) (at f) (omega (arith, eq-fact (at a) (at f ⊕ at g) h, eq-fact (at g) (at (pos 0)) z))
 
-    whole : (a b : ℤ) → b ≡ pos 0 → a +ℤ b ≡ pos (100000 * x .den) → a ≡ pos (100000 * x .den)
-    whole a b z h = eq-by (at a) (at (pos (100000 * x .den))) (omega (arith, eq-fact (at a ⊕ at b) (at (pos (100000 * x .den))) h, eq-fact (at b) (at (pos 0)) z))
+    whole : (a b : ℤ) → b ≡ pos 0 → a +ℤ b ≡ pos (partsInOne * x .den) → a ≡ pos (partsInOne * x .den)
+    whole a b z h = eq-by (at a) (at (pos (partsInOne * x .den))) (omega (arith, eq-fact (at a ⊕ at b) (at (pos (partsInOne * x .den))) h, eq-fact (at b) (at (pos 0)) z))
 
     no-LTA : (l k : ℕ) → l < c .zones → k < c .zones → x .flowLTA l k ≡ pos 0
     no-LTA l k hl hk = none (x .flowLTA l k) (x .alpha2) (capacityLTA c l k) e (nw .flowLTA-in l k hl hk) (nw .link l k hl hk)

@@ -157,7 +157,7 @@ module _ {n : ℕ} {line : ℕ → ℕ → Bool} where
   first-zones : Connected n line → (x : ℕ → ℤ) (m : ℕ) → m ≤ n → Carried n line (λ l. sumTo m (λ z. x z *ℤ exchange 0 z l))
   unfolding sumTo
   first-zones q x zero h = carried-zero
-  first-zones q x (suc m) h = carried-sum (first-zones q x m (omega arith)) (exchange-carried (x m) (q .there m h) (q .back m h))
+  first-zones q x (suc m) h = carried-sum (first-zones q x m (omega arith)) (exchange-carried (x m) (q .from-first m h) (q .to-first m h))
 
   -- RULE 3: over connected zones commercial flows can carry whatever sums to zero
   pub balanced-carried : Connected n line → (x : ℕ → ℤ) → sumTo n x ≡ pos 0 → Carried n line x
@@ -180,7 +180,7 @@ module _ {n : ℕ} {line : ℕ → ℕ → Bool} where
 -- CONNECTED: every two zones joined, as in the Annex
 pub every-pair-connected : (n : ℕ) → Connected n everyPair
 unfolding everyPair
-every-pair-connected n = record { there = λ z h. direct 0 z (omega arith) h; back = λ z h. direct z 0 h (omega arith) }
+every-pair-connected n = record { from-first = λ z h. direct 0 z (omega arith) h; to-first = λ z h. direct z 0 h (omega arith) }
   where
     by : (a b : ℕ) (x : Bool) → (T x → a ≡ b) → (T (not x) → Route n everyPair a b) → Route n everyPair a b
     by a b true e f = rw (e tt) here
@@ -195,16 +195,16 @@ chain l k = eqb (l + 1) k || eqb (k + 1) l
 
 pub chain-connected : (n : ℕ) → Connected n chain
 unfolding chain
-chain-connected n = record { there = there; back = back }
+chain-connected n = record { from-first = from-first; to-first = to-first }
   where
     step : {a b e : ℕ} → a < n → b < n → T (chain a b) → Route n chain b e → Route n chain a e
     step ha hb t here = onward here ha hb t
     step ha hb t (onward r hc he u) = onward (step ha hb t r) hc he u
 
-    there : (z : ℕ) → z < n → Route n chain 0 z
-    there zero h = here
-    there (suc z) h = onward (there z (omega arith)) (omega arith) h (or-left (eqb (z + 1) (suc z)) _ (rw (add-one z) (eqb-refl (suc z))))
+    from-first : (z : ℕ) → z < n → Route n chain 0 z
+    from-first zero h = here
+    from-first (suc z) h = onward (from-first z (omega arith)) (omega arith) h (or-left (eqb (z + 1) (suc z)) _ (rw (add-one z) (eqb-refl (suc z))))
 
-    back : (z : ℕ) → z < n → Route n chain z 0
-    back zero h = here
-    back (suc z) h = step h (omega arith) (or-right (eqb (suc z + 1) z) (eqb (z + 1) (suc z)) (rw (add-one z) (eqb-refl (suc z)))) (back z (omega arith))
+    to-first : (z : ℕ) → z < n → Route n chain z 0
+    to-first zero h = here
+    to-first (suc z) h = step h (omega arith) (or-right (eqb (suc z + 1) z) (eqb (z + 1) (suc z)) (rw (add-one z) (eqb-refl (suc z)))) (to-first z (omega arith))

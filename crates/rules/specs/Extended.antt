@@ -12,6 +12,7 @@ use lib.Signed.{_≤ℤ_, ≤ℤ-refl, yes-nonNeg, pos-natAbs}
 use Rattle.integers.specs.Difference.{at, _⊕_, _⊖_, _⊗_, ⊝_, le-by, eq-by, le-fact, eq-fact}
 use Rattle.integers.specs.Ranges.{and-both, and-left, and-right}
 use Rattle.integers.specs.Sums.{sumTo, only, sum-ext, sum-zero, sum-add, sum-sub, sum-scale-l, sum-swap, sum-nonneg, sum-le, only-on, only-off, only-both, only-swap, sum-one, sum-key}
+use Rattle.measures.specs.Limits.{partsInOne}
 use Rattle.rules.specs.Hour.{Case, Plan, signed, buys, orderNet, net, inflow, outflow, ltaPart, fbPart, netSum, linkUse, linkRoom, branchUse, branchRoom, orderWelfare, welfare}
 use Rattle.rules.specs.Clearing.{Clearing}
 use Rattle.rules.specs.Annex.{Solution, Feasible, PairsOnce, Connected, AlongLines, joins, byPair, capacityLTA, netFlow, objective}
@@ -79,8 +80,8 @@ module _ (c : Case) (ok : Placed c) where
       ∙ (cc (into-zone (λ j. pos (p .flow j)) z, out-of-zone (λ j. pos (p .flow j)) z))
 
 -- a flow from zero to a part of a capacity of zero
-no-flow : (f a k : ℤ) → pos 0 ≤ℤ f → (pos 100000 *ℤ f) ≤ℤ (a *ℤ k) → k ≡ pos 0 → f ≡ pos 0
-no-flow f a k h l e = eq-by (at f) (at (pos 0)) (omega (arith, le-fact (at (pos 0)) (at f) h, le-fact (at (pos 100000) ⊗ at f) (at a ⊗ at (pos 0)) (rw e at l)))
+no-flow : (f a k : ℤ) → pos 0 ≤ℤ f → (pos partsInOne *ℤ f) ≤ℤ (a *ℤ k) → k ≡ pos 0 → f ≡ pos 0
+no-flow f a k h l e = eq-by (at f) (at (pos 0)) (omega (arith, le-fact (at (pos 0)) (at f) h, le-fact (at (pos partsInOne) ⊗ at f) (at a ⊗ at (pos 0)) (rw e at l)))
 
 signed-times : (b : Bool) (x y : ℤ) → signed b (x *ℤ y) ≡ signed b x *ℤ y
 signed-times true x y = refl
@@ -103,7 +104,7 @@ module _ (c : Case) (ok : Placed c) (o : PairsOnce c) (p : Plan) (x : Solution) 
   pub agree : Agree c p x
   unfolding welfare orderWelfare objective net orderNet fbPart
   agree = record {
-    welfare-is = ap (λ (z : ℤ). pos 100000 *ℤ z) (sum-ext (c .orders) _ _ (λ i h. signed-times (buys c i) (pos (p .volume i)) (c .price i) ∙ ap (λ (z : ℤ). signed (buys c i) z *ℤ c .price i) (same .volume i h)));
+    welfare-is = ap (λ (z : ℤ). pos partsInOne *ℤ z) (sum-ext (c .orders) _ _ (λ i h. signed-times (buys c i) (pos (p .volume i)) (c .price i) ∙ ap (λ (z : ℤ). signed (buys c i) z *ℤ c .price i) (same .volume i h)));
     net-is = net-same;
     lta-part-is = lta-same;
     fb-part-is = λ l h. rest (net c p l) (ltaPart c p l) (x .netposFB l) (x .netposLTA l) (net-same l h ∙ fe .network .netpos-is l h) (lta-same l h);
@@ -145,14 +146,14 @@ module _ (c : Case) (ok : Placed c) (o : PairsOnce c) (p : Plan) (x : Solution) 
       volume-le : (v : ℕ) (a : ℤ) (e d q : ℕ) → e ≡ d → pos v ≡ a → a ≤ℤ pos (d * q) → v ≤ e * q
       volume-le v a e d q u w h = omega (arith, eq-fact (at (pos v)) (at a) w, le-fact (at a) (at (pos (d * q))) h, ap (λ (k : ℕ). k * q) u)
 
-      share-le : (s e : ℕ) (a b : ℤ) (d : ℕ) → e ≡ d → pos s ≡ b → a +ℤ b ≡ pos (100000 * d) → pos 0 ≤ℤ a → s ≤ 100000 * e
-      share-le s e a b d u w h l = omega (arith, eq-fact (at (pos s)) (at b) w, eq-fact (at a ⊕ at b) (at (pos (100000 * d))) h, le-fact (at (pos 0)) (at a) l)
+      share-le : (s e : ℕ) (a b : ℤ) (d : ℕ) → e ≡ d → pos s ≡ b → a +ℤ b ≡ pos (partsInOne * d) → pos 0 ≤ℤ a → s ≤ partsInOne * e
+      share-le s e a b d u w h l = omega (arith, eq-fact (at (pos s)) (at b) w, eq-fact (at a ⊕ at b) (at (pos (partsInOne * d))) h, le-fact (at (pos 0)) (at a) l)
 
-      link-le : (f s k : ℕ) (g a b : ℤ) → pos f ≡ g → pos s ≡ a → b ≡ pos k → (pos 100000 *ℤ g) ≤ℤ (a *ℤ b) → f * 100000 ≤ s * k
-      link-le f s k g a b u w v h = omega (arith, le-fact (at (pos 100000) ⊗ at (pos f)) (at (pos s) ⊗ at (pos k)) (rw (← u, ← w, v) at h))
+      link-le : (f s k : ℕ) (g a b : ℤ) → pos f ≡ g → pos s ≡ a → b ≡ pos k → (pos partsInOne *ℤ g) ≤ℤ (a *ℤ b) → f * partsInOne ≤ s * k
+      link-le f s k g a b u w v h = omega (arith, le-fact (at (pos partsInOne) ⊗ at (pos f)) (at (pos s) ⊗ at (pos k)) (rw (← u, ← w, v) at h))
 
-      first-weight : (e d : ℕ) (s a b : ℤ) → e ≡ d → s ≡ b → a +ℤ b ≡ pos (100000 * d) → pos (100000 * e) -ℤ s ≡ a
-      first-weight e d s a b u w h = eq-by (at (pos (100000 * e)) ⊖ at s) (at a) (omega (arith, eq-fact (at s) (at b) w, eq-fact (at a ⊕ at b) (at (pos (100000 * d))) h))
+      first-weight : (e d : ℕ) (s a b : ℤ) → e ≡ d → s ≡ b → a +ℤ b ≡ pos (partsInOne * d) → pos (partsInOne * e) -ℤ s ≡ a
+      first-weight e d s a b u w h = eq-by (at (pos (partsInOne * e)) ⊖ at s) (at a) (omega (arith, eq-fact (at s) (at b) w, eq-fact (at a ⊕ at b) (at (pos (partsInOne * d))) h))
 
 -- SOUND
 unfoldable pub planFrom : Case → Solution → Plan
@@ -195,7 +196,7 @@ solutionFrom c p g = record {
   flow = λ l k. g l k +ℤ byPair c (λ j. pos (p .flow j)) l k;
   flowFB = g;
   flowLTA = byPair c (λ j. pos (p .flow j));
-  alpha1 = pos (100000 * p .den) -ℤ pos (p .share);
+  alpha1 = pos (partsInOne * p .den) -ℤ pos (p .share);
   alpha2 = pos (p .share);
 }
 
@@ -219,13 +220,13 @@ module _ (c : Case) (ok : Placed c) (p : Plan) (cl : Clearing c p) where
       den-positive = cl .den-positive;
       netpos-is = λ l h. whole (net c p l) (ltaPart c p l);
       flow-is = λ l k hl hk. refl;
-      alpha-sum = back (pos (100000 * p .den)) (pos (p .share));
-      alpha-in = (le-by (at (pos 0)) (at (pos (100000 * p .den)) ⊖ at (pos (p .share))) (omega (arith, cl .share-in)), le-by (at (pos 0)) (at (pos (p .share))) (omega arith));
+      alpha-sum = back (pos (partsInOne * p .den)) (pos (p .share));
+      alpha-in = (le-by (at (pos 0)) (at (pos (partsInOne * p .den)) ⊖ at (pos (p .share))) (omega (arith, cl .share-in)), le-by (at (pos 0)) (at (pos (p .share))) (omega arith));
       branch = cl .branch;
       netposFB-is = λ l h. sym (r .carries l h);
       flowFB-in = λ l k hl hk. r .flow-in l k;
       link = λ l k hl hk. rw (
-        ← sum-scale-l (c .links) (λ j. only (joins c j l k) (pos (p .flow j))) (pos 100000),
+        ← sum-scale-l (c .links) (λ j. only (joins c j l k) (pos (p .flow j))) (pos partsInOne),
         ← sum-scale-l (c .links) (λ j. only (joins c j l k) (pos (c .capacity j))) (pos (p .share)),
       )
           (sum-le (c .links) _ _ (λ j h. pair-le (joins c j l k) (p .flow j) (p .share) (c .capacity j) (cl .link j h)));
@@ -240,9 +241,9 @@ module _ (c : Case) (ok : Placed c) (p : Plan) (cl : Clearing c p) where
       back : (a b : ℤ) → (a -ℤ b) +ℤ b ≡ a
       back a b = eq-by ((at a ⊖ at b) ⊕ at b) (at a) (omega arith)
 
-      pair-le : (b : Bool) (f s k : ℕ) → f * 100000 ≤ s * k → (pos 100000 *ℤ only b (pos f)) ≤ℤ (pos s *ℤ only b (pos k))
-      pair-le true f s k h = le-by (at (pos 100000) ⊗ at (pos f)) (at (pos s) ⊗ at (pos k)) (omega arith)
-      pair-le false f s k h = le-by (at (pos 100000) ⊗ at (pos 0)) (at (pos s) ⊗ at (pos 0)) (omega arith)
+      pair-le : (b : Bool) (f s k : ℕ) → f * partsInOne ≤ s * k → (pos partsInOne *ℤ only b (pos f)) ≤ℤ (pos s *ℤ only b (pos k))
+      pair-le true f s k h = le-by (at (pos partsInOne) ⊗ at (pos f)) (at (pos s) ⊗ at (pos k)) (omega arith)
+      pair-le false f s k h = le-by (at (pos partsInOne) ⊗ at (pos 0)) (at (pos s) ⊗ at (pos 0)) (omega arith)
 
       pair-in : (b : Bool) (f : ℕ) → pos 0 ≤ℤ only b (pos f)
       pair-in true f = le-by (at (pos 0)) (at (pos f)) (omega arith)

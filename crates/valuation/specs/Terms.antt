@@ -5,13 +5,14 @@ use native.Mathlib.Omega.{arith}
 use lib.IntN.{ℤ, pos, _*ℤ_}
 use Rattle.integers.specs.Difference.{at, _⊗_, ⊝_, eq-by}
 use Rattle.measures.specs.Limits.{grainsOf}
+use Rattle.measures.specs.Limits.{partsInOne}
 use Rattle.rules.specs.Hour.{signed}
 
 -- volume times the order price in grains is 100,000 times volume times the order price
-pub order-value : (b : Bool) (v x : ℤ) → signed b (v *ℤ grainsOf x) ≡ pos 100000 *ℤ signed b (v *ℤ x)
-order-value true v x = eq-by (at v ⊗ (at (pos 100000) ⊗ at x)) (at (pos 100000) ⊗ (at v ⊗ at x)) (omega arith)
-order-value false v x = eq-by (⊝_ (at v ⊗ (at (pos 100000) ⊗ at x))) (at (pos 100000) ⊗ (⊝_ (at v ⊗ at x))) (omega arith)
+pub order-value : (b : Bool) (v x : ℤ) → signed b (v *ℤ grainsOf x) ≡ pos partsInOne *ℤ signed b (v *ℤ x)
+order-value true v x = eq-by (at v ⊗ (at (pos partsInOne) ⊗ at x)) (at (pos partsInOne) ⊗ (at v ⊗ at x)) (omega arith)
+order-value false v x = eq-by (⊝_ (at v ⊗ (at (pos partsInOne) ⊗ at x))) (at (pos partsInOne) ⊗ (⊝_ (at v ⊗ at x))) (omega arith)
 
 -- and so the margin times the shadow price in grains
-pub branch-value : (r x : ℤ) → r *ℤ grainsOf x ≡ pos 100000 *ℤ (r *ℤ x)
-branch-value r x = eq-by (at r ⊗ (at (pos 100000) ⊗ at x)) (at (pos 100000) ⊗ (at r ⊗ at x)) (omega arith)
+pub branch-value : (r x : ℤ) → r *ℤ grainsOf x ≡ pos partsInOne *ℤ (r *ℤ x)
+branch-value r x = eq-by (at r ⊗ (at (pos partsInOne) ⊗ at x)) (at (pos partsInOne) ⊗ (at r ⊗ at x)) (omega arith)

@@ -2,11 +2,12 @@
 use mathlib.Core.Path.{_≡_, sym, ap, subst, _∙_}
 use mathlib.Core.Bool.{true}
 use mathlib.Core.List.{List, _++_}
-use Prim.Native.Nat.{ℕ, _+_, _*_, _≤_}
+use Prim.Native.Nat.{ℕ, _≤_}
 use native.Mathlib.Omega.{arith}
 use lib.ListN.{length, getD, replicate, length-append}
 use Rattle.decimal.specs.Put.{Put, put-as, put-length, put-then}
 use Rattle.rows.specs.declared.Outcome.{Outcome}
+use Rattle.rules.specs.Layout.{reportRoom, reportZonesAt, zonePriceAt}
 use Rattle.rules.specs.Verdict.{outcome}
 use Rattle.rules.specs.Report.{reports, bufferAfter}
 use Rattle.desk_lines.specs.Lines.{verdictLine, hourText}
@@ -28,10 +29,10 @@ module _ (c : tie.After-judge) where
   abbrev t : List ℕ
   t = start .args .proposal .now
 
-  answered : c .judge .result ≡ outcome s t 176
+  answered : c .judge .result ≡ outcome s t reportRoom
   answered = c .judge .ensures .0
 
-  left : c .judge .last .1 .1 .0 ≡ bufferAfter s t (replicate 176 0)
+  left : c .judge .last .1 .1 .0 ≡ bufferAfter s t (replicate reportRoom 0)
   left = c .judge .ensures .1 .0
 
 -- the first line stands, and the test of its number
@@ -42,21 +43,21 @@ module _ (c : tie.After-reports) where
   abbrev judged : tie.After-judge
   judged = put .before .before .before
 
-  first : Put ((start judged) .args .out .now) 0 (verdictLine (outcome (s judged) (t judged) 176)) (put .put-verdict .last .0) (put .put-verdict .result)
+  first : Put ((start judged) .args .out .now) 0 (verdictLine (outcome (s judged) (t judged) reportRoom)) (put .put-verdict .last .0) (put .put-verdict .result)
   first = put-as (ap verdictLine (answered judged)) (put .put-verdict .ensures)
 
-  tested : c .reports .result ≡ reports ((outcome (s judged) (t judged) 176) .number)
+  tested : c .reports .result ≡ reports ((outcome (s judged) (t judged) reportRoom) .number)
   tested = c .reports .ensures ∙ ap (λ (o : Outcome). reports (o .number)) (answered judged)
 
 module _ (c : tie.Then1) where
   abbrev answer : tie.After-judge
   answer = judged (c .before)
 
-  reported : reports ((outcome (s answer) (t answer) 176) .number) ≡ true
+  reported : reports ((outcome (s answer) (t answer) reportRoom) .number) ≡ true
   reported = sym (tested (c .before)) ∙ c .if1 .taken
 
-  text : hourText (s answer) (t answer) ≡ verdictLine (outcome (s answer) (t answer) 176) ++ linesIn (answer .judge .last .1 .1 .0)
-  text = all-lines (s answer) (t answer) reported ∙ ap (λ (b : List ℕ). verdictLine (outcome (s answer) (t answer) 176) ++ linesIn b) (sym (left answer))
+  text : hourText (s answer) (t answer) ≡ verdictLine (outcome (s answer) (t answer) reportRoom) ++ linesIn (answer .judge .last .1 .1 .0)
+  text = all-lines (s answer) (t answer) reported ∙ ap (λ (b : List ℕ). verdictLine (outcome (s answer) (t answer) reportRoom) ++ linesIn b) (sym (left answer))
 
 slice-aggregate-judge : tie.Need-slice-aggregate-judge
 slice-aggregate-judge c = search needs
@@ -79,7 +80,7 @@ put-hour-requires : tie.Need-put-hour-requires
 put-hour-requires c κs =
     let test = c .before .before in
     let verdict-put = first (test .before) in (
-      subst (λ (b : List ℕ). 48 + 8 * getD b 6 0 ≤ length b) (sym (left (answer test))) (zones-within (s (answer test)) (t (answer test)) (reported test)),
+      subst (λ (b : List ℕ). zonePriceAt (getD b reportZonesAt 0) ≤ length b) (sym (left (answer test))) (zones-within (s (answer test)) (t (answer test)) (reported test)),
       omega (
         arith,
         simp length-append at (ap length (text test)),

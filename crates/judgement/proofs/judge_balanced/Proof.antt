@@ -14,6 +14,7 @@ use Rattle.judgement.specs.Judged.{Judged, rowsFrom, rowAt, refused, sam
 use lib.Dec.{nltb→le}
 use Rattle.integers.specs.Size.{near-fits, near-sub, near-pos, near-unsigned}
 use Rattle.integers.specs.Machine.{sfits-by}
+use Rattle.measures.specs.Limits.{partsInOne}
 use Rattle.rules.specs.Hour.{caseOf, planOf}
 use Rattle.rules.specs.Verdict.{clearingRows}
 use Rattle.rules.specs.Fits.{flow-in}
@@ -72,14 +73,14 @@ rest-requires : tie.Need-rest-requires
 unfolding planOf
 rest-requires c κs =
     let a = c .before .before .before .before .before .before .before .before .before in
-    sfits-by w64 (ap (λ (x : ℤ). pos 100000 -ℤ x) (share-is a)) (near-fits w64 (omega arith) (near-sub (near-pos 100000) (near-unsigned _ 100000 ((proposal-sound _ _ (a .pre .0 .passed)) .share-in))))
+    sfits-by w64 (ap (λ (x : ℤ). pos partsInOne -ℤ x) (share-is a)) (near-fits w64 (omega arith) (near-sub (near-pos partsInOne) (near-unsigned _ partsInOne ((proposal-sound _ _ (a .pre .0 .passed)) .share-in))))
 
 first-overloaded-branch-requires : tie.Need-first-overloaded-branch-requires
 unfolding planOf
 first-overloaded-branch-requires c κs =
     let f = c .before .before .before .before .before in
     let a = f .before .before .before .before .before in
-    (a .pre .0, (a .pre .1 .0, (flows f (c .before .before .before .enum-told .given .1), (c .before .ptdf-table .ensures, (c .before .before .flow-based-parts .ensures, c .rest .ensures ∙ ap (λ (x : ℤ). pos 100000 -ℤ x) (share-is a))))))
+    (a .pre .0, (a .pre .1 .0, (flows f (c .before .before .before .enum-told .given .1), (c .before .ptdf-table .ensures, (c .before .before .flow-based-parts .ensures, c .rest .ensures ∙ ap (λ (x : ℤ). pos partsInOne -ℤ x) (share-is a))))))
 
 enum-known-overloaded : tie.Need-enum-known-overloaded
 enum-known-overloaded c = search needs

@@ -20,6 +20,9 @@ slice-write-report-3 c = simp length-set (omega arith)
 slice-write-report-4 : tie.Need-slice-write-report-4
 slice-write-report-4 c = simp length-set (omega arith)
 
+add-report : tie.Need-add-report
+add-report c = search needs
+
 slice-write-report-5 : tie.Need-slice-write-report-5
 slice-write-report-5 c = simp length-set (omega arith)
 
@@ -47,6 +50,7 @@ put-header-spec =
     slice-write-report-2
     slice-write-report-3
     slice-write-report-4
+    add-report
     slice-write-report-5
     slice-write-report-6
     slice-write-report-7
