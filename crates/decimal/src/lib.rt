@@ -4,9 +4,11 @@ ghost use Prim.Native.Nat.{_+_, _/_, _%_, _^_, _≤_, _<_};
 ghost use lib.ListN.{length};
 ghost use lib.IntN.{pos, natAbs};
 ghost use lib.Signed.{ltZ};
+ghost use mir.Syntax.{w64};
+ghost use mir.Val.{toZ};
 ghost use Rattle.decimal.specs.Text.{places, lastDigits, countText, sizeText, amountText};
 ghost use Rattle.decimal.specs.Put.{Put};
-use measures::Raw;
+use measures::Bits;
 
 // Decimals of an amount of money in euros, and of a price in euros per MWh.
 const MONEY_DECIMALS: usize = 8;
@@ -14,17 +16,17 @@ const MONEY_DECIMALS: usize = 8;
 const PRICE_DECIMALS: usize = 7;
 
 // An amount of money, from microcents.
-pub fn put_money(out: &mut [u8], at: usize, x: Raw) -> usize
-    requires { ⌜ at + length (amountText 8 (x .0)) ≤ length (now out) ⌝ }
-    ensures { λ r. ⌜ Put (now (out .entry)) at (amountText 8 (x .0)) (now (out .exit)) r ⌝ }
+pub fn put_money(out: &mut [u8], at: usize, x: Bits) -> usize
+    requires { ⌜ at + length (amountText 8 (toZ w64 (x .0))) ≤ length (now out) ⌝ }
+    ensures { λ r. ⌜ Put (now (out .entry)) at (amountText 8 (toZ w64 (x .0))) (now (out .exit)) r ⌝ }
 {
     put_amount(out, at, x, MONEY_DECIMALS)
 }
 
 // A price, from grains.
-pub fn put_price(out: &mut [u8], at: usize, x: Raw) -> usize
-    requires { ⌜ at + length (amountText 7 (x .0)) ≤ length (now out) ⌝ }
-    ensures { λ r. ⌜ Put (now (out .entry)) at (amountText 7 (x .0)) (now (out .exit)) r ⌝ }
+pub fn put_price(out: &mut [u8], at: usize, x: Bits) -> usize
+    requires { ⌜ at + length (amountText 7 (toZ w64 (x .0))) ≤ length (now out) ⌝ }
+    ensures { λ r. ⌜ Put (now (out .entry)) at (amountText 7 (toZ w64 (x .0))) (now (out .exit)) r ⌝ }
 {
     put_amount(out, at, x, PRICE_DECIMALS)
 }
@@ -36,11 +38,11 @@ pub fn put_count(out: &mut [u8], at: usize, n: u64) -> usize
     put_last(out, at, n, count_places(n))
 }
 
-// A minus sign before a negative amount only. The least number has no opposite of its own type, so its size is unsigned.
-fn put_amount(out: &mut [u8], at: usize, x: Raw, decimals: usize) -> usize
+// A minus sign before a negative amount only. The least number has no opposite of its own width, so its size is unsigned.
+fn put_amount(out: &mut [u8], at: usize, x: Bits, decimals: usize) -> usize
     requires { ⌜ decimals < 20 ⌝ }
-    requires { ⌜ at + length (amountText decimals (x .0)) ≤ length (now out) ⌝ }
-    ensures { λ r. ⌜ Put (now (out .entry)) at (amountText decimals (x .0)) (now (out .exit)) r ⌝ }
+    requires { ⌜ at + length (amountText decimals (toZ w64 (x .0))) ≤ length (now out) ⌝ }
+    ensures { λ r. ⌜ Put (now (out .entry)) at (amountText decimals (toZ w64 (x .0))) (now (out .exit)) r ⌝ }
 {
     let n = size(x);
     if negative(x) {
@@ -106,19 +108,19 @@ fn power(k: usize) -> u64
     p
 }
 
-fn negative(x: Raw) -> bool
-    ensures { λ r. ⌜ r ≡ ltZ (x .0) (pos 0) ⌝ }
+fn negative(x: Bits) -> bool
+    ensures { λ r. ⌜ r ≡ ltZ (toZ w64 (x .0)) (pos 0) ⌝ }
 {
-    x.0 < 0
+    9223372036854775807 < x.0
 }
 
 // How far a number is from zero.
-fn size(x: Raw) -> u64
-    ensures { λ r. ⌜ r ≡ natAbs (x .0) ⌝ }
+fn size(x: Bits) -> u64
+    ensures { λ r. ⌜ r ≡ natAbs (toZ w64 (x .0)) ⌝ }
 {
     if negative(x) {
-        (-(x.0 + 1)) as u64 + 1
+        18446744073709551615 - x.0 + 1
     } else {
-        x.0 as u64
+        x.0
     }
 }

@@ -1,15 +1,13 @@
 -- A signed number of 64 bits, read as two halves of 32. Assumes nothing.
 use mathlib.Core.Path.{_≡_, refl, sym, ap, _∙_}
 use mathlib.Core.List.{List, [], _∷_}
-use Prim.Native.Nat.{ℕ, suc, _+_, _*_, _-_, _≤_, _<_}
+use Prim.Native.Nat.{ℕ, suc, _+_, _*_}
 use native.Mathlib.Nat.{add-zero}
 use native.Mathlib.Omega.{arith}
 use lib.ListN.{getD, take, drop}
 use lib.Seq.{take-nil, drop-drop, getD-drop}
-use lib.IntN.{pos, negsuc}
 use mir.Syntax.{w64}
 use mir.Val.{toZ}
-use mir.Facts.{toZ-pos, toZ-neg}
 use Rattle.integers.specs.Bytes.{numberOf, i64At}
 use Rattle.rules.specs.Layout.{u32At}
 
@@ -24,7 +22,7 @@ number-step s k at next e =
     number-first k (drop at s)
     ∙ (λ i. (getD-drop at s 0 0 ∙ ap (λ (j : ℕ). getD s j 0) (add-zero at)) i + 256 * numberOf (take k ((drop-drop 1 at s ∙ ap (λ (j : ℕ). drop j s) e) i)))
 
-pub halves : (s : List ℕ) (at : ℕ) → numberOf (take 8 (drop at s)) ≡ u32At s at + 4294967296 * u32At s (at + 4)
+halves : (s : List ℕ) (at : ℕ) → numberOf (take 8 (drop at s)) ≡ u32At s at + 4294967296 * u32At s (at + 4)
 unfolding u32At numberOf
 halves s at = omega (
   arith,
@@ -38,15 +36,6 @@ halves s at = omega (
   number-step s 0 (at + 4 + 3) (at + 4 + 3 + 1) refl,
 )
 
--- by the bits' highest: a number from zero up, or one below zero
-pub signed-pos : (s : List ℕ) (at bits : ℕ) → bits ≡ u32At s at + 4294967296 * u32At s (at + 4) → bits < 9223372036854775808 → i64At s at ≡ pos bits
+pub number-is : (s : List ℕ) (at bits : ℕ) → bits ≡ u32At s at + 4294967296 * u32At s (at + 4) → toZ w64 bits ≡ i64At s at
 unfolding i64At
-signed-pos s at bits e h = ap (λ (n : ℕ). toZ w64 n) (halves s at ∙ sym e) ∙ toZ-pos w64 h
-
-pub signed-neg : (s : List ℕ) (at bits : ℕ) → bits ≡ u32At s at + 4294967296 * u32At s (at + 4) → 9223372036854775808 ≤ bits → bits < 18446744073709551616
-    → i64At s at ≡ negsuc (18446744073709551615 - bits)
-unfolding i64At
-signed-neg s at bits e h l = ap (λ (n : ℕ). toZ w64 n) (halves s at ∙ sym e ∙ back) ∙ toZ-neg w64 (18446744073709551615 - bits) (omega arith)
-  where
-    back : bits ≡ 18446744073709551616 - suc (18446744073709551615 - bits)
-    back = omega arith
+number-is s at bits e = ap (λ (n : ℕ). toZ w64 n) (e ∙ sym (halves s at))

@@ -114,7 +114,8 @@ fn judge_priced(
     let all = totals(case, k, proposal, nets, prices);
     let gap = all.gap;
     let zones = byte_of(k.zones);
-    if gap.exceeds(k.tolerance.in_microcents()) {
+    let tolerance = k.tolerance;
+    if gap.exceeds(tolerance) {
         write_report(report, 26, zones, all, prices);
         return verdict_at(26, 0);
     }

@@ -68,7 +68,7 @@ addOf a o prices = addBy a (isFinal a) (badIn prices o) (counted (rowOrder o) pr
 
 -- CLOSED: a refusal's sum is 0
 abbrev pub answered : ℕ → ℕ → ℤ → Surplus
-answered number index sum = record { number = number; index = index; sum = sum }
+answered number index sum = record { number = number; index = index; sum = record { 0 = sum } }
 
 abbrev pub closeOf : Account → Surplus
 closeOf a = answered (a .number) (a .index) (only (eqb (a .number) 0) (a .sum .0))

@@ -10,7 +10,7 @@ abbrev pub bookRow : OrderRow → BookRow
 bookRow o = record { zone = o .zone; side = o .side; quantity = o .quantity; price = o .price }
 
 abbrev pub given : BookAnswer → Surplus
-given a = record { number = a .number; index = a .index; sum = a .sum }
+given a = record { number = a .number; index = a .index; sum = record { 0 = a .sum } }
 
 -- THE ANSWER: number, index and sum, for every book
 unfoldable pub lentAnswer : List OrderRow → List ℤ → Surplus

@@ -37,7 +37,7 @@ pub struct OrderRow {
 pub struct Surplus {
     pub number: u32,
     pub index: u32,
-    pub sum: i64,
+    pub sum: Microcents,
 }
 
 // What stands after some rows: the refusal so far, or the number 0; how many rows were taken; and their sum. The number 25 stands until a row is refused.
@@ -107,19 +107,12 @@ pub const ROWS_LEAST: usize = 0;
 
 pub const ROWS_GREATEST: usize = 512;
 
-fn price_at(prices: &[i64], zone: usize) -> Raw
-    requires { ⌜ zone < length (now prices) ⌝ }
-    ensures { λ r. ⌜ r .0 ≡ priceAt (now (prices .entry)) zone ⌝ }
-{
-    Raw(prices[zone])
-}
-
 // The price of a zone, held to its limits.
 fn zone_price(prices: &[i64], zone: usize) -> GrainsAnswer
     requires { ⌜ zone < length (now prices) ⌝ }
     ensures { λ r. ⌜ r ≡ grainsIn limits.zonePrice (priceAt (now (prices .entry)) zone) ⌝ }
 {
-    Grains::zone_price(price_at(prices, zone))
+    Grains::lent_price(prices[zone])
 }
 
 fn price_outside(prices: &[i64], zone: usize) -> bool
@@ -171,7 +164,7 @@ fn wide(x: u8) -> usize
 fn row_price(row: OrderRow) -> Raw
     ensures { λ r. ⌜ r .0 ≡ row .price ⌝ }
 {
-    Raw(row.price as i64)
+    Raw::signed(row.price)
 }
 
 fn admit_row(zones: usize, row: OrderRow) -> OrderAnswer
@@ -211,14 +204,10 @@ pub fn add_row(account: Account, row: OrderRow, prices: &[i64]) -> Account
     account.take_row(order_surplus(order, prices))
 }
 
-fn answer(number: u32, index: u32, sum: Raw) -> Surplus
+fn answer(number: u32, index: u32, sum: Microcents) -> Surplus
     ensures { λ r. ⌜ r ≡ answered number index (sum .0) ⌝ }
 {
-    Surplus {
-        number,
-        index,
-        sum: sum.0,
-    }
+    Surplus { number, index, sum }
 }
 
 // The answer after the last row.
@@ -226,7 +215,8 @@ pub fn close_book(account: Account) -> Surplus
     ensures { λ r. ⌜ r ≡ closeOf account ⌝ }
 {
     if account.number == 0 {
-        return answer(account.number, account.index, account.sum.raw());
+        let sum = account.sum;
+        return answer(account.number, account.index, sum);
     }
-    answer(account.number, account.index, Microcents::ZERO.raw())
+    answer(account.number, account.index, Microcents::ZERO)
 }

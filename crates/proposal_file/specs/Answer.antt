@@ -1,17 +1,23 @@
 -- What reading a proposal for a readable case answers: the refusal by rows 9 to 14 of the verdict table, or the proposal's opening. Assumes nothing.
-use mathlib.Core.Path.{_≡_, refl}
-use mathlib.Core.Bool.{Bool, true, false}
+use mathlib.Core.Path.{_≡_, refl, ap}
+use mathlib.Core.Bool.{Bool, true, false, _||_}
 use mathlib.Core.List.{List}
 use mathlib.Core.Option.{Option, none, some}
-use Prim.Native.Nat.{ℕ, _≤_}
-use borrow.Author.Tests.{ltb-false}
+use Prim.Native.Nat.{ℕ, suc, _-_, _^_, _≤_}
+use native.Mathlib.Omega.{arith}
+use borrow.Author.Tests.{ltb-true, ltb-false, le-ltb}
+use lib.Dec.{ltb}
 use lib.ListN.{length}
-use lib.IntN.{pos}
+use lib.IntN.{pos, negsuc}
+use mir.Syntax.{w32}
+use mir.Val.{sel, toZ}
+use Rattle.integers.specs.Ranges.{outside}
+use Rattle.measures.specs.Limits as limits
 use Rattle.rules.specs.Layout.{proposalHeader, proposalVersion, shareIn, systemIn}
 use Rattle.rows.specs.declared.Outcome.{Outcome}
 use Rattle.rows.specs.Rows.{verdict}
 use Rattle.rules.specs.Verdict.{under, proposalRefusal}
-use Rattle.fields.specs.Walk.{markAt, raw}
+use Rattle.fields.specs.Walk.{markAt}
 use Rattle.proposal_file.specs.declared.Opening.{Opening}
 use Rattle.proposal_file.specs.declared.Header.{Header}
 use Rattle.proposal_file.specs.declared.HeaderField.{HeaderField}
@@ -32,7 +38,7 @@ proposalAnswer s t = proposalBy (openingOf t) (proposalRefusal s t)
 
 -- the header's fields as they stand in the file
 abbrev pub headerIn : List ℕ → Header
-headerIn t = record { mark = markAt t 0; version = proposalVersion t; share = shareIn t; system = raw (systemIn t) }
+headerIn t = record { mark = markAt t 0; version = proposalVersion t; share = shareIn t; system = record { 0 = systemIn t } }
 
 -- ROW 9, by its test
 abbrev pub takenBy : Header → Bool → HeaderField
@@ -56,3 +62,12 @@ header-refused t {r} e = by (under proposalHeader (length t)) refl e
     by : (b : Bool) → under proposalHeader (length t) ≡ b → takenBy (headerIn t) b ≡ taken.Refused r → (under proposalHeader (length t) ≡ true) × (r ≡ verdict 9 0)
     by true q e = (q, cc)
     by false q e = (cc, cc)
+
+-- EVERY 32 SIGNED BITS are a system price
+pub none-outside : (n : ℕ) → outside limits.systemPrice (toZ w32 n) ≡ false
+unfolding outside
+none-outside n = by (ltb n (2 ^ 31)) refl
+  where
+    by : (b : Bool) → ltb n (2 ^ 31) ≡ b → outside limits.systemPrice (sel b (pos n) (negsuc (2 ^ 32 - suc n))) ≡ false
+    by true e = le-ltb 2147483647 n (omega (arith, ltb-true n (2 ^ 31) e))
+    by false e = ap (λ (t : Bool). t || false) (le-ltb 2147483647 (2 ^ 32 - suc n) (omega (arith, ltb-false n (2 ^ 31) e)))

@@ -58,11 +58,11 @@ fn put_totals(report: &mut [u8], totals: Totals)
     requires { ⌜ pricesAt ≤ length (now report) ⌝ }
     ensures { λ _. ⌜ now (report .exit) ≡ sets (now (report .entry)) welfareAt (totalBytes (totalsIn totals)) ⌝ }
 {
-    put_signed64(report, WELFARE_AT, totals.welfare.raw());
-    put_signed64(report, BOUND_AT, totals.bound.raw());
-    put_signed64(report, GAP_AT, totals.gap.raw());
-    put_signed64(report, RENT_AT, totals.rent.raw());
-    put_signed64(report, OWED_AT, totals.owed.raw());
+    put_signed64(report, WELFARE_AT, totals.welfare.bits());
+    put_signed64(report, BOUND_AT, totals.bound.bits());
+    put_signed64(report, GAP_AT, totals.gap.bits());
+    put_signed64(report, RENT_AT, totals.rent.bits());
+    put_signed64(report, OWED_AT, totals.owed.bits());
 }
 
 fn put_prices(report: &mut [u8], zones: usize, prices: [Grains; 16])
@@ -72,7 +72,7 @@ fn put_prices(report: &mut [u8], zones: usize, prices: [Grains; 16])
 {
     for z in 0..zones {
         let price = prices[z];
-        put_signed64(report, PRICES_AT + 8 * z, price.raw());
+        put_signed64(report, PRICES_AT + 8 * z, price.bits());
     }
 }
 

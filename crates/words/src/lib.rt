@@ -3,24 +3,14 @@ ghost use mathlib.Core.Path.{_≡_};
 ghost use Prim.Native.Nat.{_+_, _≤_};
 ghost use lib.ListN.{length};
 ghost use lib.Seq.{sets};
-ghost use mir.Syntax.{w32, w64};
-ghost use mir.Val.{SFits, ofZ};
-ghost use Rattle.integers.specs.Bytes.{bytesOf, signed32, signed64};
+ghost use mir.Syntax.{w32};
+ghost use mir.Val.{SFits};
+ghost use Rattle.integers.specs.Bytes.{bytesOf, signed32};
+use measures::Bits;
 use measures::Raw;
 
 // 2 ^ 32, which parts 64 bits in two halves.
 const HALF: u64 = 4294967296;
-
-// The two's complement bits of a number.
-fn bits(x: i64) -> u64
-    ensures { λ r. ⌜ r ≡ ofZ w64 x ⌝ }
-{
-    if x < 0 {
-        18446744073709551615 - ((-(x + 1)) as u64)
-    } else {
-        x as u64
-    }
-}
 
 // The four bytes of a number, the lowest first.
 pub fn put_word(out: &mut [u8], at: usize, x: u32)
@@ -42,16 +32,15 @@ pub fn put_signed32(out: &mut [u8], at: usize, x: Raw)
     requires { ⌜ SFits w32 (x .0) ⌝ }
     ensures { λ _. ⌜ now (out .exit) ≡ sets (now (out .entry)) at (signed32 (x .0)) ⌝ }
 {
-    let b = bits(x.0);
-    put_word(out, at, (b % HALF) as u32);
+    let b = x.bits();
+    put_word(out, at, (b.0 % HALF) as u32);
 }
 
-// Signed 64 bits: the low half, and then the high one.
-pub fn put_signed64(out: &mut [u8], at: usize, x: Raw)
+// Signed 64 bits, which are a measure's: the low half, and then the high one.
+pub fn put_signed64(out: &mut [u8], at: usize, x: Bits)
     requires { ⌜ at + 8 ≤ length (now out) ⌝ }
-    ensures { λ _. ⌜ now (out .exit) ≡ sets (now (out .entry)) at (signed64 (x .0)) ⌝ }
+    ensures { λ _. ⌜ now (out .exit) ≡ sets (now (out .entry)) at (bytesOf 8 (x .0)) ⌝ }
 {
-    let b = bits(x.0);
-    put_word(out, at, (b % HALF) as u32);
-    put_word(out, at + 4, (b / HALF) as u32);
+    put_word(out, at, (x.0 % HALF) as u32);
+    put_word(out, at + 4, (x.0 / HALF) as u32);
 }

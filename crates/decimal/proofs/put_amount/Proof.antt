@@ -6,6 +6,8 @@ use Prim.Native.Nat.{ℕ}
 use native.Mathlib.Omega.{arith}
 use lib.ListN.{length, length-set}
 use lib.IntN.{natAbs}
+use mir.Syntax.{w64}
+use mir.Val.{toZ}
 use Rattle.decimal.specs.Text.{sizeText, amountText, amount-negative, amount-positive}
 use Rattle.decimal.specs.Put.{put-as, put-length, put-then, put-byte}
 use borrow.Author.Needs.{needs}
@@ -17,17 +19,17 @@ module _ (c : tie.After-negative) where
   abbrev start : tie.Start
   start = c .before .before .before
 
-  size-is : natAbs (start .args .x .0) ≡ c .before .size .result
+  size-is : natAbs (toZ w64 (start .args .x .0)) ≡ c .before .size .result
   size-is = sym (c .before .size .ensures)
 
-  signed : c .negative .result ≡ true → amountText (start .args .decimals) (start .args .x .0) ≡ 45 ∷ sizeText (start .args .decimals) (c .before .size .result)
+  signed : c .negative .result ≡ true → amountText (start .args .decimals) (toZ w64 (start .args .x .0)) ≡ 45 ∷ sizeText (start .args .decimals) (c .before .size .result)
   signed e =
-      amount-negative (start .args .decimals) (start .args .x .0) (sym (c .negative .ensures) ∙ e)
+      amount-negative (start .args .decimals) (toZ w64 (start .args .x .0)) (sym (c .negative .ensures) ∙ e)
       ∙ ap (λ (n : ℕ). 45 ∷ sizeText (start .args .decimals) n) size-is
 
-  unsigned : c .negative .result ≡ false → amountText (start .args .decimals) (start .args .x .0) ≡ sizeText (start .args .decimals) (c .before .size .result)
+  unsigned : c .negative .result ≡ false → amountText (start .args .decimals) (toZ w64 (start .args .x .0)) ≡ sizeText (start .args .decimals) (c .before .size .result)
   unsigned e =
-      amount-positive (start .args .decimals) (start .args .x .0) (sym (c .negative .ensures) ∙ e)
+      amount-positive (start .args .decimals) (toZ w64 (start .args .x .0)) (sym (c .negative .ensures) ∙ e)
       ∙ ap (λ (n : ℕ). sizeText (start .args .decimals) n) size-is
 
 size-requires : tie.Need-size-requires

@@ -9,11 +9,11 @@ use Rattle.fields.proofs.signed_at.Tie as tie
 entry-at-requires : tie.Need-entry-at-requires
 entry-at-requires c κs = search needs
 
-widened-requires : tie.Need-widened-requires
-widened-requires c κs = search needs
+signed-requires : tie.Need-signed-requires
+signed-requires c κs = search needs
 
 returns : tie.Need-returns
-returns c = c .widened .ensures ∙ toZ-ofZ {w = w32} (record { sfits = c .before .entry-at .ok }) ∙ c .before .entry-at .ensures
+returns c = c .signed .ensures ∙ toZ-ofZ {w = w32} (record { sfits = c .before .entry-at .ok }) ∙ c .before .entry-at .ensures
 
 pub signed-at-spec : {M : Type 1} → statement M
-signed-at-spec = tie.close (tie.spec entry-at-requires widened-requires returns)
+signed-at-spec = tie.close (tie.spec entry-at-requires signed-requires returns)

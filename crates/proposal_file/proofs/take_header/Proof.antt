@@ -1,18 +1,22 @@
 -- `proposal_file::take_header` meets its contract: each field stands where the one before it ended, and the last ends at byte 13. Assumes nothing.
 use mathlib.Core.Path.{_≡_, sym, ap, _∙_}
-use mathlib.Core.Bool.{true}
+use mathlib.Core.Bool.{true, true≢false}
 use mathlib.Core.List.{List}
 use Prim.Native.Nat.{ℕ, _<_}
 use native.Mathlib.Omega.{arith}
 use borrow.Author.Needs.{needs}
 use borrow.Author.Tests.{lt-ltb, le-ltb}
 use lib.ListN.{length}
+use Rattle.integers.specs.Ranges.{outside}
+use Rattle.measures.specs.Limits as limits
+use Rattle.measures.specs.Held.{centsIn, cents-outside, cents-held}
+use Rattle.measures.specs.declared.Raw.{Raw}
 use Rattle.rules.specs.Layout.{u16At, u32At, i32At, proposalVersion, shareIn, systemIn}
 use Rattle.fields.specs.declared.Cursor.{Cursor}
 use Rattle.fields.specs.Walk.{raw, markAt, markField, halfField, wordField, signedField, Took}
 use Rattle.fields.specs.Walk as walk
 use Rattle.proposal_file.specs.declared.HeaderField.the-variants.{Taken}
-use Rattle.proposal_file.specs.Answer.{headerIn, takenBy, headerTaken}
+use Rattle.proposal_file.specs.Answer.{headerIn, takenBy, headerTaken, none-outside}
 use Rattle.proposal_file.proofs.take_header.Statement.{statement}
 use Rattle.proposal_file.proofs.take_header.Tie as tie
 
@@ -95,8 +99,8 @@ returns-3 c =
 signed-requires : tie.Need-signed-requires
 signed-requires c κs = search needs
 
-enum-known-system : tie.Need-enum-known-system
-enum-known-system c = search needs
+enum-known-number : tie.Need-enum-known-number
+enum-known-number c = search needs
 
 enum-told-4 : tie.Need-enum-told-4
 enum-told-4 c = search needs
@@ -107,23 +111,48 @@ system-file c = share-file (c .before .before .before .before)
 system-is : (c : tie.After-signed) → c .signed .result ≡ signedField (system-file c) 9
 system-is c = c .signed .ensures ∙ ap (λ (d : Cursor). signedField (system-file c) (d .at)) (share-took (c .before .before) .past)
 
-system-took : (c : tie.After-system) → Took (system-file (c .before .before)) 9 4 (raw (i32At (system-file (c .before .before)) 9)) (c .system .given .0 .0) (c .system .given .0 .1 .0)
-system-took c = walk.signed-took (system-file (c .before .before)) 9 (sym (system-is (c .before .before)) ∙ c .system .given .1)
+system-took : (c : tie.After-number) → Took (system-file (c .before .before)) 9 4 (raw (i32At (system-file (c .before .before)) 9)) (c .number .given .0 .0) (c .number .given .0 .1 .0)
+system-took c = walk.signed-took (system-file (c .before .before)) 9 (sym (system-is (c .before .before)) ∙ c .number .given .1)
 
 returns-4 : tie.Need-returns-4
 returns-4 c =
     let a = c .before .before in
     short (system-file a) (omega (arith, walk.signed-short (system-file a) 9 (sym (system-is a) ∙ c .enum-told4 .given .1)))
 
+system-price-requires : tie.Need-system-price-requires
+system-price-requires c κs = search needs
+
+enum-known-system : tie.Need-enum-known-system
+enum-known-system c = search needs
+
+enum-told-5 : tie.Need-enum-told-5
+enum-told-5 c = search needs
+
+abbrev price-file : tie.After-system-price → List ℕ
+price-file c = system-file (c .before .before .before .before)
+
+price-is : (c : tie.After-system-price) → c .system-price .result ≡ centsIn limits.systemPrice (i32At (price-file c) 9)
+price-is c = c .system-price .ensures ∙ ap (λ (x : Raw). centsIn limits.systemPrice (x .0)) (system-took (c .before .before) .is)
+
+-- none is refused
 returns-5 : tie.Need-returns-5
-unfolding proposalVersion shareIn systemIn
+unfolding i32At
 returns-5 c =
-    let y = c .before in
+    let a = c .before .before in
+    absurd (true≢false (sym (cents-outside _ _ (sym (price-is a) ∙ c .enum-told5 .given .1)) ∙ none-outside (u32At (price-file a) 9)))
+
+returns-6 : tie.Need-returns-6
+unfolding proposalVersion shareIn systemIn
+returns-6 c =
+    let p = c .before .before .before in
+    let y = p .before .before in
     let h = y .before .before .before .before in
     let v = h .before .before .before .before in
     let m = v .before .before .before .before in
     let t = mark-file (m .before .before) in
-    (λ j. Taken (record { mark = mark-took m .is j; version = version-took v .is j; share = share-took h .is j; system = system-took y .is j }))
+    let x = i32At (price-file p) 9 in
+    let held = cents-held x (outside limits.systemPrice x) (c .before .system .given .0 .0) (sym (price-is p) ∙ c .before .system .given .1) in
+    (λ j. Taken (record { mark = mark-took m .is j; version = version-took v .is j; share = share-took h .is j; system = record { 0 = held .1 j } }))
     ∙ ap (takenBy (headerIn t)) (sym (le-ltb (length t) 13 (system-took y .inside)))
 
 pub take-header-spec : {M : Type 1} → statement M
@@ -144,7 +173,11 @@ take-header-spec =
     enum-told-3
     returns-3
     signed-requires
-    enum-known-system
+    enum-known-number
     enum-told-4
     returns-4
-    returns-5)
+    system-price-requires
+    enum-known-system
+    enum-told-5
+    returns-5
+    returns-6)

@@ -6,7 +6,7 @@ use borrow.Author.Needs.{needs}
 use denote.Ref.{now}
 use lib.ListN.{length}
 use lib.Seq.{sets, length-sets}
-use Rattle.integers.specs.Bytes.{signed64}
+use Rattle.integers.specs.Bytes.{bytesOf, signed64}
 use Rattle.rules.specs.Report.{priceBytes}
 use Rattle.report.specs.Written.{priceIn, next-price}
 use Rattle.report.proofs.put_prices.Statement.{statement}
@@ -34,8 +34,8 @@ mul-put-signed64 c = omega arith
 add-put-signed64 : tie.Need-add-put-signed64 Inv-loop μ-loop
 add-put-signed64 c = omega arith
 
-raw-requires : tie.Need-raw-requires Inv-loop μ-loop
-raw-requires c κs = search needs
+bits-requires : tie.Need-bits-requires Inv-loop μ-loop
+bits-requires c κs = search needs
 
 -- the buffer keeps its length
 kept : (c : tie.At-loop Inv-loop μ-loop) → length (c .loop .report) ≡ length (now (c .before .before .args .report))
@@ -51,12 +51,13 @@ loop-less : tie.Need-loop-less Inv-loop μ-loop
 loop-less c = omega arith
 
 loop-again : tie.Need-loop-again Inv-loop μ-loop
+unfolding signed64
 loop-again c =
     let p = c .before .before in
     let l = p .before .before .before .before .before in
     let start = now (l .before .before .args .report) in
     let prices = l .before .before .args .t3 in
-    (omega arith, p .put-signed64 .ensures ∙ (λ j. sets (l .loop .inv .1 j) (48 + 8 * l .loop .z) (signed64 ((p .before .raw .ensures j) .0))) ∙ next-price start (l .loop .z) (priceIn prices))
+    (omega arith, p .put-signed64 .ensures ∙ (λ j. sets (l .loop .inv .1 j) (48 + 8 * l .loop .z) (bytesOf 8 (p .before .bits .ensures j))) ∙ next-price start (l .loop .z) (priceIn prices))
 
 same-length : tie.Need-same-length Inv-loop μ-loop
 same-length c = kept (c .before)
@@ -78,7 +79,7 @@ put-prices-spec =
     array-copy-out-price
     mul-put-signed64
     add-put-signed64
-    raw-requires
+    bits-requires
     put-signed64-requires
     add-z
     loop-less

@@ -8,32 +8,32 @@ use borrow.Author.Needs.{needs}
 use Rattle.report.proofs.put_totals.Statement.{statement}
 use Rattle.report.proofs.put_totals.Tie as tie
 
-raw-requires : tie.Need-raw-requires
-raw-requires c κs = search needs
+bits-requires : tie.Need-bits-requires
+bits-requires c κs = search needs
 
 put-signed64-requires : tie.Need-put-signed64-requires
 put-signed64-requires c κs = search needs
 
-raw-requires-2 : tie.Need-raw-requires-2
-raw-requires-2 c κs = search needs
+bits-requires-2 : tie.Need-bits-requires-2
+bits-requires-2 c κs = search needs
 
 put-signed64-requires-2 : tie.Need-put-signed64-requires-2
 put-signed64-requires-2 c κs = search needs
 
-raw-requires-3 : tie.Need-raw-requires-3
-raw-requires-3 c κs = search needs
+bits-requires-3 : tie.Need-bits-requires-3
+bits-requires-3 c κs = search needs
 
 put-signed64-requires-3 : tie.Need-put-signed64-requires-3
 put-signed64-requires-3 c κs = search needs
 
-raw-requires-4 : tie.Need-raw-requires-4
-raw-requires-4 c κs = search needs
+bits-requires-4 : tie.Need-bits-requires-4
+bits-requires-4 c κs = search needs
 
 put-signed64-requires-4 : tie.Need-put-signed64-requires-4
 put-signed64-requires-4 c κs = search needs
 
-raw-requires-5 : tie.Need-raw-requires-5
-raw-requires-5 c κs = search needs
+bits-requires-5 : tie.Need-bits-requires-5
+bits-requires-5 c κs = search needs
 
 put-signed64-requires-5 : tie.Need-put-signed64-requires-5
 put-signed64-requires-5 c κs = search needs
@@ -51,25 +51,25 @@ returns c =
     let p1 = p2 .before .before .before .before .before in
     let start = now (p1 .before .before .before .before .args .report) in
     let e1 : p1 .put-signed64 .last .0 ≡ sets start 8 (signed64 (p1 .before .before .before .before .args .totals .welfare .0))
-    = p1 .put-signed64 .ensures ∙ (λ j. sets start 8 (signed64 ((p1 .before .raw .ensures j) .0))) in
-    let e2 = p2 .put-signed642 .ensures ∙ (λ j. sets (e1 j) 16 (signed64 ((p2 .before .raw2 .ensures j) .0))) in
-    let e3 = p3 .put-signed643 .ensures ∙ (λ j. sets (e2 j) 24 (signed64 ((p3 .before .raw3 .ensures j) .0))) in
-    let e4 = p4 .put-signed644 .ensures ∙ (λ j. sets (e3 j) 32 (signed64 ((p4 .before .raw4 .ensures j) .0))) in
-    p5 .put-signed645 .ensures ∙ (λ j. sets (e4 j) 40 (signed64 ((p5 .before .raw5 .ensures j) .0)))
+    = p1 .put-signed64 .ensures ∙ (λ j. sets start 8 (bytesOf 8 (p1 .before .bits .ensures j))) in
+    let e2 = p2 .put-signed642 .ensures ∙ (λ j. sets (e1 j) 16 (bytesOf 8 (p2 .before .bits2 .ensures j))) in
+    let e3 = p3 .put-signed643 .ensures ∙ (λ j. sets (e2 j) 24 (bytesOf 8 (p3 .before .bits3 .ensures j))) in
+    let e4 = p4 .put-signed644 .ensures ∙ (λ j. sets (e3 j) 32 (bytesOf 8 (p4 .before .bits4 .ensures j))) in
+    p5 .put-signed645 .ensures ∙ (λ j. sets (e4 j) 40 (bytesOf 8 (p5 .before .bits5 .ensures j)))
 
 pub put-totals-spec : {M : Type 1} → statement M
 put-totals-spec =
     tie.close
     (tie.spec
-    raw-requires
+    bits-requires
     put-signed64-requires
-    raw-requires-2
+    bits-requires-2
     put-signed64-requires-2
-    raw-requires-3
+    bits-requires-3
     put-signed64-requires-3
-    raw-requires-4
+    bits-requires-4
     put-signed64-requires-4
-    raw-requires-5
+    bits-requires-5
     put-signed64-requires-5
     same-length
     returns)

@@ -1,13 +1,12 @@
 -- `valuation::first_price_outside` meets its contract: every zone passed has its price within the limits. Assumes nothing.
-use mathlib.Core.Path.{_≡_, refl, sym, ap, _∙_}
+use mathlib.Core.Path.{_≡_, refl, sym, _∙_}
 use mathlib.Core.Option.{none}
 use Prim.Native.Nat.{_≤_, _-_}
 use native.Mathlib.Omega.{arith}
 use borrow.Author.Needs.{needs}
 use Rattle.integers.specs.Ranges.{outside}
 use Rattle.measures.specs.Limits as limits
-use Rattle.measures.specs.Held.{grainsIn, grains-outside, grains-held}
-use Rattle.measures.specs.declared.Raw.{Raw}
+use Rattle.measures.specs.Held.{grains-outside, grains-held}
 use Rattle.rows.specs.Rows.{firstBelow}
 use Rattle.rows.specs.RowLaws.{first-here, first-later, first-nowhere}
 use Rattle.valuation.specs.Prices.{grainsAt}
@@ -30,9 +29,6 @@ mul-price c = omega arith
 array-copy-out-price : tie.Need-array-copy-out-price Inv-loop μ-loop
 array-copy-out-price c = omega arith
 
-raw-requires : tie.Need-raw-requires Inv-loop μ-loop
-raw-requires c κs = search needs
-
 zone-price-requires : tie.Need-zone-price-requires Inv-loop μ-loop
 zone-price-requires c κs = search needs
 
@@ -42,16 +38,11 @@ enum-told c = search needs
 enum-told-2 : tie.Need-enum-told-2 Inv-loop μ-loop
 enum-told-2 c = search needs
 
--- the answer for this zone's price
-answered : (c : tie.After-zone-price Inv-loop μ-loop)
-    → c .zone-price .result ≡ grainsIn limits.zonePrice (grainsAt (c .before .before .before .before .before .args .t1) (c .before .before .before .before .loop .z))
-answered c = c .zone-price .ensures ∙ ap (λ (r : Raw). grainsIn limits.zonePrice (r .0)) (c .before .raw .ensures)
-
 returns : tie.Need-returns Inv-loop μ-loop
 returns c =
     let p = c .before .before in
-    let l = p .before .before .before .before in
-    sym (first-here _ (l .loop .z) (p .before .before .before .loop-test .taken) (l .loop .inv .1) (grains-outside _ _ (sym (answered p) ∙ c .enum-told2 .given .1)))
+    let l = p .before .before .before in
+    sym (first-here _ (l .loop .z) (p .before .before .loop-test .taken) (l .loop .inv .1) (grains-outside _ _ (sym (p .zone-price .ensures) ∙ c .enum-told2 .given .1)))
 
 add-z : tie.Need-add-z Inv-loop μ-loop
 add-z c = omega arith
@@ -62,8 +53,8 @@ loop-less c = omega arith
 loop-again : tie.Need-loop-again Inv-loop μ-loop
 loop-again c =
     let p = c .before .before in
-    let l = p .before .before .before .before in
-    (omega arith, first-later _ (l .loop .z) (l .loop .inv .1) ((grains-held _ _ (c .enum-told .given .0 .0) (sym (answered p) ∙ c .enum-told .given .1)) .0))
+    let l = p .before .before .before in
+    (omega arith, first-later _ (l .loop .z) (l .loop .inv .1) ((grains-held _ _ (c .enum-told .given .0 .0) (sym (p .zone-price .ensures) ∙ c .enum-told .given .1)) .0))
 
 returns-2 : tie.Need-returns-2 Inv-loop μ-loop
 returns-2 c =
@@ -80,7 +71,6 @@ first-price-outside-spec =
     loop-holds
     mul-price
     array-copy-out-price
-    raw-requires
     zone-price-requires
     enum-told
     enum-told-2

@@ -3,9 +3,6 @@ use mathlib.Core.Path.{ap, _∙_}
 use Prim.Native.Nat.{ℕ, _%_}
 use denote.Ref.{now}
 use lib.Seq.{sets}
-use mir.Syntax.{w64}
-use mir.Val.{ofZ}
-use mir.Facts.{toZ-ofZ}
 use Rattle.integers.specs.Bytes.{bytesOf, signed32}
 use Rattle.words.specs.Halves.{low-bits}
 use borrow.Author.Needs.{needs}
@@ -28,10 +25,10 @@ returns : tie.Need-returns
 unfolding signed32
 returns c =
     let p = c .before .before in
-    let b = p .before .before in
-    let a = b .before .before .before in
-    let whole = b .bits .ensures ∙ ap (ofZ w64) (toZ-ofZ {w = w64} {z = a .args .x .0} (record { sfits = b .before .struct-told .given .0 .1 })) in
-    p .put-word .ensures ∙ ap (λ (n : ℕ). sets (now (a .args .out)) (a .args .at) (bytesOf 4 n)) (ap (λ (n : ℕ). n % 4294967296) whole ∙ low-bits (a .args .x .0) (a .pre .1))
+    let b = p .before .before .before in
+    let a = b .before .before in
+    p .put-word .ensures ∙ ap (λ (n : ℕ). sets (now (a .args .out)) (a .args .at) (bytesOf 4 n)) (ap (λ (n : ℕ). n % 4294967296) (b .bits .ensures) ∙ low-bits (a .args .x .0) (a .pre .1))
 
 pub put-signed32-spec : {M : Type 1} → statement M
-put-signed32-spec = tie.close (tie.spec bits-requires cast-put-word put-word-requires same-length returns)
+put-signed32-spec =
+    tie.close (tie.spec bits-requires cast-put-word put-word-requires same-length returns)
