@@ -9,8 +9,8 @@ use lib.Dec.{eqb}
 use lib.ListN.{length, getD, set, replicate, length-set}
 use lib.Seq.{getD-set-same, getD-set-other}
 use borrow.Author.Tests.{eqb-true, eqb-false}
-use Rattle.rules.specs.Layout.{fromIn, toIn}
-use Rattle.rows.specs.Rows.{anyBelow}
+use Rattle.rules.specs.Meaning.Layout.{fromIn, toIn}
+use Rattle.rows.specs.Meaning.Rows.{anyBelow}
 use Rattle.zone_set.specs.Zones.{member, added, member-added, member-none}
 
 abbrev pub holds : List ℕ → ℕ → ℕ → Bool

@@ -8,7 +8,7 @@ use lib.ListN.{set}
 use lib.IntN.{ℤ, pos, _+ℤ_, _-ℤ_}
 use Rattle.integers.specs.Difference.{at, _⊕_, _⊖_, eq-by}
 use Rattle.measures.specs.declared.Tenths.{Tenths}
-use Rattle.rules.specs.Hour.{Case, Plan, net}
+use Rattle.rules.specs.Meaning.Hour.{Case, Plan, net}
 use Rattle.clearing.specs.Held.{tenthsAt, Holds, set-holds, keyed, keyed-at, keyed-other}
 
 abbrev pub flows : Plan → ℕ → ℤ

@@ -8,8 +8,8 @@ use lib.IntN.{ℤ}
 use mir.Syntax.{w64}
 use Rattle.integers.specs.Sums.{sum-ext}
 use Rattle.integers.specs.Machine.{SumsFit, sfits-by}
-use Rattle.rules.specs.Layout.{u32At}
-use Rattle.rules.specs.Hour.{Case, Plan}
+use Rattle.rules.specs.Meaning.Layout.{u32At}
+use Rattle.rules.specs.Meaning.Hour.{Case, Plan}
 
 -- verdict 21 passed
 pub record VolumesIn (c : Case) (p : Plan) : Type 0 where

@@ -1,10 +1,4 @@
--- Definitions
-pub mod Ascii
-pub mod Text
-pub mod Put
--- Laws
-pub mod Complement
-pub mod Places
-pub mod Value
-pub mod Digits
-pub mod Sizes
+-- The rooms: `Meaning` is to be read and believed, what is `Promised` holds of it and is proved, as is all else
+pub mod Meaning
+pub mod Promised
+pub mod Steps

@@ -6,8 +6,8 @@ ghost use lib.IntN.{pos, natAbs};
 ghost use lib.Signed.{ltZ};
 ghost use mir.Syntax.{w64};
 ghost use mir.Val.{toZ};
-ghost use Rattle.decimal.specs.Text.{places, lastDigits, countText, sizeText, amountText};
-ghost use Rattle.decimal.specs.Put.{Put};
+ghost use Rattle.decimal.specs.Meaning.Text.{places, lastDigits, countText, sizeText, amountText};
+ghost use Rattle.decimal.specs.Meaning.Put.{Put};
 use measures::Bits;
 
 // Decimals of an amount of money in euros, and of a price in euros per MWh.

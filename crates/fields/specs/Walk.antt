@@ -8,7 +8,7 @@ use lib.ListN.{length}
 use lib.Dec.{leb}
 use lib.IntN.{ℤ}
 use Rattle.measures.specs.declared.Raw.{Raw}
-use Rattle.rules.specs.Layout.{u8At, u16At, u32At, i32At}
+use Rattle.rules.specs.Meaning.Layout.{u8At, u16At, u32At, i32At}
 use Rattle.fields.specs.declared.Mark.{Mark}
 use Rattle.fields.specs.declared.Cursor.{Cursor}
 use Rattle.fields.specs.declared.MarkField.{MarkField}

@@ -1,6 +1,6 @@
 // The order book lent by the host: its rows beside a list of zone prices in grains.
 ghost use mathlib.Core.Path.{_≡_};
-ghost use Rattle.order_book.specs.Lent.{lentAnswer};
+ghost use Rattle.order_book.specs.Meaning.Lent.{lentAnswer};
 use order_book::OrderRow;
 use order_book::Surplus;
 use order_book::add_row;

@@ -2,10 +2,10 @@
 ghost use mathlib.Core.Path.{_≡_};
 ghost use Prim.Native.Nat.{_+_, _*_, _/_, _%_};
 ghost use lib.ListN.{length};
-ghost use Rattle.rules.specs.Promise.{TotalsReported, Allowed, Accurate, GapWithin, Covered, Best, CoveredInFull};
-ghost use Rattle.rules.specs.Report.{bufferAfter};
-ghost use Rattle.rules.specs.Verdict.{outcome};
-ghost use Rattle.rules.specs.AnnexPromise.{AnnexDemand3};
+ghost use Rattle.rules.specs.Meaning.Promise.{TotalsReported, Allowed, Accurate, GapWithin, Covered, Best, CoveredInFull};
+ghost use Rattle.rules.specs.Meaning.Report.{bufferAfter};
+ghost use Rattle.rules.specs.Meaning.Verdict.{outcome};
+ghost use Rattle.rules.specs.Meaning.AnnexPromise.{AnnexDemand3};
 use judgement::judge;
 
 fn packed(number: u32, index: u32) -> u64

@@ -1,8 +1,8 @@
 // The desk program's text for an input, for a host that prints it itself.
 ghost use mathlib.Core.Path.{_≡_};
 ghost use lib.ListN.{length};
-ghost use Rattle.rows.specs.Rows.{verdict};
-ghost use Rattle.desk_lines.specs.Printed.{deskOutcome, deskWritten, deskOutput};
+ghost use Rattle.rows.specs.Meaning.Rows.{verdict};
+ghost use Rattle.desk_lines.specs.Meaning.Printed.{deskOutcome, deskWritten, deskOutput};
 use desk_lines::lines;
 use output::Written;
 

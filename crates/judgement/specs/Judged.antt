@@ -9,13 +9,13 @@ use lib.ListN.{drop, getD}
 use lib.Dec.{T, eqb, eqb→eq}
 use lib.IntN.{ℤ}
 use Rattle.integers.specs.Bytes.{signed64}
-use Rattle.rules.specs.Layout.{zonePriceAt}
-use Rattle.rules.specs.Hour.{Case, Plan, Prices, caseOf, planOf, pricesOf, zonePrice}
+use Rattle.rules.specs.Meaning.Layout.{zonePriceAt}
+use Rattle.rules.specs.Meaning.Hour.{Case, Plan, Prices, caseOf, planOf, pricesOf, zonePrice}
 use Rattle.rows.specs.declared.Outcome.{Outcome}
-use Rattle.rows.specs.Rows.{Row, verdict, refusal, answer}
-use Rattle.rows.specs.RowLaws.{empty, else-refusal, refusal-append, lacks, not-refused}
-use Rattle.rules.specs.Report.{Totals, headerBytes, totalBytes, priceBytes, reportText, totalsOf, reports, reportBytes, reportSize, written}
-use Rattle.rules.specs.Verdict.{proposalRows, clearingRows}
+use Rattle.rows.specs.Meaning.Rows.{Row, verdict, refusal, answer}
+use Rattle.rows.specs.Promised.RowLaws.{empty, else-refusal, refusal-append, lacks, not-refused}
+use Rattle.rules.specs.Meaning.Report.{Totals, headerBytes, totalBytes, priceBytes, reportText, totalsOf, reports, reportBytes, reportSize, written}
+use Rattle.rules.specs.Meaning.Verdict.{proposalRows, clearingRows}
 
 -- for the case s, the proposal t and the buffer b: the verdict r, and the buffer b′ afterwards
 pub record Judged (rows : List Row) (s t b : List ℕ) (r : Outcome) (b′ : List ℕ) : Type 0 where

@@ -4,14 +4,14 @@ use mathlib.Core.Path.{_≡_, sym, ap, subst, _∙_}
 use mathlib.Core.List.{List}
 use Prim.Native.Nat.{ℕ}
 use lib.ListN.{length}
-use Rattle.rules.specs.Hour.{caseOf, planOf, pricesOf}
-use Rattle.rules.specs.Verdict.{table, outcome}
-use Rattle.rules.specs.Report.{Reported, bufferAfter}
-use Rattle.rules.specs.Reported.{reported}
-use Rattle.rules.specs.Promise.{TotalsReported, Allowed, Accurate, GapWithin, Covered, Best, CoveredInFull}
-use Rattle.rules.specs.Guarantee.{Accepted, Demand3, demand-3}
-use Rattle.rules.specs.AnnexPromise.{AnnexDemand3}
-use Rattle.rules.specs.AnnexHour.{annex-demand-3}
+use Rattle.rules.specs.Meaning.Hour.{caseOf, planOf, pricesOf}
+use Rattle.rules.specs.Meaning.Verdict.{table, outcome}
+use Rattle.rules.specs.Meaning.Report.{Reported, bufferAfter}
+use Rattle.rules.specs.Promised.Reported.{reported}
+use Rattle.rules.specs.Meaning.Promise.{TotalsReported, Allowed, Accurate, GapWithin, Covered, Best, CoveredInFull}
+use Rattle.rules.specs.Promised.Guarantee.{Accepted, Demand3, demand-3}
+use Rattle.rules.specs.Meaning.AnnexPromise.{AnnexDemand3}
+use Rattle.rules.specs.Promised.Annex.AnnexHour.{annex-demand-3}
 use Rattle.rows.specs.declared.Outcome.{Outcome}
 use Rattle.judgement.specs.Judged.{Judged}
 

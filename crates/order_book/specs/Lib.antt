@@ -1,8 +1,4 @@
--- TO BE READ: the answer of a lent book
-pub mod Lent
--- the account by which it is reached, row by row
-pub mod Account
--- WHAT HOLDS OF IT
+-- The rooms: `Meaning` is to be read and believed, what is `Promised` holds of it and is proved, as is all else
+pub mod Meaning
+pub mod Promised
 pub mod Steps
-pub mod Closing
-pub mod Judged

@@ -6,11 +6,11 @@ use lib.Dec.{eqb, leb, ltb}
 use lib.IntN.{ℤ, pos, _*ℤ_}
 use Rattle.integers.specs.Order.{positive}
 use Rattle.integers.specs.Ranges.{outside}
-use Rattle.measures.specs.Limits.{grainsOf}
-use Rattle.measures.specs.Limits as limits
-use Rattle.rules.specs.Hour.{above}
-use Rattle.rows.specs.Rows.{anyBelow}
-use Rattle.rules.specs.Verdict.{rowFault, badRow}
+use Rattle.measures.specs.Meaning.Limits.{grainsOf}
+use Rattle.measures.specs.Meaning.Limits as limits
+use Rattle.rules.specs.Meaning.Hour.{above}
+use Rattle.rows.specs.Meaning.Rows.{anyBelow}
+use Rattle.rules.specs.Meaning.Verdict.{rowFault, badRow}
 use Rattle.orders.specs.declared.Order.{Order}
 use Rattle.orders.specs.declared.OrderAnswer.{OrderAnswer}
 use Rattle.orders.specs.declared.OrderAnswer.the-variants.{Held, Outside}

@@ -1,2 +1,2 @@
--- DEFINITIONS: what is written into a lent output, and its bytes afterwards
-pub mod Output
+-- All of it is meaning
+pub mod Meaning

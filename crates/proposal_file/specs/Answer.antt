@@ -12,11 +12,11 @@ use lib.IntN.{pos, negsuc}
 use mir.Syntax.{w32}
 use mir.Val.{sel, toZ}
 use Rattle.integers.specs.Ranges.{outside}
-use Rattle.measures.specs.Limits as limits
-use Rattle.rules.specs.Layout.{proposalHeader, proposalVersion, shareIn, systemIn}
+use Rattle.measures.specs.Meaning.Limits as limits
+use Rattle.rules.specs.Meaning.Layout.{proposalHeader, proposalVersion, shareIn, systemIn}
 use Rattle.rows.specs.declared.Outcome.{Outcome}
-use Rattle.rows.specs.Rows.{verdict}
-use Rattle.rules.specs.Verdict.{under, proposalRefusal}
+use Rattle.rows.specs.Meaning.Rows.{verdict}
+use Rattle.rules.specs.Meaning.Verdict.{under, proposalRefusal}
 use Rattle.fields.specs.Walk.{markAt}
 use Rattle.proposal_file.specs.declared.Opening.{Opening}
 use Rattle.proposal_file.specs.declared.Header.{Header}

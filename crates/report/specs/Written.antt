@@ -9,9 +9,9 @@ use lib.Seq.{sets, sets-eq}
 use lib.IntN.{ℤ, pos}
 use Rattle.integers.specs.Bytes.{bytesOf, signed64, sets-append}
 use Rattle.measures.specs.declared.Grains.{Grains}
-use Rattle.rules.specs.Layout.{welfareAt, pricesAt, zonePriceAt}
-use Rattle.rules.specs.Report as rules
-use Rattle.rules.specs.Reported.{prices-length}
+use Rattle.rules.specs.Meaning.Layout.{welfareAt, pricesAt, zonePriceAt}
+use Rattle.rules.specs.Meaning.Report as rules
+use Rattle.rules.specs.Promised.Reported.{prices-length}
 use Rattle.report.specs.declared.Totals.{Totals}
 
 -- the totals and the prices as the rules read them

@@ -1,5 +1,3 @@
--- DEFINITIONS: a table of causes
-pub mod Rows
--- WHAT HOLDS OF EVERY TABLE
-pub mod RowLaws
-pub mod InFileOrder
+-- The rooms: `Meaning` is to be read and believed, what is `Promised` holds of it and is proved, as is all else
+pub mod Meaning
+pub mod Promised

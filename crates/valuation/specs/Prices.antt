@@ -11,9 +11,9 @@ use mir.Syntax.{w64}
 use mir.Val.{SFits}
 use Rattle.integers.specs.Ranges.{Within}
 use Rattle.integers.specs.Sums.{sumTo, sum-more}
-use Rattle.measures.specs.Limits as limits
+use Rattle.measures.specs.Meaning.Limits as limits
 use Rattle.measures.specs.declared.Grains.{Grains}
-use Rattle.rules.specs.Hour.{Case, Prices, branchPrice, zonePrice}
+use Rattle.rules.specs.Meaning.Hour.{Case, Prices, branchPrice, zonePrice}
 
 abbrev pub noGrains : Grains
 noGrains = record { 0 = pos 0 }

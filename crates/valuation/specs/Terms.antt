@@ -4,9 +4,9 @@ use mathlib.Core.Bool.{Bool, true, false}
 use native.Mathlib.Omega.{arith}
 use lib.IntN.{ℤ, pos, _*ℤ_}
 use Rattle.integers.specs.Difference.{at, _⊗_, ⊝_, eq-by}
-use Rattle.measures.specs.Limits.{grainsOf}
-use Rattle.measures.specs.Limits.{partsInOne}
-use Rattle.rules.specs.Hour.{signed}
+use Rattle.measures.specs.Meaning.Limits.{grainsOf}
+use Rattle.measures.specs.Meaning.Limits.{partsInOne}
+use Rattle.rules.specs.Meaning.Hour.{signed}
 
 -- volume times the order price in grains is 100,000 times volume times the order price
 pub order-value : (b : Bool) (v x : ℤ) → signed b (v *ℤ grainsOf x) ≡ pos partsInOne *ℤ signed b (v *ℤ x)

@@ -4,7 +4,7 @@ use mathlib.Core.Bool.{Bool}
 use lib.IntN.{_+ℤ_}
 use mir.Syntax.{w64}
 use mir.Val.{SFits}
-use Rattle.rules.specs.Hour.{signed}
+use Rattle.rules.specs.Meaning.Hour.{signed}
 use Rattle.clearing.proofs.net_with_order.Statement.{statement}
 use Rattle.clearing.proofs.net_with_order.Tie as tie
 

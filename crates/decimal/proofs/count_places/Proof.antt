@@ -3,8 +3,8 @@
 use mathlib.Core.Path.{_≡_}
 use Prim.Native.Nat.{_+_, _≤_}
 use native.Mathlib.Omega.{arith}
-use Rattle.decimal.specs.Text.{places}
-use Rattle.decimal.specs.Places.{places-one, places-more, places-at-most}
+use Rattle.decimal.specs.Meaning.Text.{places}
+use Rattle.decimal.specs.Steps.Places.{places-one, places-more, places-at-most}
 use Rattle.decimal.proofs.count_places.Statement.{statement}
 use Rattle.decimal.proofs.count_places.Tie as tie
 

@@ -1,5 +1,5 @@
 -- `decimal::negative` meets its contract: the highest bit is the sign. Assumes nothing.
-use Rattle.decimal.specs.Complement.{sign}
+use Rattle.decimal.specs.Steps.Complement.{sign}
 use Rattle.decimal.proofs.negative.Statement.{statement}
 use Rattle.decimal.proofs.negative.Tie as tie
 

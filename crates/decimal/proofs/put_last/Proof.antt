@@ -6,9 +6,9 @@ use native.Mathlib.Omega.{arith}
 use borrow.Author.Needs.{needs}
 use lib.ListN.{length, length-set}
 use lib.Seq.{sets}
-use Rattle.decimal.specs.Text.{lastDigits}
-use Rattle.decimal.specs.Value.{last-length}
-use Rattle.decimal.specs.Digits.{put-digit, tenth}
+use Rattle.decimal.specs.Meaning.Text.{lastDigits}
+use Rattle.decimal.specs.Promised.Value.{last-length}
+use Rattle.decimal.specs.Steps.Digits.{put-digit, tenth}
 use Rattle.decimal.proofs.put_last.Statement.{statement}
 use Rattle.decimal.proofs.put_last.Tie as tie
 

@@ -6,7 +6,7 @@ use lib.IntN.{pos}
 use lib.Signed.{ltZ}
 use mir.Syntax.{w64}
 use mir.Val.{toZ}
-use Rattle.decimal.specs.Complement.{high-bit, size-below, size-above}
+use Rattle.decimal.specs.Steps.Complement.{high-bit, size-below, size-above}
 use borrow.Author.Needs.{needs}
 use Rattle.decimal.proofs.size.Statement.{statement}
 use Rattle.decimal.proofs.size.Tie as tie

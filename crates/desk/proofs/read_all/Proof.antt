@@ -1,8 +1,7 @@
 -- `desk::read_all` meets its contract. The loop's invariant: what is kept lies within the buffer, which has the length that it came with.
 -- The measure is the turns left. Assumes nothing.
-use mathlib.Core.Path.{_≡_, refl, _∙_}
+use mathlib.Core.Path.{_≡_}
 use Prim.Native.Nat.{_≤_}
-use native.Mathlib.Omega.{arith}
 use borrow.Author.Needs.{needs}
 use lib.ListN.{length}
 use Rattle.desk.proofs.read_all.Statement.{statement}

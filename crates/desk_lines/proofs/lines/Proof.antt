@@ -6,11 +6,11 @@ use Prim.Native.Nat.{ℕ, _-_, _≤_}
 use native.Mathlib.Omega.{arith}
 use lib.ListN.{length, take, drop, length-drop}
 use lib.Seq.{length-take-le, take-all}
-use Rattle.decimal.specs.Put.{Put, put-as}
-use Rattle.desk_lines.specs.Answers.{met-refusal, met-answer}
-use Rattle.desk_lines.specs.Cut.{casePart, proposalPart}
-use Rattle.desk_lines.specs.Ends.{end-within}
-use Rattle.desk_lines.specs.Lines.{hourText, deskText}
+use Rattle.decimal.specs.Meaning.Put.{Put, put-as}
+use Rattle.desk_lines.specs.Steps.Answers.{met-refusal, met-answer}
+use Rattle.desk_lines.specs.Meaning.Cut.{casePart, proposalPart}
+use Rattle.desk_lines.specs.Steps.Ends.{end-within}
+use Rattle.desk_lines.specs.Meaning.Lines.{hourText, deskText}
 use borrow.Author.Needs.{needs}
 use Rattle.desk_lines.proofs.lines.Statement.{statement}
 use Rattle.desk_lines.proofs.lines.Tie as tie

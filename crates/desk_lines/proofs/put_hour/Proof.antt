@@ -3,9 +3,9 @@ use mathlib.Core.Path.{ap}
 use Prim.Native.Nat.{ℕ}
 use native.Mathlib.Omega.{arith}
 use lib.ListN.{length, length-append}
-use Rattle.decimal.specs.Put.{put-as, put-length, put-then}
-use Rattle.rules.specs.Report.{reportedPrice}
-use Rattle.desk_lines.specs.Lines.{priceLines, hourLines}
+use Rattle.decimal.specs.Meaning.Put.{put-as, put-length, put-then}
+use Rattle.rules.specs.Meaning.Report.{reportedPrice}
+use Rattle.desk_lines.specs.Meaning.Lines.{priceLines, hourLines}
 use borrow.Author.Needs.{needs}
 use Rattle.desk_lines.proofs.put_hour.Statement.{statement}
 use Rattle.desk_lines.proofs.put_hour.Tie as tie

@@ -5,15 +5,15 @@ use mathlib.Core.List.{List, _++_}
 use Prim.Native.Nat.{ℕ, _≤_}
 use native.Mathlib.Omega.{arith}
 use lib.ListN.{length, getD, replicate, length-append}
-use Rattle.decimal.specs.Put.{Put, put-as, put-length, put-then}
+use Rattle.decimal.specs.Meaning.Put.{Put, put-as, put-length, put-then}
 use Rattle.rows.specs.declared.Outcome.{Outcome}
-use Rattle.rules.specs.Layout.{reportRoom, reportZonesAt, zonePriceAt}
-use Rattle.rules.specs.Verdict.{outcome}
-use Rattle.rules.specs.Report.{reports, bufferAfter}
-use Rattle.desk_lines.specs.Lines.{verdictLine, hourText}
-use Rattle.desk_lines.specs.Read.{linesIn}
-use Rattle.desk_lines.specs.Judged.{one-line, all-lines, zones-within}
-use Rattle.desk_lines.specs.Room.{first-room, hour-room}
+use Rattle.rules.specs.Meaning.Layout.{reportRoom, reportZonesAt, zonePriceAt}
+use Rattle.rules.specs.Meaning.Verdict.{outcome}
+use Rattle.rules.specs.Meaning.Report.{reports, bufferAfter}
+use Rattle.desk_lines.specs.Meaning.Lines.{verdictLine, hourText}
+use Rattle.desk_lines.specs.Steps.Read.{linesIn}
+use Rattle.desk_lines.specs.Steps.Judged.{one-line, all-lines, zones-within}
+use Rattle.desk_lines.specs.Promised.Room.{first-room, hour-room}
 use borrow.Author.Needs.{needs}
 use Rattle.desk_lines.proofs.put_lines.Statement.{statement}
 use Rattle.desk_lines.proofs.put_lines.Tie as tie

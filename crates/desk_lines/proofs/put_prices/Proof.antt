@@ -3,10 +3,10 @@
 use mathlib.Core.Path.{_≡_, refl, ap}
 use Prim.Native.Nat.{ℕ, _-_, _≤_}
 use native.Mathlib.Omega.{arith}
-use Rattle.decimal.specs.Put.{Put, put-as, put-length, put-then}
-use Rattle.rules.specs.Report.{reportedPrice}
-use Rattle.desk_lines.specs.Lines.{priceLines}
-use Rattle.desk_lines.specs.Read.{prices-more, prices-within}
+use Rattle.decimal.specs.Meaning.Put.{Put, put-as, put-length, put-then}
+use Rattle.rules.specs.Meaning.Report.{reportedPrice}
+use Rattle.desk_lines.specs.Meaning.Lines.{priceLines}
+use Rattle.desk_lines.specs.Steps.Read.{prices-more, prices-within}
 use Rattle.desk_lines.proofs.put_prices.Statement.{statement}
 use Rattle.desk_lines.proofs.put_prices.Tie as tie
 

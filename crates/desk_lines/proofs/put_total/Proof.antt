@@ -3,10 +3,10 @@ use mathlib.Core.Path.{ap}
 use native.Mathlib.Omega.{arith}
 use lib.ListN.{length, length-append}
 use lib.IntN.{ℤ}
-use Rattle.decimal.specs.Text.{amountText}
-use Rattle.decimal.specs.Put.{Put, put-as, put-length, put-then}
+use Rattle.decimal.specs.Meaning.Text.{amountText}
+use Rattle.decimal.specs.Meaning.Put.{Put, put-as, put-length, put-then}
 use Rattle.integers.specs.Bytes.{i64At}
-use Rattle.desk_lines.specs.Lines.{totalLine}
+use Rattle.desk_lines.specs.Meaning.Lines.{totalLine}
 use borrow.Author.Needs.{needs}
 use Rattle.desk_lines.proofs.put_total.Statement.{statement}
 use Rattle.desk_lines.proofs.put_total.Tie as tie

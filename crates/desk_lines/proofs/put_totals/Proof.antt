@@ -1,8 +1,8 @@
 -- `desk_lines::put_totals` meets its contract: the five lines stand one after another, each where the one before ends. Assumes nothing.
 use native.Mathlib.Omega.{arith}
 use lib.ListN.{length-append}
-use Rattle.decimal.specs.Put.{put-length, put-then}
-use Rattle.desk_lines.specs.Lines.{totalLines}
+use Rattle.decimal.specs.Meaning.Put.{put-length, put-then}
+use Rattle.desk_lines.specs.Meaning.Lines.{totalLines}
 use borrow.Author.Needs.{needs}
 use Rattle.desk_lines.proofs.put_totals.Statement.{statement}
 use Rattle.desk_lines.proofs.put_totals.Tie as tie

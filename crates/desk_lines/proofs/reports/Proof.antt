@@ -3,7 +3,7 @@ use mathlib.Core.Path.{sym, ap}
 use mathlib.Core.Bool.{Bool, _||_}
 use lib.Dec.{eqb}
 use borrow.Author.Tests.{eq-eqb, ne-eqb}
-use Rattle.rules.specs.Report.{reports}
+use Rattle.rules.specs.Meaning.Report.{reports}
 use Rattle.desk_lines.proofs.reports.Statement.{statement}
 use Rattle.desk_lines.proofs.reports.Tie as tie
 

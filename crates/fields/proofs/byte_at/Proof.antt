@@ -1,7 +1,7 @@
 -- `fields::byte_at` meets its contract. Assumes nothing.
 use mathlib.Core.Path.{refl}
 use borrow.Author.Needs.{needs}
-use Rattle.rules.specs.Layout.{u8At}
+use Rattle.rules.specs.Meaning.Layout.{u8At}
 use Rattle.fields.proofs.byte_at.Statement.{statement}
 use Rattle.fields.proofs.byte_at.Tie as tie
 

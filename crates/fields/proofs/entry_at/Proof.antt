@@ -4,7 +4,7 @@ use borrow.Author.Needs.{needs}
 use mir.Syntax.{w32}
 use mir.Val.{toZ}
 use mir.Facts.{toZ-ofZ}
-use Rattle.rules.specs.Layout.{i32At}
+use Rattle.rules.specs.Meaning.Layout.{i32At}
 use Rattle.fields.proofs.entry_at.Statement.{statement}
 use Rattle.fields.proofs.entry_at.Tie as tie
 

@@ -1,7 +1,7 @@
 -- `fields::half_at` meets its contract: each byte is below 256, so nothing wraps. Assumes nothing.
 use native.Mathlib.Omega.{arith}
 use borrow.Author.Needs.{needs}
-use Rattle.rules.specs.Layout.{u16At}
+use Rattle.rules.specs.Meaning.Layout.{u16At}
 use Rattle.fields.proofs.half_at.Statement.{statement}
 use Rattle.fields.proofs.half_at.Tie as tie
 

@@ -1,7 +1,7 @@
 -- `fields::word_at` meets its contract: each byte is below 256, so nothing wraps. Assumes nothing.
 use native.Mathlib.Omega.{arith}
 use borrow.Author.Needs.{needs}
-use Rattle.rules.specs.Layout.{u32At}
+use Rattle.rules.specs.Meaning.Layout.{u32At}
 use Rattle.fields.proofs.word_at.Statement.{statement}
 use Rattle.fields.proofs.word_at.Tie as tie
 

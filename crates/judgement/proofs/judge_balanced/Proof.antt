@@ -5,19 +5,19 @@ use borrow.Author.Needs.{needs}
 use denote.Ref.{now}
 use lib.IntN.{ℤ, pos, _-ℤ_}
 use mir.Syntax.{w64}
-use Rattle.rows.specs.RowLaws.{row-found, row-clear, not-below, at-place, at-none, place-below}
-use Rattle.rules.specs.Passed.{case-sound, proposal-sound}
-use Rattle.rules.specs.Report.{reports}
+use Rattle.rows.specs.Promised.RowLaws.{row-found, row-clear, not-below, at-place, at-none, place-below}
+use Rattle.rules.specs.Steps.Passed.{case-sound, proposal-sound}
+use Rattle.rules.specs.Meaning.Report.{reports}
 use Rattle.proposal_file.specs.declared.Opening.{Opening}
 use Rattle.rows.specs.declared.Outcome.{Outcome}
 use Rattle.judgement.specs.Judged.{Judged, rowsFrom, rowAt, refused, same-rows}
 use lib.Dec.{nltb→le}
 use Rattle.integers.specs.Size.{near-fits, near-sub, near-pos, near-unsigned}
 use Rattle.integers.specs.Machine.{sfits-by}
-use Rattle.measures.specs.Limits.{partsInOne}
-use Rattle.rules.specs.Hour.{caseOf, planOf}
-use Rattle.rules.specs.Verdict.{clearingRows}
-use Rattle.rules.specs.Fits.{flow-in}
+use Rattle.measures.specs.Meaning.Limits.{partsInOne}
+use Rattle.rules.specs.Meaning.Hour.{caseOf, planOf}
+use Rattle.rules.specs.Meaning.Verdict.{clearingRows}
+use Rattle.rules.specs.Promised.Fits.{flow-in}
 use Rattle.clearing.specs.Stages.{FlowsIn}
 use Rattle.rows.specs.declared.Place.the-variants.{Nowhere}
 use Rattle.judgement.proofs.judge_balanced.Statement.{statement}

@@ -1,10 +1,10 @@
 -- `judgement::judge_readable` meets its contract: rows 9 to 14, and the rows after them. Assumes nothing.
 use mathlib.Core.Path.{sym, _∙_}
 use denote.Ref.{now}
-use Rattle.rules.specs.Hour.{caseOf, planOf, pricesOf}
-use Rattle.rows.specs.RowLaws.{lacks}
+use Rattle.rules.specs.Meaning.Hour.{caseOf, planOf, pricesOf}
+use Rattle.rows.specs.Promised.RowLaws.{lacks}
 use Rattle.judgement.specs.Judged.{proposalOn, refused, same-rows, first-refuses, first-passes, writes-no-report}
-use Rattle.rules.specs.Verdict.{proposalRows, clearingRows, proposalRefusal}
+use Rattle.rules.specs.Meaning.Verdict.{proposalRows, clearingRows, proposalRefusal}
 use Rattle.proposal_file.specs.Proposed.{opening-is, proposed-of, refused-of}
 use borrow.Author.Needs.{needs}
 use Rattle.judgement.proofs.judge_readable.Statement.{statement}

@@ -3,9 +3,9 @@ use mathlib.Core.Path.{sym, ap, _∙_}
 use Prim.Native.Nat.{ℕ}
 use borrow.Author.Needs.{needs}
 use Rattle.integers.specs.Ranges.{Range, outside}
-use Rattle.measures.specs.Held.{tenths-outside, tenths-held, ptdf-outside, ptdf-held}
-use Rattle.margin_sheet.specs.Entries.{ptdf-limit}
-use Rattle.margin_sheet.specs.Sheet.{limit}
+use Rattle.measures.specs.Steps.Held.{tenths-outside, tenths-held, ptdf-outside, ptdf-held}
+use Rattle.margin_sheet.specs.Steps.Entries.{ptdf-limit}
+use Rattle.margin_sheet.specs.Meaning.Sheet.{limit}
 use Rattle.margin_sheet.proofs.out_of_range.Statement.{statement}
 use Rattle.margin_sheet.proofs.out_of_range.Tie as tie
 

@@ -1,7 +1,7 @@
 -- `numerals::eight_other` meets its contract: the eight comparisons are the definition's. Assumes nothing.
 use mathlib.Core.Path.{refl}
 use borrow.Author.Needs.{needs}
-use Rattle.numerals.specs.Pieces.{eightOther}
+use Rattle.numerals.specs.Steps.Pieces.{eightOther}
 use Rattle.numerals.proofs.eight_other.Statement.{statement}
 use Rattle.numerals.proofs.eight_other.Tie as tie
 

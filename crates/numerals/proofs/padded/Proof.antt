@@ -3,10 +3,10 @@ use mathlib.Core.Path.{_≡_, refl, sym, ap, _∙_}
 use mathlib.Core.List.{[]}
 use Prim.Native.Nat.{ℕ, _+_, _*_, _-_, _≤_}
 use native.Mathlib.Omega.{arith}
-use Rattle.decimal.specs.Value.{valueFrom}
-use Rattle.numerals.specs.Numeral.{firstOf}
-use Rattle.numerals.specs.Capped.{cap, capped, capped-le}
-use Rattle.numerals.specs.Turns.{zero-more, no-zero}
+use Rattle.decimal.specs.Promised.Value.{valueFrom}
+use Rattle.numerals.specs.Meaning.Numeral.{firstOf}
+use Rattle.numerals.specs.Steps.Capped.{cap, capped, capped-le}
+use Rattle.numerals.specs.Steps.Turns.{zero-more, no-zero}
 use Rattle.numerals.proofs.padded.Statement.{statement}
 use Rattle.numerals.proofs.padded.Tie as tie
 

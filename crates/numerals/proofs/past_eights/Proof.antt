@@ -5,8 +5,8 @@ use native.Mathlib.Omega.{arith}
 use lib.ListN.{length, drop}
 use borrow.Author.Tests.{not-false}
 use Rattle.integers.specs.Ranges.{is-true}
-use Rattle.numerals.specs.Pieces.{eight-next}
-use Rattle.numerals.specs.Numeral.{before}
+use Rattle.numerals.specs.Steps.Pieces.{eight-next}
+use Rattle.numerals.specs.Meaning.Numeral.{before}
 use Rattle.numerals.proofs.past_eights.Statement.{statement}
 use Rattle.numerals.proofs.past_eights.Tie as tie
 

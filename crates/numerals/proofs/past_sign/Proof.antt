@@ -4,7 +4,7 @@ use mathlib.Core.Bool.{Bool, cond}
 use Prim.Native.Nat.{_+_}
 use native.Mathlib.Omega.{arith}
 use borrow.Author.Needs.{needs}
-use Rattle.numerals.specs.Numeral.{negative}
+use Rattle.numerals.specs.Meaning.Numeral.{negative}
 use Rattle.numerals.proofs.past_sign.Statement.{statement}
 use Rattle.numerals.proofs.past_sign.Tie as tie
 

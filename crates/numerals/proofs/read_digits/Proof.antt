@@ -6,8 +6,8 @@ use native.Mathlib.Omega.{arith}
 use borrow.Author.Needs.{needs}
 use borrow.Author.Tests.{not-true, not-false}
 use lib.ListN.{length}
-use Rattle.numerals.specs.Scan.{lead-other, lead-end}
-use Rattle.numerals.specs.Turns.{digit-least, DigitsSoFar, turn-counts, turn-past, turns-done}
+use Rattle.numerals.specs.Steps.Scan.{lead-other, lead-end}
+use Rattle.numerals.specs.Steps.Turns.{digit-least, DigitsSoFar, turn-counts, turn-past, turns-done}
 use Rattle.numerals.proofs.read_digits.Statement.{statement}
 use Rattle.numerals.proofs.read_digits.Tie as tie
 

@@ -1,7 +1,7 @@
 -- `numerals::starts_at` meets its contract. Assumes nothing.
 use mathlib.Core.Path.{sym}
 use borrow.Author.Needs.{needs}
-use Rattle.numerals.specs.Scan.{starts-here, starts-end}
+use Rattle.numerals.specs.Steps.Scan.{starts-here, starts-end}
 use Rattle.numerals.proofs.starts_at.Statement.{statement}
 use Rattle.numerals.proofs.starts_at.Tie as tie
 

@@ -1,7 +1,7 @@
 -- `numerals::stops_at` meets its contract. Assumes nothing.
 use mathlib.Core.Path.{sym}
 use borrow.Author.Needs.{needs}
-use Rattle.numerals.specs.Scan.{stops-here, stops-end}
+use Rattle.numerals.specs.Steps.Scan.{stops-here, stops-end}
 use Rattle.numerals.proofs.stops_at.Statement.{statement}
 use Rattle.numerals.proofs.stops_at.Tie as tie
 

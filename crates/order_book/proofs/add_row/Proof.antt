@@ -5,10 +5,10 @@ use lib.ListN.{length}
 use lib.IntN.{ℤ}
 use Rattle.integers.specs.Size.{Near}
 use Rattle.orders.specs.declared.Order.{Order}
-use Rattle.order_book.specs.Account.{badIn, rowOrder, counted, withRow, OrderIn}
+use Rattle.order_book.specs.Steps.Account.{badIn, rowOrder, counted, withRow, OrderIn}
 use Rattle.integers.specs.Ranges.{is-false}
 use Rattle.orders.specs.Admitted.{order-outside, order-held}
-use Rattle.order_book.specs.Steps.{added-by, order-in, counted-near, next-fits}
+use Rattle.order_book.specs.Steps.AccountLaws.{added-by, order-in, counted-near, next-fits}
 use borrow.Author.Needs.{needs}
 use Rattle.order_book.proofs.add_row.Statement.{statement}
 use Rattle.order_book.proofs.add_row.Tie as tie

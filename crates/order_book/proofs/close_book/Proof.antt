@@ -1,7 +1,7 @@
 -- `order_book::close_book` meets its contract: the sum counts where no refusal stands. Assumes nothing.
 use mathlib.Core.Path.{refl, _∙_}
 use borrow.Author.Tests.{eq-eqb, ne-eqb}
-use Rattle.order_book.specs.Steps.{closed-by}
+use Rattle.order_book.specs.Steps.AccountLaws.{closed-by}
 use borrow.Author.Needs.{needs}
 use Rattle.order_book.proofs.close_book.Statement.{statement}
 use Rattle.order_book.proofs.close_book.Tie as tie

@@ -1,15 +1,15 @@
 -- `order_book::first_price_outside` meets its contract. The loop's invariant: no price before `zone` is out of range. Assumes nothing.
 use mathlib.Core.Path.{_≡_, refl, sym, _∙_}
 use mathlib.Core.Option.{none}
-use Prim.Native.Nat.{ℕ, _-_, _<_, _≤_}
+use Prim.Native.Nat.{_-_, _≤_}
 use native.Mathlib.Omega.{arith}
 use lib.ListN.{length}
 use Rattle.integers.specs.Ranges.{outside}
-use Rattle.measures.specs.Limits as limits
-use Rattle.rules.specs.Book.{priceAt}
-use Rattle.rows.specs.Rows.{firstBelow}
-use Rattle.rows.specs.RowLaws.{first-here, first-later, first-nowhere}
-use Rattle.order_book.specs.Account.{firstPriceOutside}
+use Rattle.measures.specs.Meaning.Limits as limits
+use Rattle.rules.specs.Meaning.Book.{priceAt}
+use Rattle.rows.specs.Meaning.Rows.{firstBelow}
+use Rattle.rows.specs.Promised.RowLaws.{first-here, first-later, first-nowhere}
+use Rattle.order_book.specs.Steps.Account.{firstPriceOutside}
 use Rattle.order_book.proofs.first_price_outside.Statement.{statement}
 use Rattle.order_book.proofs.first_price_outside.Tie as tie
 

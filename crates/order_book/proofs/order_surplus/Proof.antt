@@ -2,13 +2,13 @@
 use mathlib.Core.Path.{_≡_, ap, sym, _∙_}
 use mathlib.Core.Bool.{false}
 use Rattle.integers.specs.Ranges.{outside, within}
-use Rattle.measures.specs.Limits as limits
-use Rattle.measures.specs.Held.{grains-outside, grains-held}
+use Rattle.measures.specs.Meaning.Limits as limits
+use Rattle.measures.specs.Steps.Held.{grains-outside, grains-held}
 use Rattle.orders.specs.Admitted.{surplusAt}
-use Rattle.rules.specs.Book.{priceAt}
+use Rattle.rules.specs.Meaning.Book.{priceAt}
 use borrow.Author.Needs.{needs}
 use Rattle.integers.specs.Ranges.{is-false}
-use Rattle.order_book.specs.Steps.{counted-by}
+use Rattle.order_book.specs.Steps.AccountLaws.{counted-by}
 use Rattle.order_book.proofs.order_surplus.Statement.{statement}
 use Rattle.order_book.proofs.order_surplus.Tie as tie
 

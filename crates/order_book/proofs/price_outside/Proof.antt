@@ -1,6 +1,6 @@
 -- `order_book::price_outside` meets its contract: the constructor's answer, read back as its test. Assumes nothing.
 use mathlib.Core.Path.{sym, _∙_}
-use Rattle.measures.specs.Held.{grains-outside, grains-held}
+use Rattle.measures.specs.Steps.Held.{grains-outside, grains-held}
 use borrow.Author.Needs.{needs}
 use Rattle.order_book.proofs.price_outside.Statement.{statement}
 use Rattle.order_book.proofs.price_outside.Tie as tie

@@ -2,8 +2,8 @@
 use mathlib.Core.Path.{ap, _∙_}
 use mir.Syntax.{w64}
 use mir.Facts.{toZ-ofZ}
-use Rattle.measures.specs.Limits as limits
-use Rattle.measures.specs.Held.{grainsIn}
+use Rattle.measures.specs.Meaning.Limits as limits
+use Rattle.measures.specs.Steps.Held.{grainsIn}
 use borrow.Author.Needs.{needs}
 use Rattle.order_book.proofs.zone_price.Statement.{statement}
 use Rattle.order_book.proofs.zone_price.Tie as tie

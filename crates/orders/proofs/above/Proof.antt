@@ -4,8 +4,8 @@ use mathlib.Core.Bool.{Bool}
 use native.Mathlib.Omega.{arith}
 use mir.Syntax.{w64}
 use Rattle.integers.specs.Size.{near-fits}
-use Rattle.rules.specs.Hour as rules
-use Rattle.rules.specs.Fits.{apart-prices}
+use Rattle.rules.specs.Meaning.Hour as rules
+use Rattle.rules.specs.Promised.Fits.{apart-prices}
 use Rattle.orders.proofs.above.Statement.{statement}
 use Rattle.orders.proofs.above.Tie as tie
 

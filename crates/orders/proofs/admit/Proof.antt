@@ -4,8 +4,8 @@ use mathlib.Core.Bool.{false}
 use borrow.Author.Tests.{le-leb, lt-leb, lt-ltb, le-ltb}
 use lib.IntN.{pos}
 use Rattle.integers.specs.Ranges.{outside}
-use Rattle.measures.specs.Limits as limits
-use Rattle.measures.specs.Held.{tenthsIn, tenths-outside, tenths-held, cents-outside, cents-held}
+use Rattle.measures.specs.Meaning.Limits as limits
+use Rattle.measures.specs.Steps.Held.{tenthsIn, tenths-outside, tenths-held, cents-outside, cents-held}
 use Rattle.orders.specs.Admitted.{orderOf, admitted-by}
 use Rattle.orders.specs.declared.OrderAnswer.the-variants.{Held}
 use borrow.Author.Needs.{needs}

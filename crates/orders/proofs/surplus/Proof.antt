@@ -7,10 +7,10 @@ use Rattle.integers.specs.Order.{positive}
 use Rattle.integers.specs.Ranges.{Within}
 use Rattle.integers.specs.Size.{near-fits, near-mul, near-within}
 use Rattle.integers.specs.Machine.{sfits-by}
-use Rattle.measures.specs.Limits.{grainsOf}
-use Rattle.measures.specs.Limits as limits
-use Rattle.rules.specs.Hour.{above}
-use Rattle.rules.specs.Fits.{in-grains, near-above, near-zone-price}
+use Rattle.measures.specs.Meaning.Limits.{grainsOf}
+use Rattle.measures.specs.Meaning.Limits as limits
+use Rattle.rules.specs.Meaning.Hour.{above}
+use Rattle.rules.specs.Promised.Fits.{in-grains, near-above, near-zone-price}
 use borrow.Author.Needs.{needs}
 use Rattle.orders.proofs.surplus.Statement.{statement}
 use Rattle.orders.proofs.surplus.Tie as tie

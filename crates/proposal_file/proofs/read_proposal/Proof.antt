@@ -2,7 +2,7 @@
 use mathlib.Core.Path.{sym, ap, _∙_}
 use borrow.Author.Needs.{needs}
 use lib.ListN.{drop}
-use Rattle.rows.specs.RowLaws.{field-fails}
+use Rattle.rows.specs.Promised.RowLaws.{field-fails}
 use Rattle.proposal_file.specs.declared.ProposalAnswer.the-variants.{Refused}
 use Rattle.proposal_file.specs.Answer.{openingOf, proposalBy, header-taken, header-refused}
 use Rattle.proposal_file.specs.Proposed.{rowsOf, rows-are}

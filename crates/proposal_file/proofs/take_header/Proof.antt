@@ -8,10 +8,10 @@ use borrow.Author.Needs.{needs}
 use borrow.Author.Tests.{lt-ltb, le-ltb}
 use lib.ListN.{length}
 use Rattle.integers.specs.Ranges.{outside}
-use Rattle.measures.specs.Limits as limits
-use Rattle.measures.specs.Held.{centsIn, cents-outside, cents-held}
+use Rattle.measures.specs.Meaning.Limits as limits
+use Rattle.measures.specs.Steps.Held.{centsIn, cents-outside, cents-held}
 use Rattle.measures.specs.declared.Raw.{Raw}
-use Rattle.rules.specs.Layout.{u16At, u32At, i32At, proposalVersion, shareIn, systemIn}
+use Rattle.rules.specs.Meaning.Layout.{u16At, u32At, i32At, proposalVersion, shareIn, systemIn}
 use Rattle.fields.specs.declared.Cursor.{Cursor}
 use Rattle.fields.specs.Walk.{raw, markAt, markField, halfField, wordField, signedField, Took}
 use Rattle.fields.specs.Walk as walk

@@ -3,7 +3,7 @@ use mathlib.Core.Path.{ap, _∙_}
 use native.Mathlib.Omega.{arith}
 use borrow.Author.Needs.{needs}
 use Rattle.measures.specs.declared.Tenths.{Tenths}
-use Rattle.rules.specs.Layout.{volumeIn}
+use Rattle.rules.specs.Meaning.Layout.{volumeIn}
 use Rattle.proposal_file.specs.Proposed.{number-inside}
 use Rattle.proposal_file.proofs.volume_at.Statement.{statement}
 use Rattle.proposal_file.proofs.volume_at.Tie as tie

@@ -3,7 +3,7 @@ use mathlib.Core.Path.{refl}
 use native.Mathlib.Omega.{arith}
 use lib.ListN.{length-set}
 use Rattle.integers.specs.Bytes.{bytesOf}
-use Rattle.rules.specs.Report.{headerBytes}
+use Rattle.rules.specs.Meaning.Report.{headerBytes}
 use borrow.Author.Needs.{needs}
 use Rattle.report.proofs.put_header.Statement.{statement}
 use Rattle.report.proofs.put_header.Tie as tie

@@ -7,7 +7,7 @@ use denote.Ref.{now}
 use lib.ListN.{length}
 use lib.Seq.{sets, length-sets}
 use Rattle.integers.specs.Bytes.{bytesOf, signed64}
-use Rattle.rules.specs.Report.{priceBytes}
+use Rattle.rules.specs.Meaning.Report.{priceBytes}
 use Rattle.report.specs.Written.{priceIn, next-price}
 use Rattle.report.proofs.put_prices.Statement.{statement}
 use Rattle.report.proofs.put_prices.Tie as tie

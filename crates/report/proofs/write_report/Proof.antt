@@ -2,7 +2,7 @@
 use mathlib.Core.Path.{_∙_}
 use denote.Ref.{now}
 use lib.Seq.{sets}
-use Rattle.rules.specs.Report.{totalBytes, priceBytes}
+use Rattle.rules.specs.Meaning.Report.{totalBytes, priceBytes}
 use Rattle.report.specs.Written.{totalsIn, priceIn, report-run}
 use borrow.Author.Needs.{needs}
 use Rattle.report.proofs.write_report.Statement.{statement}

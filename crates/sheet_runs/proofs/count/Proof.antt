@@ -1,7 +1,7 @@
 -- `sheet_runs::count` is safe and ends. Assumes nothing.
 use mathlib.Core.Path.{refl}
 use native.Mathlib.Omega.{arith}
-use Rattle.numerals.specs.Numeral.{isDigit}
+use Rattle.numerals.specs.Meaning.Numeral.{isDigit}
 use borrow.Author.Needs.{needs}
 use Rattle.sheet_runs.proofs.count.Statement.{statement}
 use Rattle.sheet_runs.proofs.count.Tie as tie

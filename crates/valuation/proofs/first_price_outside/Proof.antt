@@ -5,10 +5,10 @@ use Prim.Native.Nat.{_≤_, _-_}
 use native.Mathlib.Omega.{arith}
 use borrow.Author.Needs.{needs}
 use Rattle.integers.specs.Ranges.{outside}
-use Rattle.measures.specs.Limits as limits
-use Rattle.measures.specs.Held.{grains-outside, grains-held}
-use Rattle.rows.specs.Rows.{firstBelow}
-use Rattle.rows.specs.RowLaws.{first-here, first-later, first-nowhere}
+use Rattle.measures.specs.Meaning.Limits as limits
+use Rattle.measures.specs.Steps.Held.{grains-outside, grains-held}
+use Rattle.rows.specs.Meaning.Rows.{firstBelow}
+use Rattle.rows.specs.Promised.RowLaws.{first-here, first-later, first-nowhere}
 use Rattle.valuation.specs.Prices.{grainsAt}
 use Rattle.valuation.proofs.first_price_outside.Statement.{statement}
 use Rattle.valuation.proofs.first_price_outside.Tie as tie

@@ -53,8 +53,8 @@ use denote.Triple.Walked.{says, Stays, stay-none-slice, walkOf, Walks, ends-at, 
 use denote.Exit.{yes}
 use lib.IntN.{ℤ}
 use contract.Lifetimes.{Lfts}
-use Rattle.order_book.specs.Account.{closeOf, noOrder, accountAt}
-use Rattle.order_book.specs.Closing.{closing, ready}
+use Rattle.order_book.specs.Steps.Account.{closeOf, noOrder, accountAt}
+use Rattle.order_book.specs.Steps.Closing.{closing, ready}
 use Rattle.order_book.specs.declared.OrderRow.{OrderRow}
 use Rattle.order_book.specs.declared.Account.{Account}
 use Rattle.order_book.specs.declared.Surplus.{Surplus}

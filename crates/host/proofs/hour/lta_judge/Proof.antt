@@ -5,7 +5,7 @@ use denote.Ref.{now}
 use lib.ListN.{length}
 use native.Mathlib.Omega.{arith}
 use borrow.Author.Needs.{needs}
-use Rattle.rules.specs.Causes.{outcome-below}
+use Rattle.rules.specs.Promised.Causes.{outcome-below}
 use Rattle.rows.specs.declared.Outcome.{Outcome}
 use Rattle.host.proofs.hour.lta_judge.Statement.{statement}
 use Rattle.host.proofs.hour.lta_judge.Tie as tie

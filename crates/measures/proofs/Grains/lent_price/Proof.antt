@@ -1,8 +1,8 @@
 -- `measures::Grains::lent_price` meets its contract: 64 signed bits, held to the limits of a zone price. Assumes nothing.
 use mathlib.Core.Path.{ap, _∙_}
 use mir.Facts.{toZ-ofZ}
-use Rattle.measures.specs.Limits as limits
-use Rattle.measures.specs.Held.{grainsIn}
+use Rattle.measures.specs.Meaning.Limits as limits
+use Rattle.measures.specs.Steps.Held.{grainsIn}
 use borrow.Author.Needs.{needs}
 use Rattle.measures.proofs.Grains.lent_price.Statement.{statement}
 use Rattle.measures.proofs.Grains.lent_price.Tie as tie

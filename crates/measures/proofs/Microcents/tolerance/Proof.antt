@@ -3,12 +3,11 @@ use mathlib.Core.Path.{_≡_, ap, sym, _∙_}
 use native.Mathlib.Omega.{arith}
 use lib.IntN.{ℤ, pos, _*ℤ_}
 use mir.Syntax.{w64}
-use mir.Val.{SFits, toZ, ofZ}
+use mir.Val.{toZ, ofZ}
 use mir.Facts.{toZ-ofZ, toZ-pos}
-use Rattle.integers.specs.Machine.{sfits-by}
 use Rattle.integers.specs.Ranges.{range, outside}
-use Rattle.measures.specs.Limits.{microcentsOf, toleranceMoney}
-use Rattle.measures.specs.Held.{microcentsBy}
+use Rattle.measures.specs.Meaning.Limits.{microcentsOf, toleranceMoney}
+use Rattle.measures.specs.Steps.Held.{microcentsBy}
 use Rattle.measures.specs.declared.MicrocentsAnswer.the-variants.{Held as held}
 use borrow.Author.Needs.{needs}
 use Rattle.measures.proofs.Microcents.tolerance.Statement.{statement}
@@ -17,14 +16,11 @@ use Rattle.measures.proofs.Microcents.tolerance.Tie as tie
 cast-t3 : tie.Need-cast-t3
 cast-t3 c = search needs
 
-product : (c : tie.Start) → pos 1000000 *ℤ toZ w64 (c .args .cents) ≡ microcentsOf (pos (c .args .cents))
-product c = ap (λ (z : ℤ). pos 1000000 *ℤ z) (toZ-pos w64 (omega (arith, c .fits .cents .fits)))
+read : (c : tie.Start) → toZ w64 (c .args .cents) ≡ pos (c .args .cents)
+read c = toZ-pos w64 (omega (arith, c .fits .cents .fits))
 
 mul-t4 : tie.Need-mul-t4
-mul-t4 c = sfits-by w64 (product c) (record { sfits = omega (arith, c .fits .cents .fits) })
-
-money : (c : tie.Start) → toZ w64 (ofZ w64 (pos 1000000 *ℤ toZ w64 (c .args .cents))) ≡ microcentsOf (pos (c .args .cents))
-money c = toZ-ofZ (mul-t4 c) ∙ product c
+mul-t4 c = rw (read c) (record { sfits = omega (arith, c .fits .cents .fits) })
 
 raw-requires : tie.Need-raw-requires
 raw-requires c κs = search needs
@@ -37,6 +33,9 @@ raw-requires-3 c κs = search needs
 
 outside-requires : tie.Need-outside-requires
 outside-requires c κs = search needs
+
+money : (c : tie.Start) → toZ w64 (ofZ w64 (pos 1000000 *ℤ toZ w64 (c .args .cents))) ≡ microcentsOf (pos (c .args .cents))
+money c = toZ-ofZ (mul-t4 c) ∙ ap (λ (z : ℤ). pos 1000000 *ℤ z) (read c)
 
 tested : (c : tie.After-outside) → c .outside .result ≡ outside toleranceMoney (microcentsOf (pos (c .before .before .before .before .args .cents)))
 tested c =

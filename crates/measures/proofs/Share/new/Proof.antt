@@ -1,8 +1,8 @@
 -- `measures::Share::new` meets its contract: by the test of the range. Assumes nothing.
 use mathlib.Core.Path.{_≡_, ap, sym, _∙_}
 use Rattle.integers.specs.Ranges.{range, outside}
-use Rattle.measures.specs.Limits as limits
-use Rattle.measures.specs.Held.{shareBy}
+use Rattle.measures.specs.Meaning.Limits as limits
+use Rattle.measures.specs.Steps.Held.{shareBy}
 use Rattle.measures.specs.declared.ShareAnswer.the-variants.{Held as held}
 use borrow.Author.Needs.{needs}
 use Rattle.measures.proofs.Share.new.Statement.{statement}

@@ -5,8 +5,8 @@ use native.Mathlib.Omega.{arith}
 use lib.ListN.{length}
 use borrow.Author.Needs.{needs}
 use borrow.Author.Tests.{not-true, not-false}
-use Rattle.numerals.specs.Numeral.{negative}
-use Rattle.numerals.specs.Parts.{start-in, value-le, point-in, none-read, other-read, whole-read, held-le, point-none, point-other, point-read}
+use Rattle.numerals.specs.Meaning.Numeral.{negative}
+use Rattle.numerals.specs.Steps.Parts.{start-in, value-le, point-in, none-read, other-read, whole-read, held-le, point-none, point-other, point-read}
 use Rattle.numerals.proofs.TextCursor.number.Statement.{statement}
 use Rattle.numerals.proofs.TextCursor.number.Tie as tie
 

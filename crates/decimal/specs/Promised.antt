@@ -1,0 +1,3 @@
+-- WHAT HOLDS OF IT: the digits say the number, and how long a text can be
+pub mod Value
+pub mod Sizes

@@ -1,0 +1,4 @@
+-- THE PROOFS' MEANS
+pub mod Places
+pub mod Digits
+pub mod Complement

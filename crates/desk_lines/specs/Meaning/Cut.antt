@@ -1,0 +1,25 @@
+-- Where the desk cuts its input: the case, and at once the proposal. Assumes nothing.
+use mathlib.Core.Bool.{Bool, true, false, cond, _&&_}
+use mathlib.Core.List.{List}
+use mathlib.Core.Option.{Option, none, some}
+use Prim.Native.Nat.{ℕ}
+use lib.ListN.{length, take, drop}
+use lib.Dec.{leb}
+use Rattle.rules.specs.Meaning.Layout.{caseLength}
+use Rattle.rows.specs.declared.Outcome.{Outcome}
+use Rattle.case_header.specs.Answer.{headerRefusal}
+
+-- a header is good where none of rows 1 to 4 refuses it
+abbrev pub good : Option Outcome → Bool
+good (some o) = false
+good none = true
+
+-- once the header is good and enough bytes are there, the case is cut at its demanded length and the rest is the proposal; else all is the case
+unfoldable pub caseEnd : List ℕ → ℕ
+caseEnd input = cond (good (headerRefusal input) && leb (caseLength input) (length input)) (caseLength input) (length input)
+
+unfoldable pub casePart : List ℕ → List ℕ
+casePart input = take (caseEnd input) input
+
+unfoldable pub proposalPart : List ℕ → List ℕ
+proposalPart input = drop (caseEnd input) input

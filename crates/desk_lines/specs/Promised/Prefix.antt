@@ -1,0 +1,166 @@
+-- A long input is judged by its start. No legal hour has more than 9,870 + 2,573 = 12,443 bytes, so an input that has more is refused, and by the
+-- same number and index as any part of it from the start that has more. Assumes nothing.
+use mathlib.Core.Path.{_≡_, refl, sym, ap, _∙_}
+use mathlib.Core.Bool.{Bool, not, _&&_}
+use mathlib.Core.List.{List, [], _∷_}
+use mathlib.Core.Option.{Option, none, some}
+use Prim.Native.Nat.{ℕ, _+_, _*_, _≤_, _<_}
+use native.Mathlib.Omega.{arith}
+use native.Mathlib.Decide.{decLt}
+use borrow.Author.Tests.{le-ltb}
+use lib.ListN.{length, getD, take, drop, length-drop}
+use lib.Seq.{length-take-le, take-length, take-all, take-take, getD-take, getD-drop}
+use lib.Dec.{eqb}
+use lib.IntN.{pos}
+use Rattle.integers.specs.Ranges.{outside}
+use Rattle.measures.specs.Meaning.Limits as limits
+use Rattle.rules.specs.Meaning.Layout.{u8At, u16At, u32At, caseVersion, zonesIn, branchesIn, linksIn, ordersIn, toleranceIn, branchSize, caseLength, proposalVersion, proposalLength, zoneCounts, branchCounts, linkCounts, orderCounts}
+use Rattle.rules.specs.Meaning.Hour.{caseOf}
+use Rattle.rows.specs.declared.Outcome.{Outcome}
+use Rattle.rows.specs.Meaning.Rows.{Row, refusal, answer, once, field}
+use Rattle.rows.specs.Promised.RowLaws.{else-refusal}
+use Rattle.rules.specs.Meaning.Verdict.{differ, notMark, caseRows, caseRefusal}
+use Rattle.case_header.specs.Answer.{headerRefusal}
+use Rattle.desk_lines.specs.Meaning.Cut.{good, caseEnd, casePart, proposalPart}
+use Rattle.desk_lines.specs.Steps.Ends.{end-refused, end-good}
+use Rattle.desk_lines.specs.Steps.Header.{case-at-most, proposal-at-most}
+use Rattle.desk_lines.specs.Steps.Refused.{header-refused, long, too-long}
+use Rattle.desk_lines.specs.Meaning.Lines.{verdictLine, hourText, deskText}
+
+-- TWO FILES WITH THE SAME HEADER
+record SameHeader (s r : List ℕ) : Type 0 where
+  long : (14 ≤ length s) × (14 ≤ length r)
+  same : (k : ℕ) → k < 14 → getD s k 0 ≡ getD r k 0
+
+-- the header's rows, from its fields
+rowsBy : Bool → Bool → ℕ → ℕ → ℕ → ℕ → ℕ → ℕ → List Row
+rowsBy short mark version zones branches links orders tolerance =
+    once 1 short
+    ∷ once 2 mark
+    ∷ once 3 (differ version 1)
+    ∷ field 4 5 (outside zoneCounts (pos zones))
+    ∷ field 4 6 (outside branchCounts (pos branches))
+    ∷ field 4 7 (outside linkCounts (pos links))
+    ∷ field 4 8 (outside orderCounts (pos orders))
+    ∷ field 4 10 (outside limits.tolerance (pos tolerance))
+    ∷ []
+
+module _ (s r : List ℕ) (h : SameHeader s r) where
+  same-u8 : (k : ℕ) → k < 14 → u8At s k ≡ u8At r k
+  unfolding u8At
+  same-u8 k l = h .same k l
+
+  same-u16 : (k : ℕ) → k + 1 < 14 → u16At s k ≡ u16At r k
+  unfolding u16At
+  same-u16 k l = λ i. h .same k (omega arith) i + 256 * h .same (k + 1) l i
+
+  same-u32 : (k : ℕ) → k + 3 < 14 → u32At s k ≡ u32At r k
+  unfolding u32At
+  same-u32 k l = λ i. h .same k (omega arith) i + 256 * (h .same (k + 1) (omega arith) i + 256 * (h .same (k + 2) (omega arith) i + 256 * h .same (k + 3) l i))
+
+  same-refusal : headerRefusal s ≡ headerRefusal r
+  unfolding headerRefusal caseRows caseOf rowsBy notMark caseVersion zonesIn branchesIn linksIn ordersIn toleranceIn
+  same-refusal = λ i. refusal (rowsBy
+      ((le-ltb (length s) 14 (h .long .0) ∙ sym (le-ltb (length r) 14 (h .long .1))) i)
+      (not (eqb (same-u8 0 (omega arith) i) 76 && eqb (same-u8 1 (omega arith) i) 84 && eqb (same-u8 2 (omega arith) i) 67))
+      (same-u16 3 (omega arith) i)
+      (same-u8 5 (omega arith) i)
+      (same-u8 6 (omega arith) i)
+      (same-u8 7 (omega arith) i)
+      (same-u16 8 (omega arith) i)
+      (same-u32 10 (omega arith) i))
+
+  same-length : caseLength s ≡ caseLength r
+  unfolding caseLength branchSize zonesIn branchesIn linksIn ordersIn
+  same-length = λ i. 14 + same-u8 6 (omega arith) i * (4 + 4 * same-u8 5 (omega arith) i) + same-u8 7 (omega arith) i * 6 + same-u16 8 (omega arith) i * 10
+
+-- WHERE THE CASE ENDS, by its header
+refused-text : (s : List ℕ) (o : Outcome) → headerRefusal s ≡ some o → deskText s ≡ verdictLine o
+unfolding deskText casePart
+refused-text s o e = header-refused (casePart s) (proposalPart s) o (ap headerRefusal all ∙ e)
+  where
+    all : casePart s ≡ s
+    all = ap (λ (k : ℕ). take k s) (end-refused s o e) ∙ take-length s
+
+good-text : (s : List ℕ) (end : ℕ) → caseEnd s ≡ end → deskText s ≡ hourText (take end s) (drop end s)
+unfolding deskText casePart proposalPart
+good-text s end e = ap (λ (k : ℕ). hourText (take k s) (drop k s)) e
+
+-- AN INPUT LONGER THAN n, and its first n bytes
+module _ (n : ℕ) (input : List ℕ) (more : 12443 < n) (longer : n < length input) where
+  start-length : length (take n input) ≡ n
+  start-length = length-take-le n input (omega arith)
+
+  same-start : SameHeader (take n input) input
+  same-start = record { long = (omega (arith, start-length), omega arith); same = λ k l. getD-take n input k 0 (omega arith) }
+
+  module _ (good : headerRefusal input ≡ none) where
+    abbrev end : ℕ
+    end = caseLength input
+
+    end-in : (14 ≤ end) × (end ≤ 9870)
+    unfolding caseLength
+    end-in = (omega arith, case-at-most input good)
+
+    -- the same case
+    case-length : length (take end input) ≡ end
+    case-length = length-take-le end input (omega (arith, end-in .1))
+
+    case-header : SameHeader (take end input) input
+    case-header = record { long = (omega (arith, case-length, end-in .0), omega arith); same = λ k l. getD-take end input k 0 (omega (arith, end-in .0)) }
+
+    fewer : proposalLength (take end input) ≤ 2573
+    fewer = proposal-at-most (take end input) (same-refusal (take end input) input case-header ∙ good)
+
+    -- two proposals, both too long, with the same first bytes
+    abbrev whole : List ℕ
+    whole = drop end input
+
+    abbrev cut : List ℕ
+    cut = drop end (take n input)
+
+    byte : (k : ℕ) → k < 5 → getD cut k 0 ≡ getD whole k 0
+    byte k l = getD-drop end (take n input) k 0 ∙ getD-take n input (end + k) 0 (omega (arith, end-in .1)) ∙ sym (getD-drop end input k 0)
+
+    same-mark : notMark 76 84 80 cut ≡ notMark 76 84 80 whole
+    unfolding notMark u8At
+    same-mark = λ i. not (eqb (byte 0 (omega arith) i) 76 && eqb (byte 1 (omega arith) i) 84 && eqb (byte 2 (omega arith) i) 80)
+
+    same-version : proposalVersion cut ≡ proposalVersion whole
+    unfolding proposalVersion u16At
+    same-version = λ i. byte 3 (omega arith) i + 256 * byte 4 (omega arith) i
+
+    cut-longer : proposalLength (take end input) < length cut
+    cut-longer = omega (arith, fewer, length-drop end (take n input), start-length, end-in .1)
+
+    whole-longer : proposalLength (take end input) < length whole
+    whole-longer = omega (arith, fewer, length-drop end input, end-in .1)
+
+    same-hour : hourText (take end input) cut ≡ hourText (take end input) whole
+    same-hour =
+        too-long (take end input) cut cut-longer
+        ∙ (λ i. verdictLine (answer (else-refusal (caseRefusal (take end input)) (some (long (same-mark i) (differ (same-version i) 1))))))
+        ∙ sym (too-long (take end input) whole whole-longer)
+
+    cut-end : caseEnd (take n input) ≡ end
+    cut-end =
+        end-good (take n input) (same-refusal (take n input) input same-start ∙ good) (omega (arith, same-length (take n input) input same-start, start-length, end-in .1))
+        ∙ same-length (take n input) input same-start
+
+    when-good : deskText (take n input) ≡ deskText input
+    when-good =
+        good-text (take n input) end cut-end
+        ∙ ap (λ (s : List ℕ). hourText s cut) (take-take end n input (omega (arith, end-in .1)))
+        ∙ same-hour
+        ∙ sym (good-text input end (end-good input good (omega (arith, end-in .1))))
+
+  when-longer : deskText (take n input) ≡ deskText input
+  when-longer = by (headerRefusal input) refl
+    where
+      by : (x : Option Outcome) → headerRefusal input ≡ x → deskText (take n input) ≡ deskText input
+      by (some o) e = refused-text (take n input) o (same-refusal (take n input) input same-start ∙ e) ∙ sym (refused-text input o e)
+      by none e = when-good e
+
+-- THE DESK MAY STOP KEEPING BYTES after the first n, for any n above 12,443
+pub start-enough : (n : ℕ) (input : List ℕ) → 12443 < n → deskText (take n input) ≡ deskText input
+start-enough n input h = elim (decLt n (length input)) [ yes l ↦ when-longer n input h l | no g ↦ ap deskText (take-all n input (omega arith)) ]

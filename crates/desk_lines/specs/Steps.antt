@@ -1,0 +1,8 @@
+-- THE PROOFS' MEANS
+pub mod Ends
+pub mod Header
+pub mod Judged
+pub mod Refused
+pub mod Numbers
+pub mod Read
+pub mod Answers

@@ -1,0 +1,48 @@
+-- What is owed of the desk's text in a lent output, with too little room and with enough. Assumes nothing.
+use mathlib.Core.Path.{_≡_, sym, ap}
+use mathlib.Core.List.{List, []}
+use mathlib.Core.Option.{none, some}
+use Prim.Native.Nat.{ℕ, _≤_, _<_}
+use native.Mathlib.Omega.{arith}
+use borrow.Author.Tests.{lt-ltb, le-ltb}
+use lib.ListN.{length, take}
+use lib.Seq.{length-take-le}
+use Rattle.rows.specs.Meaning.Rows.{verdict, refusal}
+use Rattle.rows.specs.Promised.RowLaws.{field-fails, field-passes}
+use Rattle.output.specs.declared.Written.{Written}
+use Rattle.output.specs.Meaning.Output as output
+use Rattle.decimal.specs.Meaning.Put.{Put, put-length}
+use Rattle.desk_lines.specs.Meaning.Lines.{deskText}
+use Rattle.desk_lines.specs.Meaning.Printed.{deskRoom, deskRows, deskRefusal, deskOutcome, deskWritten, deskOutput}
+use Rattle.desk_lines.specs.Promised.Room.{desk-room}
+
+-- 31 with too little room, and with enough nothing
+pub refused-31 : (room : ℕ) → room < deskRoom → deskRefusal room ≡ some (verdict 31 0)
+unfolding deskRefusal deskRows
+refused-31 room h = field-fails 31 0 _ (lt-ltb room deskRoom h)
+
+pub past-31 : (room : ℕ) → deskRoom ≤ room → deskRefusal room ≡ none
+unfolding deskRefusal deskRows refusal
+past-31 room h = field-passes 31 0 [] (le-ltb room deskRoom h)
+
+-- number and index, length, every byte of the output; and the length lies within the output
+abbrev pub Met : List ℕ → List ℕ → Written → List ℕ → Type 0
+Met input out r after =
+    (verdict (r .number) (r .index) ≡ deskOutcome (length out))
+    × ((r .length ≡ length (deskWritten (length out) input))
+    × ((after ≡ deskOutput input out)
+    × ((r .length ≤ length after)
+    × (r .length ≡ length (take (r .length) after)))))
+
+module _ (input out : List ℕ) where
+  owed : {r : Written} {after : List ℕ} → output.Met (deskRefusal (length out)) (deskText input) out r after → r .length ≤ length after → Met input out r after
+  unfolding deskOutcome deskWritten deskOutput
+  owed m h = (m .0, (m .1 .0, (m .1 .1, (h, sym (length-take-le _ _ h)))))
+
+  pub met-refusal : {r : Written} → length out < deskRoom → r ≡ record { number = 31; index = 0; length = 0 } → Met input out r out
+  met-refusal h q = owed (output.met-refusal (deskText input) out (refused-31 (length out) h) q) (omega (arith, ap (λ (r : Written). r .length) q))
+
+  pub met-answer : {after : List ℕ} {m : ℕ} → deskRoom ≤ length out → Put out 0 (deskText input) after m → Met input out (record { number = 0; index = 0; length = m }) after
+  met-answer h p =
+      let room : length (deskText input) ≤ length out = omega (arith, desk-room input, h) in
+      owed (output.met-answer (deskText input) out (past-31 (length out) h) room (omega (arith, p .position)) (p .bytes)) (omega (arith, p .position, put-length p, room))

@@ -1,0 +1,2 @@
+-- THE MEANING, to be read beside request S-1
+pub mod Sheet

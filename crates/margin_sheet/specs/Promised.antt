@@ -1,0 +1,5 @@
+-- WHAT HOLDS OF IT
+pub mod Joined
+pub mod Causes
+pub mod Answered
+pub mod ReadBack

@@ -1,0 +1,2 @@
+-- THE MEANING: document 01's limits
+pub mod Limits

@@ -1,0 +1,2 @@
+-- WHAT A CONSTRUCTOR ANSWERS, by the limits
+pub mod Held

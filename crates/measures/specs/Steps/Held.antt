@@ -1,0 +1,132 @@
+-- What a constructor of a measure answers: the number held, or that it lies outside. Assumes nothing.
+use mathlib.Core.Path.{_≡_, refl, sym, _∙_}
+use mathlib.Core.Bool.{Bool, true, false, _||_}
+use Prim.Native.Nat.{ℕ, _*_}
+use native.Mathlib.Decide.{decLt}
+use native.Mathlib.Omega.{arith}
+use borrow.Author.Tests.{lt-ltb, le-ltb}
+use lib.Dec.{ltb}
+use lib.IntN.{ℤ, pos}
+use Rattle.integers.specs.Ranges.{Range, outside}
+use Rattle.measures.specs.Meaning.Limits.{microcentsOf, tolerance, toleranceMoney}
+use Rattle.measures.specs.declared.Tenths.{Tenths}
+use Rattle.measures.specs.declared.TenthsAnswer.{TenthsAnswer}
+use Rattle.measures.specs.declared.TenthsAnswer.the-variants as tenths
+use Rattle.measures.specs.declared.Cents.{Cents}
+use Rattle.measures.specs.declared.CentsAnswer.{CentsAnswer}
+use Rattle.measures.specs.declared.CentsAnswer.the-variants as cents
+use Rattle.measures.specs.declared.Grains.{Grains}
+use Rattle.measures.specs.declared.GrainsAnswer.{GrainsAnswer}
+use Rattle.measures.specs.declared.GrainsAnswer.the-variants as grains
+use Rattle.measures.specs.declared.Microcents.{Microcents}
+use Rattle.measures.specs.declared.MicrocentsAnswer.{MicrocentsAnswer}
+use Rattle.measures.specs.declared.MicrocentsAnswer.the-variants as microcents
+use Rattle.measures.specs.declared.Ptdf.{Ptdf}
+use Rattle.measures.specs.declared.PtdfAnswer.{PtdfAnswer}
+use Rattle.measures.specs.declared.PtdfAnswer.the-variants as ptdf
+use Rattle.measures.specs.declared.Share.{Share}
+use Rattle.measures.specs.declared.ShareAnswer.{ShareAnswer}
+use Rattle.measures.specs.declared.ShareAnswer.the-variants as share
+
+-- by the test that the number lies outside its range
+abbrev pub tenthsBy : ℤ → Bool → TenthsAnswer
+tenthsBy x true = tenths.Outside
+tenthsBy x false = tenths.Held (record { 0 = x })
+
+abbrev pub centsBy : ℤ → Bool → CentsAnswer
+centsBy x true = cents.Outside
+centsBy x false = cents.Held (record { 0 = x })
+
+abbrev pub grainsBy : ℤ → Bool → GrainsAnswer
+grainsBy x true = grains.Outside
+grainsBy x false = grains.Held (record { 0 = x })
+
+abbrev pub microcentsBy : ℤ → Bool → MicrocentsAnswer
+microcentsBy x true = microcents.Outside
+microcentsBy x false = microcents.Held (record { 0 = x })
+
+abbrev pub ptdfBy : ℤ → Bool → PtdfAnswer
+ptdfBy x true = ptdf.Outside
+ptdfBy x false = ptdf.Held (record { 0 = x })
+
+abbrev pub shareBy : ℤ → Bool → ShareAnswer
+shareBy x true = share.Outside
+shareBy x false = share.Held (record { 0 = x })
+
+abbrev pub tenthsIn : Range → ℤ → TenthsAnswer
+tenthsIn r x = tenthsBy x (outside r x)
+
+abbrev pub centsIn : Range → ℤ → CentsAnswer
+centsIn r x = centsBy x (outside r x)
+
+abbrev pub grainsIn : Range → ℤ → GrainsAnswer
+grainsIn r x = grainsBy x (outside r x)
+
+abbrev pub microcentsIn : Range → ℤ → MicrocentsAnswer
+microcentsIn r x = microcentsBy x (outside r x)
+
+abbrev pub ptdfIn : Range → ℤ → PtdfAnswer
+ptdfIn r x = ptdfBy x (outside r x)
+
+abbrev pub shareIn : Range → ℤ → ShareAnswer
+shareIn r x = shareBy x (outside r x)
+
+-- an answer read back: outside its range, or held
+pub tenths-outside : (x : ℤ) (b : Bool) → tenthsBy x b ≡ tenths.Outside → b ≡ true
+tenths-outside x true e = refl
+tenths-outside x false e = cc
+
+pub tenths-held : (x : ℤ) (b : Bool) (t : Tenths) → tenthsBy x b ≡ tenths.Held t → (b ≡ false) × (t .0 ≡ x)
+tenths-held x true t e = (cc, cc)
+tenths-held x false t e = (refl, cc)
+
+pub cents-outside : (x : ℤ) (b : Bool) → centsBy x b ≡ cents.Outside → b ≡ true
+cents-outside x true e = refl
+cents-outside x false e = cc
+
+pub cents-held : (x : ℤ) (b : Bool) (t : Cents) → centsBy x b ≡ cents.Held t → (b ≡ false) × (t .0 ≡ x)
+cents-held x true t e = (cc, cc)
+cents-held x false t e = (refl, cc)
+
+pub grains-outside : (x : ℤ) (b : Bool) → grainsBy x b ≡ grains.Outside → b ≡ true
+grains-outside x true e = refl
+grains-outside x false e = cc
+
+pub grains-held : (x : ℤ) (b : Bool) (t : Grains) → grainsBy x b ≡ grains.Held t → (b ≡ false) × (t .0 ≡ x)
+grains-held x true t e = (cc, cc)
+grains-held x false t e = (refl, cc)
+
+pub microcents-outside : (x : ℤ) (b : Bool) → microcentsBy x b ≡ microcents.Outside → b ≡ true
+microcents-outside x true e = refl
+microcents-outside x false e = cc
+
+pub microcents-held : (x : ℤ) (b : Bool) (t : Microcents) → microcentsBy x b ≡ microcents.Held t → (b ≡ false) × (t .0 ≡ x)
+microcents-held x true t e = (cc, cc)
+microcents-held x false t e = (refl, cc)
+
+pub ptdf-outside : (x : ℤ) (b : Bool) → ptdfBy x b ≡ ptdf.Outside → b ≡ true
+ptdf-outside x true e = refl
+ptdf-outside x false e = cc
+
+pub ptdf-held : (x : ℤ) (b : Bool) (t : Ptdf) → ptdfBy x b ≡ ptdf.Held t → (b ≡ false) × (t .0 ≡ x)
+ptdf-held x true t e = (cc, cc)
+ptdf-held x false t e = (refl, cc)
+
+pub share-outside : (x : ℤ) (b : Bool) → shareBy x b ≡ share.Outside → b ≡ true
+share-outside x true e = refl
+share-outside x false e = cc
+
+pub share-held : (x : ℤ) (b : Bool) (t : Share) → shareBy x b ≡ share.Held t → (b ≡ false) × (t .0 ≡ x)
+share-held x true t e = (cc, cc)
+share-held x false t e = (refl, cc)
+
+-- the tolerance's test in microcents is document 01's, in cents
+pub tolerance-tests : (n : ℕ) → outside toleranceMoney (microcentsOf (pos n)) ≡ outside tolerance (pos n)
+unfolding outside
+tolerance-tests n = λ j. (le-ltb (1000000 * n) 0 (omega arith) ∙ sym (le-ltb n 0 (omega arith))) j || greatest j
+  where
+    greatest : ltb 1000000000000000 (1000000 * n) ≡ ltb 1000000000 n
+    greatest = elim (decLt 1000000000 n) [
+      | yes h ↦ lt-ltb 1000000000000000 (1000000 * n) (omega arith) ∙ sym (lt-ltb 1000000000 n h)
+      | no g ↦ le-ltb 1000000000000000 (1000000 * n) (omega arith) ∙ sym (le-ltb 1000000000 n (omega arith))
+    ]

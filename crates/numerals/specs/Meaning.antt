@@ -1,0 +1,2 @@
+-- THE MEANING of a decimal number as text
+pub mod Numeral

@@ -1,0 +1,6 @@
+-- THE PROOFS' MEANS
+pub mod Scan
+pub mod Capped
+pub mod Pieces
+pub mod Turns
+pub mod Parts

@@ -1,0 +1,2 @@
+-- THE MEANING: the answer of a lent book
+pub mod Lent

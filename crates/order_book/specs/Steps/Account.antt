@@ -1,0 +1,94 @@
+-- The account of a lent book, row by row: what `open_book`, `add_row` and `close_book` give. That the account closed after the last row is the answer of
+-- document 01 is shown in Closing.antt. Assumes nothing.
+use mathlib.Core.Bool.{Bool, true, false, not, _||_}
+use mathlib.Core.List.{List}
+use mathlib.Core.Option.{Option, none, some}
+use Prim.Native.Nat.{ℕ, zero, suc, _+_, _*_, _<_}
+use lib.ListN.{length, getD}
+use lib.Dec.{eqb}
+use lib.IntN.{ℤ, pos, _+ℤ_}
+use Rattle.integers.specs.Ranges.{outside, Within}
+use Rattle.integers.specs.Size.{Near}
+use Rattle.integers.specs.Sums.{only}
+use Rattle.measures.specs.Meaning.Limits as limits
+use Rattle.orders.specs.Admitted.{orderOf, surplusAt}
+use Rattle.orders.specs.declared.Order.{Order}
+use Rattle.rules.specs.Meaning.Layout.{zoneCounts, orderCounts}
+use Rattle.rows.specs.Meaning.Rows.{firstBelow}
+use Rattle.rules.specs.Meaning.Verdict.{badRow}
+use Rattle.rules.specs.Meaning.Book.{priceAt}
+use Rattle.order_book.specs.declared.Account.{Account}
+use Rattle.order_book.specs.declared.OrderRow.{OrderRow}
+use Rattle.order_book.specs.declared.Surplus.{Surplus}
+
+-- no row taken yet
+abbrev pub newAccount : ℕ → ℕ → Account
+newAccount number index = record { number = number; index = index; taken = 0; sum = record { 0 = pos 0 } }
+
+-- refused by 4 or 8: no row changes it any more
+abbrev pub isFinal : Account → Bool
+isFinal a = not (eqb (a .number) 0 || eqb (a .number) 25)
+
+abbrev pub refusedRow : Account → Account
+refusedRow a = record { number = 8; index = a .taken; taken = a .taken; sum = a .sum }
+
+abbrev pub withRow : Account → ℤ → Account
+withRow a x = record { number = a .number; index = a .index; taken = a .taken + 1; sum = record { 0 = a .sum .0 +ℤ x } }
+
+-- OPENED: by the number of prices, the number of rows, and the first price out of range
+unfoldable pub firstPriceOutside : List ℤ → Option ℕ
+firstPriceOutside prices = firstBelow (length prices) (λ z. outside limits.zonePrice (priceAt prices z))
+
+abbrev pub openBy : Bool → Bool → Option ℕ → Account
+openBy true b z = newAccount 4 5
+openBy false true z = newAccount 4 8
+openBy false false (some z) = newAccount 25 z
+openBy false false none = newAccount 0 0
+
+abbrev pub openOf : ℕ → List ℤ → Account
+openOf count prices = openBy (outside zoneCounts (pos (length prices))) (outside orderCounts (pos count)) (firstPriceOutside prices)
+
+-- ONE ROW MORE: its order's surplus counts where the zone's price is in range
+abbrev pub counted : Order → List ℤ → ℤ
+counted o prices = only (not (outside limits.zonePrice (priceAt prices (o .zone)))) (surplusAt o (priceAt prices (o .zone)))
+
+abbrev pub badIn : List ℤ → OrderRow → Bool
+badIn prices o = badRow (length prices) (o .zone) (o .side) (o .quantity) (o .price)
+
+abbrev pub rowOrder : OrderRow → Order
+rowOrder o = orderOf (o .zone) (o .side) (pos (o .quantity)) (o .price)
+
+abbrev pub addBy : Account → Bool → Bool → ℤ → Account
+addBy a true bad x = a
+addBy a false true x = refusedRow a
+addBy a false false x = withRow a x
+
+abbrev pub addOf : Account → OrderRow → List ℤ → Account
+addOf a o prices = addBy a (isFinal a) (badIn prices o) (counted (rowOrder o) prices)
+
+-- CLOSED: a refusal's sum is 0
+abbrev pub answered : ℕ → ℕ → ℤ → Surplus
+answered number index sum = record { number = number; index = index; sum = record { 0 = sum } }
+
+abbrev pub closeOf : Account → Surplus
+closeOf a = answered (a .number) (a .index) (only (eqb (a .number) 0) (a .sum .0))
+
+-- what stands for a row past the last; nothing reads it
+abbrev pub noOrder : OrderRow
+noOrder = record { zone = 0; side = 0; quantity = 0; price = pos 0 }
+
+-- after the first i rows
+unfoldable pub accountAt : List OrderRow → List ℤ → ℕ → Account
+accountAt orders prices zero = openOf (length orders) prices
+accountAt orders prices (suc i) = addOf (accountAt orders prices i) (getD orders i noOrder) prices
+
+-- an order of a row that is in range, with `zones` prices
+pub record OrderIn (zones : ℕ) (o : Order) : Type 0 where
+  pub zone-in : o .zone < zones
+  pub quantity-in : Within limits.quantity (o .quantity .0)
+  pub price-in : Within limits.orderPrice (o .price .0)
+
+-- room for one row more: a surplus is at most 4.5e15, and 512 of them are far below 2 ^ 63
+pub record Ready (a : Account) : Type 0 where
+  pub taken-in : a .taken < 512
+  pub sum-near : Near (a .taken * 4500000000000000) (a .sum .0)

@@ -1,0 +1,69 @@
+-- What each step on an account gives, by the tests passed on the way; what a row that is in range leaves; and that its surplus keeps the sum small.
+-- Assumes nothing.
+use mathlib.Core.Path.{_≡_, refl, ap, sym, _∙_}
+use mathlib.Core.Bool.{Bool, true, false, not}
+use mathlib.Core.List.{List}
+use mathlib.Core.Option.{Option}
+use Prim.Native.Nat.{ℕ}
+use native.Mathlib.Omega.{arith}
+use lib.Dec.{T, leb, ltb, nleb→lt, eqb}
+use lib.ListN.{length}
+use lib.IntN.{ℤ, pos, _+ℤ_}
+use mir.Syntax.{w64}
+use mir.Val.{SFits}
+use Rattle.integers.specs.Ranges.{outside, within, nat-within, is-false}
+use Rattle.integers.specs.Size.{Near, near-le, near-pos, near-add, near-fits}
+use Rattle.integers.specs.Sums.{only}
+use Rattle.measures.specs.Meaning.Limits as limits
+use Rattle.orders.specs.Admitted.{surplusAt}
+use Rattle.orders.specs.declared.Order.{Order}
+use Rattle.orders.specs.declared.OrderAnswer.the-variants.{Outside}
+use Rattle.rules.specs.Meaning.Layout.{zoneCounts, orderCounts}
+use Rattle.rules.specs.Meaning.Hour.{surplusOf}
+use Rattle.rows.specs.Meaning.Rows.{anyBelow}
+use Rattle.rules.specs.Meaning.Verdict.{rowFault, badRow}
+use Rattle.rules.specs.Steps.Passed.{nor-4}
+use Rattle.rules.specs.Promised.Fits.{surplus-near}
+use Rattle.rules.specs.Meaning.Book.{priceAt}
+use Rattle.order_book.specs.declared.Account.{Account}
+use Rattle.order_book.specs.declared.OrderRow.{OrderRow}
+use Rattle.order_book.specs.Steps.Account.{openBy, openOf, firstPriceOutside, counted, badIn, rowOrder, isFinal, addBy, addOf, answered, closeOf, OrderIn, Ready}
+
+pub opened-by : (count : ℕ) (prices : List ℤ) {a b : Bool} {z : Option ℕ} → outside zoneCounts (pos (length prices)) ≡ a → outside orderCounts (pos count) ≡ b → firstPriceOutside prices ≡ z
+    → openBy a b z ≡ openOf count prices
+opened-by count prices ha hb hz = sym (λ j. openBy (ha j) (hb j) (hz j))
+
+pub added-by : (a : Account) (o : OrderRow) (prices : List ℤ) {s b : Bool} → isFinal a ≡ s → badIn prices o ≡ b → addBy a s b (counted (rowOrder o) prices) ≡ addOf a o prices
+added-by a o prices hs hb = sym (λ j. addBy a (hs j) (hb j) (counted (rowOrder o) prices))
+
+pub closed-by : (a : Account) {b : Bool} {x : ℤ} → eqb (a .number) 0 ≡ b → x ≡ only b (a .sum .0) → answered (a .number) (a .index) x ≡ closeOf a
+closed-by a hb hx = ap (answered (a .number) (a .index)) (hx ∙ ap (λ (b : Bool). only b (a .sum .0)) (sym hb))
+
+pub counted-by : (o : Order) (prices : List ℤ) {b : Bool} → outside limits.zonePrice (priceAt prices (o .zone)) ≡ b → only (not b) (surplusAt o (priceAt prices (o .zone))) ≡ counted o prices
+counted-by o prices h = sym (ap (λ (b : Bool). only (not b) (surplusAt o (priceAt prices (o .zone)))) h)
+
+module _ (prices : List ℤ) (o : OrderRow) (ok : T (not (badIn prices o))) where
+  tests : T (not (leb (length prices) (o .zone))) × T (not (ltb 1 (o .side))) × T (not (outside limits.quantity (pos (o .quantity)))) × T (not (outside limits.orderPrice (o .price)))
+  unfolding badRow rowFault anyBelow
+  tests = nor-4 (leb (length prices) (o .zone)) (ltb 1 (o .side)) (outside limits.quantity (pos (o .quantity))) (outside limits.orderPrice (o .price)) ok
+
+  pub order-in : OrderIn (length prices) (rowOrder o)
+  order-in = record {
+    zone-in = nleb→lt (length prices) (o .zone) (tests .0);
+    quantity-in = within limits.quantity (pos (o .quantity)) (tests .2);
+    price-in = within limits.orderPrice (o .price) (tests .3);
+  }
+
+  -- rule 8 of the row where its zone's price is in range
+  at-price : (b : Bool) → outside limits.zonePrice (priceAt prices (o .zone)) ≡ b → Near 4500000000000000 (only (not b) (surplusAt (rowOrder o) (priceAt prices (o .zone))))
+  unfolding surplusOf
+  at-price true e = near-le (omega arith) (near-pos 0)
+  at-price false e = surplus-near (eqb (o .side) 0) (o .quantity) (o .price) (priceAt prices (o .zone)) ((nat-within 1 100000 (o .quantity) (tests .2)) .1) (order-in .price-in)
+      (within limits.zonePrice _ (is-false e))
+
+  pub counted-near : Near 4500000000000000 (counted (rowOrder o) prices)
+  counted-near = at-price (outside limits.zonePrice (priceAt prices (o .zone))) refl
+
+-- with one row more the sum fits
+pub next-fits : (a : Account) (x : ℤ) → Ready a → Near 4500000000000000 x → SFits w64 (a .sum .0 +ℤ x)
+next-fits a x r n = near-fits w64 (omega (arith, r .taken-in)) (near-add (r .sum-near) n)

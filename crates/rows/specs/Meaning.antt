@@ -1,0 +1,2 @@
+-- THE MEANING of a table of causes
+pub mod Rows

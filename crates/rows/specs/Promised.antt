@@ -1,0 +1,3 @@
+-- WHAT HOLDS of every such table: what is answered is the first row that fails, and nothing for another cause
+pub mod RowLaws
+pub mod InFileOrder

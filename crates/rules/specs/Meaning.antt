@@ -1,0 +1,10 @@
+-- THE MEANING, to be read beside document 01 as the requests amend it, in this order; Annex and AnnexPromise beside appendices A and B of Annex 14.29
+pub mod Layout
+pub mod Hour
+pub mod Clearing
+pub mod Verdict
+pub mod Report
+pub mod Promise
+pub mod Book
+pub mod Annex
+pub mod AnnexPromise

@@ -1,0 +1,136 @@
+-- The verdict table of document 01, as request S-2 amends it: a row for each cause, in the table's own order, and the judgement's outcome.
+-- Every test has a value on any bytes; its value counts only where the rows before it passed. Assumes nothing.
+use mathlib.Core.Path.{_≡_}
+use mathlib.Core.Bool.{Bool, not, _&&_, _||_}
+use mathlib.Core.List.{List, [], _∷_, _++_}
+use mathlib.Core.Option.{Option, none}
+use Prim.Native.Nat.{ℕ, zero, suc, _+_}
+use lib.ListN.{length}
+use lib.Dec.{eqb, leb, ltb}
+use lib.IntN.{ℤ, pos}
+use lib.Signed.{ltZ}
+use Rattle.integers.specs.Ranges.{outside, isZero}
+use Rattle.measures.specs.Meaning.Limits as limits
+use Rattle.rules.specs.Meaning.Layout.{u8At, caseHeader, caseVersion, caseLength, proposalHeader, proposalVersion, proposalLength, zoneCounts, branchCounts, linkCounts, orderCounts, reportRoom, branchFieldAt, linkFields, linkFieldAt, orderFields, orderFieldAt, shadowAt}
+use Rattle.rules.specs.Meaning.Hour.{Case, Plan, Prices, caseOf, planOf, pricesOf, netSum, broken, brokenZ, linkRule, branchRule, zonePrice, gap}
+use Rattle.rows.specs.declared.Outcome.{Outcome}
+use Rattle.rows.specs.Meaning.Rows.{Row, anyBelow, refusal, answer, once, field, each, eachAt, eachField}
+
+abbrev pub under : ℕ → ℕ → Bool
+under least x = ltb x least
+
+abbrev pub over : ℕ → ℕ → Bool
+over greatest x = ltb greatest x
+
+abbrev pub overZ : ℤ → ℤ → Bool
+overZ greatest x = ltZ greatest x
+
+abbrev pub differ : ℕ → ℕ → Bool
+differ x y = not (eqb x y)
+
+-- the first three bytes are not the mark
+unfoldable pub notMark : ℕ → ℕ → ℕ → List ℕ → Bool
+notMark a b e s = not (eqb (u8At s 0) a && eqb (u8At s 1) b && eqb (u8At s 2) e)
+
+-- no zone below n
+abbrev pub unknown : ℕ → ℕ → Bool
+unknown n zone = leb n zone
+
+-- ROWS 6 TO 8, FIELD BY FIELD (S-2): whether field n of a row is at fault.
+-- branch m: its margin, then one PTDF per zone
+unfoldable pub branchFault : Case → ℕ → ℕ → Bool
+branchFault c m zero = outside limits.margin (c .ram m)
+branchFault c m (suc z) = outside limits.ptdf (c .ptdf m z)
+
+-- the same ordered pair as an earlier link
+unfoldable pub repeated : Case → ℕ → Bool
+repeated c l = anyBelow l (λ k. eqb (c .from k) (c .from l) && eqb (c .to k) (c .to l))
+
+-- link l: from (unknown zone, repeated pair), to (unknown zone, equal zones), capacity
+unfoldable pub linkFault : Case → ℕ → ℕ → Bool
+linkFault c l zero = unknown (c .zones) (c .from l) || repeated c l
+linkFault c l (suc zero) = unknown (c .zones) (c .to l) || eqb (c .from l) (c .to l)
+linkFault c l (suc (suc n)) = outside limits.capacity (pos (c .capacity l))
+
+-- a row of an order book, with n zones: zone, side, quantity, price
+unfoldable pub rowFault : ℕ → ℕ → ℕ → ℕ → ℤ → ℕ → Bool
+rowFault n zone side quantity price zero = unknown n zone
+rowFault n zone side quantity price (suc zero) = over 1 side
+rowFault n zone side quantity price (suc (suc zero)) = outside limits.quantity (pos quantity)
+rowFault n zone side quantity price (suc (suc (suc k))) = outside limits.orderPrice price
+
+unfoldable pub orderFault : Case → ℕ → ℕ → Bool
+orderFault c i = rowFault (c .zones) (c .zone i) (c .side i) (c .quantity i) (c .price i)
+
+-- a row of a lent book is refused where a field of it is at fault
+unfoldable pub badRow : ℕ → ℕ → ℕ → ℕ → ℤ → Bool
+badRow n zone side quantity price = anyBelow orderFields (rowFault n zone side quantity price)
+
+-- THE TABLE, for a case s, a proposal t and a report buffer of `room` bytes; c, p and d are what s and t hold.
+-- 30 is asked first of all: report buffer under 176 bytes
+unfoldable pub roomRows : ℕ → List Row
+roomRows room = once 30 (under reportRoom room) ∷ []
+
+unfoldable pub caseRows : List ℕ → Case → List Row
+caseRows s c =
+    -- case shorter than 14 bytes; mark is not LTC; case version is not 1
+    once 1 (under caseHeader (length s))
+    ∷ once 2 (notMark 76 84 67 s)
+    ∷ once 3 (differ (caseVersion s) 1)
+    -- header field outside its range: its offset
+    ∷ field 4 5 (outside zoneCounts (pos (c .zones)))
+    ∷ field 4 6 (outside branchCounts (pos (c .branches)))
+    ∷ field 4 7 (outside linkCounts (pos (c .links)))
+    ∷ field 4 8 (outside orderCounts (pos (c .orders)))
+    ∷ field 4 10 (outside limits.tolerance (pos (c .tolerance)))
+    -- case length is not what the header demands
+    ∷ once 5 (differ (length s) (caseLength s))
+    -- branch field out of range; link: unknown zone, equal zones, capacity, repeated pair; order field out of range: the first such field's offset (S-2)
+    ∷ eachField 6 (c .branches) (1 + c .zones) (branchFault c) (branchFieldAt s)
+    ∷ eachField 7 (c .links) linkFields (linkFault c) (linkFieldAt s)
+    ∷ eachField 8 (c .orders) orderFields (orderFault c) (orderFieldAt s)
+    ∷ []
+
+unfoldable pub proposalRows : List ℕ → List ℕ → Case → Plan → Prices → List Row
+proposalRows s t c p d =
+    -- proposal shorter than 13 bytes; mark is not LTP; proposal version is not 1; proposal length wrong for this case
+    once 9 (under proposalHeader (length t))
+    ∷ once 10 (notMark 76 84 80 t)
+    ∷ once 11 (differ (proposalVersion t) 1)
+    ∷ once 12 (differ (length t) (proposalLength s))
+    -- LTA share above 100,000; shadow price above 1,000,000: its offset in the proposal (S-2)
+    ∷ once 13 (outside limits.share (pos (p .share)))
+    ∷ eachAt 14 (c .branches) (λ m. outside limits.shadowPrice (pos (d .shadow m))) (shadowAt s)
+    ∷ []
+
+unfoldable pub clearingRows : Case → Plan → Prices → List Row
+clearingRows c p d =
+    -- volume above the order's quantity
+    each 21 (c .orders) (λ i. over (c .quantity i) (p .volume i))
+    -- balance (rule 3), link rule (4), branch rule (5) fails
+    ∷ once 22 (not (isZero (netSum c p)))
+    ∷ each 23 (c .links) (λ l. broken (linkRule c p l))
+    ∷ each 24 (c .branches) (λ m. brokenZ (branchRule c p m))
+    -- zone price under -50,000 or over 400,000 cents
+    ∷ each 25 (c .zones) (λ z. outside limits.zonePrice (zonePrice c d z))
+    -- gap above tolerance (in microcents)
+    ∷ once 26 (overZ (limits.microcentsOf (pos (c .tolerance))) (gap c p d))
+    ∷ []
+
+unfoldable pub table : List ℕ → List ℕ → ℕ → Case → Plan → Prices → List Row
+table s t room c p d = roomRows room ++ (caseRows s c ++ (proposalRows s t c p d ++ clearingRows c p d))
+
+-- the judgement's answer
+unfoldable pub outcome : List ℕ → List ℕ → ℕ → Outcome
+outcome s t room = answer (refusal (table s t room (caseOf s) (planOf s t) (pricesOf s t)))
+
+-- READABLE: none of 1 to 8 holds
+unfoldable pub caseRefusal : List ℕ → Option Outcome
+caseRefusal s = refusal (caseRows s (caseOf s))
+
+pub record Readable (s : List ℕ) : Type 0 where
+  pub none-holds : caseRefusal s ≡ none
+
+-- for a readable case s, the refusal of a proposal t by 9 to 14
+unfoldable pub proposalRefusal : List ℕ → List ℕ → Option Outcome
+proposalRefusal s t = refusal (proposalRows s t (caseOf s) (planOf s t) (pricesOf s t))

@@ -1,0 +1,14 @@
+-- WHAT HOLDS of the meaning, for every case, proposal and buffer
+-- the demands
+pub mod Guarantee
+pub mod Reported
+pub mod Fits
+pub mod Gap
+-- the verdict table: its order, its causes, its fields
+pub mod Causes
+pub mod PlainFacts
+pub mod RefusedField
+pub mod FieldByField
+pub mod IndexChange
+-- in the terms of Annex 14.29
+pub mod Annex

@@ -1,0 +1,133 @@
+-- The verdict table: its numbers in the order asked, that a refusal is given for its cause and for no other, and that no cause asked earlier holds.
+-- Assumes nothing.
+use mathlib.Core.Path.{_≡_, refl, sym, ap, _∙_, subst}
+use mathlib.Core.Bool.{Bool, true, false}
+use mathlib.Core.List.{List, [], _∷_}
+use mathlib.Core.Option.{Option, none, some}
+use Prim.Native.Nat.{ℕ, _<_}
+use native.Mathlib.Omega.{arith}
+use lib.ListN.{getD, drop}
+use lib.Dec.{T}
+use lib.Signed.{_<ℤ_, ltZ-yes}
+use lib.IntN.{ℤ, pos}
+use Rattle.measures.specs.Meaning.Limits as limits
+use Rattle.rules.specs.Meaning.Hour.{Case, Plan, Prices, caseOf, planOf, pricesOf, gap}
+use Rattle.rows.specs.declared.Outcome.{Outcome}
+use Rattle.rows.specs.Meaning.Rows.{Row, verdict, refusal, answer, unnamed, at-offset, the-place, a-field, Asked, ask, Asks, ascending}
+use Rattle.rows.specs.Promised.RowLaws.{Pass, empty, Answered, answered, Soonest, soonest, lacks, numbersBelow, number-below, isRow, rowOf, hasRow, before, row-passed, row-passes, field-passes, later}
+use Rattle.rules.specs.Meaning.Book.{BookRow, bookRows, bookRefusal, bookSurplus, bookAnswer, bookAnswerBy}
+use Rattle.rules.specs.Meaning.Verdict.{overZ, roomRows, caseRows, proposalRows, clearingRows, table, outcome}
+
+-- 30 is asked first of all, then the others from the smallest number, and of one number from the smallest offset
+unfoldable pub asked : List Asked
+asked =
+    ask 30 unnamed
+    ∷ ask 1 unnamed
+    ∷ ask 2 unnamed
+    ∷ ask 3 unnamed
+    ∷ ask 4 (at-offset 5)
+    ∷ ask 4 (at-offset 6)
+    ∷ ask 4 (at-offset 7)
+    ∷ ask 4 (at-offset 8)
+    ∷ ask 4 (at-offset 10)
+    ∷ ask 5 unnamed
+    ∷ ask 6 a-field
+    ∷ ask 7 a-field
+    ∷ ask 8 a-field
+    ∷ ask 9 unnamed
+    ∷ ask 10 unnamed
+    ∷ ask 11 unnamed
+    ∷ ask 12 unnamed
+    ∷ ask 13 unnamed
+    ∷ ask 14 a-field
+    ∷ ask 21 the-place
+    ∷ ask 22 unnamed
+    ∷ ask 23 the-place
+    ∷ ask 24 the-place
+    ∷ ask 25 the-place
+    ∷ ask 26 unnamed
+    ∷ []
+
+pub after-30-ascending : T (ascending (drop 1 asked))
+unfolding asked ascending
+after-30-ascending = tt
+
+pub table-order : (s t : List ℕ) (room : ℕ) (c : Case) (p : Plan) (d : Prices) → Asks (table s t room c p d) asked
+unfolding table roomRows caseRows proposalRows clearingRows asked
+table-order s t room c p d = (refl, (λ k. refl, (refl, (λ k. refl, (refl, (λ k. refl, (refl, (λ k. refl, (refl, (λ k. refl, (refl, (λ k. refl, (refl, (λ k. refl, (refl, (λ k. refl, (refl, (λ k. refl, (refl, (λ k. refl, (refl, (tt, (refl, (tt, (refl, (tt, (refl, (λ k. refl, (refl, (λ k. refl, (refl, (λ k. refl, (refl, (λ k. refl, (refl, (λ k. refl, (refl, (tt, (refl, (λ k. refl, (refl, (λ k. refl, (refl, (λ k. refl, (refl, (λ k. refl, (refl, (λ k. refl, (refl, (λ k. refl, tt))))))))))))))))))))))))))))))))))))))))))))))))))
+
+-- the clearing's rows end in 26 only by its own row: were it to pass, with those before it, nothing would be refused
+by-26 : (c : Case) (p : Plan) (d : Prices) → (answer (refusal (clearingRows c p d))) .number ≡ 26
+    → (b : Bool) → overZ (limits.microcentsOf (pos (c .tolerance))) (gap c p d) ≡ b → T (overZ (limits.microcentsOf (pos (c .tolerance))) (gap c p d))
+unfolding clearingRows before hasRow rowOf isRow refusal
+by-26 c p d e true q = subst (λ (b : Bool). T b) (sym q) tt
+by-26 c p d e false q = absurd (differ (ap (λ (o : Option Outcome). (answer o) .number)
+    (row-passes _ (rest 1) (passed 21 0 tt) ∙ row-passes _ (rest 2) (passed 22 0 tt) ∙ row-passes _ (rest 3) (passed 23 0 tt) ∙ row-passes _ (rest 4) (passed 24 0 tt)
+    ∙ row-passes _ (rest 5) (passed 25 0 tt) ∙ field-passes 26 0 [] q)))
+  where
+    rest : ℕ → List Row
+    rest n = drop n (clearingRows c p d)
+
+    passed : (i k : ℕ) → T (hasRow i k (before 26 (clearingRows c p d))) → Pass (rowOf i k (clearingRows c p d))
+    passed = row-passed 26 (clearingRows c p d) e
+
+    differ : (answer (refusal (clearingRows c p d))) .number ≡ 0 → ⊥
+    differ z = omega (arith, e, z)
+
+module _ (s t : List ℕ) (room : ℕ) where
+  abbrev rows : List Row
+  rows = table s t room (caseOf s) (planOf s t) (pricesOf s t)
+
+  -- 0 IF AND ONLY IF EVERY ROW PASSES at every place; else the first row that fails, at its first place. So nothing is returned for another cause.
+  pub outcome-answered : Answered rows (outcome s t room)
+  unfolding outcome table roomRows caseRows proposalRows clearingRows lacks
+  outcome-answered = answered rows tt
+
+  -- a cause that holds, in row j at place k, is not asked before the outcome's: rows by their position in `asked`, then places from the first
+  pub outcome-first : (j k : ℕ) → k < (getD rows j empty) .places → T ((getD rows j empty) .fails k) → Soonest rows (outcome s t room) j k
+  unfolding outcome
+  outcome-first j k h f = soonest rows j k h f
+
+  -- the answer 0 has index 0
+  pub accepted-is : (outcome s t room) .number ≡ 0 → outcome s t room ≡ verdict 0 0
+  accepted-is e = outcome-answered .passes-zero (outcome-answered .zero-passes e)
+
+  -- a number is below 256, so number + 256 * index has both
+  pub outcome-below : (outcome s t room) .number < 256
+  unfolding outcome table roomRows caseRows proposalRows clearingRows numbersBelow
+  outcome-below = number-below 256 rows (omega arith) tt
+
+  -- 26: the gap is above the tolerance
+  pub over-tolerance : (outcome s t room) .number ≡ 26 → limits.microcentsOf (pos ((caseOf s) .tolerance)) <ℤ gap (caseOf s) (planOf s t) (pricesOf s t)
+  unfolding outcome table roomRows caseRows proposalRows lacks
+  over-tolerance e =
+      let a = later 26 (roomRows room) _ tt e in
+      let b = later 26 (caseRows s (caseOf s)) _ tt (a .then-second) in
+      let f = later 26 (proposalRows s t (caseOf s) (planOf s t) (pricesOf s t)) _ tt (b .then-second) in
+      ltZ-yes (by-26 (caseOf s) (planOf s t) (pricesOf s t) (f .then-second) (overZ (limits.microcentsOf (pos ((caseOf s) .tolerance))) (gap (caseOf s) (planOf s t) (pricesOf s t))) refl)
+
+-- THE LENT BOOK, whose refusals are rows of the same kind
+unfoldable pub bookAsked : List Asked
+bookAsked = ask 4 (at-offset 5) ∷ ask 4 (at-offset 8) ∷ ask 8 the-place ∷ ask 25 the-place ∷ []
+
+pub book-order : (rows : List BookRow) (prices : List ℤ) → Asks (bookRows rows prices) bookAsked
+unfolding bookRows bookAsked
+book-order rows prices = (refl, (λ k. refl, (refl, (λ k. refl, (refl, (λ k. refl, (refl, (λ k. refl, tt))))))))
+
+pub book-ascending : T (ascending bookAsked)
+unfolding bookAsked ascending
+book-ascending = tt
+
+-- 0 if and only if no row refuses, else the first that does, at its first place
+pub book-answered : (rows : List BookRow) (prices : List ℤ) → Answered (bookRows rows prices) (answer (bookRefusal rows prices))
+unfolding bookRefusal bookRows lacks
+book-answered rows prices = answered (bookRows rows prices) tt
+
+-- and the answer is that outcome, with the sum of rule 8 where nothing refuses, and zero where something does
+pub book-outcome : (rows : List BookRow) (prices : List ℤ) → verdict ((bookAnswer rows prices) .number) ((bookAnswer rows prices) .index) ≡ answer (bookRefusal rows prices)
+unfolding bookAnswer
+book-outcome rows prices = by (bookRefusal rows prices)
+  where
+    by : (o : Option Outcome) → verdict ((bookAnswerBy (bookSurplus rows prices) o) .number) ((bookAnswerBy (bookSurplus rows prices) o) .index) ≡ answer o
+    by (some o) = refl
+    by none = refl

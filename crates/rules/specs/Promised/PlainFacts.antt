@@ -1,0 +1,196 @@
+-- READABLE IN PLAIN FACTS, both ways: a case is readable if and only if its lengths, ranges and links are these, and a proposal passes 9 to 14 for it if and
+-- only if its are. A link's reverse pair is free: nothing here forbids it. Assumes nothing.
+use mathlib.Core.Path.{_≡_, _∙_}
+use mathlib.Core.Logic.{_≢_}
+use mathlib.Core.Bool.{Bool, true, false, not, _&&_}
+use mathlib.Core.List.{List}
+use mathlib.Core.Option.{none}
+use Prim.Native.Nat.{ℕ, zero, suc, _+_, _≤_, _<_}
+use native.Mathlib.Omega.{arith}
+use lib.ListN.{length, getD, drop}
+use lib.Dec.{T, eqb, leb, ltb, eqb→eq, eqb-refl, leb→le, ltb→lt, nltb→le, T-not, not-T}
+use lib.IntN.{pos}
+use Rattle.integers.specs.Ranges.{Within, inside, nat-within, nat-inside, nor-right, nor-both, and-both, and-left, and-right, is-false}
+use Rattle.measures.specs.Meaning.Limits as limits
+use Rattle.rules.specs.Meaning.Layout.{u8At, caseVersion, zonesIn, branchesIn, linksIn, ordersIn, toleranceIn, ramIn, ptdfIn, fromIn, toIn, capacityIn, zoneIn, sideIn, quantityIn, priceIn, caseLength, proposalVersion, shareIn, shadowIn, proposalLength, linkFields, orderFields}
+use Rattle.rules.specs.Meaning.Hour.{caseOf, planOf, pricesOf}
+use Rattle.rows.specs.Meaning.Rows.{Row, anyBelow, refusal}
+use Rattle.rows.specs.Promised.RowLaws.{Pass, empty, all-pass, any-none, no-place, row-passes}
+use Rattle.rules.specs.Meaning.Verdict.{unknown, notMark, branchFault, repeated, linkFault, rowFault, orderFault, caseRows, proposalRows, Readable, caseRefusal, proposalRefusal}
+use Rattle.rules.specs.Steps.Passed.{not-not, case-sound, case-length, case-pairs, proposal-sound, proposal-length}
+
+pub record CaseFacts (s : List ℕ) : Type 0 where
+  pub header-there : 14 ≤ length s
+  -- LTC
+  pub mark-is : (u8At s 0 ≡ 76) × ((u8At s 1 ≡ 84) × (u8At s 2 ≡ 67))
+  pub version-is : caseVersion s ≡ 1
+  pub zones-in : (1 ≤ zonesIn s) × (zonesIn s ≤ 16)
+  pub branches-in : branchesIn s ≤ 64
+  pub links-in : linksIn s ≤ 64
+  pub orders-in : ordersIn s ≤ 512
+  pub tolerance-in : toleranceIn s ≤ 1000000000
+  pub length-is : length s ≡ caseLength s
+  pub margin-in : (m : ℕ) → m < branchesIn s → Within limits.margin (ramIn s m)
+  pub ptdf-in : (m z : ℕ) → m < branchesIn s → z < zonesIn s → Within limits.ptdf (ptdfIn s m z)
+  pub from-in : (l : ℕ) → l < linksIn s → fromIn s l < zonesIn s
+  pub to-in : (l : ℕ) → l < linksIn s → toIn s l < zonesIn s
+  pub zones-differ : (l : ℕ) → l < linksIn s → fromIn s l ≢ toIn s l
+  pub capacity-in : (l : ℕ) → l < linksIn s → capacityIn s l ≤ 100000
+  pub pair-once : (k l : ℕ) → k < l → l < linksIn s → fromIn s k ≡ fromIn s l → toIn s k ≢ toIn s l
+  pub zone-in : (i : ℕ) → i < ordersIn s → zoneIn s i < zonesIn s
+  pub side-in : (i : ℕ) → i < ordersIn s → sideIn s i ≤ 1
+  pub quantity-in : (i : ℕ) → i < ordersIn s → (1 ≤ quantityIn s i) × (quantityIn s i ≤ 100000)
+  pub price-in : (i : ℕ) → i < ordersIn s → Within limits.orderPrice (priceIn s i)
+
+pub record ProposalFacts (s t : List ℕ) : Type 0 where
+  pub header-there : 13 ≤ length t
+  -- LTP
+  pub mark-is : (u8At t 0 ≡ 76) × ((u8At t 1 ≡ 84) × (u8At t 2 ≡ 80))
+  pub version-is : proposalVersion t ≡ 1
+  pub length-is : length t ≡ proposalLength s
+  pub share-in : shareIn t ≤ 100000
+  pub shadow-in : (m : ℕ) → m < branchesIn s → shadowIn s t m ≤ 1000000
+
+-- TESTS AND WHAT THEY SAY
+yes-not-not : (b : Bool) → T b → T (not (not b))
+yes-not-not true t = tt
+yes-not-not false t = absurd t
+
+eq-eqb : (a b : ℕ) → a ≡ b → T (eqb a b)
+eq-eqb a b e = rw e (eqb-refl b)
+
+le-nltb : (m n : ℕ) → n ≤ m → T (not (ltb m n))
+le-nltb m n h = not-T (ltb m n) (λ t. never (ltb→lt m n t))
+  where
+    never : m < n → ⊥
+    never l = omega arith
+
+lt-nleb : (m n : ℕ) → n < m → T (not (leb m n))
+lt-nleb m n h = not-T (leb m n) (λ t. never (leb→le m n t))
+  where
+    never : m ≤ n → ⊥
+    never l = omega arith
+
+marked : (a b e : ℕ) (s : List ℕ) → T (not (notMark a b e s)) → (u8At s 0 ≡ a) × ((u8At s 1 ≡ b) × (u8At s 2 ≡ e))
+unfolding notMark
+marked a b e s t =
+    let all = not-not (eqb (u8At s 0) a && eqb (u8At s 1) b && eqb (u8At s 2) e) t in
+    let two = and-left (eqb (u8At s 0) a && eqb (u8At s 1) b) (eqb (u8At s 2) e) all in (
+      eqb→eq (u8At s 0) a (and-left (eqb (u8At s 0) a) (eqb (u8At s 1) b) two),
+      (eqb→eq (u8At s 1) b (and-right (eqb (u8At s 0) a) (eqb (u8At s 1) b) two), eqb→eq (u8At s 2) e (and-right (eqb (u8At s 0) a && eqb (u8At s 1) b) (eqb (u8At s 2) e) all)),
+    )
+
+mark-passes : (a b e : ℕ) (s : List ℕ) → (u8At s 0 ≡ a) × ((u8At s 1 ≡ b) × (u8At s 2 ≡ e)) → T (not (notMark a b e s))
+unfolding notMark
+mark-passes a b e s h = yes-not-not (eqb (u8At s 0) a && eqb (u8At s 1) b && eqb (u8At s 2) e)
+    (and-both (eqb (u8At s 0) a && eqb (u8At s 1) b) (eqb (u8At s 2) e)
+    (and-both (eqb (u8At s 0) a) (eqb (u8At s 1) b) (eq-eqb (u8At s 0) a (h .0)) (eq-eqb (u8At s 1) b (h .1 .0))) (eq-eqb (u8At s 2) e (h .1 .1)))
+
+-- A CASE
+pub case-facts : (s : List ℕ) → Readable s → CaseFacts s
+unfolding caseRefusal caseRows caseOf linkFault
+case-facts s r =
+    let ok = case-sound s r in
+    record {
+      header-there = nltb→le (length s) 14 ((row 0) .pass 0 (omega arith));
+      mark-is = marked 76 84 67 s ((row 1) .pass 0 (omega arith));
+      version-is = eqb→eq (caseVersion s) 1 (not-not (eqb (caseVersion s) 1) ((row 2) .pass 0 (omega arith)));
+      zones-in = ok .zones-in;
+      branches-in = ok .branches-in;
+      links-in = ok .links-in;
+      orders-in = ok .orders-in;
+      tolerance-in = ok .tolerance-in;
+      length-is = case-length s r;
+      margin-in = ok .ram-in;
+      ptdf-in = ok .ptdf-in;
+      from-in = ok .placed .from-in;
+      to-in = ok .placed .to-in;
+      zones-differ = λ l h e. T-not (eqb (fromIn s l) (toIn s l)) (nor-right (unknown (zonesIn s) (toIn s l)) _ (no-place linkFields (linkFault (caseOf s) l) ((row 10) .pass l h) 1 (omega arith))) (eq-eqb (fromIn s l) (toIn s l) e);
+      capacity-in = ok .capacity-in;
+      pair-once = λ k l h i e f. differ k l h ((case-pairs s r) .once k l (omega (arith, h, i)) i e f);
+      zone-in = ok .placed .zone-in;
+      side-in = ok .side-in;
+      quantity-in = λ i h. nat-within 1 100000 (quantityIn s i) (inside limits.quantity (pos (quantityIn s i)) (ok .quantity-within i h));
+      price-in = ok .price-in;
+    }
+  where
+    row : (j : ℕ) → Pass (getD (caseRows s (caseOf s)) j empty)
+    row = all-pass (caseRows s (caseOf s)) (r .none-holds)
+
+    differ : (k l : ℕ) → k < l → k ≡ l → ⊥
+    differ k l h e = omega arith
+
+-- no field of a row at fault, where none of its tests holds
+none-at-fault : (w : ℕ) (f : ℕ → Bool) → ((n : ℕ) → n < w → T (not (f n))) → T (not (anyBelow w f))
+none-at-fault w f h = is-false (any-none w f h)
+
+module _ (s : List ℕ) (f : CaseFacts s) where
+  branch-passes : (m : ℕ) → m < branchesIn s → (n : ℕ) → n < 1 + zonesIn s → T (not (branchFault (caseOf s) m n))
+  unfolding branchFault caseOf
+  branch-passes m h zero k = inside limits.margin (ramIn s m) (f .margin-in m h)
+  branch-passes m h (suc z) k = inside limits.ptdf (ptdfIn s m z) (f .ptdf-in m z h (omega (arith, k)))
+
+  link-passes : (l : ℕ) → l < linksIn s → (n : ℕ) → n < linkFields → T (not (linkFault (caseOf s) l n))
+  unfolding linkFault repeated caseOf
+  link-passes l h zero k = nor-both (unknown (zonesIn s) (fromIn s l)) _ (lt-nleb (zonesIn s) (fromIn s l) (f .from-in l h)) (none-at-fault l _ (λ i g.
+      not-T (eqb (fromIn s i) (fromIn s l) && eqb (toIn s i) (toIn s l)) (λ t. f .pair-once i l g h
+      (eqb→eq (fromIn s i) (fromIn s l) (and-left (eqb (fromIn s i) (fromIn s l)) (eqb (toIn s i) (toIn s l)) t)) (eqb→eq (toIn s i) (toIn s l) (and-right (eqb (fromIn s i) (fromIn s l)) (eqb (toIn s i) (toIn s l)) t)))))
+  link-passes l h (suc zero) k = nor-both (unknown (zonesIn s) (toIn s l)) (eqb (fromIn s l) (toIn s l)) (lt-nleb (zonesIn s) (toIn s l) (f .to-in l h))
+      (not-T (eqb (fromIn s l) (toIn s l)) (λ t. f .zones-differ l h (eqb→eq (fromIn s l) (toIn s l) t)))
+  link-passes l h (suc (suc n)) k = nat-inside 0 100000 (capacityIn s l) (omega arith) (f .capacity-in l h)
+
+  order-passes : (i : ℕ) → i < ordersIn s → (n : ℕ) → n < orderFields → T (not (orderFault (caseOf s) i n))
+  unfolding orderFault rowFault caseOf
+  order-passes i h zero k = lt-nleb (zonesIn s) (zoneIn s i) (f .zone-in i h)
+  order-passes i h (suc zero) k = le-nltb 1 (sideIn s i) (f .side-in i h)
+  order-passes i h (suc (suc zero)) k = nat-inside 1 100000 (quantityIn s i) ((f .quantity-in i h) .0) ((f .quantity-in i h) .1)
+  order-passes i h (suc (suc (suc n))) k = inside limits.orderPrice (priceIn s i) (f .price-in i h)
+
+  pub facts-readable : Readable s
+  unfolding caseRefusal caseRows caseOf refusal
+  facts-readable = record {
+    none-holds =
+        row-passes _ (rest 1) (record { pass = λ k h. le-nltb (length s) 14 (f .header-there) })
+        ∙ row-passes _ (rest 2) (record { pass = λ k h. mark-passes 76 84 67 s (f .mark-is) })
+        ∙ row-passes _ (rest 3) (record { pass = λ k h. yes-not-not (eqb (caseVersion s) 1) (eq-eqb (caseVersion s) 1 (f .version-is)) })
+        ∙ row-passes _ (rest 4) (record { pass = λ k h. nat-inside 1 16 (zonesIn s) ((f .zones-in) .0) ((f .zones-in) .1) })
+        ∙ row-passes _ (rest 5) (record { pass = λ k h. nat-inside 0 64 (branchesIn s) (omega arith) (f .branches-in) })
+        ∙ row-passes _ (rest 6) (record { pass = λ k h. nat-inside 0 64 (linksIn s) (omega arith) (f .links-in) })
+        ∙ row-passes _ (rest 7) (record { pass = λ k h. nat-inside 0 512 (ordersIn s) (omega arith) (f .orders-in) })
+        ∙ row-passes _ (rest 8) (record { pass = λ k h. nat-inside 0 1000000000 (toleranceIn s) (omega arith) (f .tolerance-in) })
+        ∙ row-passes _ (rest 9) (record { pass = λ k h. yes-not-not (eqb (length s) (caseLength s)) (eq-eqb (length s) (caseLength s) (f .length-is)) })
+        ∙ row-passes _ (rest 10) (record { pass = λ m h. none-at-fault (1 + zonesIn s) (branchFault (caseOf s) m) (branch-passes m h) })
+        ∙ row-passes _ (rest 11) (record { pass = λ l h. none-at-fault linkFields (linkFault (caseOf s) l) (link-passes l h) })
+        ∙ row-passes _ (rest 12) (record { pass = λ i h. none-at-fault orderFields (orderFault (caseOf s) i) (order-passes i h) });
+  }
+    where
+      rest : ℕ → List Row
+      rest n = drop n (caseRows s (caseOf s))
+
+-- A PROPOSAL for the case s
+pub proposal-facts : (s t : List ℕ) → proposalRefusal s t ≡ none → ProposalFacts s t
+unfolding proposalRefusal proposalRows caseOf planOf pricesOf
+proposal-facts s t e = record {
+  header-there = nltb→le (length t) 13 ((row 0) .pass 0 (omega arith));
+  mark-is = marked 76 84 80 t ((row 1) .pass 0 (omega arith));
+  version-is = eqb→eq (proposalVersion t) 1 (not-not (eqb (proposalVersion t) 1) ((row 2) .pass 0 (omega arith)));
+  length-is = proposal-length s t e;
+  share-in = (proposal-sound s t e) .share-in;
+  shadow-in = (proposal-sound s t e) .shadow-in;
+}
+  where
+    row : (j : ℕ) → Pass (getD (proposalRows s t (caseOf s) (planOf s t) (pricesOf s t)) j empty)
+    row = all-pass (proposalRows s t (caseOf s) (planOf s t) (pricesOf s t)) e
+
+pub facts-pass : (s t : List ℕ) → ProposalFacts s t → proposalRefusal s t ≡ none
+unfolding proposalRefusal proposalRows caseOf planOf pricesOf refusal
+facts-pass s t f =
+    row-passes _ (rest 1) (record { pass = λ k h. le-nltb (length t) 13 (f .header-there) })
+    ∙ row-passes _ (rest 2) (record { pass = λ k h. mark-passes 76 84 80 t (f .mark-is) })
+    ∙ row-passes _ (rest 3) (record { pass = λ k h. yes-not-not (eqb (proposalVersion t) 1) (eq-eqb (proposalVersion t) 1 (f .version-is)) })
+    ∙ row-passes _ (rest 4) (record { pass = λ k h. yes-not-not (eqb (length t) (proposalLength s)) (eq-eqb (length t) (proposalLength s) (f .length-is)) })
+    ∙ row-passes _ (rest 5) (record { pass = λ k h. nat-inside 0 100000 (shareIn t) (omega arith) (f .share-in) })
+    ∙ row-passes _ (rest 6) (record { pass = λ m h. nat-inside 0 1000000 (shadowIn s t m) (omega arith) (f .shadow-in m h) })
+  where
+    rest : ℕ → List Row
+    rest n = drop n (proposalRows s t (caseOf s) (planOf s t) (pricesOf s t))

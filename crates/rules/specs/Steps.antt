@@ -1,0 +1,4 @@
+-- THE PROOFS' MEANS: nobody need believe or read these
+pub mod LayoutLaws
+pub mod Duality
+pub mod Passed
