@@ -1,7 +1,9 @@
 //! The desk's printing: cuts an input, judges it and gives the lines.
 
 use crate::judge::judge;
-use crate::limits::{LEAST_BUFFER, LEAST_OUTPUT};
+use crate::limits::{
+    LEAST_BUFFER, LEAST_OUTPUT, REPORT_FIELD, REPORT_HEADER, REPORT_TOTALS, REPORT_ZONES_AT,
+};
 use crate::read::Case;
 use crate::OutputAnswer;
 use std::io::Write;
@@ -38,10 +40,14 @@ pub fn desk_lines(input: &[u8]) -> Vec<u8> {
     };
     line(format_args!("verdict {} {}", verdict.number, verdict.index));
     if verdict.number == 0 || verdict.number == 26 {
-        let zones = usize::from(report[6]);
+        let zones = usize::from(report[REPORT_ZONES_AT]);
         let value = |n: usize| {
-            let at = 8 + 8 * n;
-            i64::from_le_bytes(report[at..at + 8].try_into().expect("eight bytes"))
+            let at = REPORT_HEADER + REPORT_FIELD * n;
+            i64::from_le_bytes(
+                report[at..at + REPORT_FIELD]
+                    .try_into()
+                    .expect("eight bytes"),
+            )
         };
         for (n, name) in ["welfare", "bound", "gap", "rent", "owed"]
             .iter()
@@ -50,7 +56,8 @@ pub fn desk_lines(input: &[u8]) -> Vec<u8> {
             line(format_args!("{name} {}", amount(value(n), MONEY)));
         }
         for z in 0..zones {
-            line(format_args!("price {z} {}", amount(value(5 + z), PRICE)));
+            let price = value(REPORT_TOTALS + z);
+            line(format_args!("price {z} {}", amount(price, PRICE)));
         }
     }
     lines

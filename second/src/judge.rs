@@ -214,7 +214,7 @@ fn decide(
         _ => 0,
     };
     let totals = match build {
-        Build::AcceptsWithZeroTotals => [0; 5],
+        Build::AcceptsWithZeroTotals => [0; REPORT_TOTALS],
         _ => [welfare, bound, gap, rent, owed],
     };
     if build != Build::ReportUntouched {
@@ -224,14 +224,14 @@ fn decide(
 }
 
 /// The report: 48 bytes and 8 for each zone; what lies past it is left alone.
-fn write_report(report: &mut [u8], number: u8, totals: &[i128; 5], prices: &[i128]) {
+fn write_report(report: &mut [u8], number: u8, totals: &[i128; REPORT_TOTALS], prices: &[i128]) {
     report[0..3].copy_from_slice(b"LTR");
     report[3..5].copy_from_slice(&1u16.to_le_bytes());
-    report[5] = number;
-    report[6] = prices.len() as u8;
-    report[7] = 0;
-    for (field, &value) in report[8..]
-        .chunks_exact_mut(8)
+    report[REPORT_NUMBER_AT] = number;
+    report[REPORT_ZONES_AT] = prices.len() as u8;
+    report[REPORT_ZERO_AT] = 0;
+    for (field, &value) in report[REPORT_HEADER..]
+        .chunks_exact_mut(REPORT_FIELD)
         .zip(totals.iter().chain(prices))
     {
         let value = i64::try_from(value).expect("every total fits 64 bits");

@@ -37,6 +37,15 @@ pub const LEAST_BUFFER: usize = 176;
 /// An output for the desk's lines shorter than this is refused with 31.
 pub const LEAST_OUTPUT: usize = 1_024;
 
+/// The report: offsets in its header, the header's bytes, how many totals
+/// follow it before the zone prices, and the bytes of each total or price.
+pub const REPORT_NUMBER_AT: usize = 5;
+pub const REPORT_ZONES_AT: usize = 6;
+pub const REPORT_ZERO_AT: usize = 7;
+pub const REPORT_HEADER: usize = 8;
+pub const REPORT_TOTALS: usize = 5;
+pub const REPORT_FIELD: usize = 8;
+
 pub const CASE_HEADER: usize = 14;
 pub const PROPOSAL_HEADER: usize = 13;
 pub const LINK_BYTES: usize = 6;

@@ -1,12 +1,14 @@
 //! The paper's stored hours, its wrong builds and its shams, value by value.
 
 use crate::hours::{stored, three_zone_hour, Hour, Stored};
+use crate::limits::{LEAST_BUFFER, REPORT_FIELD, REPORT_HEADER, REPORT_TOTALS};
 use crate::*;
 
 const EURO: i64 = 100_000_000;
 
 fn field(report: &[u8], n: usize) -> i64 {
-    i64::from_le_bytes(report[8 + 8 * n..16 + 8 * n].try_into().unwrap())
+    let at = REPORT_HEADER + REPORT_FIELD * n;
+    i64::from_le_bytes(report[at..at + REPORT_FIELD].try_into().unwrap())
 }
 
 fn named(name: &str) -> Stored {
@@ -38,7 +40,7 @@ fn stored_hours() {
         }
         let zones = hour.case[5];
         assert_eq!(
-            report[..8],
+            report[..REPORT_HEADER],
             [b'L', b'T', b'R', 1, 0, hour.number as u8, zones, 0],
             "{name}"
         );
@@ -48,10 +50,14 @@ fn stored_hours() {
             }
         }
         for (z, price) in hour.prices.iter().enumerate() {
-            assert_eq!(field(&report, 5 + z), *price, "{name}, zone {z}");
+            assert_eq!(
+                field(&report, REPORT_TOTALS + z),
+                *price,
+                "{name}, zone {z}"
+            );
         }
         assert!(
-            report[48 + 8 * usize::from(zones)..]
+            report[REPORT_HEADER + REPORT_FIELD * (REPORT_TOTALS + usize::from(zones))..]
                 .iter()
                 .all(|byte| *byte == 0xA5),
             "{name}"
@@ -120,7 +126,7 @@ fn desk_prints_an_hour_over_tolerance() {
 #[test]
 fn buffer_is_asked_first() {
     let hour = named("P1");
-    for length in [0, 1, 72, 175] {
+    for length in [0, 1, 72, LEAST_BUFFER - 1] {
         let mut report = vec![7; length];
         for case in [&hour.case[..], &[]] {
             let verdict = judge(case, &hour.proposal, &mut report);
@@ -135,7 +141,10 @@ fn buffer_is_asked_first() {
         assert!(report.iter().all(|byte| *byte == 7));
     }
     // The whole length counts, not what this report would fill.
-    assert_eq!(judge(&hour.case, &hour.proposal, &mut [7; 176]).number, 0);
+    assert_eq!(
+        judge(&hour.case, &hour.proposal, &mut [7; LEAST_BUFFER]).number,
+        0
+    );
 }
 
 #[test]
@@ -144,7 +153,7 @@ fn header_refusals() {
     let with = |at: usize, value: u8| {
         let mut case = hour.case.clone();
         case[at] = value;
-        judge(&case, &hour.proposal, &mut [0; 176])
+        judge(&case, &hour.proposal, &mut [0; LEAST_BUFFER])
     };
     for (at, value, number, index) in [
         (0, b'l', 2, 0),
@@ -185,7 +194,7 @@ fn repeated_pair_is_sought_among_all_earlier_links() {
     };
     hour.links = vec![link(0, 1), link(1, 0), link(2, 1), link(0, 1)];
     hour.flows = vec![0; 4];
-    let verdict = judge(&hour.case(), &hour.proposal(), &mut [0; 176]);
+    let verdict = judge(&hour.case(), &hour.proposal(), &mut [0; LEAST_BUFFER]);
     assert_eq!(
         verdict,
         Verdict {
@@ -202,7 +211,7 @@ fn smallest_number_then_smallest_index() {
     hour.share = 100_001;
     hour.orders[4].quantity = 0;
     hour.orders[2].price = 400_001;
-    let verdict = judge(&hour.case(), &hour.proposal(), &mut [0; 176]);
+    let verdict = judge(&hour.case(), &hour.proposal(), &mut [0; LEAST_BUFFER]);
     assert_eq!(
         verdict,
         Verdict {
@@ -219,7 +228,7 @@ fn smallest_number_then_smallest_index() {
 fn told_apart(build: Build, hour: &Hour, right: (u32, u32), wrong: (u32, u32)) {
     let (case, proposal) = (hour.case(), hour.proposal());
     let given = [Build::Right, build].map(|build| {
-        let verdict = judge_as(build, &case, &proposal, &mut [0; 176]);
+        let verdict = judge_as(build, &case, &proposal, &mut [0; LEAST_BUFFER]);
         (verdict.number, verdict.index)
     });
     assert_eq!(given, [right, wrong], "{build:?}");
@@ -324,10 +333,10 @@ fn offset_cut_to_eight_bits() {
     hour.orders = vec![hour.orders[0]; 512];
     hour.volumes = vec![0; 512];
     hour.shadow_prices[1] = 1_000_001;
-    let verdict = judge(&hour.case(), &hour.proposal(), &mut [0; 176]);
+    let verdict = judge(&hour.case(), &hour.proposal(), &mut [0; LEAST_BUFFER]);
     assert_eq!((verdict.number, verdict.index), (14, 2_069));
     hour.orders[511].price = 400_001;
-    let verdict = judge(&hour.case(), &hour.proposal(), &mut [0; 176]);
+    let verdict = judge(&hour.case(), &hour.proposal(), &mut [0; LEAST_BUFFER]);
     assert_eq!((verdict.number, verdict.index), (8, 5_168));
     let lines = desk_lines(&[hour.case(), hour.proposal()].concat());
     assert_eq!(lines, b"verdict 8 5168\n");

@@ -218,7 +218,7 @@ static void lengths(void)
 
 static void rooms(void)
 {
-    static const size_t rooms[] = {0, 1, 11, 12, 176, 1023, 1024, 1025, 4096};
+    static const size_t rooms[] = {0, 1, 11, 12, LTA_REPORT_ROOM, LTA_DESK_ROOM - 1, LTA_DESK_ROOM, LTA_DESK_ROOM + 1, 4096};
     struct file none = {0};
     for (size_t k = 0; k < sizeof rooms / sizeof *rooms; k++) {
         about("the sample, with an output of %zu bytes", rooms[k]);

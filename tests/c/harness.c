@@ -180,7 +180,7 @@ bool holds(struct arena a, enum place place, size_t length, const uint8_t *bytes
     return false;
 }
 
-bool holds_silently(struct arena a, enum place place, size_t length, const uint8_t *bytes, size_t count)
+bool only_these_written(struct arena a, enum place place, size_t length, const uint8_t *bytes, size_t count)
 {
     uint8_t expected = 0;
     return differs(a, place, length, bytes, count, &expected) == a.size;

@@ -37,9 +37,9 @@ const void *lend(struct arena a, enum place place, const void *bytes, size_t len
 /* Lends bytes to be written. */
 uint8_t *lend_room(struct arena a, enum place place, size_t length);
 
-/* Whether the lent room begins with these bytes, and all else in the arena still has its fill. `holds` says the first byte that differs. */
+/* Whether the lent room begins with these bytes, and all else in the arena still has its fill. `holds` says the first byte that differs too. */
 bool holds(struct arena a, enum place place, size_t length, const uint8_t *bytes, size_t count);
-bool holds_silently(struct arena a, enum place place, size_t length, const uint8_t *bytes, size_t count);
+bool only_these_written(struct arena a, enum place place, size_t length, const uint8_t *bytes, size_t count);
 
 /* Whether a process that reads this byte, or writes it, is ended for that. */
 bool unreadable(const volatile uint8_t *at);

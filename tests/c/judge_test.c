@@ -73,9 +73,9 @@ static void memory(void)
     uint8_t *room = lend_room(report_arena, AT_END, 2);
     check(!unreadable(room + 1) && !unwritable(room) && unwritable(room + 2));
     about("a changed byte is not told");
-    bool before = holds_silently(report_arena, AT_END, 2, two, 0);
+    bool before = only_these_written(report_arena, AT_END, 2, two, 0);
     room[1] ^= 1;
-    check(before && !holds_silently(report_arena, AT_END, 2, two, 0));
+    check(before && !only_these_written(report_arena, AT_END, 2, two, 0));
 }
 
 /* Marked P in document 01. */
@@ -424,14 +424,14 @@ static void proposal_lengths(void)
 /* Report buffers around the room that is asked for. */
 static void rooms(void)
 {
-    static const size_t lengths[] = {0, 1, 71, 72, 175, 176, 177, 300};
+    static const size_t lengths[] = {0, 1, 71, 72, LTA_REPORT_ROOM - 1, LTA_REPORT_ROOM, LTA_REPORT_ROOM + 1, 300};
     struct hour h = three_zone_hour(), over = unused_link_hour();
     struct file c = case_file(&h), p = proposal_file(&h), report = report_file(LTA_ACCEPTED, h.zones, three_zone_totals()), none = {0};
     struct file over_case = case_file(&over), over_proposal = proposal_file(&over);
     struct file over_report = report_file(LTA_GAP_ABOVE_TOLERANCE, over.zones, unused_link_totals());
     for (size_t k = 0; k < sizeof lengths / sizeof *lengths; k++) {
         size_t room = lengths[k];
-        bool enough = room >= 176;
+        bool enough = room >= LTA_REPORT_ROOM;
         about("P1 with a report buffer of %zu bytes", room);
         judged(&c, &p, room, enough ? LTA_ACCEPTED : LTA_NO_ROOM, 0, enough ? &report : &none);
         about("P3 with a report buffer of %zu bytes", room);

@@ -10,7 +10,7 @@
 #[allow(dead_code)] // two of its entries are asked
 mod archive;
 
-use second_judge::limits::{LEAST_BUFFER, LEAST_OUTPUT};
+use second_judge::limits::{LEAST_BUFFER, LEAST_OUTPUT, REPORT_FIELD, REPORT_HEADER};
 use std::io::{Error, Write};
 
 const TOTALS: [&str; 5] = ["welfare", "bound", "gap", "rent", "owed"];
@@ -76,7 +76,10 @@ fn second_apart(case: &[u8], proposal: &[u8]) -> Vec<String> {
 fn verdict_and_totals(number: u64, index: u64, report: &[u8]) -> Vec<String> {
     let mut said = vec![format!("verdict {number} {index}")];
     if report.iter().any(|byte| *byte != 0) {
-        for (name, field) in TOTALS.iter().zip(report[8..].chunks_exact(8)) {
+        for (name, field) in TOTALS
+            .iter()
+            .zip(report[REPORT_HEADER..].chunks_exact(REPORT_FIELD))
+        {
             let total = i64::from_le_bytes(field.try_into().expect("eight bytes"));
             said.push(format!("{name} {total}"));
         }

@@ -1,4 +1,3 @@
--- THE MEANING: numbers and fixed words as text, and text put into a buffer
+-- THE MEANING: numbers and fixed words as text
 pub mod Ascii
 pub mod Text
-pub mod Put

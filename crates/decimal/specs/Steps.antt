@@ -2,3 +2,4 @@
 pub mod Places
 pub mod Digits
 pub mod Complement
+pub mod Put

@@ -9,7 +9,7 @@ ghost use Rattle.integers.specs.Ranges as ranges;
 ghost use Rattle.measures.specs.Meaning.Limits as limits;
 ghost use Rattle.measures.specs.Steps.Held.{grainsIn};
 ghost use Rattle.orders.specs.Admitted.{admitted};
-ghost use Rattle.rows.specs.Meaning.Rows.{placeOf};
+ghost use Rattle.rows.specs.Promised.RowLaws.{placeOf};
 ghost use Rattle.rules.specs.Meaning.Book.{priceAt};
 ghost use Rattle.order_book.specs.Steps.Account.{newAccount, isFinal, refusedRow, withRow, firstPriceOutside, openOf, addOf, answered, closeOf, counted, OrderIn, Ready};
 use measures::Grains;

@@ -1,2 +1,3 @@
--- All of it is meaning
+-- The rooms: `Meaning` is to be read and believed; all else is proved
 pub mod Meaning
+pub mod Steps

@@ -8,8 +8,9 @@ use lib.ListN.{length, length-set}
 use lib.IntN.{natAbs}
 use mir.Syntax.{w64}
 use mir.Val.{toZ}
-use Rattle.decimal.specs.Meaning.Text.{sizeText, amountText, amount-negative, amount-positive}
-use Rattle.decimal.specs.Meaning.Put.{put-as, put-length, put-then, put-byte}
+use Rattle.decimal.specs.Meaning.Text.{sizeText, amountText}
+use Rattle.decimal.specs.Promised.Value.{amount-negative, amount-positive}
+use Rattle.decimal.specs.Steps.Put.{put-as, put-length, put-then, put-byte}
 use borrow.Author.Needs.{needs}
 use Rattle.decimal.proofs.put_amount.Statement.{statement}
 use Rattle.decimal.proofs.put_amount.Tie as tie

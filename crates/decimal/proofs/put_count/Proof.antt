@@ -4,7 +4,7 @@ use Prim.Native.Nat.{ℕ}
 use native.Mathlib.Omega.{arith}
 use Rattle.decimal.specs.Meaning.Text.{lastDigits, countText}
 use Rattle.decimal.specs.Promised.Value.{count-length}
-use Rattle.decimal.specs.Meaning.Put.{put-as}
+use Rattle.decimal.specs.Steps.Put.{put-as}
 use borrow.Author.Needs.{needs}
 use Rattle.decimal.proofs.put_count.Statement.{statement}
 use Rattle.decimal.proofs.put_count.Tie as tie

@@ -1,13 +1,9 @@
 -- Numbers as decimal text in ASCII: counts, and amounts with a point. Assumes nothing.
-use mathlib.Core.Path.{_≡_, refl, subst}
 use mathlib.Core.Bool.{true, false}
 use mathlib.Core.List.{List, [], _∷_, _++_}
-use Prim.Native.Nat.{ℕ, zero, suc, _+_, _/_, _%_, _^_}
-use native.Mathlib.Omega.{arith}
-use borrow.Author.Tests.{ltb-true}
-use lib.Dec.{T, ltb}
-use lib.IntN.{ℤ, pos, negsuc, natAbs}
-use lib.Signed.{ltZ}
+use Prim.Native.Nat.{ℕ, zero, suc, _+_, _-_, _*_, _/_, _%_, _^_}
+use lib.Dec.{ltb}
+use lib.IntN.{ℤ, pos, negsuc}
 
 -- the digit of n at place k, counted from the right from 0
 abbrev pub digitAt : ℕ → ℕ → ℕ
@@ -38,13 +34,10 @@ unfoldable pub amountText : ℕ → ℤ → List ℕ
 amountText k (pos n) = sizeText k n
 amountText k (negsuc n) = 45 ∷ sizeText k (suc n)
 
--- an amount by its sign and its size
-pub amount-negative : (k : ℕ) (x : ℤ) → ltZ x (pos 0) ≡ true → amountText k x ≡ 45 ∷ sizeText k (natAbs x)
-unfolding amountText
-amount-negative k (pos n) e = absurd (omega (arith, ltb-true n 0 e))
-amount-negative k (negsuc n) e = refl
+-- THE NUMBER that digits say, the first the most significant
+unfoldable pub valueFrom : ℕ → List ℕ → ℕ
+valueFrom v [] = v
+valueFrom v (d ∷ ds) = valueFrom (10 * v + (d - 48)) ds
 
-pub amount-positive : (k : ℕ) (x : ℤ) → ltZ x (pos 0) ≡ false → amountText k x ≡ sizeText k (natAbs x)
-unfolding amountText
-amount-positive k (pos n) e = refl
-amount-positive k (negsuc n) e = absurd (subst T e tt)
+abbrev pub valueOf : List ℕ → ℕ
+valueOf ds = valueFrom 0 ds

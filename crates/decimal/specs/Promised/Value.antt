@@ -1,21 +1,18 @@
 -- What the digits say: every byte is a digit, together they say the number, and no zero stands in front. Assumes nothing.
 use mathlib.Core.Path.{_≡_, refl, sym, ap, subst, _∙_}
-use mathlib.Core.List.{List, [], _∷_}
+use mathlib.Core.Bool.{true, false}
+use mathlib.Core.List.{[], _∷_}
 use Prim.Native.Nat.{ℕ, zero, suc, _+_, _*_, _/_, _%_, _-_, _^_, _<_, _≤_}
 use native.Mathlib.Nat.{div-add-mod', pow-succ', div-lt-iff-lt-mul, le-div-iff-mul-le, mod-eq-of-lt, pow-le-pow-right}
 use native.Mathlib.Omega.{arith}
+use borrow.Author.Tests.{ltb-true}
 use lib.ListN.{length, getD}
+use lib.Dec.{T}
+use lib.IntN.{ℤ, pos, negsuc, natAbs}
+use lib.Signed.{ltZ}
 use lib.Arith.{mod-mul}
-use Rattle.decimal.specs.Meaning.Text.{lastDigits, places, countText}
+use Rattle.decimal.specs.Meaning.Text.{lastDigits, places, countText, sizeText, amountText, valueFrom, valueOf}
 use Rattle.decimal.specs.Steps.Places.{places-more, Fewest, fewest}
-
--- the number that digits say, the first the most significant
-unfoldable pub valueFrom : ℕ → List ℕ → ℕ
-valueFrom v [] = v
-valueFrom v (d ∷ ds) = valueFrom (10 * v + (d - 48)) ds
-
-abbrev pub valueOf : List ℕ → ℕ
-valueOf ds = valueFrom 0 ds
 
 pub last-length : (k n : ℕ) → length (lastDigits k n) ≡ k
 unfolding lastDigits
@@ -72,3 +69,14 @@ no-zero-first n h = rw (places-more n h) (omega (arith, lead n (places (n / 10))
 -- a size with k decimals says the number: its whole part in units of the last decimal, and its decimals
 pub size-value : (k n : ℕ) → valueOf (countText (n / 10 ^ k)) * 10 ^ k + valueOf (lastDigits k n) ≡ n
 size-value k n = (λ i. count-value (n / 10 ^ k) i * 10 ^ k + last-value k n i) ∙ div-add-mod' n (10 ^ k)
+
+-- an amount by its sign and its size
+pub amount-negative : (k : ℕ) (x : ℤ) → ltZ x (pos 0) ≡ true → amountText k x ≡ 45 ∷ sizeText k (natAbs x)
+unfolding amountText
+amount-negative k (pos n) e = absurd (omega (arith, ltb-true n 0 e))
+amount-negative k (negsuc n) e = refl
+
+pub amount-positive : (k : ℕ) (x : ℤ) → ltZ x (pos 0) ≡ false → amountText k x ≡ sizeText k (natAbs x)
+unfolding amountText
+amount-positive k (pos n) e = refl
+amount-positive k (negsuc n) e = absurd (subst T e tt)

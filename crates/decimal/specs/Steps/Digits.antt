@@ -6,7 +6,7 @@ use native.Mathlib.Nat.{pow-suc, div-div-eq-div-mul}
 use lib.ListN.{set}
 use lib.Seq.{sets}
 use Rattle.decimal.specs.Meaning.Text.{lastDigits}
-use Rattle.decimal.specs.Meaning.Put.{put-front}
+use Rattle.decimal.specs.Steps.Put.{put-front}
 
 -- from `past` on stand the last k digits of n, and `rest` is n without them: the last digit of `rest` goes in front
 pub put-digit : (before after : List ℕ) (at past k n rest x : ℕ) → at + 1 ≡ past → after ≡ sets before past (lastDigits k n) → rest ≡ n / 10 ^ k → x ≡ 48 + rest % 10

@@ -6,7 +6,7 @@ use Prim.Native.Nat.{ℕ, _-_, _≤_}
 use native.Mathlib.Omega.{arith}
 use lib.ListN.{length, take, drop, length-drop}
 use lib.Seq.{length-take-le, take-all}
-use Rattle.decimal.specs.Meaning.Put.{Put, put-as}
+use Rattle.decimal.specs.Steps.Put.{Put, put-as}
 use Rattle.desk_lines.specs.Steps.Answers.{met-refusal, met-answer}
 use Rattle.desk_lines.specs.Meaning.Cut.{casePart, proposalPart}
 use Rattle.desk_lines.specs.Steps.Ends.{end-within}

@@ -3,7 +3,7 @@ use mathlib.Core.Path.{ap}
 use Prim.Native.Nat.{ℕ}
 use native.Mathlib.Omega.{arith}
 use lib.ListN.{length, length-append}
-use Rattle.decimal.specs.Meaning.Put.{put-as, put-length, put-then}
+use Rattle.decimal.specs.Steps.Put.{put-as, put-length, put-then}
 use Rattle.rules.specs.Meaning.Report.{reportedPrice}
 use Rattle.desk_lines.specs.Meaning.Lines.{priceLines, hourLines}
 use borrow.Author.Needs.{needs}

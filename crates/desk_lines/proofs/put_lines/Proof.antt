@@ -5,7 +5,7 @@ use mathlib.Core.List.{List, _++_}
 use Prim.Native.Nat.{ℕ, _≤_}
 use native.Mathlib.Omega.{arith}
 use lib.ListN.{length, getD, replicate, length-append}
-use Rattle.decimal.specs.Meaning.Put.{Put, put-as, put-length, put-then}
+use Rattle.decimal.specs.Steps.Put.{Put, put-as, put-length, put-then}
 use Rattle.rows.specs.declared.Outcome.{Outcome}
 use Rattle.rules.specs.Meaning.Layout.{reportRoom, reportZonesAt, zonePriceAt}
 use Rattle.rules.specs.Meaning.Verdict.{outcome}

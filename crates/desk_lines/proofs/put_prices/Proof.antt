@@ -3,7 +3,7 @@
 use mathlib.Core.Path.{_≡_, refl, ap}
 use Prim.Native.Nat.{ℕ, _-_, _≤_}
 use native.Mathlib.Omega.{arith}
-use Rattle.decimal.specs.Meaning.Put.{Put, put-as, put-length, put-then}
+use Rattle.decimal.specs.Steps.Put.{Put, put-as, put-length, put-then}
 use Rattle.rules.specs.Meaning.Report.{reportedPrice}
 use Rattle.desk_lines.specs.Meaning.Lines.{priceLines}
 use Rattle.desk_lines.specs.Steps.Read.{prices-more, prices-within}

@@ -4,7 +4,7 @@ use native.Mathlib.Omega.{arith}
 use lib.ListN.{length, length-append}
 use lib.IntN.{ℤ}
 use Rattle.decimal.specs.Meaning.Text.{amountText}
-use Rattle.decimal.specs.Meaning.Put.{Put, put-as, put-length, put-then}
+use Rattle.decimal.specs.Steps.Put.{Put, put-as, put-length, put-then}
 use Rattle.integers.specs.Bytes.{i64At}
 use Rattle.desk_lines.specs.Meaning.Lines.{totalLine}
 use borrow.Author.Needs.{needs}

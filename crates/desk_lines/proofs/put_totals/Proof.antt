@@ -1,7 +1,7 @@
 -- `desk_lines::put_totals` meets its contract: the five lines stand one after another, each where the one before ends. Assumes nothing.
 use native.Mathlib.Omega.{arith}
 use lib.ListN.{length-append}
-use Rattle.decimal.specs.Meaning.Put.{put-length, put-then}
+use Rattle.decimal.specs.Steps.Put.{put-length, put-then}
 use Rattle.desk_lines.specs.Meaning.Lines.{totalLines}
 use borrow.Author.Needs.{needs}
 use Rattle.desk_lines.proofs.put_totals.Statement.{statement}

@@ -2,7 +2,7 @@
 -- Assumes nothing.
 use native.Mathlib.Omega.{arith}
 use lib.ListN.{length-append}
-use Rattle.decimal.specs.Meaning.Put.{put-length, put-then}
+use Rattle.decimal.specs.Steps.Put.{put-length, put-then}
 use Rattle.desk_lines.specs.Meaning.Lines.{verdictLine}
 use borrow.Author.Needs.{needs}
 use Rattle.desk_lines.proofs.put_verdict.Statement.{statement}

@@ -7,7 +7,7 @@ use lib.ListN.{length, take, drop}
 use lib.Dec.{leb}
 use Rattle.rules.specs.Meaning.Layout.{caseLength}
 use Rattle.rows.specs.declared.Outcome.{Outcome}
-use Rattle.case_header.specs.Answer.{headerRefusal}
+use Rattle.rules.specs.Meaning.Verdict.{headerRefusal}
 
 -- a header is good where none of rows 1 to 4 refuses it
 abbrev pub good : Option Outcome → Bool

@@ -19,8 +19,7 @@ use Rattle.rules.specs.Meaning.Hour.{caseOf}
 use Rattle.rows.specs.declared.Outcome.{Outcome}
 use Rattle.rows.specs.Meaning.Rows.{Row, refusal, answer, once, field}
 use Rattle.rows.specs.Promised.RowLaws.{else-refusal}
-use Rattle.rules.specs.Meaning.Verdict.{differ, notMark, caseRows, caseRefusal}
-use Rattle.case_header.specs.Answer.{headerRefusal}
+use Rattle.rules.specs.Meaning.Verdict.{headerRefusal, differ, notMark, caseRows, caseRefusal}
 use Rattle.desk_lines.specs.Meaning.Cut.{good, caseEnd, casePart, proposalPart}
 use Rattle.desk_lines.specs.Steps.Ends.{end-refused, end-good}
 use Rattle.desk_lines.specs.Steps.Header.{case-at-most, proposal-at-most}

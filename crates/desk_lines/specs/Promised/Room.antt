@@ -18,11 +18,11 @@ use Rattle.rows.specs.declared.Outcome.{Outcome}
 use Rattle.rows.specs.Meaning.Rows.{Row, verdict, firstBelow, firstField, rowElse, refusal, answer}
 use Rattle.rows.specs.Promised.RowLaws.{first-is, field-below, else-refusal}
 use Rattle.rules.specs.Promised.RefusedField.{Part, Adjacent, field-inside, branchPart, linkPart, orderPart, shadowPart, branches-adjacent, links-adjacent, orders-adjacent, shadows-adjacent}
-use Rattle.rules.specs.Meaning.Verdict.{caseRows, proposalRows, clearingRows, outcome}
+use Rattle.rules.specs.Meaning.Verdict.{headerRefusal, caseRows, proposalRows, clearingRows, outcome}
 use Rattle.rules.specs.Meaning.Report.{Totals, totalsOf, reports}
 use Rattle.rules.specs.Steps.Passed.{sound, case-sound}
 use Rattle.rules.specs.Promised.Fits.{fits}
-use Rattle.case_header.specs.Answer.{countsOf, headerRefusal}
+use Rattle.case_header.specs.Answer.{countsOf}
 use Rattle.case_header.specs.Opened.{Limited, branches-bound}
 use Rattle.desk_lines.specs.Meaning.Cut.{casePart, proposalPart}
 use Rattle.desk_lines.specs.Steps.Header.{headerRows, laterRows, outcome-by-header, counted}

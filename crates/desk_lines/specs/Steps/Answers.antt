@@ -1,29 +1,18 @@
 -- What is owed of the desk's text in a lent output, with too little room and with enough. Assumes nothing.
 use mathlib.Core.Path.{_≡_, sym, ap}
-use mathlib.Core.List.{List, []}
-use mathlib.Core.Option.{none, some}
+use mathlib.Core.List.{List}
 use Prim.Native.Nat.{ℕ, _≤_, _<_}
 use native.Mathlib.Omega.{arith}
-use borrow.Author.Tests.{lt-ltb, le-ltb}
 use lib.ListN.{length, take}
 use lib.Seq.{length-take-le}
-use Rattle.rows.specs.Meaning.Rows.{verdict, refusal}
-use Rattle.rows.specs.Promised.RowLaws.{field-fails, field-passes}
+use Rattle.rows.specs.Meaning.Rows.{verdict}
 use Rattle.output.specs.declared.Written.{Written}
-use Rattle.output.specs.Meaning.Output as output
-use Rattle.decimal.specs.Meaning.Put.{Put, put-length}
+use Rattle.output.specs.Steps.Met as output
+use Rattle.decimal.specs.Steps.Put.{Put, put-length}
 use Rattle.desk_lines.specs.Meaning.Lines.{deskText}
-use Rattle.desk_lines.specs.Meaning.Printed.{deskRoom, deskRows, deskRefusal, deskOutcome, deskWritten, deskOutput}
+use Rattle.desk_lines.specs.Meaning.Printed.{deskRoom, deskRefusal, deskOutcome, deskWritten, deskOutput}
+use Rattle.desk_lines.specs.Promised.ShortOutput.{refused-31, past-31}
 use Rattle.desk_lines.specs.Promised.Room.{desk-room}
-
--- 31 with too little room, and with enough nothing
-pub refused-31 : (room : ℕ) → room < deskRoom → deskRefusal room ≡ some (verdict 31 0)
-unfolding deskRefusal deskRows
-refused-31 room h = field-fails 31 0 _ (lt-ltb room deskRoom h)
-
-pub past-31 : (room : ℕ) → deskRoom ≤ room → deskRefusal room ≡ none
-unfolding deskRefusal deskRows refusal
-past-31 room h = field-passes 31 0 [] (le-ltb room deskRoom h)
 
 -- number and index, length, every byte of the output; and the length lies within the output
 abbrev pub Met : List ℕ → List ℕ → Written → List ℕ → Type 0

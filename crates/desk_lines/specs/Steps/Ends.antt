@@ -10,7 +10,7 @@ use lib.ListN.{length}
 use lib.Dec.{leb}
 use Rattle.rules.specs.Meaning.Layout.{caseLength}
 use Rattle.rows.specs.declared.Outcome.{Outcome}
-use Rattle.case_header.specs.Answer.{headerRefusal}
+use Rattle.rules.specs.Meaning.Verdict.{headerRefusal}
 use Rattle.desk_lines.specs.Meaning.Cut.{good, caseEnd}
 
 module _ (s : List ℕ) where

@@ -11,8 +11,8 @@ use Rattle.rules.specs.Meaning.Hour.{caseOf, planOf, pricesOf}
 use Rattle.rows.specs.declared.Outcome.{Outcome}
 use Rattle.rows.specs.Meaning.Rows.{Row, refusal, answer}
 use Rattle.rows.specs.Promised.RowLaws.{field-passes, else-refusal, refusal-append}
-use Rattle.rules.specs.Meaning.Verdict.{roomRows, caseRows, proposalRows, clearingRows, table, outcome}
-use Rattle.case_header.specs.Answer.{countsOf, headerRefusal}
+use Rattle.rules.specs.Meaning.Verdict.{headerRefusal, roomRows, caseRows, proposalRows, clearingRows, table, outcome}
+use Rattle.case_header.specs.Answer.{countsOf}
 use Rattle.case_header.specs.Opened.{Limited, limited}
 
 -- the rows before 5, and those from 5 on

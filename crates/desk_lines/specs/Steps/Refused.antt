@@ -13,9 +13,8 @@ use Rattle.rules.specs.Meaning.Hour.{caseOf, planOf, pricesOf}
 use Rattle.rows.specs.declared.Outcome.{Outcome}
 use Rattle.rows.specs.Meaning.Rows.{Row, verdict, firstBelow, refusal, answer, once}
 use Rattle.rows.specs.Promised.RowLaws.{field-passes, else-refusal, refusal-append, lacks, not-refused}
-use Rattle.rules.specs.Meaning.Verdict.{under, differ, notMark, roomRows, caseRows, proposalRows, clearingRows, table, outcome, caseRefusal}
+use Rattle.rules.specs.Meaning.Verdict.{headerRefusal, under, differ, notMark, roomRows, caseRows, proposalRows, clearingRows, table, outcome, caseRefusal}
 use Rattle.rules.specs.Meaning.Report.{reports}
-use Rattle.case_header.specs.Answer.{headerRefusal}
 use Rattle.desk_lines.specs.Steps.Header.{headerRows, laterRows, outcome-by-header}
 use Rattle.desk_lines.specs.Steps.Judged.{one-line}
 use Rattle.desk_lines.specs.Meaning.Lines.{verdictLine, hourText}

@@ -12,12 +12,11 @@ use lib.IntN.{ℤ, pos, negℤ}
 use Rattle.integers.specs.Ranges.{Range, outside}
 use Rattle.integers.specs.Bytes.{signed32}
 use Rattle.measures.specs.Meaning.Limits as limits
-use Rattle.rules.specs.Meaning.Layout.{caseHeader, zonesIn, branchesIn, zoneCounts}
+use Rattle.rules.specs.Meaning.Layout.{caseHeader, zonesIn, branchesIn, zoneCounts, branchFieldAt}
 use Rattle.rules.specs.Meaning.Hour.{caseOf}
 use Rattle.rows.specs.declared.Outcome.{Outcome}
-use Rattle.rows.specs.Meaning.Rows.{Row, anyBelow, refusal, answer, once, each}
-use Rattle.rows.specs.Promised.RowLaws.{Pass, empty}
-use Rattle.rules.specs.Meaning.Verdict.{under, over, differ, caseRows}
+use Rattle.rows.specs.Meaning.Rows.{Pass, Row, anyBelow, refusal, answer, once, each, eachField}
+use Rattle.rules.specs.Meaning.Verdict.{under, over, differ, branchFault}
 use Rattle.output.specs.Meaning.Output.{writtenBy, outputAfter}
 use Rattle.numerals.specs.Meaning.Numeral.{isNumber, value, finer}
 
@@ -120,10 +119,10 @@ pub record Header (zones branches : ℕ) (header : List ℕ) : Type 0 where
   pub zones-in : zonesIn header ≡ zones
   pub branches-in : branchesIn header ≡ branches
 
--- what the case s holds of the sheet: the margins as they stand, the PTDFs turned, and row 6, the tenth of the case's rows, passes
+-- what the case s holds of the sheet: the margins as they stand, the PTDFs turned, and row 6 passes
 pub record Holds (zones : ℕ) (sheet s : List ℕ) : Type 0 where
   pub zones-are : (caseOf s) .zones ≡ zones
   pub branches-are : (caseOf s) .branches ≡ lineCount sheet
   pub margins-are : (m : ℕ) → m < lineCount sheet → (caseOf s) .ram m ≡ value 1 (fieldOf (lineOf sheet m) 0)
   pub ptdfs-are : (m z : ℕ) → m < lineCount sheet → z < zones → (caseOf s) .ptdf m z ≡ negℤ (value 5 (fieldOf (lineOf sheet m) (suc z)))
-  pub row-6 : Pass (getD (caseRows s (caseOf s)) 9 empty)
+  pub row-6 : Pass (eachField 6 ((caseOf s) .branches) (1 + (caseOf s) .zones) (branchFault (caseOf s)) (branchFieldAt s))

@@ -9,8 +9,9 @@ use borrow.Author.Tests.{eqb-true, not-false}
 use lib.Dec.{T, eqb, nltb→le}
 use lib.ListN.{length, getD}
 use Rattle.integers.specs.Ranges.{outside, Within, within, nat-within, nor-left, nor-right, not-is}
-use Rattle.rows.specs.Promised.RowLaws.{Pass, empty, all-pass, no-place}
-use Rattle.decimal.specs.Promised.Value.{valueOf}
+use Rattle.rows.specs.Promised.RowLaws.{empty, all-pass, no-place}
+use Rattle.rows.specs.Meaning.Rows.{Pass}
+use Rattle.decimal.specs.Meaning.Text.{valueOf}
 use Rattle.numerals.specs.Meaning.Numeral.{whole, decimals, isNumber, units, finer}
 use Rattle.numerals.specs.Promised.Exact.{exact}
 use Rattle.margin_sheet.specs.Meaning.Sheet.{fields, places, limit, fieldOf, entryOf, malformed, tooFine, outOfRange, lineOf, lineCount, branchPart, sheetRows, sheetRefusal, sheetOutcome, sheetBytes, sheetWritten}

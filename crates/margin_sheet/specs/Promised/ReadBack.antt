@@ -8,19 +8,18 @@ use native.Mathlib.Decide.{decLt}
 use native.Mathlib.Omega.{arith}
 use lib.ListN.{length, getD, take, drop, List·getD-append}
 use lib.Seq.{drop-append-add, drop-append-seam, take-append-seam}
-use lib.IntN.{ℤ, negℤ}
+use lib.IntN.{ℤ}
 use mir.Syntax.{w32}
 use Rattle.integers.specs.Ranges.{outside, within, is-false}
 use Rattle.integers.specs.Size.{Near, near-pos, near-neg, near-le, near-within, near-fits}
 use Rattle.integers.specs.Bytes.{signed32}
 use Rattle.measures.specs.Meaning.Limits as limits
-use Rattle.rules.specs.Meaning.Layout.{u8At, i32At, caseHeader, zonesIn, branchesIn, branchSize, branchAt, ramIn, ptdfIn}
+use Rattle.rules.specs.Meaning.Layout.{u8At, i32At, zonesIn, branchesIn, branchSize, branchAt, ramIn, ptdfIn}
 use Rattle.rules.specs.Steps.LayoutLaws.{signed-there}
 use Rattle.rules.specs.Meaning.Hour.{caseOf}
-use Rattle.rows.specs.Promised.RowLaws.{Pass, empty, any-none}
+use Rattle.rows.specs.Promised.RowLaws.{any-none}
 use Rattle.rules.specs.Meaning.Verdict.{branchFault, caseRows}
-use Rattle.numerals.specs.Meaning.Numeral.{value}
-use Rattle.margin_sheet.specs.Meaning.Sheet.{limit, entry, Header, Holds, fieldOf, entryOf, lineOf, lineCount, branchPart, entryBytes, lineBytes, sheetBytes, sheetOutcome, sheetWritten, sheetOutput}
+use Rattle.margin_sheet.specs.Meaning.Sheet.{limit, entry, Header, Holds, entryOf, lineOf, lineCount, branchPart, entryBytes, lineBytes, sheetBytes, sheetOutcome, sheetWritten, sheetOutput}
 use Rattle.margin_sheet.specs.Promised.Causes.{sheet-writes}
 use Rattle.margin_sheet.specs.Promised.Answered.{not-outside}
 use Rattle.margin_sheet.specs.Steps.Lines.{signed-length, entries-length, lines-length}

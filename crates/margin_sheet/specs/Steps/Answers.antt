@@ -16,7 +16,7 @@ use Rattle.rows.specs.declared.Outcome.{Outcome}
 use Rattle.rows.specs.Meaning.Rows.{verdict, firstBelow, refusal, each}
 use Rattle.rows.specs.Promised.RowLaws.{row-found, row-clear, field-fails, field-passes}
 use Rattle.output.specs.declared.Written.{Written}
-use Rattle.output.specs.Meaning.Output as output
+use Rattle.output.specs.Steps.Met as output
 use Rattle.margin_sheet.specs.Meaning.Sheet.{Header, Holds, lineCount, branchPart, sheetRows, sheetRefusal, sheetOutcome, sheetBytes, sheetWritten, sheetOutput}
 use Rattle.margin_sheet.specs.Promised.ReadBack.{written-back}
 use Rattle.margin_sheet.specs.Steps.Lines.{malformedAt, tooFineAt, outOfRangeAt, lines-length}

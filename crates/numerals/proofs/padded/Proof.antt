@@ -3,7 +3,7 @@ use mathlib.Core.Path.{_≡_, refl, sym, ap, _∙_}
 use mathlib.Core.List.{[]}
 use Prim.Native.Nat.{ℕ, _+_, _*_, _-_, _≤_}
 use native.Mathlib.Omega.{arith}
-use Rattle.decimal.specs.Promised.Value.{valueFrom}
+use Rattle.decimal.specs.Meaning.Text.{valueFrom}
 use Rattle.numerals.specs.Meaning.Numeral.{firstOf}
 use Rattle.numerals.specs.Steps.Capped.{cap, capped, capped-le}
 use Rattle.numerals.specs.Steps.Turns.{zero-more, no-zero}

@@ -6,7 +6,7 @@ use Prim.Native.Nat.{ℕ, zero, suc}
 use lib.ListN.{drop}
 use lib.Dec.{eqb, leb}
 use lib.IntN.{ℤ, pos, negℤ}
-use Rattle.decimal.specs.Promised.Value.{valueOf}
+use Rattle.decimal.specs.Meaning.Text.{valueOf}
 
 -- DIGITS: one or more, and nothing else
 unfoldable pub isDigit : ℕ → Bool

@@ -10,7 +10,7 @@ use borrow.Author.Tests.{eqb-true}
 use lib.Dec.{T, eqb}
 use lib.ListN.{length, drop}
 use lib.Seq.{drop-nil}
-use Rattle.decimal.specs.Promised.Value.{valueFrom, valueOf}
+use Rattle.decimal.specs.Meaning.Text.{valueFrom, valueOf}
 use Rattle.numerals.specs.Meaning.Numeral.{whole, decimals, firstOf, units, nonZero, finer}
 
 -- some digits and then others

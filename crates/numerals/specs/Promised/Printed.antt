@@ -9,9 +9,9 @@ use native.Mathlib.Omega.{arith}
 use borrow.Author.Tests.{le-leb}
 use lib.ListN.{length}
 use lib.IntN.{ℤ, pos, negsuc}
-use Rattle.decimal.specs.Meaning.Text.{lastDigits, places, countText, sizeText, amountText}
+use Rattle.decimal.specs.Meaning.Text.{valueFrom, valueOf, lastDigits, places, countText, sizeText, amountText}
 use Rattle.decimal.specs.Steps.Places.{fewest}
-use Rattle.decimal.specs.Promised.Value.{valueFrom, valueOf, last-length, size-value}
+use Rattle.decimal.specs.Promised.Value.{last-length, size-value}
 use Rattle.numerals.specs.Meaning.Numeral.{isDigit, onlyDigits, digits, isNumber, firstOf, units, sign, value}
 use Rattle.numerals.specs.Promised.Exact.{value-then}
 use Rattle.numerals.specs.Promised.Spelled.{numeral, Spelled, spelled}

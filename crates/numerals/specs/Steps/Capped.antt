@@ -8,7 +8,7 @@ use native.Mathlib.Omega.{arith}
 use borrow.Author.Tests.{lt-ltb, le-ltb}
 use lib.Dec.{ltb}
 use lib.ListN.{length, take}
-use Rattle.decimal.specs.Promised.Value.{valueFrom, valueOf}
+use Rattle.decimal.specs.Meaning.Text.{valueFrom, valueOf}
 use Rattle.numerals.specs.Meaning.Numeral.{whole, decimals, firstOf, units}
 use Rattle.numerals.specs.Promised.Exact.{value-then}
 

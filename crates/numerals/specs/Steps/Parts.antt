@@ -7,7 +7,7 @@ use native.Mathlib.Decide.{decLt}
 use native.Mathlib.Omega.{arith}
 use lib.ListN.{length, take, drop, length-drop}
 use lib.Seq.{take-all, drop-nil, drop-drop}
-use Rattle.decimal.specs.Promised.Value.{valueFrom, valueOf}
+use Rattle.decimal.specs.Meaning.Text.{valueFrom, valueOf}
 use Rattle.numerals.specs.declared.Digits.{Digits}
 use Rattle.numerals.specs.declared.Piece.{Piece}
 use Rattle.numerals.specs.declared.NumberAnswer.the-variants.{Read, NoNumber}

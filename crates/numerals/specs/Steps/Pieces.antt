@@ -9,7 +9,7 @@ use lib.Dec.{T, eqb, ltb, eqb-refl, T-not}
 use lib.ListN.{length, getD, take, drop, length-drop, drop-of-length-le}
 use lib.Seq.{drop-cons, drop-drop}
 use Rattle.integers.specs.Ranges.{and-left, and-right}
-use Rattle.decimal.specs.Promised.Value.{valueFrom}
+use Rattle.decimal.specs.Meaning.Text.{valueFrom}
 use Rattle.numerals.specs.declared.Piece.{Piece}
 use Rattle.numerals.specs.declared.Digits.{Digits}
 use Rattle.numerals.specs.declared.Number.{Number}

@@ -8,7 +8,7 @@ use borrow.Author.Tests.{leb-true}
 use lib.Dec.{leb, eqb}
 use lib.ListN.{length, getD, take, drop}
 use lib.Seq.{take-nil, drop-nil}
-use Rattle.decimal.specs.Promised.Value.{valueFrom}
+use Rattle.decimal.specs.Meaning.Text.{valueFrom}
 use Rattle.numerals.specs.declared.Digits.{Digits}
 use Rattle.numerals.specs.Meaning.Numeral.{isDigit, firstOf, nonZero}
 use Rattle.numerals.specs.Steps.Scan.{leading, lead-digit}

@@ -15,8 +15,8 @@ use Rattle.integers.specs.Sums.{sumTo, sum-ext}
 use Rattle.measures.specs.Meaning.Limits as limits
 use Rattle.rules.specs.Meaning.Layout.{zoneCounts, orderCounts}
 use Rattle.rules.specs.Meaning.Hour.{Case, Prices, caseOf, pricesOf, zonePrice, buys, surplusOf, orderSurplus, surplus}
-use Rattle.rows.specs.Meaning.Rows.{each}
-use Rattle.rows.specs.Promised.RowLaws.{all-pass, no-less, Pass, row-passed, none-zero, field-passes, row-passes, isRow, rowOf, hasRow, before}
+use Rattle.rows.specs.Meaning.Rows.{Pass, each}
+use Rattle.rows.specs.Promised.RowLaws.{all-pass, no-less, row-passed, none-zero, field-passes, row-passes, isRow, rowOf, hasRow, before}
 use Rattle.rules.specs.Meaning.Verdict.{badRow, orderFault, caseRows, caseRefusal, Readable}
 use Rattle.rules.specs.Steps.Passed.{case-sound}
 use Rattle.rules.specs.Meaning.Book.{BookRow, noRow, rowAt, priceAt, badBookRow, bookRows, bookRefusal, rowSurplus, bookSurplus, bookAnswerBy, bookAnswer}

@@ -14,7 +14,12 @@ use Rattle.integers.specs.Ranges.{nor-left, nor-right, and-left, and-right, is-
 use Rattle.rows.specs.declared.Outcome.{Outcome}
 use Rattle.rows.specs.declared.Place.{Place}
 use Rattle.rows.specs.declared.Place.the-variants.{At, Nowhere}
-use Rattle.rows.specs.Meaning.Rows.{Row, verdict, firstBelow, placeOf, anyBelow, placeElse, firstField, rowElse, refusal, answer, field}
+use Rattle.rows.specs.Meaning.Rows.{Pass, Row, verdict, firstBelow, anyBelow, placeElse, firstField, rowElse, refusal, answer, field}
+
+-- the first place that a search in code answers with
+abbrev pub placeOf : Place → Option ℕ
+placeOf (At k) = some k
+placeOf Nowhere = none
 
 pub no-less : (k : ℕ) → k < 0 → ⊥
 no-less k h = omega arith
@@ -148,10 +153,6 @@ module _ (f : ℕ → Bool) (m : ℕ) where
 
   pub any-later : anyBelow m f ≡ false → f m ≡ false → anyBelow (m + 1) f ≡ false
   any-later e q = any-none (m + 1) f (below-more (λ (k : ℕ). T (not (f k))) m (no-place m f (is-false e)) (is-false q))
-
--- A ROW PASSES: its cause holds at none of its places
-pub record Pass (r : Row) : Type 0 where
-  pub pass : (k : ℕ) → k < r .places → T (not (r .fails k))
 
 -- a row with no place
 abbrev pub empty : Row

@@ -5,7 +5,7 @@ use mathlib.Core.Bool.{Bool, not, _&&_, _||_}
 use mathlib.Core.List.{List, [], _∷_, _++_}
 use mathlib.Core.Option.{Option, none}
 use Prim.Native.Nat.{ℕ, zero, suc, _+_}
-use lib.ListN.{length}
+use lib.ListN.{length, take}
 use lib.Dec.{eqb, leb, ltb}
 use lib.IntN.{ℤ, pos}
 use lib.Signed.{ltZ}
@@ -127,6 +127,10 @@ outcome s t room = answer (refusal (table s t room (caseOf s) (planOf s t) (pric
 -- READABLE: none of 1 to 8 holds
 unfoldable pub caseRefusal : List ℕ → Option Outcome
 caseRefusal s = refusal (caseRows s (caseOf s))
+
+-- none of 1 to 4, the first eight of these rows: a header whose counts say how long the case is
+unfoldable pub headerRefusal : List ℕ → Option Outcome
+headerRefusal s = refusal (take 8 (caseRows s (caseOf s)))
 
 pub record Readable (s : List ℕ) : Type 0 where
   pub none-holds : caseRefusal s ≡ none

@@ -14,8 +14,8 @@ use Rattle.integers.specs.Ranges.{Within, inside, nat-within, nat-inside, nor-r
 use Rattle.measures.specs.Meaning.Limits as limits
 use Rattle.rules.specs.Meaning.Layout.{u8At, caseVersion, zonesIn, branchesIn, linksIn, ordersIn, toleranceIn, ramIn, ptdfIn, fromIn, toIn, capacityIn, zoneIn, sideIn, quantityIn, priceIn, caseLength, proposalVersion, shareIn, shadowIn, proposalLength, linkFields, orderFields}
 use Rattle.rules.specs.Meaning.Hour.{caseOf, planOf, pricesOf}
-use Rattle.rows.specs.Meaning.Rows.{Row, anyBelow, refusal}
-use Rattle.rows.specs.Promised.RowLaws.{Pass, empty, all-pass, any-none, no-place, row-passes}
+use Rattle.rows.specs.Meaning.Rows.{Pass, Row, anyBelow, refusal}
+use Rattle.rows.specs.Promised.RowLaws.{empty, all-pass, any-none, no-place, row-passes}
 use Rattle.rules.specs.Meaning.Verdict.{unknown, notMark, branchFault, repeated, linkFault, rowFault, orderFault, caseRows, proposalRows, Readable, caseRefusal, proposalRefusal}
 use Rattle.rules.specs.Steps.Passed.{not-not, case-sound, case-length, case-pairs, proposal-sound, proposal-length}
 

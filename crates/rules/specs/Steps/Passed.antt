@@ -17,8 +17,8 @@ use Rattle.rules.specs.Meaning.Layout.{reportRoom, linkFields, orderFiel
 use Rattle.rules.specs.Meaning.Hour.{Case, Plan, Prices, caseOf, planOf, pricesOf, netSum, linkUse, linkRoom, zonePrice, gap}
 use Rattle.rules.specs.Meaning.Clearing.{Clearing}
 use Rattle.rules.specs.Meaning.Annex.{PairsOnce}
-use Rattle.rows.specs.Meaning.Rows.{refusal}
-use Rattle.rows.specs.Promised.RowLaws.{Pass, empty, all-pass, has-before, isRow, rowOf, hasRow, before, row-passed, lacks, no-place, later, none-zero}
+use Rattle.rows.specs.Meaning.Rows.{Pass, refusal}
+use Rattle.rows.specs.Promised.RowLaws.{empty, all-pass, has-before, isRow, rowOf, hasRow, before, row-passed, lacks, no-place, later, none-zero}
 use Rattle.rules.specs.Meaning.Verdict.{unknown, branchFault, repeated, linkFault, rowFault, orderFault, roomRows, caseRows, proposalRows, clearingRows, table, outcome, Readable, caseRefusal, proposalRefusal}
 use Rattle.rules.specs.Meaning.Report.{reports}
 use Rattle.rules.specs.Steps.Duality.{Placed}

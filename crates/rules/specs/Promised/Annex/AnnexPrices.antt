@@ -22,7 +22,7 @@ use Rattle.rules.specs.Promised.Annex.CommercialFlows.{net-priced}
 use Rattle.rules.specs.Promised.Annex.Extended as extended
 
 -- PRICES
--- (79): multipliers that meet (74) and (78) over connected zones are rule 6's zone prices, at the system price price^FB_0
+-- (79): multipliers that meet (73) to (76) and (78) over connected zones are rule 6's zone prices, at the system price price^FB_0
 unfoldable pub pricesFrom : Multipliers → Prices
 pricesFrom y = record { system = y .priceFB 0; shadow = y .shadow }
 
