@@ -1,15 +1,22 @@
 -- What the verdicts before a stage leave, and that the sums of the stage fit. Assumes nothing.
 use mathlib.Core.Path.{_≡_}
 use mathlib.Core.List.{List}
+use mathlib.Core.Option.{none}
 use Prim.Native.Nat.{ℕ, _+_, _≤_, _<_}
 use native.Mathlib.Omega.{arith}
 use lib.ListN.{getD}
+use lib.Dec.{nltb→le}
 use lib.IntN.{ℤ}
 use mir.Syntax.{w64}
 use Rattle.integers.specs.Sums.{sum-ext}
 use Rattle.integers.specs.Machine.{SumsFit, sfits-by}
 use Rattle.rules.specs.Meaning.Layout.{u32At}
-use Rattle.rules.specs.Meaning.Hour.{Case, Plan}
+use Rattle.rules.specs.Meaning.Hour.{Case, Plan, linkUse, linkRoom}
+use Rattle.rows.specs.Meaning.Rows.{failing}
+use Rattle.rows.specs.Promised.RowLaws.{not-below}
+use Rattle.rules.specs.Meaning.Verdict.{excessVolume, overusedLink}
+use Rattle.rules.specs.Steps.Passed.{CaseSound}
+use Rattle.rules.specs.Promised.Fits.{flow-in}
 
 -- verdict 21 passed
 pub record VolumesIn (c : Case) (p : Plan) : Type 0 where
@@ -18,6 +25,12 @@ pub record VolumesIn (c : Case) (p : Plan) : Type 0 where
 -- verdict 23 passed: no flow passes the greatest capacity
 pub record FlowsIn (c : Case) (p : Plan) : Type 0 where
   pub within : (l : ℕ) → l < c .links → p .flow l ≤ 100000
+
+pub volumes-in : {c : Case} {p : Plan} → failing (excessVolume c p) ≡ none → VolumesIn c p
+volumes-in {c} {p} e = record { within = λ i h. nltb→le (c .quantity i) (p .volume i) (not-below _ _ e i h) }
+
+pub flows-in : {c : Case} {p : Plan} → CaseSound c → p .share ≤ 100000 → failing (overusedLink c p) ≡ none → FlowsIn c p
+flows-in {c} {p} cs share e = record { within = λ l h. flow-in c cs p share l h (nltb→le (linkRoom c p l) (linkUse c p l) (not-below _ _ e l h)) }
 
 -- an unsigned field of 32 bits, whose bytes are bytes
 pub record Bytes (s : List ℕ) : Type 0 where

@@ -8,26 +8,23 @@ ghost use Rattle.rules.specs.Meaning.Promise.{TotalsReported, Allowed, Accurate
 ghost use Rattle.rules.specs.Meaning.Report.{totalsOf, bufferAfter};
 ghost use Rattle.rules.specs.Meaning.Verdict.{outcome};
 ghost use Rattle.rules.specs.Meaning.AnnexPromise.{AnnexDemand3};
-ghost use Rattle.case_header.specs.Opened.{Opened};
 ghost use Rattle.clearing.specs.Held.{Holds};
 ghost use Rattle.clearing.specs.Stages.{VolumesIn};
-ghost use Rattle.case_branches.specs.Table.{tableOf};
+ghost use Rattle.rules.specs.Meaning.Hour as rules;
 ghost use Rattle.proposal_file.specs.Proposed.{Proposed};
 ghost use Rattle.proposal_file.specs.Answer.{openingOf};
 ghost use Rattle.report.specs.Written.{totalsIn};
 ghost use Rattle.valuation.specs.Prices.{Priced, PricesIn};
-ghost use Rattle.judgement.specs.Judged.{Judged, rowsFrom, proposalOn};
+ghost use Rattle.judgement.specs.Judged.{Finds, refusedAt, valuedAs, concluded};
 use case_branches::ptdf_table;
 use case_file::CaseAnswer;
 use case_file::read_case;
 use case_header::Counts;
-use clearing::first_excess_volume;
-use clearing::first_overloaded_branch;
-use clearing::first_overused_link;
-use clearing::flow_based_parts;
-use clearing::net_positions;
+use clearing::link_sums;
 use clearing::net_sum;
+use clearing::order_sums;
 use measures::Grains;
+use measures::Microcents;
 use measures::Tenths;
 use proposal_file::Opening;
 use proposal_file::ProposalAnswer;
@@ -36,13 +33,11 @@ use report::Totals;
 use report::write_report;
 use rows::Outcome;
 use rows::Place;
-use valuation::branch_total;
+use valuation::branch_sums;
 use valuation::first_price_outside;
 use valuation::owed;
 use valuation::rent;
 use valuation::surpluses;
-use valuation::welfare;
-use valuation::zone_prices;
 
 // Rules 7 to 11: the five totals of a cleared hour with its prices within their limits.
 fn totals(
@@ -50,19 +45,21 @@ fn totals(
     k: Counts,
     proposal: &[u8],
     nets: [Tenths; 16],
+    total_welfare: Microcents,
     prices: [Grains; 16],
+    on_branches: Microcents,
 ) -> Totals
     requires { ⌜ Proposed (now «case») k (now proposal) ⌝ }
     requires { ⌜ VolumesIn (caseOf (now «case»)) (planOf (now «case») (now proposal)) ⌝ }
     requires { ⌜ Holds (net (caseOf (now «case»)) (planOf (now «case») (now proposal))) nets ⌝ }
     requires { ⌜ Priced (caseOf (now «case»)) (pricesOf (now «case») (now proposal)) prices ⌝ }
     requires { ⌜ PricesIn (caseOf (now «case»)) (pricesOf (now «case») (now proposal)) ⌝ }
+    requires { ⌜ «on_branches» .0 ≡ rules.branchTotal (caseOf (now «case»)) (pricesOf (now «case») (now proposal)) ⌝ }
+    requires { ⌜ «total_welfare» .0 ≡ rules.welfare (caseOf (now «case»)) (planOf (now «case») (now proposal)) ⌝ }
     ensures { λ r. ⌜ totalsIn r ≡ totalsOf (caseOf (now («case» .entry))) (planOf (now («case» .entry)) (now (proposal .entry))) (pricesOf (now («case» .entry)) (now (proposal .entry))) ⌝ }
 {
     let zones = k.zones;
-    let total_welfare = welfare(case, k, proposal);
     let on_links = owed(case, k, proposal, prices);
-    let on_branches = branch_total(case, k, proposal);
     let network = on_branches.larger(on_links);
     let bound = surpluses(case, k, proposal, prices).plus(network);
     let gap = bound.minus(total_welfare);
@@ -76,17 +73,6 @@ fn totals(
     }
 }
 
-// A verdict at a place.
-fn verdict_at(number: u32, place: usize) -> Outcome
-    requires { ⌜ place < 4294967296 ⌝ }
-    ensures { λ r. ⌜ r ≡ record { number = number; index = place } ⌝ }
-{
-    Outcome {
-        number,
-        index: place as u32,
-    }
-}
-
 fn byte_of(zones: usize) -> u8
     requires { ⌜ zones ≤ 16 ⌝ }
     ensures { λ r. ⌜ r ≡ zones ⌝ }
@@ -94,128 +80,132 @@ fn byte_of(zones: usize) -> u8
     zones as u8
 }
 
-// Verdict 26 or 0, with the report.
-fn judge_priced(
-    case: &[u8],
-    k: Counts,
-    proposal: &[u8],
-    nets: [Tenths; 16],
+// What the rows from 21 on find in an hour: the verdict, and what the report holds of an hour that is valued, which is one of verdict 0 or 26.
+struct Found {
+    number: u8,
+    index: u32,
+    valued: bool,
+    totals: Totals,
     prices: [Grains; 16],
-    report: &mut [u8],
-) -> Outcome
-    requires { ⌜ Proposed (now «case») k (now proposal) ⌝ }
-    requires { ⌜ VolumesIn (caseOf (now «case»)) (planOf (now «case») (now proposal)) ⌝ }
-    requires { ⌜ Holds (net (caseOf (now «case»)) (planOf (now «case») (now proposal))) nets ⌝ }
-    requires { ⌜ Priced (caseOf (now «case»)) (pricesOf (now «case») (now proposal)) prices ⌝ }
-    requires { ⌜ PricesIn (caseOf (now «case»)) (pricesOf (now «case») (now proposal)) ⌝ }
-    requires { ⌜ reportRoom ≤ length (now report) ⌝ }
-    ensures { λ r. ⌜ Judged (rowsFrom 5 (now («case» .entry)) (now (proposal .entry))) (now («case» .entry)) (now (proposal .entry)) (now (report .entry)) r (now (report .exit)) ⌝ }
-{
-    let all = totals(case, k, proposal, nets, prices);
-    let gap = all.gap;
-    let zones = byte_of(k.zones);
-    let tolerance = k.tolerance;
-    if gap.exceeds(tolerance) {
-        write_report(report, 26, zones, all, prices);
-        return verdict_at(26, 0);
-    }
-    write_report(report, 0, zones, all, prices);
-    verdict_at(0, 0)
 }
 
-// Verdict 25 and on.
-fn judge_cleared(
-    case: &[u8],
-    k: Counts,
-    proposal: &[u8],
-    opening: Opening,
-    nets: [Tenths; 16],
-    table: [[i32; 16]; 64],
-    report: &mut [u8],
-) -> Outcome
-    requires { ⌜ Proposed (now «case») k (now proposal) ⌝ }
-    requires { ⌜ VolumesIn (caseOf (now «case»)) (planOf (now «case») (now proposal)) ⌝ }
-    requires { ⌜ Holds (net (caseOf (now «case»)) (planOf (now «case») (now proposal))) nets ⌝ }
-    requires { ⌜ table ≡ tableOf (now «case») ⌝ }
-    requires { ⌜ opening ≡ openingOf (now proposal) ⌝ }
-    requires { ⌜ reportRoom ≤ length (now report) ⌝ }
-    ensures { λ r. ⌜ Judged (rowsFrom 4 (now («case» .entry)) (now (proposal .entry))) (now («case» .entry)) (now (proposal .entry)) (now (report .entry)) r (now (report .exit)) ⌝ }
+const NO_TOTALS: Totals = Totals {
+    welfare: Microcents::ZERO,
+    bound: Microcents::ZERO,
+    gap: Microcents::ZERO,
+    rent: Microcents::ZERO,
+    owed: Microcents::ZERO,
+};
+
+// Refused at a place, with no report.
+fn refused(number: u8, place: usize) -> Found
+    requires { ⌜ place < 4294967296 ⌝ }
+    ensures { λ r. ⌜ r ≡ refusedAt number place ⌝ }
 {
-    let system = opening.system;
-    let prices = zone_prices(case, k, proposal, table, system);
+    Found {
+        number,
+        index: place as u32,
+        valued: false,
+        totals: NO_TOTALS,
+        prices: [Grains::ZERO; 16],
+    }
+}
+
+// Valued: 0 or 26, with what the report holds.
+fn valued(number: u8, totals: Totals, prices: [Grains; 16]) -> Found
+    ensures { λ r. ⌜ r ≡ valuedAs number totals prices ⌝ }
+{
+    Found {
+        number,
+        index: 0,
+        valued: true,
+        totals,
+        prices,
+    }
+}
+
+// THE DRIVER: each stage is asked what it found, in the table's order. A stage may rest on what those before it passed.
+fn find(case: &[u8], k: Counts, proposal: &[u8], opening: Opening) -> Found
+    requires { ⌜ Proposed (now «case») k (now proposal) ⌝ }
+    requires { ⌜ opening ≡ openingOf (now proposal) ⌝ }
+    ensures { λ r. ⌜ Finds (caseOf (now («case» .entry))) (planOf (now («case» .entry)) (now (proposal .entry))) (pricesOf (now («case» .entry)) (now (proposal .entry))) r ⌝ }
+{
     let zones = k.zones;
+    let share = opening.share;
+    let accepted = order_sums(case, k, proposal);
+    let excess = accepted.excess;
+    if let Place::At(i) = excess {
+        return refused(21, i);
+    }
+    let nets = accepted.nets;
+    if !net_sum(nets, zones).is_zero() {
+        return refused(22, 0);
+    }
+    let exchange = link_sums(case, k, proposal, share, nets);
+    let overused = exchange.overused;
+    if let Place::At(l) = overused {
+        return refused(23, l);
+    }
+    let parts = exchange.parts;
+    let table = ptdf_table(case, k);
+    let network = branch_sums(
+        case,
+        k,
+        proposal,
+        table,
+        parts,
+        share.rest(),
+        opening.system,
+    );
+    let overloaded = network.overloaded;
+    if let Place::At(m) = overloaded {
+        return refused(24, m);
+    }
+    let prices = network.prices;
     let outside = first_price_outside(prices, zones);
     if let Place::At(z) = outside {
-        return verdict_at(25, z);
+        return refused(25, z);
     }
-    judge_priced(case, k, proposal, nets, prices, report)
+    let totals = totals(
+        case,
+        k,
+        proposal,
+        nets,
+        accepted.welfare,
+        prices,
+        network.total,
+    );
+    let gap = totals.gap;
+    let tolerance = k.tolerance;
+    if gap.exceeds(tolerance) {
+        return valued(26, totals, prices);
+    }
+    valued(0, totals, prices)
 }
 
-// Verdicts 23, 24 and on.
-fn judge_balanced(
-    case: &[u8],
-    k: Counts,
-    proposal: &[u8],
-    opening: Opening,
-    nets: [Tenths; 16],
-    report: &mut [u8],
-) -> Outcome
-    requires { ⌜ Proposed (now «case») k (now proposal) ⌝ }
-    requires { ⌜ VolumesIn (caseOf (now «case»)) (planOf (now «case») (now proposal)) ⌝ }
-    requires { ⌜ Holds (net (caseOf (now «case»)) (planOf (now «case») (now proposal))) nets ⌝ }
-    requires { ⌜ opening ≡ openingOf (now proposal) ⌝ }
-    requires { ⌜ reportRoom ≤ length (now report) ⌝ }
-    ensures { λ r. ⌜ Judged (rowsFrom 2 (now («case» .entry)) (now (proposal .entry))) (now («case» .entry)) (now (proposal .entry)) (now (report .entry)) r (now (report .exit)) ⌝ }
+fn verdict_by(number: u8, index: u32) -> Outcome
+    ensures { λ r. ⌜ r ≡ record { number = number; index = index } ⌝ }
 {
-    let share = opening.share;
-    let overused = first_overused_link(case, k, proposal, share);
-    if let Place::At(l) = overused {
-        return verdict_at(23, l);
+    Outcome {
+        number: number as u32,
+        index,
     }
-    let parts = flow_based_parts(case, k, proposal, nets);
-    let table = ptdf_table(case, k);
-    let overloaded = first_overloaded_branch(case, k, proposal, table, parts, share.rest());
-    if let Place::At(m) = overloaded {
-        return verdict_at(24, m);
-    }
-    judge_cleared(case, k, proposal, opening, nets, table, report)
 }
 
-// Verdicts 21, 22 and on: the hour of a readable case and a proposal for it.
-fn judge_proposed(
-    case: &[u8],
-    k: Counts,
-    proposal: &[u8],
-    opening: Opening,
-    report: &mut [u8],
-) -> Outcome
-    requires { ⌜ Proposed (now «case») k (now proposal) ⌝ }
-    requires { ⌜ opening ≡ openingOf (now proposal) ⌝ }
+// The verdict, with the report of an hour that is valued.
+fn conclude(found: Found, zones: usize, report: &mut [u8]) -> Outcome
+    requires { ⌜ zones ≤ 16 ⌝ }
     requires { ⌜ reportRoom ≤ length (now report) ⌝ }
-    ensures { λ r. ⌜ Judged (rowsFrom 0 (now («case» .entry)) (now (proposal .entry))) (now («case» .entry)) (now (proposal .entry)) (now (report .entry)) r (now (report .exit)) ⌝ }
+    ensures verdict { λ r. ⌜ r ≡ record { number = found .number; index = found .index } ⌝ }
+    ensures report { λ r. ⌜ now (report .exit) ≡ concluded found zones (now (report .entry)) ⌝ }
 {
-    let excess = first_excess_volume(case, k, proposal);
-    if let Place::At(i) = excess {
-        return verdict_at(21, i);
+    if !found.valued {
+        return verdict_by(found.number, found.index);
     }
-    let nets = net_positions(case, k, proposal);
-    let zones = k.zones;
-    if !net_sum(nets, zones).is_zero() {
-        return verdict_at(22, 0);
-    }
-    judge_balanced(case, k, proposal, opening, nets, report)
-}
-
-// Verdicts 9 and on: a readable case.
-fn judge_readable(case: &[u8], k: Counts, proposal: &[u8], report: &mut [u8]) -> Outcome
-    requires { ⌜ Opened (now «case») k ⌝ }
-    requires { ⌜ reportRoom ≤ length (now report) ⌝ }
-    ensures { λ r. ⌜ Judged (proposalOn (now («case» .entry)) (now (proposal .entry))) (now («case» .entry)) (now (proposal .entry)) (now (report .entry)) r (now (report .exit)) ⌝ }
-{
-    match read_proposal(case, k, proposal) {
-        ProposalAnswer::Refused(refusal) => refusal,
-        ProposalAnswer::Sound(opening) => judge_proposed(case, k, proposal, opening, report),
-    }
+    let totals = found.totals;
+    let prices = found.prices;
+    write_report(report, found.number, byte_of(zones), totals, prices);
+    verdict_by(found.number, found.index)
 }
 
 // The room that a report buffer must have.
@@ -236,10 +226,17 @@ pub fn judge(case: &[u8], proposal: &[u8], report: &mut [u8]) -> Outcome
     ensures annex { λ r. ⌜ (r .number ≡ 0 → AnnexDemand3 (now («case» .entry)) (now (proposal .entry)) (now (report .exit))) ⌝ }
 {
     if report.len() < REPORT_ROOM {
-        return verdict_at(30, 0);
+        return verdict_by(30, 0);
     }
     match read_case(case) {
         CaseAnswer::Refused(refusal) => refusal,
-        CaseAnswer::Readable(k) => judge_readable(case, k, proposal, report),
+        CaseAnswer::Readable(k) => match read_proposal(case, k, proposal) {
+            ProposalAnswer::Refused(refusal) => refusal,
+            ProposalAnswer::Sound(opening) => conclude(
+                find(case, k, proposal, opening),
+                k.zones,
+                report,
+            ),
+        },
     }
 }

@@ -1,18 +1,10 @@
--- One order's, branch's or link's part of a total, as the code computes it in microcents: equal to the definition's part. Assumes nothing.
+-- One branch's part of a total, as the code computes it in microcents: equal to the definition's part. Assumes nothing.
 use mathlib.Core.Path.{_≡_}
-use mathlib.Core.Bool.{Bool, true, false}
 use native.Mathlib.Omega.{arith}
 use lib.IntN.{ℤ, pos, _*ℤ_}
-use Rattle.integers.specs.Difference.{at, _⊗_, ⊝_, eq-by}
-use Rattle.measures.specs.Meaning.Limits.{grainsOf}
-use Rattle.measures.specs.Meaning.Limits.{partsInOne}
-use Rattle.rules.specs.Meaning.Hour.{signed}
+use Rattle.integers.specs.Difference.{at, _⊗_, eq-by}
+use Rattle.measures.specs.Meaning.Limits.{partsInOne, grainsOf}
 
--- volume times the order price in grains is 100,000 times volume times the order price
-pub order-value : (b : Bool) (v x : ℤ) → signed b (v *ℤ grainsOf x) ≡ pos partsInOne *ℤ signed b (v *ℤ x)
-order-value true v x = eq-by (at v ⊗ (at (pos partsInOne) ⊗ at x)) (at (pos partsInOne) ⊗ (at v ⊗ at x)) (omega arith)
-order-value false v x = eq-by (⊝_ (at v ⊗ (at (pos partsInOne) ⊗ at x))) (at (pos partsInOne) ⊗ (⊝_ (at v ⊗ at x))) (omega arith)
-
--- and so the margin times the shadow price in grains
+-- the margin times the shadow price in grains is 100,000 times margin times shadow price
 pub branch-value : (r x : ℤ) → r *ℤ grainsOf x ≡ pos partsInOne *ℤ (r *ℤ x)
 branch-value r x = eq-by (at r ⊗ (at (pos partsInOne) ⊗ at x)) (at (pos partsInOne) ⊗ (at r ⊗ at x)) (omega arith)

@@ -72,7 +72,7 @@ in-file : (part : Part) {size : ℕ} → Adjacent part size → size < 10000 →
 in-file part a h i l = omega (arith, field-inside part a i (firstField (part .fields) (part .fault i)) l (field-below (part .fields) (part .fault i) (a .some-field)))
 
 header-short : (s : List ℕ) → ShortRows (headerRows s)
-unfolding caseRows ShortRows
+unfolding ShortRows
 header-short s = (fixed 1 0 tt tt, (fixed 2 0 tt tt, (fixed 3 0 tt tt, (fixed 4 5 tt tt, (fixed 4 6 tt tt, (fixed 4 7 tt tt, (fixed 4 8 tt tt, (fixed 4 10 tt tt, tt))))))))
 
 later-short : (s t : List ℕ) → Limited (countsOf s) → ShortRows (laterRows s t)

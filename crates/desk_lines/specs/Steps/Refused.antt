@@ -6,14 +6,14 @@ use mathlib.Core.Option.{Option, none, some}
 use Prim.Native.Nat.{ℕ, _≤_, _<_}
 use native.Mathlib.Omega.{arith}
 use borrow.Author.Tests.{le-ltb, ne-eqb}
-use lib.ListN.{length, drop}
+use lib.ListN.{length}
 use lib.Dec.{T}
 use Rattle.rules.specs.Meaning.Layout.{proposalVersion, proposalLength, reportRoom}
 use Rattle.rules.specs.Meaning.Hour.{caseOf, planOf, pricesOf}
 use Rattle.rows.specs.declared.Outcome.{Outcome}
 use Rattle.rows.specs.Meaning.Rows.{Row, verdict, firstBelow, refusal, answer, once}
-use Rattle.rows.specs.Promised.RowLaws.{field-passes, else-refusal, refusal-append, lacks, not-refused}
-use Rattle.rules.specs.Meaning.Verdict.{headerRefusal, under, differ, notMark, roomRows, caseRows, proposalRows, clearingRows, table, outcome, caseRefusal}
+use Rattle.rows.specs.Promised.RowLaws.{field-passes, else-refusal, refusal-append, lacks, not-refused, behind}
+use Rattle.rules.specs.Meaning.Verdict.{under, differ, notMark, roomRows, caseRows, proposalRows, clearingRows, table, outcome, caseRefusal, headerRefusal}
 use Rattle.rules.specs.Meaning.Report.{reports}
 use Rattle.desk_lines.specs.Steps.Header.{headerRows, laterRows, outcome-by-header}
 use Rattle.desk_lines.specs.Steps.Judged.{one-line}
@@ -29,7 +29,7 @@ refused-line s t o e r = one-line s t (ap (λ (x : Outcome). reports (x .number)
 
 -- refused by its header
 pub header-refused : (s t : List ℕ) (o : Outcome) → headerRefusal s ≡ some o → hourText s t ≡ verdictLine o
-unfolding headerRefusal caseRows lacks
+unfolding headerRefusal lacks
 header-refused s t o e =
     refused-line s t o (outcome-by-header s t ∙ ap (λ (x : Option Outcome). answer (else-refusal x (refusal (laterRows s t)))) e) (not-reported (headerRows s) tt tt o e)
 
@@ -61,7 +61,7 @@ module _ (s t : List ℕ) (h : proposalLength s < length t) where
   long-outcome = ap (λ (x : Option Outcome). answer x) (
       field-passes 30 0 (caseRows s (caseOf s) ++ later) refl
       ∙ refusal-append (caseRows s (caseOf s)) later
-      ∙ ap (λ (x : Option Outcome). else-refusal (caseRefusal s) x) (long-refused (notMark 76 84 80 t) (differ (proposalVersion t) 1) (under 13 (length t)) (differ (length t) (proposalLength s)) (drop 4 later) (le-ltb (length t) 13 enough) wrong)
+      ∙ ap (λ (x : Option Outcome). else-refusal (caseRefusal s) x) (long-refused (notMark 76 84 80 t) (differ (proposalVersion t) 1) (under 13 (length t)) (differ (length t) (proposalLength s)) (behind 12 later) (le-ltb (length t) 13 enough) wrong)
       )
     where
       later : List Row

@@ -15,8 +15,8 @@ use Rattle.measures.specs.Meaning.Limits as limits
 use Rattle.rules.specs.Meaning.Layout.{caseHeader, zonesIn, branchesIn, zoneCounts, branchFieldAt}
 use Rattle.rules.specs.Meaning.Hour.{caseOf}
 use Rattle.rows.specs.declared.Outcome.{Outcome}
-use Rattle.rows.specs.Meaning.Rows.{Pass, Row, anyBelow, refusal, answer, once, each, eachField}
-use Rattle.rules.specs.Meaning.Verdict.{under, over, differ, branchFault}
+use Rattle.rows.specs.Meaning.Rows.{Row, anyBelow, refusal, answer, once, each, Pass}
+use Rattle.rules.specs.Meaning.Verdict.{under, over, differ, branchField}
 use Rattle.output.specs.Meaning.Output.{writtenBy, outputAfter}
 use Rattle.numerals.specs.Meaning.Numeral.{isNumber, value, finer}
 
@@ -125,4 +125,4 @@ pub record Holds (zones : ℕ) (sheet s : List ℕ) : Type 0 where
   pub branches-are : (caseOf s) .branches ≡ lineCount sheet
   pub margins-are : (m : ℕ) → m < lineCount sheet → (caseOf s) .ram m ≡ value 1 (fieldOf (lineOf sheet m) 0)
   pub ptdfs-are : (m z : ℕ) → m < lineCount sheet → z < zones → (caseOf s) .ptdf m z ≡ negℤ (value 5 (fieldOf (lineOf sheet m) (suc z)))
-  pub row-6 : Pass (eachField 6 ((caseOf s) .branches) (1 + (caseOf s) .zones) (branchFault (caseOf s)) (branchFieldAt s))
+  pub row-6 : Pass (branchField s (caseOf s))

@@ -9,8 +9,8 @@ use borrow.Author.Tests.{eqb-true, not-false}
 use lib.Dec.{T, eqb, nltb→le}
 use lib.ListN.{length, getD}
 use Rattle.integers.specs.Ranges.{outside, Within, within, nat-within, nor-left, nor-right, not-is}
-use Rattle.rows.specs.Promised.RowLaws.{empty, all-pass, no-place}
 use Rattle.rows.specs.Meaning.Rows.{Pass}
+use Rattle.rows.specs.Promised.RowLaws.{empty, all-pass, no-place}
 use Rattle.decimal.specs.Meaning.Text.{valueOf}
 use Rattle.numerals.specs.Meaning.Numeral.{whole, decimals, isNumber, units, finer}
 use Rattle.numerals.specs.Promised.Exact.{exact}

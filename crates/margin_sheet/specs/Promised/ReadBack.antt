@@ -18,8 +18,9 @@ use Rattle.rules.specs.Meaning.Layout.{u8At, i32At, zonesIn, branchesIn, branch
 use Rattle.rules.specs.Steps.LayoutLaws.{signed-there}
 use Rattle.rules.specs.Meaning.Hour.{caseOf}
 use Rattle.rows.specs.Promised.RowLaws.{any-none}
-use Rattle.rules.specs.Meaning.Verdict.{branchFault, caseRows}
-use Rattle.margin_sheet.specs.Meaning.Sheet.{limit, entry, Header, Holds, entryOf, lineOf, lineCount, branchPart, entryBytes, lineBytes, sheetBytes, sheetOutcome, sheetWritten, sheetOutput}
+use Rattle.rules.specs.Meaning.Verdict.{branchFault}
+use Rattle.numerals.specs.Meaning.Numeral.{value}
+use Rattle.margin_sheet.specs.Meaning.Sheet.{limit, entry, Header, Holds, fieldOf, entryOf, lineOf, lineCount, branchPart, entryBytes, lineBytes, sheetBytes, sheetOutcome, sheetWritten, sheetOutput}
 use Rattle.margin_sheet.specs.Promised.Causes.{sheet-writes}
 use Rattle.margin_sheet.specs.Promised.Answered.{not-outside}
 use Rattle.margin_sheet.specs.Steps.Lines.{signed-length, entries-length, lines-length}
@@ -101,7 +102,7 @@ module _ (zones : ℕ) (sheet : List ℕ) (room : ℕ) (answered : (sheetOutcome
 
     -- THE THEOREM
     pub read-back : Holds zones sheet sheetCase
-    unfolding entryOf entry branchFault caseRows caseOf
+    unfolding entryOf entry branchFault caseOf
     read-back = record {
       zones-are = has-zones;
       branches-are = has-branches;

@@ -10,20 +10,19 @@ use lib.Dec.{T, eqb, not-T}
 use lib.ListN.{length, getD}
 use lib.IntN.{ℤ, pos}
 use lib.Signed.{ltZ, ltZ-yes, clashℤ}
-use Rattle.integers.specs.Ranges.{Range, outside, Within}
+use Rattle.integers.specs.Ranges.{Range, outside, Within, not-is}
 use Rattle.integers.specs.Sums.{sumTo, sum-ext}
 use Rattle.measures.specs.Meaning.Limits as limits
 use Rattle.rules.specs.Meaning.Layout.{zoneCounts, orderCounts}
 use Rattle.rules.specs.Meaning.Hour.{Case, Prices, caseOf, pricesOf, zonePrice, buys, surplusOf, orderSurplus, surplus}
-use Rattle.rows.specs.Meaning.Rows.{Pass, each}
-use Rattle.rows.specs.Promised.RowLaws.{all-pass, no-less, row-passed, none-zero, field-passes, row-passes, isRow, rowOf, hasRow, before}
+use Rattle.rows.specs.Meaning.Rows.{each, Pass}
+use Rattle.rows.specs.Promised.RowLaws.{no-less, row-passed, none-zero, field-passes, row-passes, isRow, rowOf, hasRow, before, rowNumbered, number-passes}
 use Rattle.rules.specs.Meaning.Verdict.{badRow, orderFault, caseRows, caseRefusal, Readable}
 use Rattle.rules.specs.Steps.Passed.{case-sound}
 use Rattle.rules.specs.Meaning.Book.{BookRow, noRow, rowAt, priceAt, badBookRow, bookRows, bookRefusal, rowSurplus, bookSurplus, bookAnswerBy, bookAnswer}
 use Rattle.order_book.specs.declared.OrderRow.{OrderRow}
 use Rattle.order_book.specs.Steps.Account.{answered}
 use Rattle.order_book.specs.Meaning.Lent.{bookRow, given, lentAnswer}
-use Rattle.integers.specs.Ranges.{not-is}
 use Rattle.order_book.specs.Steps.Closing.{no-cause}
 
 -- f 0, f 1, .. below n, as a list
@@ -101,8 +100,8 @@ module _ (s t : List ℕ) (readable : Readable s) (in-limits : (z : ℕ) → z <
   orders-in = (passed 4 8 tt) .pass 0 (omega arith)
 
   order-in : (i : ℕ) → i < c .orders → T (not (badRow (c .zones) (c .zone i) (c .side i) (c .quantity i) (c .price i)))
-  unfolding caseRefusal caseRows orderFault badRow
-  order-in i h = (all-pass (caseRows s c) (readable .none-holds) 11) .pass i h
+  unfolding caseRefusal caseRows rowNumbered orderFault badRow
+  order-in i h = (number-passes (caseRows s c) (readable .none-holds) 8) .pass i h
 
   -- and so do the book's
   zones-pass : outside zoneCounts (pos (length prices)) ≡ false

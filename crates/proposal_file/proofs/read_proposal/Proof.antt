@@ -1,8 +1,7 @@
 -- `proposal_file::read_proposal` meets its contract: row 9 by the walk over the header, the others by its fields. Assumes nothing.
 use mathlib.Core.Path.{sym, ap, _∙_}
 use borrow.Author.Needs.{needs}
-use lib.ListN.{drop}
-use Rattle.rows.specs.Promised.RowLaws.{field-fails}
+use Rattle.rows.specs.Promised.RowLaws.{field-fails, behind}
 use Rattle.proposal_file.specs.declared.ProposalAnswer.the-variants.{Refused}
 use Rattle.proposal_file.specs.Answer.{openingOf, proposalBy, header-taken, header-refused}
 use Rattle.proposal_file.specs.Proposed.{rowsOf, rows-are}
@@ -36,7 +35,7 @@ returns-2 c =
     let s = a .«case» .now in
     let t = a .proposal .now in
     let w = header-refused t (sym (h .take-header .ensures) ∙ r .r .given .1) in
-    ap Refused (w .1) ∙ ap (proposalBy (openingOf t)) (sym (rows-are s t ∙ field-fails 9 0 (drop 1 (rowsOf s t)) (w .0)))
+    ap Refused (w .1) ∙ ap (proposalBy (openingOf t)) (sym (rows-are s t ∙ field-fails 9 0 (behind 9 (rowsOf s t)) (w .0)))
 
 pub read-proposal-spec : {M : Type 1} → statement M
 read-proposal-spec =

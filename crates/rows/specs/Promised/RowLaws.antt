@@ -10,11 +10,11 @@ use native.Mathlib.Decide.{decLt}
 use lib.ListN.{length, getD}
 use lib.Dec.{T, eqb, ltb, eqb-refl, ltb→lt, T-not}
 use borrow.Author.Count.{below-more}
-use Rattle.integers.specs.Ranges.{nor-left, nor-right, and-left, and-right, is-true, is-false}
+use Rattle.integers.specs.Ranges.{nor-left, nor-right, and-left, and-right, is-true, is-false, and-both}
 use Rattle.rows.specs.declared.Outcome.{Outcome}
 use Rattle.rows.specs.declared.Place.{Place}
 use Rattle.rows.specs.declared.Place.the-variants.{At, Nowhere}
-use Rattle.rows.specs.Meaning.Rows.{Pass, Row, verdict, firstBelow, anyBelow, placeElse, firstField, rowElse, refusal, answer, field}
+use Rattle.rows.specs.Meaning.Rows.{Pass, Row, verdict, failing, firstBelow, anyBelow, placeElse, firstField, rowElse, refusal, answer, field}
 
 -- the first place that a search in code answers with
 abbrev pub placeOf : Place → Option ℕ
@@ -175,7 +175,33 @@ row-fails r rs k w = row-found r rs k (first-some (r .places) (r .fails) k w)
 pub row-passes : (r : Row) (rs : List Row) → Pass r → refusal (r ∷ rs) ≡ refusal rs
 row-passes r rs p = row-clear r rs (first-none (r .places) (r .fails) (p .pass))
 
+-- THE ROWS ASKED ONE AFTER THE OTHER, and what they come to: past each that passes, at the one that fails
+pub record Comes (rs : List Row) (o : Option Outcome) : Type 0 where
+  pub is : refusal rs ≡ o
+
+pub past : {r : Row} {rs : List Row} {o : Option Outcome} → Pass r → Comes rs o → Comes (r ∷ rs) o
+past {r} {rs} {o} p q = record { is = row-passes r rs p ∙ q .is }
+
+-- a search for its first place found none, or one
+pub clear : {r : Row} {rs : List Row} {o : Option Outcome} → failing r ≡ none → Comes rs o → Comes (r ∷ rs) o
+clear {r} {rs} {o} e q = record { is = row-clear r rs e ∙ q .is }
+
+pub fails-at : {r : Row} {rs : List Row} (k : ℕ) → failing r ≡ some k → Comes (r ∷ rs) (some (verdict (r .number) (r .index k)))
+fails-at {r} {rs} k e = record { is = row-found r rs k e }
+
+pub none-left : Comes [] none
+unfolding refusal
+none-left = record { is = refl }
+
 -- a cause tested once
+pub once-fails : {b : Bool} → b ≡ true → firstBelow 1 (λ k. b) ≡ some 0
+unfolding firstBelow
+once-fails e = ap (λ (x : Bool). cond x (some 0) none) e
+
+pub once-passes : {b : Bool} → b ≡ false → firstBelow 1 (λ k. b) ≡ none
+unfolding firstBelow
+once-passes e = ap (λ (x : Bool). cond x (some 0) none) e
+
 pub field-fails : (n k : ℕ) {b : Bool} (rs : List Row) → b ≡ true → refusal (field n k b ∷ rs) ≡ some (verdict n k)
 unfolding firstBelow
 field-fails n k {b} rs e = row-found (field n k b) rs 0 (ap (λ (x : Bool). cond x (some 0) none) e)
@@ -292,7 +318,44 @@ unfolding hasRow before
 has-before n i k [] h = h
 has-before n i k (r ∷ rs) h = has-step i k r rs (before n rs) (has-before n i k rs) (eqb (r .number) n) (isRow i k r) refl h
 
--- where none is refused, every row passes
+-- THE ROW OF A NUMBER, or one with no place; the rows behind it
+unfoldable pub rowNumbered : ℕ → List Row → Row
+rowNumbered n [] = empty
+rowNumbered n (r ∷ rs) = elim (eqb (r .number) n) [ true ↦ r | false ↦ rowNumbered n rs ]
+
+abbrev pub behind : ℕ → List Row → List Row
+behind n [] = []
+behind n (r ∷ rs) = elim (eqb (r .number) n) [ true ↦ rs | false ↦ behind n rs ]
+
+-- and those behind the row of a number and an offset
+abbrev pub behindRow : ℕ → ℕ → List Row → List Row
+behindRow n k [] = []
+behindRow n k (r ∷ rs) = elim (eqb (r .number) n && eqb (r .index 0) k) [ true ↦ rs | false ↦ behindRow n k rs ]
+
+-- where none is refused, every row passes: that of a number, and a header field by its offset
+none-refused : (r : Row) (rs : List Row) → refusal (r ∷ rs) ≡ none → Pass r × (refusal rs ≡ none)
+unfolding refusal
+none-refused r rs e = by (failing r) refl e
+  where
+    by : (x : Option ℕ) → failing r ≡ x → rowElse r x (refusal rs) ≡ none → Pass r × (refusal rs ≡ none)
+    by (some k) q e = absurd (Option·some-ne-none (verdict (r .number) (r .index k)) e)
+    by none q e = (record { pass = not-below (r .places) (r .fails) q }, e)
+
+either-passes : (b : Bool) (r q : Row) → Pass r → Pass q → Pass (elim b [ true ↦ r | false ↦ q ])
+either-passes true r q x y = x
+either-passes false r q x y = y
+
+pub number-passes : (rs : List Row) → refusal rs ≡ none → (n : ℕ) → Pass (rowNumbered n rs)
+unfolding rowNumbered
+number-passes [] e n = record { pass = λ j l. absurd (no-less j l) }
+number-passes (r ∷ rs) e n = let w = none-refused r rs e in either-passes (eqb (r .number) n) r (rowNumbered n rs) (w .0) (number-passes rs (w .1) n)
+
+pub field-at-passes : (rs : List Row) → refusal rs ≡ none → (n k : ℕ) → Pass (rowOf n k rs)
+unfolding rowOf
+field-at-passes [] e n k = record { pass = λ j l. absurd (no-less j l) }
+field-at-passes (r ∷ rs) e n k = let w = none-refused r rs e in either-passes (isRow n k r) r (rowOf n k rs) (w .0) (field-at-passes rs (w .1) n k)
+
+-- and the row at a place of the list
 pub all-pass : (rs : List Row) → refusal rs ≡ none → (j : ℕ) → Pass (getD rs j empty)
 unfolding refusal
 all-pass [] e j = record { pass = λ k h. absurd (no-less k h) }
@@ -405,6 +468,32 @@ row-named n qs r rs h before-it after-it e = by (firstBelow (r .places) (r .fail
       is = ap answer (here ∙ row-found r rs k q);
     }
     by none q = absurd (never (refusal rs) refl (sym (ap (λ (x : Option Outcome). (answer x) .number) (row-clear r rs q)) ∙ first .then-second))
+
+-- the same, the row found by its number
+lacks-before : (n : ℕ) (rs : List Row) → T (lacks n (before n rs))
+unfolding lacks before
+lacks-before n [] = tt
+lacks-before n (r ∷ rs) = by (eqb (r .number) n) refl (lacks-before n rs)
+  where
+    by : (b : Bool) → eqb (r .number) n ≡ b → T (lacks n (before n rs)) → T (lacks n (elim b [ true ↦ [] | false ↦ r ∷ before n rs ]))
+    by true e ih = tt
+    by false e ih = and-both (not (eqb (r .number) n)) (lacks n (before n rs)) (is-false e) ih
+
+split : (n : ℕ) (rs : List Row) → T (not (lacks n rs)) → rs ≡ before n rs ++ (rowNumbered n rs ∷ behind n rs)
+unfolding lacks before rowNumbered
+split n [] t = absurd t
+split n (r ∷ rs) t = by (eqb (r .number) n) t (split n rs)
+  where
+    by : (b : Bool) → T (not (not b && lacks n rs)) → (T (not (lacks n rs)) → rs ≡ before n rs ++ (rowNumbered n rs ∷ behind n rs))
+        → r ∷ rs ≡ elim b [ true ↦ [] | false ↦ r ∷ before n rs ] ++ (elim b [ true ↦ r | false ↦ rowNumbered n rs ] ∷ elim b [ true ↦ rs | false ↦ behind n rs ])
+    by true t ih = refl
+    by false t ih = ap (λ (l : List Row). r ∷ l) (ih t)
+
+pub row-by-number : (n : ℕ) (rs : List Row) → 0 < n → T (not (lacks n rs)) → T (lacks n (behind n rs)) → (answer (refusal rs)) .number ≡ n → RowNamed (before n rs) (rowNumbered n rs) (answer (refusal rs))
+row-by-number n rs h some-row after-it e =
+    let same = split n rs some-row in
+    subst (λ (l : List Row). RowNamed (before n rs) (rowNumbered n rs) (answer (refusal l))) (sym same)
+    (row-named n (before n rs) (rowNumbered n rs) (behind n rs) h (lacks-before n rs) after-it (ap (λ (l : List Row). (answer (refusal l)) .number) (sym same) ∙ e))
 
 -- THE FIELD THAT IT NAMES: the first of its row at fault
 pub first-field : (w : ℕ) (f : ℕ → Bool) → T (anyBelow w f) → First w f (firstField w f)

@@ -5,7 +5,7 @@ use mathlib.Core.Bool.{Bool, not, _&&_, _||_}
 use mathlib.Core.List.{List, [], _∷_, _++_}
 use mathlib.Core.Option.{Option, none}
 use Prim.Native.Nat.{ℕ, zero, suc, _+_}
-use lib.ListN.{length, take}
+use lib.ListN.{length}
 use lib.Dec.{eqb, leb, ltb}
 use lib.IntN.{ℤ, pos}
 use lib.Signed.{ltZ}
@@ -66,55 +66,134 @@ orderFault c i = rowFault (c .zones) (c .zone i) (c .side i) (c .quantity i) (c 
 unfoldable pub badRow : ℕ → ℕ → ℕ → ℕ → ℤ → Bool
 badRow n zone side quantity price = anyBelow orderFields (rowFault n zone side quantity price)
 
--- THE TABLE, for a case s, a proposal t and a report buffer of `room` bytes; c, p and d are what s and t hold.
+-- THE TABLE, for a case s, a proposal t and a report buffer of `room` bytes; c, p and d are what s and t hold. Each row has a name, and the lists of the
+-- names are the order in which they are asked.
 -- 30 is asked first of all: report buffer under 176 bytes
+abbrev pub smallBuffer : ℕ → Row
+smallBuffer room = once 30 (under reportRoom room)
+
 unfoldable pub roomRows : ℕ → List Row
-roomRows room = once 30 (under reportRoom room) ∷ []
+roomRows room = smallBuffer room ∷ []
+
+-- 1: case shorter than 14 bytes. 2: mark is not LTC. 3: case version is not 1
+abbrev pub shortCase : List ℕ → Row
+shortCase s = once 1 (under caseHeader (length s))
+
+abbrev pub wrongCaseMark : List ℕ → Row
+wrongCaseMark s = once 2 (notMark 76 84 67 s)
+
+abbrev pub wrongCaseVersion : List ℕ → Row
+wrongCaseVersion s = once 3 (differ (caseVersion s) 1)
+
+-- 4: header field outside its range: its offset
+abbrev pub zoneCount : Case → Row
+zoneCount c = field 4 5 (outside zoneCounts (pos (c .zones)))
+
+abbrev pub branchCount : Case → Row
+branchCount c = field 4 6 (outside branchCounts (pos (c .branches)))
+
+abbrev pub linkCount : Case → Row
+linkCount c = field 4 7 (outside linkCounts (pos (c .links)))
+
+abbrev pub orderCount : Case → Row
+orderCount c = field 4 8 (outside orderCounts (pos (c .orders)))
+
+abbrev pub toleranceField : Case → Row
+toleranceField c = field 4 10 (outside limits.tolerance (pos (c .tolerance)))
+
+-- 5: case length is not what the header demands
+abbrev pub wrongCaseLength : List ℕ → Row
+wrongCaseLength s = once 5 (differ (length s) (caseLength s))
+
+-- 6: branch field out of range. 7: link: unknown zone, equal zones, capacity, repeated pair. 8: order field out of range. The first such field's offset (S-2)
+abbrev pub branchField : List ℕ → Case → Row
+branchField s c = eachField 6 (c .branches) (1 + c .zones) (branchFault c) (branchFieldAt s)
+
+abbrev pub linkField : List ℕ → Case → Row
+linkField s c = eachField 7 (c .links) linkFields (linkFault c) (linkFieldAt s)
+
+abbrev pub orderField : List ℕ → Case → Row
+orderField s c = eachField 8 (c .orders) orderFields (orderFault c) (orderFieldAt s)
+
+-- the header's rows, and those of what stands after it
+abbrev pub caseHeaderRows : List ℕ → Case → List Row
+caseHeaderRows s c =
+    shortCase s
+    ∷ wrongCaseMark s
+    ∷ wrongCaseVersion s
+    ∷ zoneCount c
+    ∷ branchCount c
+    ∷ linkCount c
+    ∷ orderCount c
+    ∷ toleranceField c
+    ∷ []
+
+abbrev pub caseBodyRows : List ℕ → Case → List Row
+caseBodyRows s c = wrongCaseLength s ∷ branchField s c ∷ linkField s c ∷ orderField s c ∷ []
 
 unfoldable pub caseRows : List ℕ → Case → List Row
-caseRows s c =
-    -- case shorter than 14 bytes; mark is not LTC; case version is not 1
-    once 1 (under caseHeader (length s))
-    ∷ once 2 (notMark 76 84 67 s)
-    ∷ once 3 (differ (caseVersion s) 1)
-    -- header field outside its range: its offset
-    ∷ field 4 5 (outside zoneCounts (pos (c .zones)))
-    ∷ field 4 6 (outside branchCounts (pos (c .branches)))
-    ∷ field 4 7 (outside linkCounts (pos (c .links)))
-    ∷ field 4 8 (outside orderCounts (pos (c .orders)))
-    ∷ field 4 10 (outside limits.tolerance (pos (c .tolerance)))
-    -- case length is not what the header demands
-    ∷ once 5 (differ (length s) (caseLength s))
-    -- branch field out of range; link: unknown zone, equal zones, capacity, repeated pair; order field out of range: the first such field's offset (S-2)
-    ∷ eachField 6 (c .branches) (1 + c .zones) (branchFault c) (branchFieldAt s)
-    ∷ eachField 7 (c .links) linkFields (linkFault c) (linkFieldAt s)
-    ∷ eachField 8 (c .orders) orderFields (orderFault c) (orderFieldAt s)
-    ∷ []
+caseRows s c = caseHeaderRows s c ++ caseBodyRows s c
+
+-- 9: proposal shorter than 13 bytes. 10: mark is not LTP. 11: proposal version is not 1. 12: proposal length wrong for this case
+abbrev pub shortProposal : List ℕ → Row
+shortProposal t = once 9 (under proposalHeader (length t))
+
+abbrev pub wrongProposalMark : List ℕ → Row
+wrongProposalMark t = once 10 (notMark 76 84 80 t)
+
+abbrev pub wrongProposalVersion : List ℕ → Row
+wrongProposalVersion t = once 11 (differ (proposalVersion t) 1)
+
+abbrev pub wrongProposalLength : List ℕ → List ℕ → Row
+wrongProposalLength s t = once 12 (differ (length t) (proposalLength s))
+
+-- 13: LTA share above 100,000. 14: shadow price above 1,000,000: its offset in the proposal (S-2)
+abbrev pub shareAbove : Plan → Row
+shareAbove p = once 13 (outside limits.share (pos (p .share)))
+
+abbrev pub shadowAbove : List ℕ → Case → Prices → Row
+shadowAbove s c d = eachAt 14 (c .branches) (λ m. outside limits.shadowPrice (pos (d .shadow m))) (shadowAt s)
 
 unfoldable pub proposalRows : List ℕ → List ℕ → Case → Plan → Prices → List Row
 proposalRows s t c p d =
-    -- proposal shorter than 13 bytes; mark is not LTP; proposal version is not 1; proposal length wrong for this case
-    once 9 (under proposalHeader (length t))
-    ∷ once 10 (notMark 76 84 80 t)
-    ∷ once 11 (differ (proposalVersion t) 1)
-    ∷ once 12 (differ (length t) (proposalLength s))
-    -- LTA share above 100,000; shadow price above 1,000,000: its offset in the proposal (S-2)
-    ∷ once 13 (outside limits.share (pos (p .share)))
-    ∷ eachAt 14 (c .branches) (λ m. outside limits.shadowPrice (pos (d .shadow m))) (shadowAt s)
+    shortProposal t
+    ∷ wrongProposalMark t
+    ∷ wrongProposalVersion t
+    ∷ wrongProposalLength s t
+    ∷ shareAbove p
+    ∷ shadowAbove s c d
     ∷ []
+
+-- 21: volume above the order's quantity
+abbrev pub excessVolume : Case → Plan → Row
+excessVolume c p = each 21 (c .orders) (λ i. over (c .quantity i) (p .volume i))
+
+-- 22: balance (rule 3) fails. 23: link rule (4) fails. 24: branch rule (5) fails
+abbrev pub unbalanced : Case → Plan → Row
+unbalanced c p = once 22 (not (isZero (netSum c p)))
+
+abbrev pub overusedLink : Case → Plan → Row
+overusedLink c p = each 23 (c .links) (λ l. broken (linkRule c p l))
+
+abbrev pub overloadedBranch : Case → Plan → Row
+overloadedBranch c p = each 24 (c .branches) (λ m. brokenZ (branchRule c p m))
+
+-- 25: zone price under -50,000 or over 400,000 cents
+abbrev pub priceOutside : Case → Prices → Row
+priceOutside c d = each 25 (c .zones) (λ z. outside limits.zonePrice (zonePrice c d z))
+
+-- 26: gap above tolerance (in microcents)
+abbrev pub wideGap : Case → Plan → Prices → Row
+wideGap c p d = once 26 (overZ (limits.microcentsOf (pos (c .tolerance))) (gap c p d))
 
 unfoldable pub clearingRows : Case → Plan → Prices → List Row
 clearingRows c p d =
-    -- volume above the order's quantity
-    each 21 (c .orders) (λ i. over (c .quantity i) (p .volume i))
-    -- balance (rule 3), link rule (4), branch rule (5) fails
-    ∷ once 22 (not (isZero (netSum c p)))
-    ∷ each 23 (c .links) (λ l. broken (linkRule c p l))
-    ∷ each 24 (c .branches) (λ m. brokenZ (branchRule c p m))
-    -- zone price under -50,000 or over 400,000 cents
-    ∷ each 25 (c .zones) (λ z. outside limits.zonePrice (zonePrice c d z))
-    -- gap above tolerance (in microcents)
-    ∷ once 26 (overZ (limits.microcentsOf (pos (c .tolerance))) (gap c p d))
+    excessVolume c p
+    ∷ unbalanced c p
+    ∷ overusedLink c p
+    ∷ overloadedBranch c p
+    ∷ priceOutside c d
+    ∷ wideGap c p d
     ∷ []
 
 unfoldable pub table : List ℕ → List ℕ → ℕ → Case → Plan → Prices → List Row
@@ -128,9 +207,9 @@ outcome s t room = answer (refusal (table s t room (caseOf s) (planOf s t) (pric
 unfoldable pub caseRefusal : List ℕ → Option Outcome
 caseRefusal s = refusal (caseRows s (caseOf s))
 
--- none of 1 to 4, the first eight of these rows: a header whose counts say how long the case is
+-- none of 1 to 4: a header whose counts say how long the case is
 unfoldable pub headerRefusal : List ℕ → Option Outcome
-headerRefusal s = refusal (take 8 (caseRows s (caseOf s)))
+headerRefusal s = refusal (caseHeaderRows s (caseOf s))
 
 pub record Readable (s : List ℕ) : Type 0 where
   pub none-holds : caseRefusal s ≡ none

@@ -1,6 +1,6 @@
 -- The verdict table: its numbers in the order asked, that a refusal is given for its cause and for no other, and that no cause asked earlier holds.
 -- Assumes nothing.
-use mathlib.Core.Path.{_≡_, refl, sym, ap, _∙_, subst}
+use mathlib.Core.Path.{_≡_, refl, sym, ap, subst}
 use mathlib.Core.Bool.{Bool, true, false}
 use mathlib.Core.List.{List, [], _∷_}
 use mathlib.Core.Option.{Option, none, some}
@@ -13,8 +13,8 @@ use lib.IntN.{ℤ, pos}
 use Rattle.measures.specs.Meaning.Limits as limits
 use Rattle.rules.specs.Meaning.Hour.{Case, Plan, Prices, caseOf, planOf, pricesOf, gap}
 use Rattle.rows.specs.declared.Outcome.{Outcome}
-use Rattle.rows.specs.Meaning.Rows.{Pass, Row, verdict, refusal, answer, unnamed, at-offset, the-place, a-field, Asked, ask, Asks, ascending}
-use Rattle.rows.specs.Promised.RowLaws.{empty, Answered, answered, Soonest, soonest, lacks, numbersBelow, number-below, isRow, rowOf, hasRow, before, row-passed, row-passes, field-passes, later}
+use Rattle.rows.specs.Meaning.Rows.{Row, verdict, refusal, answer, unnamed, at-offset, the-place, a-field, Asked, ask, Asks, ascending, Pass}
+use Rattle.rows.specs.Promised.RowLaws.{empty, Answered, answered, Soonest, soonest, lacks, numbersBelow, number-below, isRow, rowOf, hasRow, before, row-passed, later, Comes, past, clear, none-left, once-passes}
 use Rattle.rules.specs.Meaning.Book.{BookRow, bookRows, bookRefusal, bookSurplus, bookAnswer, bookAnswerBy}
 use Rattle.rules.specs.Meaning.Verdict.{overZ, roomRows, caseRows, proposalRows, clearingRows, table, outcome}
 
@@ -59,15 +59,13 @@ table-order s t room c p d = (refl, (λ k. refl, (refl, (λ k. refl, (refl, (λ 
 -- the clearing's rows end in 26 only by its own row: were it to pass, with those before it, nothing would be refused
 by-26 : (c : Case) (p : Plan) (d : Prices) → (answer (refusal (clearingRows c p d))) .number ≡ 26
     → (b : Bool) → overZ (limits.microcentsOf (pos (c .tolerance))) (gap c p d) ≡ b → T (overZ (limits.microcentsOf (pos (c .tolerance))) (gap c p d))
-unfolding clearingRows before hasRow rowOf isRow refusal
+unfolding clearingRows before hasRow rowOf isRow
 by-26 c p d e true q = subst (λ (b : Bool). T b) (sym q) tt
-by-26 c p d e false q = absurd (differ (ap (λ (o : Option Outcome). (answer o) .number)
-    (row-passes _ (rest 1) (passed 21 0 tt) ∙ row-passes _ (rest 2) (passed 22 0 tt) ∙ row-passes _ (rest 3) (passed 23 0 tt) ∙ row-passes _ (rest 4) (passed 24 0 tt)
-    ∙ row-passes _ (rest 5) (passed 25 0 tt) ∙ field-passes 26 0 [] q)))
+by-26 c p d e false q =
+    let rows : Comes (clearingRows c p d) none =
+    past (passed 21 0 tt) (past (passed 22 0 tt) (past (passed 23 0 tt) (past (passed 24 0 tt) (past (passed 25 0 tt) (clear (once-passes q) none-left))))) in
+    absurd (differ (ap (λ (o : Option Outcome). (answer o) .number) (rows .is)))
   where
-    rest : ℕ → List Row
-    rest n = drop n (clearingRows c p d)
-
     passed : (i k : ℕ) → T (hasRow i k (before 26 (clearingRows c p d))) → Pass (rowOf i k (clearingRows c p d))
     passed = row-passed 26 (clearingRows c p d) e
 

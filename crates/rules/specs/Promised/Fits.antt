@@ -57,53 +57,55 @@ surplus-near buy quantity price zone q p z =
     near-positive 4500000000000000 _ (near-mul (near-unsigned quantity 100000 q) (near-above buy (limits.grainsOf price) zone (in-grains price p) z))
 
 module _ (c : Case) (cs : CaseSound c) where
-  -- after row 21: no volume above its order's quantity
-  module _ (p : Plan) (volumes : (i : ℕ) → i < c .orders → p .volume i ≤ c .quantity i) where
-    volume-near : (i : ℕ) → i < c .orders → Near 100000 (pos (p .volume i))
-    volume-near i h = near-unsigned (p .volume i) 100000 (omega (arith, cs .quantity-in i h, volumes i h))
+  -- while row 21 is asked: of the first n orders, no volume above its order's quantity
+  module _ (p : Plan) (n : ℕ) (few : n ≤ c .orders) (volumes : (i : ℕ) → i < n → p .volume i ≤ c .quantity i) where
+    volume-near : (i : ℕ) → i < n → Near 100000 (pos (p .volume i))
+    volume-near i h = near-unsigned (p .volume i) 100000 (omega (arith, cs .quantity-in i (omega arith), volumes i h))
 
-    pub orderNet-near : (i : ℕ) → i < c .orders → Near 100000 (orderNet c p i)
+    orderNet-near : (i : ℕ) → i < n → Near 100000 (orderNet c p i)
     unfolding orderNet
     orderNet-near i h = near-signed (buys c i) 100000 _ (volume-near i h)
 
-    zone-term-near : (z i : ℕ) → i < c .orders → Near 100000 (only (eqb (c .zone i) z) (orderNet c p i))
+    zone-term-near : (z i : ℕ) → i < n → Near 100000 (only (eqb (c .zone i) z) (orderNet c p i))
     zone-term-near z i h = near-only (eqb (c .zone i) z) 100000 _ (orderNet-near i h)
 
-    pub net-sums : (z : ℕ) → SumsFit (λ i. only (eqb (c .zone i) z) (orderNet c p i)) (c .orders)
-    net-sums z = small-sums _ 100000 (c .orders) (zone-term-near z) (omega (arith, cs .orders-in))
+    pub net-sums : (z : ℕ) → SumsFit (λ i. only (eqb (c .zone i) z) (orderNet c p i)) n
+    net-sums z = small-sums _ 100000 n (zone-term-near z) (omega (arith, cs .orders-in))
 
+    welfare-term-near : (i : ℕ) → i < n → Near 40000000000 (orderWelfare c p i)
+    unfolding orderWelfare
+    welfare-term-near i h = near-signed (buys c i) 40000000000 _ (near-mul (volume-near i h) (near-order-price (c .price i) (cs .price-in i (omega arith))))
+
+    pub welfare-sums : SumsFit (λ i. pos 100000 *ℤ orderWelfare c p i) n
+    welfare-sums = small-sums _ 4000000000000000 n (λ i h. near-mul (near-pos 100000) (welfare-term-near i h)) (omega (arith, cs .orders-in))
+
+  -- after row 21
+  module _ (p : Plan) (volumes : (i : ℕ) → i < c .orders → p .volume i ≤ c .quantity i) where
     pub net-near : (z : ℕ) → Near 51200000 (net c p z)
     unfolding net
-    net-near z = near-le (omega (arith, cs .orders-in)) (near-sum (c .orders) 100000 _ (zone-term-near z))
+    net-near z = near-le (omega (arith, cs .orders-in)) (near-sum (c .orders) 100000 _ (zone-term-near p (c .orders) (omega arith) volumes z))
 
     pub balance-sums : SumsFit (λ z. net c p z) (c .zones)
     balance-sums = small-sums _ 51200000 (c .zones) (λ z h. net-near z) (omega (arith, cs .zones-in .1))
 
-    welfare-term-near : (i : ℕ) → i < c .orders → Near 40000000000 (orderWelfare c p i)
-    unfolding orderWelfare
-    welfare-term-near i h = near-signed (buys c i) 40000000000 _ (near-mul (volume-near i h) (near-order-price (c .price i) (cs .price-in i h)))
-
-    pub welfare-sums : SumsFit (λ i. pos partsInOne *ℤ orderWelfare c p i) (c .orders)
-    welfare-sums = small-sums _ 4000000000000000 (c .orders) (λ i h. near-mul (near-pos partsInOne) (welfare-term-near i h)) (omega (arith, cs .orders-in))
-
     pub welfare-near : Near 2048000000000000000 (welfare c p)
     unfolding welfare
-    welfare-near = near-le (omega (arith, cs .orders-in)) (near-mul (near-pos partsInOne) (near-sum (c .orders) 40000000000 _ welfare-term-near))
+    welfare-near = near-le (omega (arith, cs .orders-in)) (near-mul (near-pos 100000) (near-sum (c .orders) 40000000000 _ (welfare-term-near p (c .orders) (omega arith) volumes)))
 
-    -- after row 23: no flow above 100,000 tenths
+    flow-near : (b : Bool) (l : ℕ) → p .flow l ≤ 100000 → Near 100000 (only b (pos (p .flow l)))
+    flow-near b l h = near-only b 100000 _ (near-unsigned (p .flow l) 100000 h)
+
+    -- the flow-based part while the first n links are taken off, as row 23 is asked: no flow of theirs above 100,000 tenths
+    pub partial-near : (n : ℕ) → n ≤ c .links → ((l : ℕ) → l < n → p .flow l ≤ 100000) → (z : ℕ)
+        → Near 64000000 (net c p z -ℤ (sumTo n (λ l. only (eqb (c .to l) z) (pos (p .flow l))) -ℤ sumTo n (λ l. only (eqb (c .from l) z) (pos (p .flow l)))))
+    partial-near n h flows z = near-le (omega (arith, cs .links-in)) (near-sub (net-near z)
+        (near-sub (near-sum n 100000 _ (λ l k. flow-near (eqb (c .to l) z) l (flows l k))) (near-sum n 100000 _ (λ l k. flow-near (eqb (c .from l) z) l (flows l k)))))
+
+    -- after row 23
     module _ (flows : (l : ℕ) → l < c .links → p .flow l ≤ 100000) where
-      flow-near : (b : Bool) (l : ℕ) → l < c .links → Near 100000 (only b (pos (p .flow l)))
-      flow-near b l h = near-only b 100000 _ (near-unsigned (p .flow l) 100000 (flows l h))
-
-      -- the flow-based part while the first n links are taken off
-      pub partial-near : (n : ℕ) → n ≤ c .links → (z : ℕ)
-          → Near 64000000 (net c p z -ℤ (sumTo n (λ l. only (eqb (c .to l) z) (pos (p .flow l))) -ℤ sumTo n (λ l. only (eqb (c .from l) z) (pos (p .flow l)))))
-      partial-near n h z = near-le (omega (arith, cs .links-in)) (near-sub (net-near z)
-          (near-sub (near-sum n 100000 _ (λ l k. flow-near (eqb (c .to l) z) l (omega arith))) (near-sum n 100000 _ (λ l k. flow-near (eqb (c .from l) z) l (omega arith)))))
-
       pub fbPart-near : (z : ℕ) → Near 64000000 (fbPart c p z)
       unfolding fbPart ltaPart inflow outflow
-      fbPart-near z = partial-near (c .links) (omega arith) z
+      fbPart-near z = partial-near (c .links) (omega arith) flows z
 
       pub branchUse-sums : (m : ℕ) → m < c .branches → SumsFit (λ z. c .ptdf m z *ℤ fbPart c p z) (c .zones)
       branchUse-sums m h = small-sums _ 12800000000000 (c .zones)
@@ -175,7 +177,7 @@ module _ (c : Case) (cs : CaseSound c) where
         unfolding net
         rent-partial-near n h = near-le (omega (arith, cs .orders-in))
             (near-gathered (c .orders) n 4000000000000000 (c .zone) (λ i. orderNet c p i) (zonePrice c d)
-            (λ i l k. near-mul (orderNet-near p volumes i l) (near-zone-price _ (prices (c .zone i) (omega arith)))))
+            (λ i l k. near-mul (orderNet-near p (c .orders) (omega arith) volumes i l) (near-zone-price _ (prices (c .zone i) (omega arith)))))
 
         pub rent-sums : SumsFit (λ z. net c p z *ℤ zonePrice c d z) (c .zones)
         rent-sums = record {

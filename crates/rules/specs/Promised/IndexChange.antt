@@ -6,7 +6,6 @@ use mathlib.Core.List.{List, [], _∷_, _++_}
 use mathlib.Core.Option.{Option, none, some}
 use Prim.Native.Nat.{ℕ, zero, suc, _+_}
 use native.Mathlib.Omega.{arith}
-use lib.ListN.{take, drop}
 use lib.Dec.{T, eqb}
 use lib.IntN.{ℤ, pos}
 use Rattle.integers.specs.Ranges.{outside}
@@ -15,7 +14,8 @@ use Rattle.rules.specs.Meaning.Layout.{linkFields, orderFields}
 use Rattle.rules.specs.Meaning.Hour.{Case, Plan, Prices, caseOf, planOf, pricesOf}
 use Rattle.rows.specs.declared.Outcome.{Outcome}
 use Rattle.rows.specs.Meaning.Rows.{Row, verdict, firstBelow, anyBelow, rowElse, refusal, answer, each}
-use Rattle.rules.specs.Meaning.Verdict.{over, unknown, badRow, branchFault, repeated, linkFault, rowFault, orderFault, roomRows, caseRows, proposalRows, clearingRows, table, outcome}
+use Rattle.rules.specs.Meaning.Verdict.{over, unknown, badRow, branchFault, repeated, linkFault, rowFault, orderFault, roomRows, caseRows, proposalRows, clearingRows, table, outcome, branchField, shadowAbove}
+use Rattle.rows.specs.Promised.RowLaws.{before, behind}
 
 -- THE TABLE BEFORE: rows 6, 7, 8 and 14 named the branch, the link and the order
 unfoldable pub badBranch : Case → ℕ → Bool
@@ -35,10 +35,10 @@ badOrder c i = unknown (c .zones) (c .zone i)
     || outside limits.orderPrice (c .price i)
 
 unfoldable pub caseRowsBefore : List ℕ → Case → List Row
-caseRowsBefore s c = take 9 (caseRows s c) ++ (each 6 (c .branches) (badBranch c) ∷ each 7 (c .links) (badLink c) ∷ each 8 (c .orders) (badOrder c) ∷ [])
+caseRowsBefore s c = before 6 (caseRows s c) ++ (each 6 (c .branches) (badBranch c) ∷ each 7 (c .links) (badLink c) ∷ each 8 (c .orders) (badOrder c) ∷ [])
 
 unfoldable pub proposalRowsBefore : List ℕ → List ℕ → Case → Plan → Prices → List Row
-proposalRowsBefore s t c p d = take 5 (proposalRows s t c p d) ++ (each 14 (c .branches) (λ m. outside limits.shadowPrice (pos (d .shadow m))) ∷ [])
+proposalRowsBefore s t c p d = before 14 (proposalRows s t c p d) ++ (each 14 (c .branches) (λ m. outside limits.shadowPrice (pos (d .shadow m))) ∷ [])
 
 unfoldable pub outcomeBefore : List ℕ → List ℕ → ℕ → Outcome
 outcomeBefore s t room =
@@ -136,9 +136,9 @@ book-row-same n zone side quantity price = refl
 -- THE TABLE: every row but those four is as it was
 module _ (s t : List ℕ) (c : Case) (p : Plan) (d : Prices) where
   case-alike : AllAlike (caseRows s c) (caseRowsBefore s c)
-  unfolding caseRows caseRowsBefore
-  case-alike = appended (take 9 (caseRows s c)) (take 9 (caseRows s c)) (drop 9 (caseRows s c)) (each 6 (c .branches) (badBranch c) ∷ each 7 (c .links) (badLink c) ∷ each 8 (c .orders) (badOrder c) ∷ [])
-      (all-same (take 9 (caseRows s c))) (
+  unfolding caseRows caseRowsBefore before
+  case-alike = appended (before 6 (caseRows s c)) (before 6 (caseRows s c)) (branchField s c ∷ behind 6 (caseRows s c)) (each 6 (c .branches) (badBranch c) ∷ each 7 (c .links) (badLink c) ∷ each 8 (c .orders) (badOrder c) ∷ [])
+      (all-same (before 6 (caseRows s c))) (
         record { number-same = refl; places-same = refl; fails-same = branch-fails c; index-same = λ h. absurd h },
         (
           record { number-same = refl; places-same = refl; fails-same = link-fails c; index-same = λ h. absurd h },
@@ -147,9 +147,9 @@ module _ (s t : List ℕ) (c : Case) (p : Plan) (d : Prices) where
       )
 
   proposal-alike : AllAlike (proposalRows s t c p d) (proposalRowsBefore s t c p d)
-  unfolding proposalRows proposalRowsBefore
-  proposal-alike = appended (take 5 (proposalRows s t c p d)) (take 5 (proposalRows s t c p d)) (drop 5 (proposalRows s t c p d)) (each 14 (c .branches) (λ m. outside limits.shadowPrice (pos (d .shadow m))) ∷ [])
-      (all-same (take 5 (proposalRows s t c p d)))
+  unfolding proposalRows proposalRowsBefore before
+  proposal-alike = appended (before 14 (proposalRows s t c p d)) (before 14 (proposalRows s t c p d)) (shadowAbove s c d ∷ behind 14 (proposalRows s t c p d)) (each 14 (c .branches) (λ m. outside limits.shadowPrice (pos (d .shadow m))) ∷ [])
+      (all-same (before 14 (proposalRows s t c p d)))
       (record { number-same = refl; places-same = refl; fails-same = λ m. refl; index-same = λ h. absurd h }, tt)
 
 pub only-four-changed : (s t : List ℕ) (room : ℕ) → Alike (outcome s t room) (outcomeBefore s t room)

@@ -1,21 +1,21 @@
 -- READABLE IN PLAIN FACTS, both ways: a case is readable if and only if its lengths, ranges and links are these, and a proposal passes 9 to 14 for it if and
 -- only if its are. A link's reverse pair is free: nothing here forbids it. Assumes nothing.
-use mathlib.Core.Path.{_≡_, _∙_}
+use mathlib.Core.Path.{_≡_}
 use mathlib.Core.Logic.{_≢_}
 use mathlib.Core.Bool.{Bool, true, false, not, _&&_}
 use mathlib.Core.List.{List}
 use mathlib.Core.Option.{none}
 use Prim.Native.Nat.{ℕ, zero, suc, _+_, _≤_, _<_}
 use native.Mathlib.Omega.{arith}
-use lib.ListN.{length, getD, drop}
+use lib.ListN.{length}
 use lib.Dec.{T, eqb, leb, ltb, eqb→eq, eqb-refl, leb→le, ltb→lt, nltb→le, T-not, not-T}
 use lib.IntN.{pos}
 use Rattle.integers.specs.Ranges.{Within, inside, nat-within, nat-inside, nor-right, nor-both, and-both, and-left, and-right, is-false}
 use Rattle.measures.specs.Meaning.Limits as limits
 use Rattle.rules.specs.Meaning.Layout.{u8At, caseVersion, zonesIn, branchesIn, linksIn, ordersIn, toleranceIn, ramIn, ptdfIn, fromIn, toIn, capacityIn, zoneIn, sideIn, quantityIn, priceIn, caseLength, proposalVersion, shareIn, shadowIn, proposalLength, linkFields, orderFields}
 use Rattle.rules.specs.Meaning.Hour.{caseOf, planOf, pricesOf}
-use Rattle.rows.specs.Meaning.Rows.{Pass, Row, anyBelow, refusal}
-use Rattle.rows.specs.Promised.RowLaws.{empty, all-pass, any-none, no-place, row-passes}
+use Rattle.rows.specs.Meaning.Rows.{anyBelow, Pass}
+use Rattle.rows.specs.Promised.RowLaws.{any-none, no-place, rowNumbered, number-passes, Comes, past, none-left}
 use Rattle.rules.specs.Meaning.Verdict.{unknown, notMark, branchFault, repeated, linkFault, rowFault, orderFault, caseRows, proposalRows, Readable, caseRefusal, proposalRefusal}
 use Rattle.rules.specs.Steps.Passed.{not-not, case-sound, case-length, case-pairs, proposal-sound, proposal-length}
 
@@ -88,13 +88,13 @@ mark-passes a b e s h = yes-not-not (eqb (u8At s 0) a && eqb (u8At s 1) b && eqb
 
 -- A CASE
 pub case-facts : (s : List ℕ) → Readable s → CaseFacts s
-unfolding caseRefusal caseRows caseOf linkFault
+unfolding caseRefusal caseRows rowNumbered caseOf linkFault
 case-facts s r =
     let ok = case-sound s r in
     record {
-      header-there = nltb→le (length s) 14 ((row 0) .pass 0 (omega arith));
-      mark-is = marked 76 84 67 s ((row 1) .pass 0 (omega arith));
-      version-is = eqb→eq (caseVersion s) 1 (not-not (eqb (caseVersion s) 1) ((row 2) .pass 0 (omega arith)));
+      header-there = nltb→le (length s) 14 ((row 1) .pass 0 (omega arith));
+      mark-is = marked 76 84 67 s ((row 2) .pass 0 (omega arith));
+      version-is = eqb→eq (caseVersion s) 1 (not-not (eqb (caseVersion s) 1) ((row 3) .pass 0 (omega arith)));
       zones-in = ok .zones-in;
       branches-in = ok .branches-in;
       links-in = ok .links-in;
@@ -105,7 +105,7 @@ case-facts s r =
       ptdf-in = ok .ptdf-in;
       from-in = ok .placed .from-in;
       to-in = ok .placed .to-in;
-      zones-differ = λ l h e. T-not (eqb (fromIn s l) (toIn s l)) (nor-right (unknown (zonesIn s) (toIn s l)) _ (no-place linkFields (linkFault (caseOf s) l) ((row 10) .pass l h) 1 (omega arith))) (eq-eqb (fromIn s l) (toIn s l) e);
+      zones-differ = λ l h e. T-not (eqb (fromIn s l) (toIn s l)) (nor-right (unknown (zonesIn s) (toIn s l)) _ (no-place linkFields (linkFault (caseOf s) l) ((row 7) .pass l h) 1 (omega arith))) (eq-eqb (fromIn s l) (toIn s l) e);
       capacity-in = ok .capacity-in;
       pair-once = λ k l h i e f. differ k l h ((case-pairs s r) .once k l (omega (arith, h, i)) i e f);
       zone-in = ok .placed .zone-in;
@@ -114,8 +114,8 @@ case-facts s r =
       price-in = ok .price-in;
     }
   where
-    row : (j : ℕ) → Pass (getD (caseRows s (caseOf s)) j empty)
-    row = all-pass (caseRows s (caseOf s)) (r .none-holds)
+    row : (n : ℕ) → Pass (rowNumbered n (caseRows s (caseOf s)))
+    row = number-passes (caseRows s (caseOf s)) (r .none-holds)
 
     differ : (k l : ℕ) → k < l → k ≡ l → ⊥
     differ k l h e = omega arith
@@ -147,50 +147,48 @@ module _ (s : List ℕ) (f : CaseFacts s) where
   order-passes i h (suc (suc (suc n))) k = inside limits.orderPrice (priceIn s i) (f .price-in i h)
 
   pub facts-readable : Readable s
-  unfolding caseRefusal caseRows caseOf refusal
+  unfolding caseRefusal caseRows caseOf
   facts-readable = record {
     none-holds =
-        row-passes _ (rest 1) (record { pass = λ k h. le-nltb (length s) 14 (f .header-there) })
-        ∙ row-passes _ (rest 2) (record { pass = λ k h. mark-passes 76 84 67 s (f .mark-is) })
-        ∙ row-passes _ (rest 3) (record { pass = λ k h. yes-not-not (eqb (caseVersion s) 1) (eq-eqb (caseVersion s) 1 (f .version-is)) })
-        ∙ row-passes _ (rest 4) (record { pass = λ k h. nat-inside 1 16 (zonesIn s) ((f .zones-in) .0) ((f .zones-in) .1) })
-        ∙ row-passes _ (rest 5) (record { pass = λ k h. nat-inside 0 64 (branchesIn s) (omega arith) (f .branches-in) })
-        ∙ row-passes _ (rest 6) (record { pass = λ k h. nat-inside 0 64 (linksIn s) (omega arith) (f .links-in) })
-        ∙ row-passes _ (rest 7) (record { pass = λ k h. nat-inside 0 512 (ordersIn s) (omega arith) (f .orders-in) })
-        ∙ row-passes _ (rest 8) (record { pass = λ k h. nat-inside 0 1000000000 (toleranceIn s) (omega arith) (f .tolerance-in) })
-        ∙ row-passes _ (rest 9) (record { pass = λ k h. yes-not-not (eqb (length s) (caseLength s)) (eq-eqb (length s) (caseLength s) (f .length-is)) })
-        ∙ row-passes _ (rest 10) (record { pass = λ m h. none-at-fault (1 + zonesIn s) (branchFault (caseOf s) m) (branch-passes m h) })
-        ∙ row-passes _ (rest 11) (record { pass = λ l h. none-at-fault linkFields (linkFault (caseOf s) l) (link-passes l h) })
-        ∙ row-passes _ (rest 12) (record { pass = λ i h. none-at-fault orderFields (orderFault (caseOf s) i) (order-passes i h) });
+        let rows : Comes (caseRows s (caseOf s)) none =
+        past (record { pass = λ k h. le-nltb (length s) 14 (f .header-there) })
+        (past (record { pass = λ k h. mark-passes 76 84 67 s (f .mark-is) })
+        (past (record { pass = λ k h. yes-not-not (eqb (caseVersion s) 1) (eq-eqb (caseVersion s) 1 (f .version-is)) })
+        (past (record { pass = λ k h. nat-inside 1 16 (zonesIn s) ((f .zones-in) .0) ((f .zones-in) .1) })
+        (past (record { pass = λ k h. nat-inside 0 64 (branchesIn s) (omega arith) (f .branches-in) })
+        (past (record { pass = λ k h. nat-inside 0 64 (linksIn s) (omega arith) (f .links-in) })
+        (past (record { pass = λ k h. nat-inside 0 512 (ordersIn s) (omega arith) (f .orders-in) })
+        (past (record { pass = λ k h. nat-inside 0 1000000000 (toleranceIn s) (omega arith) (f .tolerance-in) })
+        (past (record { pass = λ k h. yes-not-not (eqb (length s) (caseLength s)) (eq-eqb (length s) (caseLength s) (f .length-is)) })
+        (past (record { pass = λ m h. none-at-fault (1 + zonesIn s) (branchFault (caseOf s) m) (branch-passes m h) })
+        (past (record { pass = λ l h. none-at-fault linkFields (linkFault (caseOf s) l) (link-passes l h) })
+        (past (record { pass = λ i h. none-at-fault orderFields (orderFault (caseOf s) i) (order-passes i h) }) none-left))))))))))) in
+        rows .is;
   }
-    where
-      rest : ℕ → List Row
-      rest n = drop n (caseRows s (caseOf s))
 
 -- A PROPOSAL for the case s
 pub proposal-facts : (s t : List ℕ) → proposalRefusal s t ≡ none → ProposalFacts s t
-unfolding proposalRefusal proposalRows caseOf planOf pricesOf
+unfolding proposalRefusal proposalRows rowNumbered caseOf planOf pricesOf
 proposal-facts s t e = record {
-  header-there = nltb→le (length t) 13 ((row 0) .pass 0 (omega arith));
-  mark-is = marked 76 84 80 t ((row 1) .pass 0 (omega arith));
-  version-is = eqb→eq (proposalVersion t) 1 (not-not (eqb (proposalVersion t) 1) ((row 2) .pass 0 (omega arith)));
+  header-there = nltb→le (length t) 13 ((row 9) .pass 0 (omega arith));
+  mark-is = marked 76 84 80 t ((row 10) .pass 0 (omega arith));
+  version-is = eqb→eq (proposalVersion t) 1 (not-not (eqb (proposalVersion t) 1) ((row 11) .pass 0 (omega arith)));
   length-is = proposal-length s t e;
   share-in = (proposal-sound s t e) .share-in;
   shadow-in = (proposal-sound s t e) .shadow-in;
 }
   where
-    row : (j : ℕ) → Pass (getD (proposalRows s t (caseOf s) (planOf s t) (pricesOf s t)) j empty)
-    row = all-pass (proposalRows s t (caseOf s) (planOf s t) (pricesOf s t)) e
+    row : (n : ℕ) → Pass (rowNumbered n (proposalRows s t (caseOf s) (planOf s t) (pricesOf s t)))
+    row = number-passes (proposalRows s t (caseOf s) (planOf s t) (pricesOf s t)) e
 
 pub facts-pass : (s t : List ℕ) → ProposalFacts s t → proposalRefusal s t ≡ none
-unfolding proposalRefusal proposalRows caseOf planOf pricesOf refusal
+unfolding proposalRefusal proposalRows caseOf planOf pricesOf
 facts-pass s t f =
-    row-passes _ (rest 1) (record { pass = λ k h. le-nltb (length t) 13 (f .header-there) })
-    ∙ row-passes _ (rest 2) (record { pass = λ k h. mark-passes 76 84 80 t (f .mark-is) })
-    ∙ row-passes _ (rest 3) (record { pass = λ k h. yes-not-not (eqb (proposalVersion t) 1) (eq-eqb (proposalVersion t) 1 (f .version-is)) })
-    ∙ row-passes _ (rest 4) (record { pass = λ k h. yes-not-not (eqb (length t) (proposalLength s)) (eq-eqb (length t) (proposalLength s) (f .length-is)) })
-    ∙ row-passes _ (rest 5) (record { pass = λ k h. nat-inside 0 100000 (shareIn t) (omega arith) (f .share-in) })
-    ∙ row-passes _ (rest 6) (record { pass = λ m h. nat-inside 0 1000000 (shadowIn s t m) (omega arith) (f .shadow-in m h) })
-  where
-    rest : ℕ → List Row
-    rest n = drop n (proposalRows s t (caseOf s) (planOf s t) (pricesOf s t))
+    let rows : Comes (proposalRows s t (caseOf s) (planOf s t) (pricesOf s t)) none =
+    past (record { pass = λ k h. le-nltb (length t) 13 (f .header-there) })
+    (past (record { pass = λ k h. mark-passes 76 84 80 t (f .mark-is) })
+    (past (record { pass = λ k h. yes-not-not (eqb (proposalVersion t) 1) (eq-eqb (proposalVersion t) 1 (f .version-is)) })
+    (past (record { pass = λ k h. yes-not-not (eqb (length t) (proposalLength s)) (eq-eqb (length t) (proposalLength s) (f .length-is)) })
+    (past (record { pass = λ k h. nat-inside 0 100000 (shareIn t) (omega arith) (f .share-in) })
+    (past (record { pass = λ m h. nat-inside 0 1000000 (shadowIn s t m) (omega arith) (f .shadow-in m h) }) none-left))))) in
+    rows .is

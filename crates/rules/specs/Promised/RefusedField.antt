@@ -2,7 +2,7 @@
 -- part that stands before it in the file is. What each field's test is of stands at its offset. Assumes nothing.
 use mathlib.Core.Path.{_≡_, refl, sym, ap, _∙_, subst}
 use mathlib.Core.Bool.{Bool, true, false, not, _&&_, _||_}
-use mathlib.Core.List.{List}
+use mathlib.Core.List.{List, _∷_}
 use mathlib.Core.Option.{Option, none, some}
 use Prim.Native.Nat.{ℕ, zero, suc, _+_, _*_, _-_, _≤_, _<_}
 use native.Mathlib.Nat.{suc-mul}
@@ -10,7 +10,7 @@ use native.Mathlib.Decide.{decLt}
 use native.Mathlib.Omega.{arith}
 use borrow.Author.Tests.{lt-leb}
 use lib.Dec.{T, eqb, eqb→eq, eqb-refl, T-not}
-use lib.ListN.{length, getD, take, drop}
+use lib.ListN.{length}
 use lib.IntN.{pos}
 use Rattle.integers.specs.Ranges.{outside, is-true, is-false, and-both, and-left, and-right, or-right}
 use Rattle.measures.specs.Meaning.Limits as limits
@@ -18,8 +18,8 @@ use Rattle.rules.specs.Meaning.Layout.{zonesIn, branchesIn, linksIn, ord
 use Rattle.rules.specs.Meaning.Hour.{caseOf, planOf, pricesOf}
 use Rattle.rows.specs.declared.Outcome.{Outcome}
 use Rattle.rows.specs.Meaning.Rows.{Row, verdict, anyBelow, placeElse, firstField, refusal}
-use Rattle.rows.specs.Promised.RowLaws.{First, empty, no-less, first-some, any-some, any-none, row-fails, else-refusal, refusal-append, row-named, first-field, no-place, all-pass, lacks}
-use Rattle.rules.specs.Meaning.Verdict.{over, unknown, branchFault, repeated, linkFault, rowFault, orderFault, roomRows, caseRows, proposalRows, clearingRows, table, outcome, caseRefusal}
+use Rattle.rows.specs.Promised.RowLaws.{First, no-less, first-some, any-some, any-none, row-fails, else-refusal, refusal-append, first-field, no-place, lacks, row-by-number, number-passes, before, behind, rowNumbered}
+use Rattle.rules.specs.Meaning.Verdict.{over, unknown, branchFault, repeated, linkFault, rowFault, orderFault, roomRows, caseRows, proposalRows, clearingRows, table, outcome, caseRefusal, linkField}
 use Rattle.rules.specs.Steps.Passed.{not-not}
 
 -- the fields of a part: n rows of w fields each, where each stands, how many bytes it has, and whether it is at fault
@@ -192,45 +192,46 @@ module _ (s t : List ℕ) (room : ℕ) where
   rows = table s t room (caseOf s) (planOf s t) (pricesOf s t)
 
   pub names-branch-field : (outcome s t room) .number ≡ 6 → FieldNamed 6 (branchPart s) (length s) (outcome s t room)
-  unfolding outcome table roomRows caseRows proposalRows clearingRows lacks caseOf
+  unfolding outcome table roomRows caseRows proposalRows clearingRows lacks before rowNumbered caseOf
   names-branch-field e =
-      let r = row-named 6 (take 10 rows) (getD rows 10 empty) (drop 11 rows) (omega arith) tt tt e in
-      let whole = eqb→eq (length s) (caseLength s) (not-not (eqb (length s) (caseLength s)) ((all-pass (take 10 rows) (r .earlier) 9) .pass 0 (omega arith))) in
+      let r = row-by-number 6 rows (omega arith) tt tt e in
+      let whole = eqb→eq (length s) (caseLength s) (not-not (eqb (length s) (caseLength s)) ((number-passes (before 6 rows) (r .earlier) 5) .pass 0 (omega arith))) in
       named 6 (branchPart s) (length s) (outcome s t room) (subst (λ (n : ℕ). Adjacent (branchPart s) n) (sym whole) (branches-adjacent s)) (r .place) (r .first-place) (r .is)
 
   pub names-link-field : (outcome s t room) .number ≡ 7 → FieldNamed 7 (linkPart s) (length s) (outcome s t room)
-  unfolding outcome table roomRows caseRows proposalRows clearingRows lacks caseOf
+  unfolding outcome table roomRows caseRows proposalRows clearingRows lacks before rowNumbered caseOf
   names-link-field e =
-      let r = row-named 7 (take 11 rows) (getD rows 11 empty) (drop 12 rows) (omega arith) tt tt e in
-      let whole = eqb→eq (length s) (caseLength s) (not-not (eqb (length s) (caseLength s)) ((all-pass (take 11 rows) (r .earlier) 9) .pass 0 (omega arith))) in
+      let r = row-by-number 7 rows (omega arith) tt tt e in
+      let whole = eqb→eq (length s) (caseLength s) (not-not (eqb (length s) (caseLength s)) ((number-passes (before 7 rows) (r .earlier) 5) .pass 0 (omega arith))) in
       named 7 (linkPart s) (length s) (outcome s t room) (subst (λ (n : ℕ). Adjacent (linkPart s) n) (sym whole) (links-adjacent s)) (r .place) (r .first-place) (r .is)
 
   pub names-order-field : (outcome s t room) .number ≡ 8 → FieldNamed 8 (orderPart s) (length s) (outcome s t room)
-  unfolding outcome table roomRows caseRows proposalRows clearingRows lacks caseOf
+  unfolding outcome table roomRows caseRows proposalRows clearingRows lacks before rowNumbered caseOf
   names-order-field e =
-      let r = row-named 8 (take 12 rows) (getD rows 12 empty) (drop 13 rows) (omega arith) tt tt e in
-      let whole = eqb→eq (length s) (caseLength s) (not-not (eqb (length s) (caseLength s)) ((all-pass (take 12 rows) (r .earlier) 9) .pass 0 (omega arith))) in
+      let r = row-by-number 8 rows (omega arith) tt tt e in
+      let whole = eqb→eq (length s) (caseLength s) (not-not (eqb (length s) (caseLength s)) ((number-passes (before 8 rows) (r .earlier) 5) .pass 0 (omega arith))) in
       named 8 (orderPart s) (length s) (outcome s t room) (subst (λ (n : ℕ). Adjacent (orderPart s) n) (sym whole) (orders-adjacent s)) (r .place) (r .first-place) (r .is)
 
   -- in the proposal
   pub names-shadow-price : (outcome s t room) .number ≡ 14 → FieldNamed 14 (shadowPart s t) (length t) (outcome s t room)
-  unfolding outcome table roomRows caseRows proposalRows clearingRows lacks caseOf anyBelow
+  unfolding outcome table roomRows caseRows proposalRows clearingRows lacks before rowNumbered caseOf anyBelow
   names-shadow-price e =
-      let r = row-named 14 (take 18 rows) (getD rows 18 empty) (drop 19 rows) (omega arith) tt tt e in
-      let whole = eqb→eq (length t) (proposalLength s) (not-not (eqb (length t) (proposalLength s)) ((all-pass (take 18 rows) (r .earlier) 16) .pass 0 (omega arith))) in
+      let r = row-by-number 14 rows (omega arith) tt tt e in
+      let whole = eqb→eq (length t) (proposalLength s) (not-not (eqb (length t) (proposalLength s)) ((number-passes (before 14 rows) (r .earlier) 12) .pass 0 (omega arith))) in
       named 14 (shadowPart s t) (length t) (outcome s t room) (subst (λ (n : ℕ). Adjacent (shadowPart s t) n) (sym whole) (shadows-adjacent s t)) (r .place) (r .first-place) (r .is)
 
 -- S-2'S OWN WORDS OF LINKS, for link l of a case whose rows before 7 pass and whose links before l have no field at fault
-module _ (s : List ℕ) (l : ℕ) (rows-before : refusal (take 10 (caseRows s (caseOf s))) ≡ none) (l-in : l < linksIn s)
+module _ (s : List ℕ) (l : ℕ) (rows-before : refusal (before 7 (caseRows s (caseOf s))) ≡ none) (l-in : l < linksIn s)
     (links-before : (i n : ℕ) → i < l → n < linkFields → T (not (linkFault (caseOf s) i n))) where
   -- its first field at fault is named
   first-named : (n : ℕ) → First linkFields (linkFault (caseOf s) l) n → caseRefusal s ≡ some (verdict 7 (linkFieldAt s l n))
-  unfolding caseRefusal caseRows caseOf firstField
+  unfolding caseRefusal caseRows before caseOf firstField
   first-named n f =
       let rows = caseRows s (caseOf s) in
-      refusal-append (take 10 rows) (drop 10 rows)
-      ∙ ap (λ (x : Option Outcome). else-refusal x (refusal (drop 10 rows))) rows-before
-      ∙ row-fails (getD rows 10 empty) (drop 11 rows) l (record {
+      let from-links = linkField s (caseOf s) ∷ behind 7 rows in
+      refusal-append (before 7 rows) from-links
+      ∙ ap (λ (x : Option Outcome). else-refusal x (refusal from-links)) rows-before
+      ∙ row-fails (linkField s (caseOf s)) (behind 7 rows) l (record {
         place-in = l-in;
         holds = is-true (any-some linkFields (linkFault (caseOf s) l) n (f .place-in) (f .holds));
         none-before = λ i h. is-false (any-none linkFields (linkFault (caseOf s) i) (λ j k. links-before i j h k));

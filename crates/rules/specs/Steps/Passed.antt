@@ -6,7 +6,7 @@ use mathlib.Core.Option.{none}
 use Prim.Native.Nat.{ℕ, suc, _+_, _*_, _≤_, _<_}
 use native.Mathlib.Omega.{arith}
 use native.Mathlib.Decide.{decLt}
-use lib.ListN.{length, getD}
+use lib.ListN.{length}
 use lib.Dec.{T, eqb, eqb→eq, eqb-refl, T-not, nleb→lt, nltb→le}
 use lib.IntN.{pos}
 use lib.Signed.{_≤ℤ_, ltZ-no}
@@ -17,8 +17,8 @@ use Rattle.rules.specs.Meaning.Layout.{reportRoom, linkFields, orderFiel
 use Rattle.rules.specs.Meaning.Hour.{Case, Plan, Prices, caseOf, planOf, pricesOf, netSum, linkUse, linkRoom, zonePrice, gap}
 use Rattle.rules.specs.Meaning.Clearing.{Clearing}
 use Rattle.rules.specs.Meaning.Annex.{PairsOnce}
-use Rattle.rows.specs.Meaning.Rows.{Pass, refusal}
-use Rattle.rows.specs.Promised.RowLaws.{empty, all-pass, has-before, isRow, rowOf, hasRow, before, row-passed, lacks, no-place, later, none-zero}
+use Rattle.rows.specs.Meaning.Rows.{refusal, Pass}
+use Rattle.rows.specs.Promised.RowLaws.{has-before, isRow, rowOf, hasRow, before, row-passed, lacks, no-place, later, none-zero, rowNumbered, number-passes, field-at-passes}
 use Rattle.rules.specs.Meaning.Verdict.{unknown, branchFault, repeated, linkFault, rowFault, orderFault, roomRows, caseRows, proposalRows, clearingRows, table, outcome, Readable, caseRefusal, proposalRefusal}
 use Rattle.rules.specs.Meaning.Report.{reports}
 use Rattle.rules.specs.Steps.Duality.{Placed}
@@ -61,31 +61,34 @@ nor-4 false true e f t = absurd t
 nor-4 true b e f t = absurd t
 
 module _ (s : List ℕ) (c : Case) (passed : refusal (caseRows s c) ≡ none) where
-  -- the row at a position of the table
-  case-row : (j : ℕ) → Pass (getD (caseRows s c) j empty)
-  case-row = all-pass (caseRows s c) passed
+  -- the row of a number, and of a header field by its offset
+  case-row : (n : ℕ) → Pass (rowNumbered n (caseRows s c))
+  case-row = number-passes (caseRows s c) passed
+
+  header-field : (k : ℕ) → Pass (rowOf 4 k (caseRows s c))
+  header-field = field-at-passes (caseRows s c) passed 4
 
   -- no field of a branch, a link or an order is at fault
   branch-ok : (m n : ℕ) → m < c .branches → n < 1 + c .zones → T (not (branchFault c m n))
-  unfolding caseRows
-  branch-ok m n h k = no-place (1 + c .zones) (branchFault c m) ((case-row 9) .pass m h) n k
+  unfolding caseRows rowNumbered
+  branch-ok m n h k = no-place (1 + c .zones) (branchFault c m) ((case-row 6) .pass m h) n k
 
   link-ok : (l n : ℕ) → l < c .links → n < linkFields → T (not (linkFault c l n))
-  unfolding caseRows
-  link-ok l n h k = no-place linkFields (linkFault c l) ((case-row 10) .pass l h) n k
+  unfolding caseRows rowNumbered
+  link-ok l n h k = no-place linkFields (linkFault c l) ((case-row 7) .pass l h) n k
 
   order-ok : (i n : ℕ) → i < c .orders → n < orderFields → T (not (orderFault c i n))
-  unfolding caseRows
-  order-ok i n h k = no-place orderFields (orderFault c i) ((case-row 11) .pass i h) n k
+  unfolding caseRows rowNumbered
+  order-ok i n h k = no-place orderFields (orderFault c i) ((case-row 8) .pass i h) n k
 
   pub case-rows-sound : CaseSound c
-  unfolding caseRows branchFault linkFault orderFault rowFault
+  unfolding caseRows rowOf isRow branchFault linkFault orderFault rowFault
   case-rows-sound = record {
-    zones-in = nat-within 1 16 (c .zones) ((case-row 3) .pass 0 (omega arith));
-    branches-in = (nat-within 0 64 (c .branches) ((case-row 4) .pass 0 (omega arith))) .1;
-    links-in = (nat-within 0 64 (c .links) ((case-row 5) .pass 0 (omega arith))) .1;
-    orders-in = (nat-within 0 512 (c .orders) ((case-row 6) .pass 0 (omega arith))) .1;
-    tolerance-in = (nat-within 0 1000000000 (c .tolerance) ((case-row 7) .pass 0 (omega arith))) .1;
+    zones-in = nat-within 1 16 (c .zones) ((header-field 5) .pass 0 (omega arith));
+    branches-in = (nat-within 0 64 (c .branches) ((header-field 6) .pass 0 (omega arith))) .1;
+    links-in = (nat-within 0 64 (c .links) ((header-field 7) .pass 0 (omega arith))) .1;
+    orders-in = (nat-within 0 512 (c .orders) ((header-field 8) .pass 0 (omega arith))) .1;
+    tolerance-in = (nat-within 0 1000000000 (c .tolerance) ((header-field 10) .pass 0 (omega arith))) .1;
     ram-in = λ m h. within limits.margin (c .ram m) (branch-ok m 0 h (omega arith));
     ptdf-in = λ m z h k. within limits.ptdf (c .ptdf m z) (branch-ok m (suc z) h (omega arith));
     placed = record {
@@ -101,8 +104,8 @@ module _ (s : List ℕ) (c : Case) (passed : refusal (caseRows s c) ≡ none) wh
   }
 
   pub case-rows-length : length s ≡ caseLength s
-  unfolding caseRows
-  case-rows-length = eqb→eq (length s) (caseLength s) (not-not (eqb (length s) (caseLength s)) ((case-row 8) .pass 0 (omega arith)))
+  unfolding caseRows rowNumbered
+  case-rows-length = eqb→eq (length s) (caseLength s) (not-not (eqb (length s) (caseLength s)) ((case-row 5) .pass 0 (omega arith)))
 
   -- no link has an earlier one's pair
   pair-differs : (i j : ℕ) → i < j → j < c .links → c .from i ≡ c .from j → c .to i ≡ c .to j → ⊥
@@ -133,19 +136,19 @@ unfolding caseRefusal
 case-pairs s r = case-rows-pairs s (caseOf s) (r .none-holds)
 
 module _ (s t : List ℕ) (c : Case) (p : Plan) (d : Prices) (passed : refusal (proposalRows s t c p d) ≡ none) where
-  proposal-row : (j : ℕ) → Pass (getD (proposalRows s t c p d) j empty)
-  proposal-row = all-pass (proposalRows s t c p d) passed
+  proposal-row : (n : ℕ) → Pass (rowNumbered n (proposalRows s t c p d))
+  proposal-row = number-passes (proposalRows s t c p d) passed
 
   pub proposal-rows-sound : ProposalSound c p d
-  unfolding proposalRows
+  unfolding proposalRows rowNumbered
   proposal-rows-sound = record {
-    share-in = (nat-within 0 partsInOne (p .share) ((proposal-row 4) .pass 0 (omega arith))) .1;
-    shadow-in = λ m h. (nat-within 0 1000000 (d .shadow m) ((proposal-row 5) .pass m h)) .1;
+    share-in = (nat-within 0 100000 (p .share) ((proposal-row 13) .pass 0 (omega arith))) .1;
+    shadow-in = λ m h. (nat-within 0 1000000 (d .shadow m) ((proposal-row 14) .pass m h)) .1;
   }
 
   pub proposal-rows-length : length t ≡ proposalLength s
-  unfolding proposalRows
-  proposal-rows-length = eqb→eq (length t) (proposalLength s) (not-not (eqb (length t) (proposalLength s)) ((proposal-row 3) .pass 0 (omega arith)))
+  unfolding proposalRows rowNumbered
+  proposal-rows-length = eqb→eq (length t) (proposalLength s) (not-not (eqb (length t) (proposalLength s)) ((proposal-row 12) .pass 0 (omega arith)))
 
 pub proposal-sound : (s t : List ℕ) → proposalRefusal s t ≡ none → ProposalSound (caseOf s) (planOf s t) (pricesOf s t)
 unfolding proposalRefusal

@@ -1,12 +1,12 @@
--- `valuation::welfare_with_order` meets its contract. Assumes nothing.
+-- `clearing::welfare_with_order` meets its contract. Assumes nothing.
 use mathlib.Core.Path.{ap, sym, subst, _∙_}
 use mathlib.Core.Bool.{Bool}
 use lib.IntN.{_+ℤ_}
 use mir.Syntax.{w64}
 use mir.Val.{SFits}
 use Rattle.rules.specs.Meaning.Hour.{signed}
-use Rattle.valuation.proofs.welfare_with_order.Statement.{statement}
-use Rattle.valuation.proofs.welfare_with_order.Tie as tie
+use Rattle.clearing.proofs.welfare_with_order.Statement.{statement}
+use Rattle.clearing.proofs.welfare_with_order.Tie as tie
 
 plus-requires : tie.Need-plus-requires
 plus-requires c κs = subst (λ (b : Bool). SFits w64 (c .before .args .sum .0 +ℤ signed b (c .before .args .value .0))) (c .if1 .taken) (c .before .pre)

@@ -1,0 +1,398 @@
+-- `valuation::branch_sums` meets its contract. After m turns no branch passed is overloaded, each price has the first m branches added, and the total is
+-- theirs. After z turns of the inner loop the load is that of the first z zones, and their prices have branch m besides. Assumes nothing.
+use mathlib.Core.Path.{_≡_, refl, ap, sym, subst, _∙_}
+use mathlib.Core.List.{List, []}
+use mathlib.Core.Option.{none, Option·some-ne-none}
+use Prim.Native.Nat.{ℕ, _+_, _*_, _≤_, _<_, _-_}
+use native.Mathlib.Omega.{arith}
+use borrow.Author.Needs.{needs}
+use borrow.Author.Count.{below-none}
+use denote.Ref.{now}
+use lib.ListN.{getD, getD-replicate}
+use lib.IntN.{ℤ, pos, _+ℤ_, _*ℤ_, +ℤ-idr, +ℤ-assoc}
+use lib.Signed.{ltZ}
+use mir.Syntax.{w32, w64}
+use mir.Facts.{toZ-ofZ}
+use Rattle.integers.specs.Sums.{sumTo, sum-more, sum-scale-l}
+use Rattle.integers.specs.Size.{Near, near-fits, near-sub, near-mul, near-pos, near-unsigned, near-within}
+use Rattle.integers.specs.Machine.{SumsFit, step, step-fits, sfits-by}
+use Rattle.measures.specs.Meaning.Limits as limits
+use Rattle.measures.specs.Meaning.Limits.{partsInOne, grainsOf}
+use Rattle.measures.specs.declared.Grains.{Grains}
+use Rattle.rules.specs.Meaning.Layout.{shadowIn}
+use Rattle.rules.specs.Meaning.Hour.{Case, Plan, Prices, caseOf, planOf, pricesOf, fbPart, branchUse, branchRoom, branchPrice, branchValue, branchTotal, zonePrice}
+use Rattle.rows.specs.Meaning.Rows.{firstBelow}
+use Rattle.rows.specs.Promised.RowLaws.{first-here, first-later, first-nowhere}
+use Rattle.rules.specs.Meaning.Verdict.{overZ}
+use Rattle.rules.specs.Steps.Passed.{case-sound, proposal-sound}
+use Rattle.rules.specs.Promised.Fits.{branchUse-sums, branchTotal-sums, system-near, price-near, price-term-near}
+use Rattle.case_header.specs.declared.Counts.{Counts}
+use Rattle.case_branches.specs.Table.{table-entry}
+use Rattle.clearing.specs.Held.{tenthsAt}
+use Rattle.valuation.specs.Prices.{noGrains, grainsAt, added, AddedTo, add-step, Partly, branch-step}
+use Rattle.valuation.specs.Terms.{branch-value}
+use Rattle.valuation.proofs.branch_sums.Statement.{statement}
+use Rattle.valuation.proofs.branch_sums.Tie as tie
+
+abbrev Inv-loop2 : tie.InvT-loop2
+Inv-loop2 case k proposal flow-based table parts zones branches prices₀ total m shadow margin load₀ z₀ prices load z =
+    (z ≤ k .zones) × ((load .0 ≡ sumTo z (λ j. (caseOf case) .ptdf m j *ℤ fbPart (caseOf case) (planOf case proposal) j)) × AddedTo prices₀ prices (getD table m []) (shadow .0) z (k .zones))
+
+abbrev μ-loop2 : tie.MeasureT-loop2
+μ-loop2 case k proposal flow-based table parts zones branches prices₀ total m shadow margin load₀ z₀ prices load z = k .zones - z
+
+abbrev Inv-loop : tie.InvT-loop
+Inv-loop case k proposal flow-based table parts zones branches prices₀ total₀ m₀ prices total m =
+    (m ≤ k .branches)
+    × ((firstBelow m (λ j. overZ (branchRoom (caseOf case) (planOf case proposal) j) (branchUse (caseOf case) (planOf case proposal) j)) ≡ none)
+    × (Partly (caseOf case) (pricesOf case proposal) m prices × (total .0 ≡ sumTo m (λ j. pos partsInOne *ℤ branchValue (caseOf case) (pricesOf case proposal) j))))
+
+abbrev μ-loop : tie.MeasureT-loop
+μ-loop case k proposal flow-based table parts zones branches prices₀ total₀ m₀ prices total m = k .branches - m
+
+-- the hour that is judged
+abbrev hour : tie.Start Inv-loop2 μ-loop2 Inv-loop μ-loop → Case
+hour a = caseOf (now (a .args .«case»))
+
+abbrev plan : tie.Start Inv-loop2 μ-loop2 Inv-loop μ-loop → Plan
+plan a = planOf (now (a .args .«case»)) (now (a .args .proposal))
+
+abbrev rates : tie.Start Inv-loop2 μ-loop2 Inv-loop μ-loop → Prices
+rates a = pricesOf (now (a .args .«case»)) (now (a .args .proposal))
+
+zones-is : (a : tie.Start Inv-loop2 μ-loop2 Inv-loop μ-loop) → a .args .k .zones ≡ hour a .zones
+unfolding caseOf
+zones-is a = ap (λ (k : Counts). k .zones) (a .pre .0 .opened .counts)
+
+branches-is : (a : tie.Start Inv-loop2 μ-loop2 Inv-loop μ-loop) → a .args .k .branches ≡ hour a .branches
+unfolding caseOf
+branches-is a = ap (λ (k : Counts). k .branches) (a .pre .0 .opened .counts)
+
+few-zones : (a : tie.Start Inv-loop2 μ-loop2 Inv-loop μ-loop) → a .args .k .zones ≤ 16
+few-zones a = omega (arith, zones-is a, (case-sound _ (a .pre .0 .opened .readable)) .zones-in .1)
+
+few-branches : (a : tie.Start Inv-loop2 μ-loop2 Inv-loop μ-loop) → a .args .k .branches ≤ 64
+few-branches a = omega (arith, branches-is a, (case-sound _ (a .pre .0 .opened .readable)) .branches-in)
+
+-- the sums that the two loops add up fit
+loads-fit : (a : tie.Start Inv-loop2 μ-loop2 Inv-loop μ-loop) (m : ℕ) → m < hour a .branches → SumsFit (λ z. hour a .ptdf m z *ℤ fbPart (hour a) (plan a) z) (hour a .zones)
+loads-fit a m h = branchUse-sums _ (case-sound _ (a .pre .0 .opened .readable)) _ (a .pre .1 .0 .within) (a .pre .1 .1 .0 .within) m h
+
+total-fits : (a : tie.Start Inv-loop2 μ-loop2 Inv-loop μ-loop) → SumsFit (λ j. pos partsInOne *ℤ branchValue (hour a) (rates a) j) (hour a .branches)
+total-fits a = branchTotal-sums _ (case-sound _ (a .pre .0 .opened .readable)) _ (system-near _ _) ((proposal-sound _ _ (a .pre .0 .passed)) .shadow-in)
+
+shadow-near : (a : tie.Start Inv-loop2 μ-loop2 Inv-loop μ-loop) (m : ℕ) → m < hour a .branches → Near 1000000 (pos (shadowIn (now (a .args .«case»)) (now (a .args .proposal)) m))
+unfolding pricesOf
+shadow-near a m h = near-unsigned _ 1000000 ((proposal-sound _ _ (a .pre .0 .passed)) .shadow-in m h)
+
+-- an entry of the table and a part, by the hour
+entry-is : (a : tie.Start Inv-loop2 μ-loop2 Inv-loop μ-loop) (m z : ℕ) → m < hour a .branches → z < hour a .zones → getD (getD (a .args .t4) m []) z (pos 0) ≡ hour a .ptdf m z
+unfolding caseOf
+entry-is a m z h l = ap (λ (t : List (List ℤ)). getD (getD t m []) z (pos 0)) (a .pre .1 .1 .1 .0) ∙ table-entry (a .pre .0 .opened) m z (omega (arith, branches-is a)) (omega (arith, zones-is a))
+
+part-is : (a : tie.Start Inv-loop2 μ-loop2 Inv-loop μ-loop) (z : ℕ) → z < hour a .zones → tenthsAt (a .args .t5) z ≡ fbPart (hour a) (plan a) z
+part-is a z h = a .pre .1 .1 .1 .1 .0 .each z (omega (arith, few-zones a, zones-is a))
+
+in-grains-requires : tie.Need-in-grains-requires Inv-loop2 μ-loop2 Inv-loop μ-loop
+in-grains-requires c κs = sfits-by w64 (ap grainsOf (c .before .before .pre .1 .1 .1 .1 .1 .1)) (near-fits w64 (omega arith) (near-mul (near-pos partsInOne) (system-near _ _)))
+
+loop-holds : tie.Need-loop-holds Inv-loop2 μ-loop2 Inv-loop μ-loop
+unfolding sumTo firstBelow
+loop-holds c =
+    let a = c .before .before .before in (
+      omega arith,
+      (
+        refl,
+        (
+          record {
+            long = refl;
+            each = λ z h. ap (λ (g : Grains). g .0) (getD-replicate 16 z (c .in-grains .result) noGrains (omega (arith, few-zones a, zones-is a)))
+                ∙ c .in-grains .ensures ∙ ap grainsOf (a .pre .1 .1 .1 .1 .1 .1) ∙ sym (+ℤ-idr _);
+          },
+          refl,
+        ),
+      ),
+    )
+
+-- this branch is one of the case's
+inside : (c : tie.In-loop Inv-loop2 μ-loop2 Inv-loop μ-loop) → c .before .loop .m < hour (c .before .before .before .before .before) .branches
+inside c = omega (arith, branches-is (c .before .before .before .before .before), c .loop-test .taken)
+
+shadow-at-requires : tie.Need-shadow-at-requires Inv-loop2 μ-loop2 Inv-loop μ-loop
+shadow-at-requires c κs = (c .before .before .before .before .before .pre .0, c .loop-test .taken)
+
+margin-at-requires : tie.Need-margin-at-requires Inv-loop2 μ-loop2 Inv-loop μ-loop
+margin-at-requires c κs = (c .before .before .before .before .before .before .pre .0 .opened, c .before .loop-test .taken)
+
+loop2-holds : tie.Need-loop2-holds Inv-loop2 μ-loop2 Inv-loop μ-loop
+unfolding sumTo
+loop2-holds c = (omega arith, (refl, record { long = c .before .before .before .loop .inv .1 .1 .0 .long; done = below-none _; left = λ z l m. refl }))
+
+row-in : (c : tie.In-loop2 Inv-loop2 μ-loop2 Inv-loop μ-loop) → c .before .before .before .before .before .loop .m < 64
+row-in c = omega (arith, c .before .before .before .before .loop-test .taken, few-branches (c .before .before .before .before .before .before .before .before .before))
+
+zone-in : (c : tie.In-loop2 Inv-loop2 μ-loop2 Inv-loop μ-loop) → c .before .loop2 .z < 16
+zone-in c = omega (arith, c .loop2-test .taken, few-zones (c .before .before .before .before .before .before .before .before .before))
+
+known : (c : tie.In-loop2 Inv-loop2 μ-loop2 Inv-loop μ-loop) → c .before .loop2 .z < hour (c .before .before .before .before .before .before .before .before .before) .zones
+known c = omega (arith, c .loop2-test .taken, zones-is (c .before .before .before .before .before .before .before .before .before))
+
+mul-of-entry : tie.Need-mul-of-entry Inv-loop2 μ-loop2 Inv-loop μ-loop
+mul-of-entry c = omega (arith, row-in c)
+
+mul-of-entry-2 : tie.Need-mul-of-entry-2 Inv-loop2 μ-loop2 Inv-loop μ-loop
+mul-of-entry-2 c = omega (arith, zone-in c)
+
+index-1-of-entry : tie.Need-index-1-of-entry Inv-loop2 μ-loop2 Inv-loop μ-loop
+index-1-of-entry c = row-in c
+
+index-2-of-entry : tie.Need-index-2-of-entry Inv-loop2 μ-loop2 Inv-loop μ-loop
+index-2-of-entry c = zone-in c
+
+of-entry-requires : tie.Need-of-entry-requires Inv-loop2 μ-loop2 Inv-loop μ-loop
+of-entry-requires c κs = search needs
+
+-- this entry as the machine read it, and by the hour
+read-is : (c : tie.After-of-entry Inv-loop2 μ-loop2 Inv-loop μ-loop) → c .of-entry .result .0 ≡ getD (getD (c .before .before .before .before .before .before .before .before .before .before .before .args .t4) (c .before .before .before .before .before .before .before .loop .m) []) (c .before .before .before .loop2 .z) (pos 0)
+read-is c = c .of-entry .ensures ∙ toZ-ofZ {w = w32} {z = getD (getD (c .before .before .before .before .before .before .before .before .before .before .before .args .t4) (c .before .before .before .before .before .before .before .loop .m) []) (c .before .before .before .loop2 .z) (pos 0)} (record { sfits = c .before .of-entry-arg .given })
+
+ptdf-is : (c : tie.After-of-entry Inv-loop2 μ-loop2 Inv-loop μ-loop) → c .of-entry .result .0 ≡ hour (c .before .before .before .before .before .before .before .before .before .before .before) .ptdf (c .before .before .before .before .before .before .before .loop .m) (c .before .before .before .loop2 .z)
+ptdf-is c = read-is c ∙ entry-is (c .before .before .before .before .before .before .before .before .before .before .before) (c .before .before .before .before .before .before .before .loop .m) (c .before .before .before .loop2 .z) (inside (c .before .before .before .before .before .before)) (known (c .before .before))
+
+mul-part : tie.Need-mul-part Inv-loop2 μ-loop2 Inv-loop μ-loop
+mul-part c = omega (arith, zone-in (c .before .before))
+
+array-copy-out-part : tie.Need-array-copy-out-part Inv-loop2 μ-loop2 Inv-loop μ-loop
+array-copy-out-part c = zone-in (c .before .before)
+
+load-requires : tie.Need-load-requires Inv-loop2 μ-loop2 Inv-loop μ-loop
+load-requires c κs =
+    let e = c .before in
+    let i = e .before .before in
+    let a = i .before .before .before .before .before .before .before .before .before in
+    sfits-by w64 (λ j. ptdf-is e j *ℤ part-is a (i .before .loop2 .z) (known i) j) ((loads-fit a (i .before .before .before .before .before .loop .m) (inside (i .before .before .before .before))) .term (i .before .loop2 .z) (known i))
+
+-- this zone's part of the load
+load-is : (c : tie.After-load Inv-loop2 μ-loop2 Inv-loop μ-loop) → c .load .result .0 ≡ hour (c .before .before .before .before .before .before .before .before .before .before .before .before .before) .ptdf (c .before .before .before .before .before .before .before .before .before .loop .m) (c .before .before .before .before .before .loop2 .z) *ℤ fbPart (hour (c .before .before .before .before .before .before .before .before .before .before .before .before .before)) (plan (c .before .before .before .before .before .before .before .before .before .before .before .before .before)) (c .before .before .before .before .before .loop2 .z)
+load-is c = c .load .ensures ∙ (λ j. ptdf-is (c .before .before) j *ℤ part-is (c .before .before .before .before .before .before .before .before .before .before .before .before .before) (c .before .before .before .before .before .loop2 .z) (known (c .before .before .before .before)) j)
+
+plus-requires : tie.Need-plus-requires Inv-loop2 μ-loop2 Inv-loop μ-loop
+plus-requires c κs =
+    let i = c .before .before .before .before in
+    step-fits (loads-fit (i .before .before .before .before .before .before .before .before .before) (i .before .before .before .before .before .loop .m) (inside (i .before .before .before .before))) (i .before .loop2 .z) (known i) (i .before .loop2 .inv .1 .0) (load-is c)
+
+mul-price : tie.Need-mul-price Inv-loop2 μ-loop2 Inv-loop μ-loop
+mul-price c = omega (arith, zone-in (c .before .before .before .before .before))
+
+array-copy-out-price : tie.Need-array-copy-out-price Inv-loop2 μ-loop2 Inv-loop μ-loop
+array-copy-out-price c = zone-in (c .before .before .before .before .before)
+
+price-requires : tie.Need-price-requires Inv-loop2 μ-loop2 Inv-loop μ-loop
+unfolding branchPrice pricesOf
+price-requires c κs =
+    let i = c .before .before .before .before .before .before in
+    let a = i .before .before .before .before .before .before .before .before .before in
+    let m = i .before .before .before .before .before .loop .m in
+    sfits-by w64 (λ j. ptdf-is (c .before .before .before .before) j *ℤ i .before .before .before .shadow-at .ensures j)
+    (near-fits w64 (omega arith) (price-term-near _ (case-sound _ (a .pre .0 .opened .readable)) _ (system-near (now (a .args .«case»)) (now (a .args .proposal))) ((proposal-sound _ _ (a .pre .0 .passed)) .shadow-in) (i .before .loop2 .z) m (known i) (inside (i .before .before .before .before))))
+
+-- what this branch adds to this zone's price, and the sum
+price-is : (c : tie.After-price2 Inv-loop2 μ-loop2 Inv-loop μ-loop) → c .price2 .result .0 ≡ branchPrice (hour (c .before .before .before .before .before .before .before .before .before .before .before .before .before .before .before .before)) (rates (c .before .before .before .before .before .before .before .before .before .before .before .before .before .before .before .before)) (c .before .before .before .before .before .before .before .before .loop2 .z) (c .before .before .before .before .before .before .before .before .before .before .before .before .loop .m)
+unfolding branchPrice pricesOf
+price-is c = c .price2 .ensures ∙ (λ j. ptdf-is (c .before .before .before .before .before) j *ℤ c .before .before .before .before .before .before .before .before .before .before .shadow-at .ensures j)
+
+price-sum-is : (c : tie.After-price2 Inv-loop2 μ-loop2 Inv-loop μ-loop)
+    → grainsAt (c .before .before .before .before .before .before .before .before .loop2 .prices) (c .before .before .before .before .before .before .before .before .loop2 .z) +ℤ c .price2 .result .0
+    ≡ grainsOf (rates (c .before .before .before .before .before .before .before .before .before .before .before .before .before .before .before .before) .system) +ℤ sumTo (c .before .before .before .before .before .before .before .before .before .before .before .before .loop .m + 1) (λ k. branchPrice (hour (c .before .before .before .before .before .before .before .before .before .before .before .before .before .before .before .before)) (rates (c .before .before .before .before .before .before .before .before .before .before .before .before .before .before .before .before)) (c .before .before .before .before .before .before .before .before .loop2 .z) k)
+price-sum-is c =
+    let i = c .before .before .before .before .before .before .before in
+    let a = c .before .before .before .before .before .before .before .before .before .before .before .before .before .before .before .before in
+    let m = c .before .before .before .before .before .before .before .before .before .before .before .before .loop .m in
+    let z = c .before .before .before .before .before .before .before .before .loop2 .z in
+    (λ j. (i .before .loop2 .inv .1 .1 .left z (omega arith) (i .loop2-test .taken) ∙ c .before .before .before .before .before .before .before .before .before .before .before .before .loop .inv .1 .1 .0 .each z (known i)) j +ℤ price-is c j)
+    ∙ +ℤ-assoc (grainsOf (rates a .system)) (sumTo m (λ k. branchPrice (hour a) (rates a) z k)) (branchPrice (hour a) (rates a) z m)
+    ∙ ap (λ (x : ℤ). grainsOf (rates a .system) +ℤ x) (sym (sum-more m (λ k. branchPrice (hour a) (rates a) z k)))
+
+plus-requires-2 : tie.Need-plus-requires-2 Inv-loop2 μ-loop2 Inv-loop μ-loop
+plus-requires-2 c κs =
+    let i = c .before .before .before .before .before .before .before in
+    let a = i .before .before .before .before .before .before .before .before .before in
+    let m = i .before .before .before .before .before .loop .m in
+    sfits-by w64 (price-sum-is c) (near-fits w64 (omega arith) (price-near _ (case-sound _ (a .pre .0 .opened .readable)) _ (system-near _ _) ((proposal-sound _ _ (a .pre .0 .passed)) .shadow-in) (m + 1) (omega (arith, inside (i .before .before .before .before))) (i .before .loop2 .z) (known i)))
+
+mul-prices : tie.Need-mul-prices Inv-loop2 μ-loop2 Inv-loop μ-loop
+mul-prices c = omega (arith, zone-in (c .before .before .before .before .before .before .before .before))
+
+array-set-from-prices : tie.Need-array-set-from-prices Inv-loop2 μ-loop2 Inv-loop μ-loop
+array-set-from-prices c = zone-in (c .before .before .before .before .before .before .before .before)
+
+add-z : tie.Need-add-z Inv-loop2 μ-loop2 Inv-loop μ-loop
+add-z c = omega (arith, zone-in (c .before .before .before .before .before .before .before .before))
+
+loop2-less : tie.Need-loop2-less Inv-loop2 μ-loop2 Inv-loop μ-loop
+loop2-less c = omega (arith, c .before .before .before .before .before .before .before .before .loop2-test .taken)
+
+loop2-again : tie.Need-loop2-again Inv-loop2 μ-loop2 Inv-loop μ-loop
+loop2-again c =
+    let i = c .before .before .before .before .before .before .before .before in
+    let q = i .before in
+    let a = i .before .before .before .before .before .before .before .before .before in
+    let l = i .before .before .before .before .before in
+    let row = getD (a .args .t4) (l .loop .m) [] in
+    let shadow = i .before .before .before .shadow-at .result .0 in (
+      omega (arith, i .loop2-test .taken),
+      (
+        step (loads-fit a (l .loop .m) (inside (i .before .before .before .before))) (q .loop2 .z) (q .loop2 .inv .1 .0) (load-is (c .before .before .before .before)) (c .before .before .before .plus .ensures),
+        add-step (l .loop .prices) (q .loop2 .prices) row shadow (q .loop2 .z) (a .args .k .zones) (c .plus2 .result) (i .loop2-test .taken) (few-zones a) (q .loop2 .inv .1 .1)
+            (c .plus2 .ensures ∙ ap (λ (x : ℤ). grainsAt (q .loop2 .prices) (q .loop2 .z) +ℤ x) (c .before .price2 .ensures ∙ ap (λ (x : ℤ). x *ℤ shadow) (read-is (c .before .before .before .before .before .before)))),
+      ),
+    )
+
+part-requires : tie.Need-part-requires Inv-loop2 μ-loop2 Inv-loop μ-loop
+unfolding caseOf planOf
+part-requires c κs =
+    let i = c .before .before .before .before in
+    let a = i .before .before .before .before .before in
+    sfits-by w64 (λ j. a .pre .1 .1 .1 .1 .1 .0 j *ℤ c .before .before .margin-at .ensures j)
+    (near-fits w64 (omega arith) (near-mul (near-sub (near-pos partsInOne) (near-unsigned _ 100000 ((proposal-sound _ _ (a .pre .0 .passed)) .share-in)))
+    (near-within 500000 limits.margin _ (omega arith) (omega arith) ((case-sound _ (a .pre .0 .opened .readable)) .ram-in (i .before .loop .m) (inside i)))))
+
+exceeds-requires : tie.Need-exceeds-requires Inv-loop2 μ-loop2 Inv-loop μ-loop
+exceeds-requires c κs = search needs
+
+-- the load of all zones, and the test of this branch
+ended : (c : tie.After-loop2 Inv-loop2 μ-loop2 Inv-loop μ-loop) → c .before .loop2 .z ≡ c .before .before .before .before .before .before .before .before .before .args .k .zones
+ended c = omega arith
+
+used : (c : tie.After-loop2 Inv-loop2 μ-loop2 Inv-loop μ-loop) → c .before .loop2 .load .0 ≡ branchUse (hour (c .before .before .before .before .before .before .before .before .before)) (plan (c .before .before .before .before .before .before .before .before .before)) (c .before .before .before .before .before .loop .m)
+unfolding branchUse
+used c =
+    let a = c .before .before .before .before .before .before .before .before .before in
+    c .before .loop2 .inv .1 .0 ∙ ap (λ (n : ℕ). sumTo n (λ z. hour a .ptdf (c .before .before .before .before .before .loop .m) z *ℤ fbPart (hour a) (plan a) z)) (ended c ∙ zones-is a)
+
+answered : (c : tie.After-exceeds Inv-loop2 μ-loop2 Inv-loop μ-loop) → c .exceeds .result ≡ overZ (branchRoom (hour (c .before .before .before .before .before .before .before .before .before .before .before)) (plan (c .before .before .before .before .before .before .before .before .before .before .before)) (c .before .before .before .before .before .before .before .loop .m)) (branchUse (hour (c .before .before .before .before .before .before .before .before .before .before .before)) (plan (c .before .before .before .before .before .before .before .before .before .before .before)) (c .before .before .before .before .before .before .before .loop .m))
+unfolding branchRoom caseOf planOf
+answered c =
+    let a = c .before .before .before .before .before .before .before .before .before .before .before in
+    c .exceeds .ensures ∙ (λ j. ltZ ((c .before .part2 .ensures ∙ (λ i. a .pre .1 .1 .1 .1 .1 .0 i *ℤ c .before .before .before .before .margin-at .ensures i)) j) (used (c .before .before) j))
+
+returns : tie.Need-returns Inv-loop2 μ-loop2 Inv-loop μ-loop
+returns c =
+    let e = c .before in
+    let i = e .before .before .before .before .before .before in (
+      sym (first-here _ (i .before .loop .m) (inside i) (i .before .loop .inv .1 .0) (sym (answered e) ∙ c .if1 .taken)),
+      (λ n. absurd (Option·some-ne-none _ n), λ n. absurd (Option·some-ne-none _ n)),
+    )
+
+in-grains-requires-2 : tie.Need-in-grains-requires-2 Inv-loop2 μ-loop2 Inv-loop μ-loop
+in-grains-requires-2 c κs =
+    let i = c .before .before .before .before .before .before .before in
+    sfits-by w64 (ap grainsOf (c .before .before .before .before .before .before .shadow-at .ensures)) (near-fits w64 (omega arith) (near-mul (near-pos partsInOne) (shadow-near (i .before .before .before .before .before) (i .before .loop .m) (inside i))))
+
+cost-requires : tie.Need-cost-requires Inv-loop2 μ-loop2 Inv-loop μ-loop
+unfolding caseOf
+cost-requires c κs =
+    let i = c .before .before .before .before .before .before .before .before in
+    let a = i .before .before .before .before .before in
+    sfits-by w64 (λ j. c .before .before .before .before .before .before .margin-at .ensures j *ℤ (c .in-grains2 .ensures ∙ ap grainsOf (c .before .before .before .before .before .before .before .shadow-at .ensures)) j)
+    (near-fits w64 (omega arith) (near-mul (near-within 500000 limits.margin _ (omega arith) (omega arith) ((case-sound _ (a .pre .0 .opened .readable)) .ram-in (i .before .loop .m) (inside i)))
+    (near-mul (near-pos partsInOne) (shadow-near a (i .before .loop .m) (inside i)))))
+
+-- this branch's part of the total
+value-is : (c : tie.After-cost Inv-loop2 μ-loop2 Inv-loop μ-loop) → c .cost .result .0 ≡ pos partsInOne *ℤ branchValue (hour (c .before .before .before .before .before .before .before .before .before .before .before .before .before .before)) (rates (c .before .before .before .before .before .before .before .before .before .before .before .before .before .before)) (c .before .before .before .before .before .before .before .before .before .before .loop .m)
+unfolding branchValue caseOf pricesOf
+value-is c =
+    c .cost .ensures ∙ (λ j. c .before .before .before .before .before .before .before .margin-at .ensures j *ℤ (c .before .in-grains2 .ensures ∙ ap grainsOf (c .before .before .before .before .before .before .before .before .shadow-at .ensures)) j)
+    ∙ branch-value (hour (c .before .before .before .before .before .before .before .before .before .before .before .before .before .before) .ram (c .before .before .before .before .before .before .before .before .before .before .loop .m)) (pos (rates (c .before .before .before .before .before .before .before .before .before .before .before .before .before .before) .shadow (c .before .before .before .before .before .before .before .before .before .before .loop .m)))
+
+plus-requires-3 : tie.Need-plus-requires-3 Inv-loop2 μ-loop2 Inv-loop μ-loop
+plus-requires-3 c κs =
+    let i = c .before .before .before .before .before .before .before .before .before in
+    step-fits (total-fits (i .before .before .before .before .before)) (i .before .loop .m) (inside i) (i .before .loop .inv .1 .1 .1) (value-is c)
+
+add-m : tie.Need-add-m Inv-loop2 μ-loop2 Inv-loop μ-loop
+add-m c = omega (arith, c .before .before .before .before .before .before .before .before .before .before .loop-test .taken, few-branches (c .before .before .before .before .before .before .before .before .before .before .before .before .before .before .before))
+
+loop-less : tie.Need-loop-less Inv-loop2 μ-loop2 Inv-loop μ-loop
+loop-less c = omega (arith, c .before .before .before .before .before .before .before .before .before .before .loop-test .taken)
+
+-- what this branch adds to a zone's price, as the table has it
+term-is : (c : tie.After-shadow-at Inv-loop2 μ-loop2 Inv-loop μ-loop) (z : ℕ) → z < hour (c .before .before .before .before .before .before) .zones
+    → added (getD (c .before .before .before .before .before .before .args .t4) (c .before .before .loop .m) []) (c .shadow-at .result .0) z ≡ branchPrice (hour (c .before .before .before .before .before .before)) (rates (c .before .before .before .before .before .before)) z (c .before .before .loop .m)
+unfolding branchPrice pricesOf
+term-is c z h = λ j. entry-is (c .before .before .before .before .before .before) (c .before .before .loop .m) z (inside (c .before)) h j *ℤ c .shadow-at .ensures j
+
+loop-again : tie.Need-loop-again Inv-loop2 μ-loop2 Inv-loop μ-loop
+loop-again c =
+    let i = c .before .before .before .before .before .before .before .before .before .before in
+    let l = i .before in
+    let a = c .before .before .before .before .before .before .before .before .before .before .before .before .before .before .before in
+    let e = c .before .before .before .before .before .before in
+    let q = e .before in
+    let row = getD (a .args .t4) (l .loop .m) [] in
+    let shadow = c .before .before .before .before .before .before .before .before .before .shadow-at .result .0 in (
+      omega (arith, i .loop-test .taken),
+      (
+        first-later _ (l .loop .m) (l .loop .inv .1 .0) (sym (answered (c .before .before .before .before)) ∙ c .before .before .before .if1 .left),
+        (
+          branch-step (hour a) (rates a) (l .loop .m) (l .loop .prices) (q .loop2 .prices) row shadow (λ z h. term-is (c .before .before .before .before .before .before .before .before .before) z h) (l .loop .inv .1 .1 .0)
+              (subst (λ (n : ℕ). AddedTo (l .loop .prices) (q .loop2 .prices) row shadow n n) (zones-is a) (subst (λ (n : ℕ). AddedTo (l .loop .prices) (q .loop2 .prices) row shadow n (a .args .k .zones)) (ended e) (q .loop2 .inv .1 .1))),
+          step (total-fits a) (l .loop .m) (l .loop .inv .1 .1 .1) (value-is (c .before)) (c .plus3 .ensures),
+        ),
+      ),
+    )
+
+returns-2 : tie.Need-returns-2 Inv-loop2 μ-loop2 Inv-loop μ-loop
+unfolding zonePrice branchTotal
+returns-2 c =
+    let l = c .before in
+    let a = l .before .before .before .before in
+    let e : l .loop .m ≡ hour a .branches = omega (arith, branches-is a) in (
+      sym (first-nowhere _ (l .loop .m) (omega arith) (omega arith) (l .loop .inv .1 .0)),
+      (
+        λ n. record { each = λ z h. l .loop .inv .1 .1 .0 .each z h ∙ ap (λ (n : ℕ). grainsOf (rates a .system) +ℤ sumTo n (λ k. branchPrice (hour a) (rates a) z k)) e },
+        λ n. l .loop .inv .1 .1 .1 ∙ ap (λ (n : ℕ). sumTo n (λ j. pos partsInOne *ℤ branchValue (hour a) (rates a) j)) e ∙ sum-scale-l (hour a .branches) (λ j. branchValue (hour a) (rates a) j) (pos partsInOne),
+      ),
+    )
+
+pub branch-sums-spec : {M : Type 1} → statement M
+branch-sums-spec =
+    tie.close
+    (tie.spec
+    Inv-loop2
+    μ-loop2
+    Inv-loop
+    μ-loop
+    in-grains-requires
+    loop-holds
+    shadow-at-requires
+    margin-at-requires
+    loop2-holds
+    mul-of-entry
+    mul-of-entry-2
+    index-1-of-entry
+    index-2-of-entry
+    of-entry-requires
+    mul-part
+    array-copy-out-part
+    load-requires
+    plus-requires
+    mul-price
+    array-copy-out-price
+    price-requires
+    plus-requires-2
+    mul-prices
+    array-set-from-prices
+    add-z
+    loop2-less
+    loop2-again
+    part-requires
+    exceeds-requires
+    returns
+    in-grains-requires-2
+    cost-requires
+    plus-requires-3
+    add-m
+    loop-less
+    loop-again
+    returns-2)
