@@ -9,8 +9,8 @@ use native.Mathlib.Omega.{arith}
 use lib.ListN.{length, getD}
 use lib.Dec.{T}
 use Rattle.rows.specs.declared.Outcome.{Outcome}
-use Rattle.rows.specs.Meaning.Rows.{Row, verdict, answer, unnamed, the-place, ask, Asks, empty}
-use Rattle.rows.specs.Promised.RowLaws.{Cause, answer-caused, Answered, answered, Soonest, soonest, lacks, zero-none}
+use Rattle.rows.specs.Meaning.Rows.{Row, verdict, answer, unnamed, the-place, ask, Asks}
+use Rattle.rows.specs.Promised.RowLaws.{empty, Cause, answer-caused, Answered, answered, Soonest, soonest, lacks, zero-none}
 use Rattle.output.specs.Meaning.Output.{writtenBy, outputAfter}
 use Rattle.numerals.specs.Meaning.Numeral.{digits, starts, before, negative, unsigned, whole, isNumber}
 use Rattle.margin_sheet.specs.Meaning.Sheet.{fields, fieldOf, malformed, sheetRows, sheetRefusal, sheetOutcome, sheetBytes, sheetWritten, sheetOutput}
