@@ -15,7 +15,7 @@ use Rattle.rows.specs.declared.Outcome.{Outcome}
 use Rattle.rows.specs.Meaning.Rows.{Row, verdict, refusal, answer}
 use Rattle.rows.specs.Promised.RowLaws.{else-refusal, refusal-append, lacks, not-refused, Comes}
 use Rattle.rules.specs.Meaning.Report.{Totals, headerBytes, totalBytes, priceBytes, reportText, totalsOf, reports, reportBytes, reportSize, written}
-use Rattle.rules.specs.Meaning.Verdict.{proposalRows, clearingRows}
+use Rattle.rules.specs.Meaning.Verdict.{clearingRows}
 use Rattle.measures.specs.declared.Grains.{Grains}
 use Rattle.measures.specs.declared.Microcents.{Microcents}
 use Rattle.report.specs.declared.Totals.{Totals as ReportTotals}
@@ -56,10 +56,6 @@ unfolding reportBytes reportText reportSize
 same-report number zones x price c p d b e t h =
     ap (λ (n : ℕ). headerBytes number n ++ totalBytes x ++ priceBytes n price ++ drop (zonePriceAt n) b) e
     ∙ (λ j. headerBytes number (c .zones) ++ totalBytes (t j) ++ price-ext (c .zones) price (zonePrice c d) h j ++ drop (zonePriceAt (c .zones)) b)
-
--- the rows from 9 on
-abbrev pub proposalOn : List ℕ → List ℕ → List Row
-proposalOn s t = proposalRows s t (caseOf s) (planOf s t) (pricesOf s t) ++ clearingRows (caseOf s) (planOf s t) (pricesOf s t)
 
 -- two lists of rows: the first refuses, or it passes and the second is asked
 pub first-refuses : (qs rs : List Row) (o : Outcome) → refusal qs ≡ some o → refusal (qs ++ rs) ≡ some o

@@ -148,7 +148,7 @@ fn find(case: &[u8], k: Counts, proposal: &[u8], opening: Opening) -> Found
     }
     let parts = exchange.parts;
     let table = ptdf_table(case, k);
-    let network = branch_sums(
+    let branches = branch_sums(
         case,
         k,
         proposal,
@@ -157,11 +157,11 @@ fn find(case: &[u8], k: Counts, proposal: &[u8], opening: Opening) -> Found
         share.rest(),
         opening.system,
     );
-    let overloaded = network.overloaded;
+    let overloaded = branches.overloaded;
     if let Place::At(m) = overloaded {
         return refused(24, m);
     }
-    let prices = network.prices;
+    let prices = branches.prices;
     let outside = first_price_outside(prices, zones);
     if let Place::At(z) = outside {
         return refused(25, z);
@@ -173,7 +173,7 @@ fn find(case: &[u8], k: Counts, proposal: &[u8], opening: Opening) -> Found
         nets,
         accepted.welfare,
         prices,
-        network.total,
+        branches.total,
     );
     let gap = totals.gap;
     let tolerance = k.tolerance;

@@ -25,11 +25,6 @@ grainsAt prices z = (getD prices z noGrains) .0
 abbrev pub added : List ℤ → ℤ → ℕ → ℤ
 added row shadow z = getD row z (pos 0) *ℤ shadow
 
--- each sum fits
-pub record AddsFit (prices : List Grains) (row : List ℤ) (shadow : ℤ) (zones : ℕ) : Type 0 where
-  pub product : (z : ℕ) → z < zones → SFits w64 (added row shadow z)
-  pub sum : (z : ℕ) → z < zones → SFits w64 (grainsAt prices z +ℤ added row shadow z)
-
 -- the first n of them added
 pub record AddedTo (before after : List Grains) (row : List ℤ) (shadow : ℤ) (n zones : ℕ) : Type 0 where
   pub long : length after ≡ 16

@@ -1,7 +1,7 @@
 -- `case_branches::walk_ptdfs` meets its contract. Where none is out of range the row passes. Else the loop's invariant: the cursor stands past as many PTDFs
 -- as turns, none of which is out of range. They stand within the file, so that none is missing. The measure is what is left of the zones. Assumes nothing.
 use mathlib.Core.Path.{_≡_, refl, sym, ap, _∙_}
-use mathlib.Core.Bool.{Bool, true, false, not}
+use mathlib.Core.Bool.{not}
 use mathlib.Core.List.{List}
 use mathlib.Core.Option.{none}
 use Prim.Native.Nat.{ℕ, _+_, _*_, _-_, _≤_, _<_}

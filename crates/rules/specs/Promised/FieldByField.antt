@@ -21,7 +21,7 @@ follow : (r : Row) (qs rs : List Row) → refusal qs ≡ refusal rs → refusal 
 unfolding refusal
 follow r qs rs e = ap (rowElse r (firstBelow (r .places) (r .fails))) e
 
-pub case-field-by-field : (s : List ℕ) → caseRefusal s ≡ refusal (before 6 (caseRows s (caseOf s)) ++ fieldRows s)
+pub case-field-by-field : (s : List ℕ) → caseRefusal s ≡ refusal (before 6 (caseRows s (caseOf s)) ++ (fieldRows s ++ behind 8 (caseRows s (caseOf s))))
 unfolding caseRefusal caseRows caseOf before
 case-field-by-field s =
     let rows = caseRows s (caseOf s) in

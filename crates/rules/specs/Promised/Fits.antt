@@ -76,8 +76,8 @@ module _ (c : Case) (cs : CaseSound c) where
     unfolding orderWelfare
     welfare-term-near i h = near-signed (buys c i) 40000000000 _ (near-mul (volume-near i h) (near-order-price (c .price i) (cs .price-in i (omega arith))))
 
-    pub welfare-sums : SumsFit (λ i. pos 100000 *ℤ orderWelfare c p i) n
-    welfare-sums = small-sums _ 4000000000000000 n (λ i h. near-mul (near-pos 100000) (welfare-term-near i h)) (omega (arith, cs .orders-in))
+    pub welfare-sums : SumsFit (λ i. pos partsInOne *ℤ orderWelfare c p i) n
+    welfare-sums = small-sums _ 4000000000000000 n (λ i h. near-mul (near-pos partsInOne) (welfare-term-near i h)) (omega (arith, cs .orders-in))
 
   -- after row 21
   module _ (p : Plan) (volumes : (i : ℕ) → i < c .orders → p .volume i ≤ c .quantity i) where
@@ -90,7 +90,7 @@ module _ (c : Case) (cs : CaseSound c) where
 
     pub welfare-near : Near 2048000000000000000 (welfare c p)
     unfolding welfare
-    welfare-near = near-le (omega (arith, cs .orders-in)) (near-mul (near-pos 100000) (near-sum (c .orders) 40000000000 _ (welfare-term-near p (c .orders) (omega arith) volumes)))
+    welfare-near = near-le (omega (arith, cs .orders-in)) (near-mul (near-pos partsInOne) (near-sum (c .orders) 40000000000 _ (welfare-term-near p (c .orders) (omega arith) volumes)))
 
     flow-near : (b : Bool) (l : ℕ) → p .flow l ≤ 100000 → Near 100000 (only b (pos (p .flow l)))
     flow-near b l h = near-only b 100000 _ (near-unsigned (p .flow l) 100000 h)

@@ -35,10 +35,10 @@ badOrder c i = unknown (c .zones) (c .zone i)
     || outside limits.orderPrice (c .price i)
 
 unfoldable pub caseRowsBefore : List ℕ → Case → List Row
-caseRowsBefore s c = before 6 (caseRows s c) ++ (each 6 (c .branches) (badBranch c) ∷ each 7 (c .links) (badLink c) ∷ each 8 (c .orders) (badOrder c) ∷ [])
+caseRowsBefore s c = before 6 (caseRows s c) ++ (each 6 (c .branches) (badBranch c) ∷ each 7 (c .links) (badLink c) ∷ each 8 (c .orders) (badOrder c) ∷ behind 8 (caseRows s c))
 
 unfoldable pub proposalRowsBefore : List ℕ → List ℕ → Case → Plan → Prices → List Row
-proposalRowsBefore s t c p d = before 14 (proposalRows s t c p d) ++ (each 14 (c .branches) (λ m. outside limits.shadowPrice (pos (d .shadow m))) ∷ [])
+proposalRowsBefore s t c p d = before 14 (proposalRows s t c p d) ++ (each 14 (c .branches) (λ m. outside limits.shadowPrice (pos (d .shadow m))) ∷ behind 14 (proposalRows s t c p d))
 
 unfoldable pub outcomeBefore : List ℕ → List ℕ → ℕ → Outcome
 outcomeBefore s t room =
