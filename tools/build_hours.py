@@ -4,13 +4,13 @@
   build_hours.py OUTDIR            writes OUTDIR/NAME.bin for each hours/NAME.txt, prints the file names, sorted
   build_hours.py --check OUTDIR    writes nothing; fails if a .bin file there is missing, different or left over
 
-What stands in a stored hour, hour.py help says.
+What stands in a stored hour, ./lta help text says.
 """
 
 import pathlib
 import sys
 
-import hour
+from lta import hour
 
 HOURS = pathlib.Path(__file__).resolve().parent.parent / "hours"
 

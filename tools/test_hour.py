@@ -1,5 +1,7 @@
 #!/usr/bin/env python3
-"""Tests of hour.py, build_hours.py and the stored hours. The last line counts what passed and failed."""
+"""Tests of the formats, that is lta.hour and the commands over it, of build_hours.py and of the stored hours.
+The last line counts what passed and failed.
+"""
 
 import contextlib
 import io
@@ -12,8 +14,8 @@ import tempfile
 import unittest
 
 import build_hours
-import hour
 import largest_hour
+from lta import cli, hour
 
 ROOT = pathlib.Path(__file__).resolve().parent.parent
 SAMPLES = ROOT / "samples"
@@ -507,13 +509,13 @@ class MarginSheet(unittest.TestCase):
         (self.folder / "sheets" / "bad.csv").write_bytes(b"250.0,0,-0.75,-0.5\n1500.0,1e0,0,0\n")
         text, case = self.folder / "hour.txt", self.folder / "case"
         text.write_text(re.sub(r"branch.*\nbranch.*\n", "sheet sheets/good.csv\n", P1_TEXT))
-        self.assertEqual(run_tool(hour.main, "build", text, "--case", case), (0, "", ""))
+        self.assertEqual(run_tool(cli.main, "build", text, "--case", case), (0, "", ""))
         self.assertEqual(case.read_bytes(), P1_CASE)
         text.write_text(text.read_text().replace("good", "bad"))
-        status, out, err = run_tool(hour.main, "build", text)
-        self.assertEqual((status, out), (1, ""))
+        status, out, err = run_tool(cli.main, "build", text)
+        self.assertEqual((status, out), (2, ""))
         cause = "line 2 (51 index 1): PTDF '1e0' is no number"
-        self.assertEqual(err, f"hour.py: {text}: line 4: sheets/bad.csv: {cause}\n")
+        self.assertEqual(err, f"lta: {text}: line 4: sheets/bad.csv: {cause}\n")
 
 
 class CommandLine(unittest.TestCase):
@@ -528,47 +530,50 @@ class CommandLine(unittest.TestCase):
         case, proposal, joined = (self.folder / name for name in ("case", "proposal", "joined"))
         text = SAMPLES / "three-zone.txt"
         options = ("--case", case, "--proposal", proposal, "--joined", joined)
-        self.assertEqual(run_tool(hour.main, "build", text, *options), (0, "", ""))
+        self.assertEqual(run_tool(cli.main, "build", text, *options), (0, "", ""))
         self.assertEqual((case.read_bytes(), proposal.read_bytes()), (P1_CASE, P1_PROPOSAL))
         self.assertEqual(joined.read_bytes(), P1_CASE + P1_PROPOSAL)
-        self.assertEqual(run_tool(hour.main, "show", case, proposal), (0, hour.show(P1_CASE, P1_PROPOSAL), ""))
-        self.assertEqual(run_tool(hour.main, "show", case), (0, hour.show(P1_CASE), ""))
+        self.assertEqual(run_tool(cli.main, "show", case, proposal), (0, hour.show(P1_CASE, P1_PROPOSAL), ""))
+        self.assertEqual(run_tool(cli.main, "show", case), (0, hour.show(P1_CASE), ""))
 
     def test_build_without_a_file_names_the_sizes(self):
-        status, out, _ = run_tool(hour.main, "build", SAMPLES / "three-zone.txt")
+        status, out, _ = run_tool(cli.main, "build", SAMPLES / "three-zone.txt")
         self.assertEqual((status, out), (0, "case 102 bytes, proposal 45 bytes\n"))
 
     def test_field_by_number_and_hex(self):
         case, proposal = SAMPLES / "three-zone.case", SAMPLES / "three-zone.proposal"
         to_zone, shadow = hour.field_at(47, P1_CASE), hour.field_at(41, P1_CASE, P1_PROPOSAL)
         for word in ("47", "0x2f", "0X2F"):
-            self.assertEqual(run_tool(hour.main, "field", case, word), (0, to_zone + "\n", ""))
-        self.assertEqual(run_tool(hour.main, "field", case, proposal, "41"), (0, shadow + "\n", ""))
-        refusal = "hour.py: offset 102 (0x66) is not in the case of 102 bytes\n"
-        self.assertEqual(run_tool(hour.main, "field", case, "102"), (1, "", refusal))
+            self.assertEqual(run_tool(cli.main, "field", case, word), (0, to_zone + "\n", ""))
+        self.assertEqual(run_tool(cli.main, "field", case, proposal, "41"), (0, shadow + "\n", ""))
+        refusal = f"lta: {case}: offset 102 (0x66) is not in the case of 102 bytes\n"
+        self.assertEqual(run_tool(cli.main, "field", case, "102"), (2, "", refusal))
         for word in ("2f", "-1", "0x", "1.0", ""):
-            self.assertEqual(run_tool(hour.main, "field", case, word)[:2], (2, ""))
-        self.assertEqual(run_tool(hour.main, "field", case)[0], 2)
+            self.assertEqual(run_tool(cli.main, "field", case, word)[:2], (2, ""))
+        self.assertEqual(run_tool(cli.main, "field", case)[0], 2)
 
     def test_bad_text_names_file_and_line_and_writes_nothing(self):
         text, joined = self.folder / "bad.txt", self.folder / "joined"
         text.write_text("case version 1 zones 1 tolerance 0\nlink 0\n")
-        status, out, err = run_tool(hour.main, "build", text, "--joined", joined)
-        self.assertEqual((status, out), (1, ""))
+        status, out, err = run_tool(cli.main, "build", text, "--joined", joined)
+        self.assertEqual((status, out), (2, ""))
         self.assertIn("bad.txt: line 2: link takes 3 values", err)
         self.assertFalse(joined.exists())
 
     def test_a_file_that_is_not_text(self):
         text = self.folder / "bad.txt"
         text.write_bytes(b"\xff\xfe")
-        self.assertEqual(run_tool(hour.main, "build", text)[0], 1)
+        refusal = f"lta: {text}: not a text in UTF-8: byte 0 is 0xff\n"
+        self.assertEqual(run_tool(cli.main, "build", text), (2, "", refusal))
 
     def test_a_file_that_is_not_there(self):
-        self.assertEqual(run_tool(hour.main, "show", self.folder / "none")[0], 1)
+        refusal = f"lta: {self.folder / 'none'}: No such file or directory\n"
+        self.assertEqual(run_tool(cli.main, "show", self.folder / "none"), (2, "", refusal))
 
     def test_help_and_usage(self):
-        self.assertEqual(run_tool(hour.main, "help"), (0, hour.HELP, ""))
-        self.assertEqual(run_tool(hour.main)[0], 2)
+        self.assertEqual(run_tool(cli.main, "help"), (0, cli.HELP, ""))
+        self.assertEqual(run_tool(cli.main, "help", "text"), (0, hour.TEXT_HELP, ""))
+        self.assertEqual(run_tool(cli.main)[0], 2)
         self.assertEqual(run_tool(build_hours.main)[0], 2)
         self.assertEqual(run_tool(largest_hour.main, "smallest")[0], 2)
 

@@ -1,31 +1,15 @@
-#!/usr/bin/env python3
-"""Converts an hour between readable text and its two binary files, the case and the proposal, both ways.
-
-Wrong hours can be written too. Whatever two files are shown, building the text gives back their bytes.
+"""An hour between readable text and its two binary files, the case and the proposal, both ways: the one reading of the
+formats that every tool here has. Wrong hours can be written too. Whatever two files are shown, building the text gives
+back their bytes.
 """
 
-import argparse
 import os
 import re
 import struct
-import sys
 from decimal import Decimal
 
-HELP = """\
-Converts an hour between readable text and its two binary files, the case and the proposal.
-
-  hour.py build TEXT [--case FILE] [--proposal FILE] [--joined FILE]
-  hour.py show CASE [PROPOSAL]
-  hour.py field CASE [PROPOSAL] OFFSET
-  hour.py help
-
-build writes the files asked for; --joined writes the case and at once the proposal, as the desk reads them.
-Without a file it names the two sizes. A TEXT of - is standard input, a FILE of - standard output.
-show prints the text of a case and a proposal. Building that text gives back the same bytes, however broken.
-field says which field of the last file named stands at OFFSET, a number or hex digits after 0x. The index of verdicts
-4, 6, 7 and 8 is an offset of the case, that of 14 one of the proposal.
-
-The text: one item per line; blank lines and what follows a # are passed over. Numbers are whole.
+TEXT_HELP = """\
+The text of an hour: one item per line; blank lines and what follows a # are passed over. Numbers are whole.
 
   case version V zones Z tolerance T       opens the case; tolerance in cents
   branch RAM PTDF ...                      RAM in tenths of a MW; one PTDF per zone, 100000 is 1
@@ -63,7 +47,7 @@ tests/stored_hours holds each of these to both judges.
 """
 
 UNITS = """\
-# An hour as text; tools/hour.py help explains the lines.
+# An hour as text; ./lta help text explains the lines.
 # RAM, capacity, quantity, volume, flow: tenths of a MW. PTDF, LTA share: hundred-thousandths, 100000 is 1.
 # Order price, system price, shadow price: cents per MWh. Tolerance: cents.
 # After "at": the offset in its file of each field of the line.
@@ -150,6 +134,23 @@ def offsets_from(position, fields):
     """The offset of each field, the first of which stands at the position."""
     sizes = [struct.calcsize("<" + code) for _, code in fields]
     return [position + sum(sizes[:n]) for n in range(len(sizes))]
+
+
+def record_offset(kind, index, counts):
+    """Where the first field of a record stands in its file, by the counts of the case's header."""
+    file, zones = FILE_OF[kind], counts["zones"]
+    position = header_layout(file).size
+    for other, name in RECORDS[file]:
+        if other == kind:
+            break
+        position += counts[name] * record_layout(other, zones).size
+    return position + index * record_layout(kind, zones).size
+
+
+def demanded_length(file, counts):
+    """The length of a file that the case's header demands."""
+    kind, name = RECORDS[file][-1]
+    return record_offset(kind, counts[name], counts)
 
 
 # Text to bytes.
@@ -601,12 +602,10 @@ def field_at(offset, case, proposal=None):
     return f"{place}: " + ("past the last field" if missing is None else f"in {missing}, which is not whole")
 
 
-# Commands.
+# Files.
 
 
 def read_text(path):
-    if path == "-":
-        return sys.stdin.buffer.read().decode()
     with open(path, encoding="utf-8", newline="") as file:
         return file.read()
 
@@ -616,74 +615,10 @@ def read_bytes(path):
         return file.read()
 
 
-def write_bytes(path, data):
-    if path == "-":
-        sys.stdout.buffer.write(data)
-        return
-    with open(path, "wb") as file:
-        file.write(data)
-
-
-def run_build(options):
-    case, proposal = build(read_text(options.text), os.path.dirname(options.text))
-    wanted = ((options.case, case), (options.proposal, proposal), (options.joined, case + proposal))
-    for path, data in wanted:
-        if path is not None:
-            write_bytes(path, data)
-    if all(path is None for path, _ in wanted):
-        print(f"case {len(case)} bytes, proposal {len(proposal)} bytes")
-
-
-def run_show(options):
-    proposal = b"" if options.proposal is None else read_bytes(options.proposal)
-    sys.stdout.write(show(read_bytes(options.case), proposal))
-
-
 def offset_of(word):
+    """The offset that a word says, a number or hex digits after 0x."""
     if not OFFSET.fullmatch(word):
-        raise argparse.ArgumentTypeError(f"{word!r} is not a whole number, nor hex digits after 0x")
+        raise OffsetError(f"offset {word!r} is not a whole number, nor hex digits after 0x")
+    if len(word) > 20:
+        raise OffsetError(f"offset {word} is past the end of every file")
     return int(word, 16 if word[1:2] in ("x", "X") else 10)
-
-
-def run_field(options):
-    proposal = None if options.proposal is None else read_bytes(options.proposal)
-    print(field_at(options.offset, read_bytes(options.case), proposal))
-
-
-def run_help(_options):
-    sys.stdout.write(HELP)
-
-
-def main(arguments):
-    parser = argparse.ArgumentParser(prog="hour.py", usage=HELP.split("\n\n")[1].strip(), add_help=False)
-    commands = parser.add_subparsers(dest="command", prog="hour.py", required=True)
-    builder = commands.add_parser("build", add_help=False)
-    builder.add_argument("text")
-    builder.add_argument("--case")
-    builder.add_argument("--proposal")
-    builder.add_argument("--joined")
-    builder.set_defaults(run=run_build)
-    shower = commands.add_parser("show", add_help=False)
-    shower.add_argument("case")
-    shower.add_argument("proposal", nargs="?")
-    shower.set_defaults(run=run_show)
-    finder = commands.add_parser("field", add_help=False)
-    finder.add_argument("case")
-    finder.add_argument("proposal", nargs="?")
-    finder.add_argument("offset", type=offset_of)
-    finder.set_defaults(run=run_field)
-    commands.add_parser("help", add_help=False).set_defaults(run=run_help)
-    options = parser.parse_args(arguments)
-    try:
-        options.run(options)
-    except (TextError, UnicodeDecodeError) as fault:
-        print(f"hour.py: {options.text}: {fault}", file=sys.stderr)
-        return 1
-    except (OSError, OffsetError) as fault:
-        print(f"hour.py: {fault}", file=sys.stderr)
-        return 1
-    return 0
-
-
-if __name__ == "__main__":
-    sys.exit(main(sys.argv[1:]))

@@ -1,0 +1,185 @@
+"""lta explain: the verdict in words with the field at fault, and of an hour that could be cleared what is in it: zones,
+branches, links, and the gap's parts. The verdict and the totals are the archive's; all else is computed beside it.
+"""
+
+from . import amounts, hour, rules
+
+NOT_PROVED = "Verdict, totals and prices are the archive's. All else is computed beside it and is not proved."
+HEX_ROW = 16
+
+
+def columns(head, rows, left=1):
+    """A table as lines; the first columns, as many as left says, begin at their left."""
+    table = [head, *rows]
+    widths = [max(len(row[at]) for row in table) for at in range(len(head))]
+    for row in table:
+        cells = [cell.ljust(width) if at < left else cell.rjust(width) for at, (cell, width) in enumerate(zip(row, widths))]
+        yield ("  " + "  ".join(cells)).rstrip()
+
+
+def hex_lines(data, field):
+    """The bytes around a field, sixteen to a line, the field's own in brackets."""
+    start, end = field.offset, field.offset + max(field.size, 1)
+    first = max(0, start // HEX_ROW - 1) * HEX_ROW
+    last = min(len(data), (min(end - 1, start + 3 * HEX_ROW) // HEX_ROW + 2) * HEX_ROW)
+    for row in range(first, last, HEX_ROW):
+        line = f"    {row:>6} 0x{row:04x} "
+        for at in range(row, min(row + HEX_ROW, len(data))):
+            opening = "[" if at == start else "]" if at == end else " "
+            line += f"{opening}{data[at]:02x}"
+        if row < end <= row + HEX_ROW and end - row in (HEX_ROW, len(data) - row):
+            line += "]"
+        yield line
+
+
+def field_lines(field):
+    yield f"  field   {field.name}"
+    yield f"  value   {field.value}"
+    if field.limit:
+        yield f"  limit   {field.limit}"
+    yield f"  place   {field.place()}"
+
+
+def fault_lines(explanation, files):
+    """The field at fault, the bytes around it, and the fields that it is held to."""
+    if not explanation.fields:
+        return
+    first, *others = explanation.fields
+    yield ""
+    yield from field_lines(first)
+    if first.size:
+        yield from hex_lines(files[first.file], first)
+    for other in others:
+        yield f"  with    {other.name}: {other.value}; {other.place()}"
+
+
+def totals_lines(judgement):
+    yield from columns(("total", "euros"), [(name, amounts.microcents(total)) for name, total in judgement.totals.items()])
+
+
+def zone_lines(sums):
+    parts = (sums.net, sums.lta, sums.flow_based)
+    rows = [
+        (f"zone {zone}", amounts.grains(price), *(amounts.scaled(part[zone], 1, 1) for part in parts))
+        for zone, price in enumerate(sums.prices)
+    ]
+    yield from columns(("zone", "price, euros/MWh", "net position, MW", "LTA part", "flow-based part"), rows)
+
+
+def standing(amount, room, priced, step=1):
+    """How an amount stands to its room, in steps of which the next must fit: broken, full or not, and priced or not."""
+    if amount > room:
+        return "BROKEN"
+    if amount + step > room:
+        return "binding" if priced else "full"
+    return "priced, not full" if priced else ""
+
+
+def use_of(amount, room):
+    """An amount in per cent of its room; 100 only where it is just that."""
+    if room <= 0:
+        return ""
+    shown = f"{100 * amount / room:.1f} %"
+    if shown == "100.0 %" and amount != room:
+        shown = "> 100 %" if amount > room else "< 100 %"
+    return shown
+
+
+def branch_lines(sums):
+    rows = [
+        (
+            f"branch {index}",
+            amounts.scaled(load, 6, 1),
+            amounts.scaled(room, 6, 1),
+            use_of(load, room),
+            amounts.cents(branch.shadow),
+            standing(load, room, branch.shadow > 0),
+        )
+        for index, (branch, load, room) in enumerate(zip(sums.branches, sums.loads, sums.branch_rooms))
+    ]
+    yield from columns(("branch", "load, MW", "room, MW", "use", "shadow price, euros/MWh", ""), rows)
+
+
+def link_lines(sums):
+    rows = [
+        (
+            f"link {index}",
+            f"{link.source} to {link.sink}",
+            amounts.scaled(use, 6, 1),
+            amounts.scaled(room, 6, 1),
+            use_of(use, room),
+            amounts.grains(spread),
+            standing(use, room, spread > 0, rules.WHOLE),
+        )
+        for index, (link, use, room, spread) in enumerate(zip(sums.links, sums.uses, sums.link_rooms, sums.spreads))
+    ]
+    yield from columns(("link", "zones", "use, MW", "room, MW", "use", "spread, euros/MWh", ""), rows, left=2)
+
+
+def part_name(sums, kind, place):
+    """A part of the gap, named by what falls short."""
+    if kind == "order":
+        order = sums.orders[place]
+        side = "buys" if order.buys else "sells"
+        accepted = f"{amounts.scaled(order.volume, 1, 1)} of {amounts.mwh(order.quantity)}"
+        price = amounts.grains(sums.prices[order.zone])
+        return f"order {place}: zone {order.zone} {side} {accepted} at {amounts.cents(order.price)}, price {price}"
+    if kind == "branch":
+        free = amounts.load_mw(sums.branch_rooms[place] - sums.loads[place])
+        return f"branch {place}: {free} free at a shadow price of {amounts.cents(sums.branches[place].shadow)}"
+    if kind == "link":
+        link, spread = sums.links[place], sums.spreads[place]
+        free = amounts.load_mw(sums.link_rooms[place] - sums.uses[place])
+        if spread < 0:
+            return f"link {place}: {amounts.mw(link.flow)} against a spread of {amounts.grains(spread)}"
+        return f"link {place}: {free} free at a spread of {amounts.grains(spread)}"
+    if kind == "branch total":
+        return f"branch total below owed, by the {amounts.per_cent(rules.WHOLE - sums.share)} that is flow-based"
+    return f"owed below branch total, by the LTA share of {amounts.per_cent(sums.share)}"
+
+
+def gap_parts(sums):
+    """The parts of the gap that are not zero, largest first: each with its name and amount."""
+    parts = sorted((part for part in sums.gap_parts() if part[2]), key=lambda part: -part[2])
+    return [(part_name(sums, kind, place), amount) for kind, place, amount in parts]
+
+
+def gap_lines(sums):
+    whole = rules.WHOLE * sums.gap
+    rows = [(name, amounts.gap_part(amount), f"{100 * amount / whole:.1f} %") for name, amount in gap_parts(sums)]
+    yield from columns(("what falls short", "euros", "of the gap"), rows)
+
+
+def titled(title, lines):
+    yield ""
+    yield title
+    yield from lines
+
+
+def hour_lines(judgement, sums):
+    if judgement.number in hour.REPORTED:
+        yield from titled("Totals", totals_lines(judgement))
+    yield from titled(f"Zones, import positive; LTA share {amounts.per_cent(sums.share)}", zone_lines(sums))
+    if sums.branches:
+        yield from titled("Branches", branch_lines(sums))
+    if sums.links:
+        yield from titled("Links", link_lines(sums))
+    if judgement.number in hour.REPORTED:
+        if sums.gap:
+            yield from titled("Gap, largest part first", gap_lines(sums))
+        else:
+            yield from titled("Gap", ["  0.00: no order, branch or link falls short."])
+
+
+def clearable(number):
+    """Whether an hour of this number has volumes, flows and prices that can be looked at."""
+    return number == 0 or 21 <= number <= 26
+
+
+def account(case, proposal, judgement, explanation):
+    """All that lta explain prints."""
+    lines = [explanation.words]
+    lines += fault_lines(explanation, {"case": case, "proposal": proposal})
+    if clearable(judgement.number):
+        lines += hour_lines(judgement, rules.Sums(case, proposal))
+    return "\n".join([*lines, "", NOT_PROVED]) + "\n"

@@ -1,0 +1,164 @@
+"""The proved archive, called from Python: the shared object that is linked from it, and what lta_judge answers.
+The one place from which a verdict or a total comes.
+"""
+
+from __future__ import annotations
+
+import ctypes
+import os
+import pathlib
+import subprocess
+import sys
+import tempfile
+from dataclasses import dataclass
+
+from . import hour, rules
+
+ROOT = pathlib.Path(__file__).resolve().parent.parent.parent
+SHARED = "liblta_judgement.so"
+REPORTED = hour.REPORTED
+
+
+class BuildError(Exception):
+    """The archive or its shared object cannot be had; the message is one line."""
+
+
+@dataclass(frozen=True)
+class Judgement:
+    """What lta_judge answers. Totals are in microcents and prices in grains; without a report they are None and ()."""
+
+    number: int
+    index: int
+    welfare: int | None = None
+    bound: int | None = None
+    gap: int | None = None
+    rent: int | None = None
+    owed: int | None = None
+    prices: tuple = ()
+
+    @property
+    def accepted(self):
+        return self.number == 0
+
+    @property
+    def verdict(self):
+        return self.number, self.index
+
+    @property
+    def text(self):
+        """What the number means, in words."""
+        return rules.NUMBERS.get(self.number, f"number {self.number}")
+
+    @property
+    def totals(self):
+        """The totals by name; empty without a report."""
+        return {name: getattr(self, name) for name in hour.TOTALS} if self.number in REPORTED else {}
+
+
+# Building.
+
+
+def one_line(text):
+    """The last line of what a command printed that says something."""
+    lines = [line.strip() for line in text.splitlines() if line.strip()]
+    return lines[-1] if lines else "it said nothing"
+
+
+def run(command, what):
+    try:
+        done = subprocess.run(command, cwd=ROOT, stdin=subprocess.DEVNULL, capture_output=True, text=True, errors="replace")
+    except OSError as fault:
+        raise BuildError(f"{what}: {command[0]}: {fault.strerror}") from None
+    if done.returncode:
+        raise BuildError(f"{what}: {' '.join(command[:2])}: {one_line(done.stderr or done.stdout)}")
+
+
+def sources():
+    """The files that the archive is proved and built from."""
+    yield ROOT / "crates.txt"
+    for folder, _, names in os.walk(ROOT / "crates"):
+        for name in names:
+            yield os.path.join(folder, name)
+
+
+def newer(path, than):
+    """Whether a file was changed after another was; one that is gone meanwhile was not."""
+    try:
+        return os.stat(path).st_mtime_ns > than
+    except OSError:
+        return False
+
+
+def made_archive():
+    """The archive, proved and built where it is missing or older than a source."""
+    given = os.environ.get("LTA_ARCHIVE_DIR")
+    archive = pathlib.Path(given or ROOT / "target" / "staticlib") / "libhost.a"
+    if given:
+        if not archive.is_file():
+            raise BuildError(f"{archive}: there is no archive; rt staticlib host writes it")
+        return archive
+    if not archive.is_file() or any(newer(source, archive.stat().st_mtime_ns) for source in sources()):
+        if sys.stderr is not None:
+            print("lta: proving and building, some minutes the first time", file=sys.stderr, flush=True)
+        run(["rt", "staticlib", "host"], "the archive cannot be built")
+        if not archive.is_file():
+            raise BuildError(f"the archive cannot be built: rt staticlib host left no {archive}")
+        # Where a change does not reach it, it is not written anew.
+        archive.touch()
+    return archive
+
+
+def made_shared():
+    """The shared object, linked where it is missing or older than the archive. It is put in place whole."""
+    archive = made_archive()
+    shared = ROOT / "target" / "shared" / SHARED
+    if shared.is_file() and not newer(archive, shared.stat().st_mtime_ns):
+        return shared
+    what = "the shared object cannot be linked"
+    try:
+        shared.parent.mkdir(parents=True, exist_ok=True)
+        with tempfile.TemporaryDirectory(dir=shared.parent) as folder:
+            linked = os.path.join(folder, SHARED)
+            run([str(ROOT / "tools" / "link_shared"), str(archive), linked], what)
+            os.replace(linked, shared)
+    except OSError as fault:
+        raise BuildError(f"{what}: {fault.filename or shared}: {fault.strerror}") from None
+    return shared
+
+
+# Calling.
+
+_entry = None
+
+
+def entry():
+    """lta_judge, loaded once."""
+    global _entry
+    if _entry is None:
+        shared = made_shared()
+        try:
+            found = ctypes.CDLL(str(shared)).lta_judge
+        except (OSError, AttributeError) as fault:
+            raise BuildError(f"{shared}: it cannot be loaded: {one_line(str(fault))}") from None
+        found.restype = ctypes.c_uint64
+        found.argtypes = [ctypes.c_char_p, ctypes.c_size_t] * 3
+        _entry = found
+    return _entry
+
+
+def judge(case, proposal, room=rules.REPORT_ROOM):
+    """Has a case and a proposal, as bytes, judged by the archive, with a report buffer of the room's bytes."""
+    case, proposal = bytes(case), bytes(proposal)
+    report = ctypes.create_string_buffer(max(room, 1))
+    verdict = entry()(case, len(case), proposal, len(proposal), report, room)
+    number, index = verdict % 256, verdict // 256
+    if number not in REPORTED:
+        return Judgement(number, index)
+    data = report.raw
+    amounts = [int.from_bytes(data[at : at + 8], "little", signed=True) for at in range(8, 48 + 8 * data[6], 8)]
+    return Judgement(number, index, *amounts[:5], tuple(amounts[5:]))
+
+
+def judge_joined(joined):
+    """The same of a joined file, the case and at once the proposal, cut as the desk cuts it."""
+    return judge(*rules.cut(bytes(joined)))

@@ -1,0 +1,283 @@
+"""The command line of lta. Whatever goes wrong is one line on standard error that names the file, and status 2."""
+
+import argparse
+import os
+import signal
+import sys
+import tempfile
+
+from . import account, archive, hour, judging
+from .causes import Disagreement, explain
+from .inputs import InputError, gather, one_hour, printable, read, text_hour, why_not
+
+HELP = """\
+Judges, explains, shows, builds and draws hours of the day-ahead coupling.
+
+  lta judge [FILE...] [--csv | --json] [--pairs | --joined]
+  lta explain FILE...
+  lta page FILE... [-o PAGE] [--force]
+  lta show FILE... [--joined]
+  lta field CASE [PROPOSAL] OFFSET
+  lta build TEXT [--case FILE] [--proposal FILE] [--joined FILE] [--force]
+  lta help [text]
+
+A FILE is one of these:
+  X.case with a proposal        the proposal is X.proposal if that is named, else the next FILE, else X.proposal beside it
+  X.bin, X.joined or -          a case and at once its proposal, cut as the desk cuts it; - is standard input
+  X.txt                         the text of an hour, as in hours/; its expect lines are compared
+  a folder                      all of these in it and in its folders
+Two files of other names are a case and its proposal; else a file of another name is joined to what follows it if that is
+a proposal, and is a text or a joined file if not. --pairs and --joined say that all are so.
+
+judge prints a table: file, verdict, index, welfare, gap, rent and owed in euros. --csv and --json are for machines, with
+amounts exact. Without a FILE it reads a joined hour from standard input.
+explain says the verdict in words: the field, its offset in decimal and hex, its value and its limit; and of an hour whose
+files are in order its zones, branches and links, and the gap's parts, largest first.
+page writes one page that a browser shows, for an hour or for all hours of a folder; without -o it is named after it.
+show prints the text of a case and a proposal. Building that text gives back the same bytes, however broken.
+field says which field of the last file named stands at OFFSET, a number or hex digits after 0x.
+build writes the files asked for, - being standard output; without one it says the two sizes.
+Nothing that is there is written over without --force.
+
+Verdicts, totals and prices come from the proved archive alone; on first use, and after a change in crates/, it is proved
+and built, which takes some minutes. Explanations and pages are computed beside it and say so.
+
+Status: 0 every hour is accepted, or as its text expects; 1 not so; 2 something could not be read, judged or written, and
+a line says what. page, show, field and build: 0 or 2.
+"""
+
+
+class Failure(Exception):
+    """What ends a command: one line, and status 2."""
+
+
+class Parser(argparse.ArgumentParser):
+    def error(self, message):
+        raise Failure(f"{message}; lta help says how it is called")
+
+
+def complain(fault):
+    if sys.stderr is not None:
+        print(f"lta: {printable(fault)}", file=sys.stderr, flush=True)
+
+
+def put(text):
+    if sys.stdout is None:
+        raise Failure("standard output is closed")
+    sys.stdout.write(text)
+
+
+# Writing.
+
+
+def put_bytes(data):
+    if sys.stdout is None:
+        raise Failure("standard output is closed")
+    sys.stdout.flush()
+    sys.stdout.buffer.write(data)
+
+
+def refuse_if_there(paths, force):
+    """Before anything is written: no output stands there or is named twice."""
+    files = [path for path in paths if path != "-"]
+    for path in files:
+        if files.count(path) > 1:
+            raise Failure(f"{path}: named for two outputs")
+        if os.path.lexists(path) and not force:
+            raise Failure(f"{path}: it is there, and is written over only with --force")
+
+
+def write(path, data):
+    """Writes a file whole or not at all; what is no regular file is written to as it stands."""
+    if path == "-":
+        put_bytes(data)
+        return
+    try:
+        if os.path.lexists(path) and not os.path.isfile(path):
+            with open(path, "wb") as file:
+                file.write(data)
+            return
+        # Through a link the file that it names is written.
+        path = os.path.realpath(path)
+        handle, part = tempfile.mkstemp(dir=os.path.dirname(path) or ".", prefix=".lta-")
+        try:
+            with open(handle, "wb") as file:
+                file.write(data)
+            os.chmod(part, os.stat(path).st_mode if os.path.exists(path) else 0o666 & ~mask())
+            os.replace(part, path)
+        except BaseException:
+            os.unlink(part)
+            raise
+    except (OSError, ValueError) as fault:
+        raise Failure(f"{path}: it cannot be written: {why_not(fault)}") from None
+
+
+def mask():
+    found = os.umask(0)
+    os.umask(found)
+    return found
+
+
+# Commands.
+
+
+def run_judge(options):
+    rows, unread = judging.judge_all(gather(options.files, options.way), complain)
+    if options.form == "json":
+        put(judging.as_json(rows))
+    elif options.form == "csv":
+        put(judging.as_csv(rows))
+    elif rows:
+        put(judging.table(rows, unread))
+    if unread:
+        return 2
+    return 0 if all(row.good for row in rows) else 1
+
+
+def run_explain(options):
+    source = one_hour(options.files, options.way).read()
+    judgement = archive.judge(source.case, source.proposal)
+    put(account.account(source.case, source.proposal, judgement, explain(source.case, source.proposal, judgement)))
+    return 0 if judgement.accepted else 1
+
+
+def run_page(options):
+    from . import page
+
+    sources = gather(options.files, options.way)
+    if len(sources) > page.MOST_HOURS:
+        raise Failure(f"{options.files[0]}: {len(sources):,} hours, and a page takes at most {page.MOST_HOURS:,}; lta judge takes any number")
+    out = options.out or page_name(options.files, sources)
+    refuse_if_there([out], options.force)
+    write(out, page.page(options.files, sources).encode())
+    if out != "-":
+        put(f"wrote {printable(out)}\n")
+    return 0
+
+
+def page_name(files, sources):
+    """The page of a folder, or of one hour, is named after it, and stands where the command is called."""
+    named = files[0] if files and os.path.isdir(files[0]) else sources[0].name
+    stem = os.path.splitext(os.path.basename(os.path.abspath(named)))[0] or "hours"
+    return f"{stem}.html"
+
+
+def run_show(options):
+    if len(options.files) > 2:
+        raise Failure(f"{options.files[2]}: show takes a case and a proposal, or one joined file")
+    first = read(options.files[0])
+    if len(options.files) == 2:
+        put(hour.show(first, read(options.files[1])))
+        return 0
+    case, proposal = archive.rules.cut(first)
+    # One file is a case, unless what follows the case in it is a proposal.
+    joined = options.way == "joined" or proposal[:3] == hour.MARKS["proposal"]
+    put(hour.show(case, proposal) if joined else hour.show(first))
+    return 0
+
+
+def run_field(options):
+    if not 2 <= len(options.files) <= 3:
+        raise Failure("field takes a case, perhaps a proposal, and an offset")
+    *files, word = options.files
+    offset = hour.offset_of(word)
+    try:
+        put(hour.field_at(offset, *map(read, files)) + "\n")
+    except hour.OffsetError as fault:
+        raise InputError(files[-1], fault) from None
+    return 0
+
+
+def run_build(options):
+    built = text_hour(options.text, read(options.text))
+    wanted = ((options.case, built.case), (options.proposal, built.proposal), (options.joined, built.joined))
+    wanted = [(path, data) for path, data in wanted if path is not None]
+    refuse_if_there([path for path, _ in wanted], options.force)
+    for path, data in wanted:
+        write(path, data)
+    if not wanted:
+        put(f"case {len(built.case)} bytes, proposal {len(built.proposal)} bytes\n")
+    return 0
+
+
+def run_help(options):
+    put(hour.TEXT_HELP if options.topic == "text" else HELP)
+    return 0
+
+
+def parser():
+    top = Parser(prog="lta", add_help=False, allow_abbrev=False)
+    commands = top.add_subparsers(dest="command", required=True, parser_class=Parser)
+
+    def command(name, run, ways=()):
+        made = commands.add_parser(name, add_help=False, allow_abbrev=False)
+        made.set_defaults(run=run, way=None)
+        group = made.add_mutually_exclusive_group()
+        for way in ways:
+            group.add_argument(f"--{way}", dest="way", action="store_const", const=way)
+        return made
+
+    judge = command("judge", run_judge, ("pairs", "joined"))
+    judge.add_argument("files", nargs="*")
+    form = judge.add_mutually_exclusive_group()
+    form.add_argument("--csv", dest="form", action="store_const", const="csv")
+    form.add_argument("--json", dest="form", action="store_const", const="json")
+    command("explain", run_explain, ("pairs", "joined")).add_argument("files", nargs="+")
+    page = command("page", run_page, ("pairs", "joined"))
+    page.add_argument("files", nargs="+")
+    page.add_argument("-o", dest="out")
+    page.add_argument("--force", action="store_true")
+    command("show", run_show, ("joined",)).add_argument("files", nargs="+")
+    command("field", run_field).add_argument("files", nargs="+")
+    build = command("build", run_build)
+    build.add_argument("text")
+    for name in ("case", "proposal", "joined"):
+        build.add_argument(f"--{name}")
+    build.add_argument("--force", action="store_true")
+    command("help", run_help).add_argument("topic", nargs="?", choices=("text",))
+    return top
+
+
+def main(arguments):
+    """Runs a command and gives its status."""
+    try:
+        if arguments and arguments[0] in ("--help", "-h"):
+            arguments = ["help", *arguments[1:]]
+        elif any(word in ("--help", "-h") for word in arguments[: arguments.index("--") if "--" in arguments else None]):
+            arguments = ["help"]
+        options = parser().parse_args(arguments)
+        status = options.run(options)
+        if sys.stdout is not None:
+            sys.stdout.flush()
+        return status
+    except (Failure, InputError, Disagreement, archive.BuildError, hour.OffsetError) as fault:
+        complain(fault)
+    except BrokenPipeError:
+        raise
+    except OSError as fault:
+        complain(f"{fault.filename or 'standard output'}: {why_not(fault)}")
+    except Exception as fault:  # pylint: disable=broad-except
+        complain(f"a fault of lta itself, to be reported: {type(fault).__name__}: {fault}")
+    return 2
+
+
+def ended_by(number):
+    """Ends the process by a signal, as its caller expects of a command that was interrupted or whose reader left."""
+    signal.signal(number, signal.SIG_DFL)
+    os.kill(os.getpid(), number)
+
+
+def run():
+    """The process: main over its arguments, its streams, and the signals that end it."""
+    try:
+        for stream in (sys.stdout, sys.stderr):
+            if stream is not None:
+                stream.reconfigure(errors="backslashreplace")
+        status = main(sys.argv[1:])
+    except KeyboardInterrupt:
+        complain("interrupted")
+        ended_by(signal.SIGINT)
+    except BrokenPipeError:
+        ended_by(signal.SIGPIPE)
+    # What is left in a buffer that cannot be written was complained of; it is not tried again.
+    os._exit(status)

@@ -1,0 +1,247 @@
+"""The hours that a command line names: pairs of files, joined files, texts, and folders of them."""
+
+from __future__ import annotations
+
+import os
+import stat
+import sys
+from dataclasses import dataclass
+
+from . import hour, rules
+
+LONGEST = 64 * 2**20  # bytes; a legal hour has at most 12,443
+JOINED, TEXT, CASE, PROPOSAL = "joined", "text", "case", "proposal"
+SUFFIXES = {".txt": TEXT, ".case": CASE, ".proposal": PROPOSAL, ".bin": JOINED, ".joined": JOINED}
+
+
+class InputError(Exception):
+    """A file or folder that gives no hour: one line that names it and says why."""
+
+    def __init__(self, path, why):
+        super().__init__(f"{printable(path)}: {why}")
+
+
+def printable(text):
+    """A name on one line and in characters that can be seen, whatever it has."""
+    return "".join(letter if letter.isprintable() else ascii(letter)[1:-1] for letter in str(text))
+
+
+def why_not(fault):
+    """What is wrong, of a fault that reading a file met."""
+    if isinstance(fault, UnicodeDecodeError):
+        return f"not a text in UTF-8: byte {fault.start} is 0x{fault.object[fault.start]:02x}"
+    return printable(getattr(fault, "strerror", None) or str(fault))
+
+
+def read(path):
+    """The bytes of a file, - being standard input."""
+    try:
+        if path == "-":
+            if sys.stdin is None:
+                raise InputError("standard input", "it is closed")
+            data = sys.stdin.buffer.read(LONGEST + 1)
+        else:
+            with open(path, "rb") as file:
+                data = file.read(LONGEST + 1)
+    except (OSError, ValueError) as fault:
+        raise InputError("standard input" if path == "-" else path, why_not(fault)) from None
+    if len(data) > LONGEST:
+        raise InputError(path, f"over {LONGEST // 2**20} MiB, and no hour is that long")
+    return data
+
+
+def mark_of(path):
+    try:
+        with open(path, "rb") as file:
+            return file.read(3)
+    except (OSError, ValueError):
+        return b""
+
+
+@dataclass(frozen=True)
+class Hour:
+    """An hour's two files, and if it came joined or as text its joined bytes and what the text expects."""
+
+    case: bytes
+    proposal: bytes
+    joined: bytes | None = None
+    expected: tuple | None = None
+
+
+@dataclass(frozen=True)
+class Input:
+    """Where an hour is to be read from."""
+
+    name: str
+    kind: str
+    paths: tuple
+
+    def read(self):
+        if self.kind == CASE:
+            return Hour(*map(read, self.paths))
+        data = read(self.paths[0])
+        if self.kind == JOINED:
+            return Hour(*rules.cut(data), data)
+        return text_hour(self.paths[0], data)
+
+
+def text_hour(path, data):
+    """A text's hour. One without any line that expects something expects nothing."""
+    try:
+        text = data.decode()
+        case, proposal = hour.build(text, os.path.dirname(path))
+        lines = (hour.EXPECTATION.match(line) for line in text.split("\n"))
+        expected = hour.expected(text) if any(lines) else None
+    except ValueError as fault:
+        raise InputError(path, why_not(fault)) from None
+    return Hour(case, proposal, case + proposal, expected)
+
+
+def paired(case, proposal):
+    return Input(case, CASE, (case, proposal))
+
+
+# Folders.
+
+
+def hours_of_files(paths):
+    """The hours of a folder's files: by suffix, and of files with none of ours by their marks and common stems."""
+    others = {}
+    for path in paths:
+        stem, suffix = os.path.splitext(path)
+        kind = SUFFIXES.get(suffix)
+        if kind in (TEXT, JOINED):
+            yield Input(path, kind, (path,))
+        elif kind == CASE:
+            yield paired(path, stem + ".proposal")
+        elif kind == PROPOSAL and not os.path.exists(stem + ".case"):
+            yield paired(stem + ".case", path)
+        elif kind is None:
+            others.setdefault(stem, {}).setdefault(mark_of(path), path)
+    for marks in others.values():
+        case, proposal = marks.get(hour.MARKS["case"]), marks.get(hour.MARKS["proposal"])
+        if case and proposal:
+            yield paired(case, proposal)
+        elif case:
+            yield Input(case, JOINED, (case,))
+
+
+def regular(path):
+    try:
+        return stat.S_ISREG(os.stat(path).st_mode)
+    except OSError:
+        # It is named when it is read.
+        return os.path.splitext(path)[1] in SUFFIXES
+
+
+def hours_of_folder(folder):
+    """The hours of a folder and of those in it, in the order of their names."""
+
+    def fail(fault):
+        raise InputError(fault.filename or folder, why_not(fault))
+
+    found = []
+    for place, folders, names in os.walk(folder, onerror=fail):
+        folders[:] = [name for name in folders if not name.startswith(".")]
+        paths = [os.path.join(place, name) for name in names if not name.startswith(".")]
+        found += hours_of_files(sorted(path for path in paths if regular(path)))
+    if not found:
+        raise InputError(folder, "no hour in it: no .case and .proposal, .txt, .bin or .joined file, nor one that begins with LTC")
+    return sorted(found, key=lambda one: one.name)
+
+
+# What is named one by one.
+
+
+class Named:
+    """The words of a command line, taken from the left."""
+
+    def __init__(self, words):
+        self.words, self.taken = list(words), set()
+
+    def proposal_of(self, at):
+        """The word that is the proposal of the case at a place: by name, else the next word, else by name beside it."""
+        case = self.words[at]
+        beside = os.path.splitext(case)[0] + ".proposal"
+        if beside in self.words and beside != case:
+            return self.words.index(beside)
+        following = at + 1
+        if following < len(self.words) and following not in self.taken and kind_of(self.words[following]) in (PROPOSAL, None):
+            return following
+        return beside if kind_of(case) == CASE and os.path.exists(beside) else None
+
+    def pair(self, at):
+        found = self.proposal_of(at)
+        if found is None:
+            raise InputError(self.words[at], "its proposal does not follow it")
+        if isinstance(found, int):
+            self.taken.add(found)
+            found = self.words[found]
+        return paired(self.words[at], found)
+
+    def hours(self):
+        for at, word in enumerate(self.words):
+            if at in self.taken:
+                continue
+            kind = kind_of(word)
+            if os.path.isdir(word):
+                yield from hours_of_folder(word)
+            elif kind in (TEXT, JOINED):
+                yield Input(word, kind, (word,))
+            elif kind == CASE:
+                yield self.pair(at)
+            elif kind == PROPOSAL:
+                # Its case takes it by its name.
+                if os.path.splitext(word)[0] + ".case" not in self.words:
+                    raise InputError(word, "a proposal without its case before it")
+            elif self.proposal_of(at) is not None and mark_of(self.words[self.proposal_of(at)]) == hour.MARKS["proposal"]:
+                yield self.pair(at)
+            else:
+                yield Input(word, text_or_joined(word), (word,))
+
+
+def kind_of(word):
+    return JOINED if word == "-" else SUFFIXES.get(os.path.splitext(word)[1])
+
+
+def text_or_joined(path):
+    """A file with none of our suffixes that is no pair's: a text if its first line that says something could be one's."""
+    try:
+        with open(path, "rb") as file:
+            start = file.read(4096).decode("ascii", "strict").split()
+    except (OSError, ValueError):
+        return JOINED
+    return TEXT if start and (start[0].startswith("#") or start[0] == "case") else JOINED
+
+
+def gather(words, way=None):
+    """The hours that words name. The way is 'pairs' or 'joined' where the caller says what the files are."""
+    if not words:
+        if sys.stdin is not None and sys.stdin.isatty():
+            raise InputError("standard input", "it is a terminal, and no file is named")
+        return [Input("standard input", JOINED, ("-",))]
+    folder = next((word for word in words if os.path.isdir(word)), None)
+    if way is None:
+        return [paired(*words)] if folder is None and two_files(words) else list(Named(words).hours())
+    if folder is not None:
+        raise InputError(folder, f"a folder does not go with --{way}")
+    if way == "joined":
+        return [Input(word, JOINED, (word,)) for word in words]
+    if len(words) % 2:
+        raise InputError(words[-1], "a case without its proposal after it")
+    return [paired(case, proposal) for case, proposal in zip(words[::2], words[1::2])]
+
+
+def two_files(words):
+    """Whether two words, and no more, are a case and its proposal. Broken files are, unless they say that they are something else."""
+    if [kind_of(word) for word in words] == [None, None]:
+        return mark_of(words[1]) != hour.MARKS["case"] and TEXT not in map(text_or_joined, words)
+    return len(words) == 2 and kind_of(words[0]) in (CASE, None) and kind_of(words[1]) in (PROPOSAL, None)
+
+
+def one_hour(words, way=None):
+    """The one hour that the words name."""
+    found = gather(words, way)
+    if len(found) != 1:
+        raise InputError(words[0], f"one hour is asked for, and {len(found)} are named")
+    return found[0]

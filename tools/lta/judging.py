@@ -1,0 +1,174 @@
+"""lta judge: many hours judged by the archive, held to what their texts expect, as a table, as CSV or as JSON."""
+
+from __future__ import annotations
+
+import csv
+import io
+import json
+import sys
+import time
+from dataclasses import dataclass
+
+from . import amounts, archive, hour
+from .inputs import InputError, printable
+
+COLUMNS = ("welfare", "gap", "rent", "owed")
+MONEY_DECIMALS, PRICE_DECIMALS = 8, 7
+
+
+@dataclass(frozen=True)
+class Row:
+    """An hour as judged, and what its text expects: the verdict and the totals, or None."""
+
+    name: str
+    judgement: archive.Judgement
+    expected: tuple | None = None
+
+    @property
+    def as_expected(self):
+        if self.expected is None:
+            return None
+        verdict, totals = self.expected
+        return self.judgement.verdict == verdict and (verdict[0] not in hour.REPORTED or self.judgement.totals == totals)
+
+    @property
+    def good(self):
+        return self.judgement.accepted if self.expected is None else self.as_expected
+
+    def remark(self):
+        """What the last column says: what was expected where it is not so, else what the number means."""
+        if self.good or self.expected is None:
+            return self.judgement.text
+        verdict, totals = self.expected
+        words = "NOT AS EXPECTED: {} {}".format(*verdict)
+        if self.judgement.verdict == verdict:
+            wrong = [name for name, total in totals.items() if self.judgement.totals[name] != total]
+            words = "NOT AS EXPECTED: " + ", ".join(f"{name} {amounts.microcents(totals[name])}" for name in wrong)
+        return words
+
+
+def judged(source):
+    """The rows of one input. A joined file and its two parts can be answered otherwise; then a text has two."""
+    read = source.read()
+    if read.expected is None:
+        return [Row(source.name, archive.judge(read.case, read.proposal))]
+    due, apart_due, totals = read.expected
+    joined, apart = archive.judge_joined(read.joined), archive.judge(read.case, read.proposal)
+    if due == apart_due and joined == apart:
+        return [Row(source.name, joined, (due, totals))]
+    return [
+        Row(f"{source.name} (joined)", joined, (due, totals)),
+        Row(f"{source.name} (apart)", apart, (apart_due, totals)),
+    ]
+
+
+class Progress:
+    """One line on standard error that is written over, only where that is a terminal and the run is long."""
+
+    def __init__(self, total):
+        self.total, self.began, self.shown = total, time.monotonic(), 0.0
+        self.wanted = sys.stderr is not None and sys.stderr.isatty()
+
+    def step(self, done):
+        now = time.monotonic()
+        if self.wanted and now - self.began > 0.5 and now - self.shown > 0.1:
+            self.shown = now
+            sys.stderr.write(f"\r{done:,} of {self.total:,} hours judged")
+            sys.stderr.flush()
+
+    def end(self):
+        if self.shown:
+            sys.stderr.write("\r\x1b[K")
+            sys.stderr.flush()
+
+
+def judge_all(sources, complain):
+    """The rows of all inputs, and how many could not be read; of each of those complain is told."""
+    rows, unread, progress = [], 0, Progress(len(sources))
+    archive.entry()
+    try:
+        for done, source in enumerate(sources):
+            progress.step(done)
+            try:
+                rows += judged(source)
+            except InputError as fault:
+                progress.end()
+                complain(fault)
+                unread += 1
+    finally:
+        progress.end()
+    return rows, unread
+
+
+# Printed.
+
+
+def decimals_needed(texts):
+    return max((len(text.partition(".")[2]) for text in texts), default=0)
+
+
+def money_column(values):
+    """Amounts with as many decimals as the one with the most has, so that the points stand under each other."""
+    shown = ["" if value is None else amounts.microcents(value) for value in values]
+    most = decimals_needed(shown)
+    return [text and text + "0" * (most - len(text.partition(".")[2])) for text in shown]
+
+
+def table(rows, unread=0):
+    """The table for a reader, and a closing line that counts."""
+    columns = [
+        ["file", *(printable(row.name) for row in rows)],
+        ["verdict", *(str(row.judgement.number) for row in rows)],
+        ["index", *(str(row.judgement.index) for row in rows)],
+        *([name, *money_column([getattr(row.judgement, name) for row in rows])] for name in COLUMNS),
+        ["", *(row.remark() for row in rows)],
+    ]
+    widths = [max(map(len, column)) for column in columns]
+    lines = []
+    for cells in zip(*columns):
+        first, *middle, last = (cell.rjust(width) for cell, width in zip(cells, widths))
+        lines.append("  ".join([cells[0].ljust(widths[0]), *middle, cells[-1]]).rstrip())
+    return "\n".join([*lines, "", closing(rows, unread)]) + "\n"
+
+
+def closing(rows, unread):
+    accepted = sum(row.judgement.accepted for row in rows)
+    said = [f"{amounts.counted(len(rows), 'judgement')}: {accepted:,} accepted, {len(rows) - accepted:,} refused"]
+    held = [row.as_expected for row in rows if row.expected is not None]
+    if held:
+        said.append(f"{sum(held):,} as expected, {len(held) - sum(held):,} not")
+    if unread:
+        said.append(f"{unread:,} not read")
+    said.append("money in euros")
+    return "; ".join(said)
+
+
+def record(row):
+    """A row for machines: amounts in euros with all their decimals, as text, since they can pass what a float holds."""
+    judgement = row.judgement
+    made = {"file": row.name, "number": judgement.number, "index": judgement.index, "text": judgement.text}
+    for name in hour.TOTALS:
+        total = getattr(judgement, name)
+        made[name] = None if total is None else amounts.fixed(total, MONEY_DECIMALS)
+    made["prices"] = [amounts.fixed(price, PRICE_DECIMALS) for price in judgement.prices]
+    made["expected"] = None if row.expected is None else dict(zip(("number", "index"), row.expected[0]))
+    made["as_expected"] = row.as_expected
+    return made
+
+
+def as_json(rows):
+    return json.dumps([record(row) for row in rows], indent=1) + "\n"
+
+
+def as_csv(rows):
+    out = io.StringIO()
+    writer = csv.writer(out, lineterminator="\n")
+    writer.writerow(["file", "number", "index", "text", *hour.TOTALS, "prices", "expected", "as_expected"])
+    for row in rows:
+        made = record(row)
+        due, held = made["expected"], made["as_expected"]
+        made["prices"] = " ".join(made["prices"])
+        made["expected"] = "{number} {index}".format(**due) if due else ""
+        made["as_expected"] = "" if held is None else "yes" if held else "no"
+        writer.writerow("" if value is None else value for value in made.values())
+    return out.getvalue()
