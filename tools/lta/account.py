@@ -17,19 +17,24 @@ def columns(head, rows, left=1):
         yield ("  " + "  ".join(cells)).rstrip()
 
 
-def hex_lines(data, field):
-    """The bytes around a field, sixteen to a line, the field's own in brackets."""
-    start, end = field.offset, field.offset + max(field.size, 1)
+def hex_rows(data, field):
+    """The bytes around a field, sixteen to a row: where the row begins, and of each byte whether it is the field's."""
+    start, end = field.offset, field.offset + field.size
     first = max(0, start // HEX_ROW - 1) * HEX_ROW
+    # Of a long field, as all volumes are, the first rows.
     last = min(len(data), (min(end - 1, start + 3 * HEX_ROW) // HEX_ROW + 2) * HEX_ROW)
     for row in range(first, last, HEX_ROW):
-        line = f"    {row:>6} 0x{row:04x} "
-        for at in range(row, min(row + HEX_ROW, len(data))):
-            opening = "[" if at == start else "]" if at == end else " "
-            line += f"{opening}{data[at]:02x}"
-        if row < end <= row + HEX_ROW and end - row in (HEX_ROW, len(data) - row):
-            line += "]"
-        yield line
+        yield row, [(data[at], start <= at < end) for at in range(row, min(row + HEX_ROW, len(data)))]
+
+
+def hex_lines(data, field):
+    """The same as lines, the field's own bytes in brackets."""
+    for row, row_bytes in hex_rows(data, field):
+        line, inside = f"    {row:>6} 0x{row:04x} ", False
+        for byte, own in row_bytes:
+            line += ("[" if own and not inside else "]" if inside and not own else " ") + f"{byte:02x}"
+            inside = own
+        yield line + "]" * inside
 
 
 def field_lines(field):
