@@ -45,26 +45,15 @@ static uint8_t *file_bytes(const char *name, size_t *length)
     return bytes;
 }
 
-/* The signed number of 64 bits, little-endian, at an offset of the report. */
-static int64_t number_at(const uint8_t *report, size_t offset)
-{
-    uint64_t bits = 0;
-    for (size_t k = 8; k-- > 0;)
-        bits = bits << 8 | report[offset + k];
-    int64_t number;
-    memcpy(&number, &bits, sizeof number);
-    return number;
-}
-
 static void print_report(const uint8_t *report)
 {
-    printf("welfare %" PRId64 " microcents\n", number_at(report, LTA_REPORT_WELFARE));
-    printf("bound %" PRId64 " microcents\n", number_at(report, LTA_REPORT_BOUND));
-    printf("gap %" PRId64 " microcents\n", number_at(report, LTA_REPORT_GAP));
-    printf("rent %" PRId64 " microcents\n", number_at(report, LTA_REPORT_RENT));
-    printf("owed %" PRId64 " microcents\n", number_at(report, LTA_REPORT_OWED));
-    for (size_t zone = 0; zone < report[LTA_REPORT_ZONES]; zone++)
-        printf("price %zu %" PRId64 " grains\n", zone, number_at(report, LTA_REPORT_PRICE(zone)));
+    printf("welfare %" PRId64 " microcents\n", lta_report_welfare(report));
+    printf("bound %" PRId64 " microcents\n", lta_report_bound(report));
+    printf("gap %" PRId64 " microcents\n", lta_report_gap(report));
+    printf("rent %" PRId64 " microcents\n", lta_report_rent(report));
+    printf("owed %" PRId64 " microcents\n", lta_report_owed(report));
+    for (size_t zone = 0; zone < lta_report_zones(report); zone++)
+        printf("price %zu %" PRId64 " grains\n", zone, lta_report_price(report, zone));
 }
 
 int main(int count, char **words)

@@ -19,6 +19,7 @@
  *   - It reads nothing but its arguments. The answer, and what is written, depend on nothing else.
  *   - It writes nothing but what is said below of `report` and `out`. The case, the proposal, the input, the orders, the prices and the
  *     sheet stay as they were, and no file is read or written.
+ *   - It is reentrant: nothing is kept between calls, so every entry may be called from several threads at once.
  *
  * Measures:
  *   tenth      0.1 MW, for one hour 0.1 MWh     margins, capacities, quantities, volumes, flows
@@ -37,6 +38,11 @@
 #ifdef __cplusplus
 extern "C" {
 #endif
+
+/* The version of this header and of what it declares. The first number rises where a program that was right may no longer be, the second
+ * where something is added. LTA_VERSION_NUMBER is for comparing: 1.2.3 is 10203. */
+#define LTA_VERSION "1.0.0"
+#define LTA_VERSION_NUMBER 10000
 
 #define LTA_GRAINS_PER_CENT 100000
 #define LTA_GRAINS_PER_EURO 10000000
@@ -93,6 +99,34 @@ enum lta_number {
 
 #define LTA_REPORT_SIZE(zones) (48 + 8 * (zones)) /* bytes of a report */
 #define LTA_REPORT_ROOM 176         /* bytes that a report buffer must have, whatever the zones: a report of 16 */
+
+/* Readers of a report that lta_judge wrote. They are C in this header and no part of the archive: tested, and not proved. */
+
+/* The signed number of 64 bits, little-endian, at an offset of the report. */
+static inline int64_t lta_report_amount(const uint8_t *report, size_t offset)
+{
+    uint64_t bits = 0;
+    size_t k;
+    for (k = 8; k-- > 0;)
+        bits = bits << 8 | report[offset + k];
+    return bits <= (uint64_t)INT64_MAX ? (int64_t)bits : -(int64_t)(UINT64_MAX - bits) - 1;
+}
+
+static inline uint32_t lta_report_number(const uint8_t *report) { return report[LTA_REPORT_NUMBER]; }
+static inline uint32_t lta_report_zones(const uint8_t *report) { return report[LTA_REPORT_ZONES]; }
+
+/* microcents */
+static inline int64_t lta_report_welfare(const uint8_t *report) { return lta_report_amount(report, LTA_REPORT_WELFARE); }
+static inline int64_t lta_report_bound(const uint8_t *report) { return lta_report_amount(report, LTA_REPORT_BOUND); }
+static inline int64_t lta_report_gap(const uint8_t *report) { return lta_report_amount(report, LTA_REPORT_GAP); }
+static inline int64_t lta_report_rent(const uint8_t *report) { return lta_report_amount(report, LTA_REPORT_RENT); }
+static inline int64_t lta_report_owed(const uint8_t *report) { return lta_report_amount(report, LTA_REPORT_OWED); }
+
+/* grains; the zone is below lta_report_zones */
+static inline int64_t lta_report_price(const uint8_t *report, size_t zone)
+{
+    return lta_report_amount(report, LTA_REPORT_PRICE(zone));
+}
 
 /* Judges a proposal for a case, and returns number + 256 * index. [outcome]
  *
@@ -246,6 +280,43 @@ enum lta_sheet_number {
  * numbers, and LTA_CASE_BRANCH has no cause [branches].
  */
 struct lta_written lta_sheet_branches(const uint8_t *sheet, size_t sheet_len, size_t zones, uint8_t *out, size_t out_len);
+
+/* What a number of the judgement, of the lent book or of the margin sheet means, in a few words, and "unknown number" for any other. As the
+ * readers of a report it is C in this header: tested, and not proved. */
+static inline const char *lta_number_text(uint32_t number)
+{
+    switch (number) {
+    case LTA_ACCEPTED: return "accepted";
+    case LTA_CASE_SHORT: return "case shorter than 14 bytes";
+    case LTA_CASE_MARK: return "case does not begin with LTC";
+    case LTA_CASE_VERSION: return "case version is not 1";
+    case LTA_CASE_HEADER: return "header field outside its range";
+    case LTA_CASE_LENGTH: return "case length is not what the header demands";
+    case LTA_CASE_BRANCH: return "branch field out of range";
+    case LTA_CASE_LINK: return "link field at fault";
+    case LTA_CASE_ORDER: return "order field out of range";
+    case LTA_PROPOSAL_SHORT: return "proposal shorter than 13 bytes";
+    case LTA_PROPOSAL_MARK: return "proposal does not begin with LTP";
+    case LTA_PROPOSAL_VERSION: return "proposal version is not 1";
+    case LTA_PROPOSAL_LENGTH: return "proposal length is wrong for this case";
+    case LTA_SHARE: return "LTA share above 100,000";
+    case LTA_SHADOW_PRICE: return "shadow price above 1,000,000";
+    case LTA_VOLUME: return "volume above its order's quantity";
+    case LTA_BALANCE: return "net positions do not sum to zero";
+    case LTA_LINK_RULE: return "flow above the link's share of its capacity";
+    case LTA_BRANCH_RULE: return "load above the branch's share of its margin";
+    case LTA_ZONE_PRICE: return "zone price out of range";
+    case LTA_GAP_ABOVE_TOLERANCE: return "gap above the tolerance";
+    case LTA_NO_ROOM: return "report buffer under 176 bytes";
+    case LTA_SHEET_ZONES: return "zone count is 0 or over 16";
+    case LTA_SHEET_FIELD: return "sheet line with the wrong fields or no number";
+    case LTA_SHEET_DECIMAL: return "decimal past ours is not zero";
+    case LTA_SHEET_RANGE: return "number on the sheet out of range";
+    case LTA_SHEET_LINES: return "sheet of over 64 lines";
+    case LTA_SHEET_NO_ROOM: return "output too short for the branches";
+    default: return "unknown number";
+    }
+}
 
 #ifdef __cplusplus
 }

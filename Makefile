@@ -1,0 +1,38 @@
+# For those who type make. Each target only calls what the README names.
+#
+#   make                       the archive and the shared object, in target/
+#   make install PREFIX=..     header, both libraries and a pkg-config file; DESTDIR is put before all paths
+#   make check                 tests/run
+
+PREFIX ?= /usr/local
+DESTDIR ?=
+INCLUDEDIR = $(PREFIX)/include
+LIBDIR = $(PREFIX)/lib
+VERSION := $(shell sed -n 's/^#define LTA_VERSION "\(.*\)"/\1/p' include/lta_judgement.h)
+MAJOR := $(firstword $(subst ., ,$(VERSION)))
+NAME = lta_judgement
+
+all: target/shared/lib$(NAME).so
+
+# Whether it is proved and up to date, rt knows.
+target/staticlib/libhost.a: FORCE
+	rt staticlib host
+
+target/shared/lib$(NAME).so: target/staticlib/libhost.a
+	mkdir -p target/shared
+	tools/link_shared target/staticlib/libhost.a $@
+
+install: all
+	install -d $(DESTDIR)$(INCLUDEDIR) $(DESTDIR)$(LIBDIR)/pkgconfig
+	install -m 644 include/$(NAME).h $(DESTDIR)$(INCLUDEDIR)
+	install -m 644 target/staticlib/libhost.a $(DESTDIR)$(LIBDIR)/lib$(NAME).a
+	install -m 755 target/shared/lib$(NAME).so $(DESTDIR)$(LIBDIR)/lib$(NAME).so.$(VERSION)
+	ln -sf lib$(NAME).so.$(VERSION) $(DESTDIR)$(LIBDIR)/lib$(NAME).so.$(MAJOR)
+	ln -sf lib$(NAME).so.$(MAJOR) $(DESTDIR)$(LIBDIR)/lib$(NAME).so
+	sed -e 's|@PREFIX@|$(PREFIX)|' -e 's|@VERSION@|$(VERSION)|' host/$(NAME).pc.in > $(DESTDIR)$(LIBDIR)/pkgconfig/$(NAME).pc
+
+check:
+	tests/run
+
+FORCE:
+.PHONY: all install check FORCE

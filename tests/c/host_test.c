@@ -1,0 +1,116 @@
+/* What the header itself has, beside the archive's entries: the version, the readers of a report and the numbers in words; and that the
+ * judgement may be called from several threads at once. */
+#include "harness.h"
+#include "hours.h"
+#include "lta_judgement.h"
+
+#include <inttypes.h>
+#include <pthread.h>
+#include <stdio.h>
+#include <string.h>
+
+static void versions(void)
+{
+    unsigned major = 0, minor = 0, patch = 0;
+    about("the version as text is not three numbers");
+    check(sscanf(LTA_VERSION, "%u.%u.%u", &major, &minor, &patch) == 3);
+    about("the version as a number is another than the text's");
+    check(LTA_VERSION_NUMBER == 10000 * major + 100 * minor + patch);
+}
+
+static void amount_reads(int64_t amount)
+{
+    uint8_t report[16] = {0};
+    for (size_t k = 0; k < 8; k++)
+        report[5 + k] = (uint8_t)((uint64_t)amount >> 8 * k);
+    about("%" PRId64 " is read as another number", amount);
+    check(lta_report_amount(report, 5) == amount);
+}
+
+/* Each reader reads its own field: every field of this report has another value, the negative ones too. */
+static void readers(void)
+{
+    const struct totals t = {-1, 2, -300000000000, 4, 5, {-6, 7, INT64_MAX}};
+    struct file report = report_file(26, 3, t);
+    const uint8_t *r = report.bytes;
+    about("number or zones");
+    check(lta_report_number(r) == 26 && lta_report_zones(r) == 3);
+    about("a total is another's");
+    check(lta_report_welfare(r) == -1 && lta_report_bound(r) == 2 && lta_report_gap(r) == -300000000000);
+    check(lta_report_rent(r) == 4 && lta_report_owed(r) == 5);
+    about("a price is another's");
+    check(lta_report_price(r, 0) == -6 && lta_report_price(r, 1) == 7 && lta_report_price(r, 2) == INT64_MAX);
+    const int64_t ends[] = {0, 1, -1, 255, 256, -256, INT32_MAX, INT32_MIN, INT64_MAX, INT64_MIN};
+    for (size_t k = 0; k < sizeof ends / sizeof *ends; k++)
+        amount_reads(ends[k]);
+}
+
+/* Every number that an entry returns has words of its own, and no other number has any. */
+static void number_texts(void)
+{
+    const char *none = lta_number_text(UINT32_MAX);
+    for (uint32_t n = 0; n < 300; n++) {
+        const char *words = lta_number_text(n);
+        bool due = n <= 14 || (n >= 21 && n <= 26) || n == 30 || (n >= 50 && n <= 55), ok = due == (strcmp(words, none) != 0);
+        about("number %" PRIu32 " has the words '%s'", n, words);
+        for (uint32_t m = 0; due && m < n; m++)
+            ok = strcmp(words, lta_number_text(m)) != 0 && ok;
+        check(ok);
+    }
+}
+
+/* THREADS. Each has hours of its own, and must get of each call just what one caller alone gets. */
+enum { THREADS = 8, ROUNDS = 2000 };
+
+struct task {
+    struct file hour, proposal;
+    uint64_t verdict;
+    uint8_t report[LTA_REPORT_ROOM];
+    unsigned differing;
+};
+
+static void *many_times(void *given)
+{
+    struct task *task = given;
+    for (unsigned round = 0; round < ROUNDS; round++) {
+        uint8_t report[LTA_REPORT_ROOM] = {0};
+        uint64_t verdict = lta_judge(task->hour.bytes, task->hour.length, task->proposal.bytes, task->proposal.length, report, sizeof report);
+        task->differing += verdict != task->verdict || memcmp(report, task->report, sizeof report) != 0;
+    }
+    return NULL;
+}
+
+static void threads(void)
+{
+    static struct task tasks[THREADS];
+    pthread_t running[THREADS];
+    for (uint32_t k = 0; k < THREADS; k++) {
+        struct hour h = k % 2 == 0 ? three_zone_hour() : unused_link_hour();
+        h.system += (int32_t)k;
+        tasks[k].hour = case_file(&h);
+        tasks[k].proposal = proposal_file(&h);
+        tasks[k].verdict = lta_judge(tasks[k].hour.bytes, tasks[k].hour.length, tasks[k].proposal.bytes, tasks[k].proposal.length,
+                                     tasks[k].report, sizeof tasks[k].report);
+    }
+    about("the hours of two threads are judged alike");
+    check(memcmp(tasks[0].report, tasks[1].report, LTA_REPORT_ROOM) != 0 && memcmp(tasks[0].report, tasks[2].report, LTA_REPORT_ROOM) != 0);
+    bool started = true;
+    for (unsigned k = 0; k < THREADS; k++)
+        started = pthread_create(&running[k], NULL, many_times, &tasks[k]) == 0 && started;
+    about("a thread cannot be started");
+    check(started);
+    for (unsigned k = 0; started && k < THREADS; k++) {
+        pthread_join(running[k], NULL);
+        about("thread %u was answered otherwise %u times", k, tasks[k].differing);
+        check(tasks[k].differing == 0);
+    }
+}
+
+int main(void)
+{
+    group("version", versions);
+    group("readers", readers);
+    group("numbers in words", number_texts);
+    group("threads", threads);
+    return closing();
+}
