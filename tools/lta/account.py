@@ -13,7 +13,9 @@ def columns(head, rows, left=1):
     table = [head, *rows]
     widths = [max(len(row[at]) for row in table) for at in range(len(head))]
     for row in table:
-        cells = [cell.ljust(width) if at < left else cell.rjust(width) for at, (cell, width) in enumerate(zip(row, widths))]
+        cells = [
+            cell.ljust(width) if at < left else cell.rjust(width) for at, (cell, width) in enumerate(zip(row, widths))
+        ]
         yield ("  " + "  ".join(cells)).rstrip()
 
 
@@ -59,7 +61,9 @@ def fault_lines(explanation, files):
 
 
 def totals_lines(judgement):
-    yield from columns(("total", "euros"), [(name, amounts.microcents(total)) for name, total in judgement.totals.items()])
+    yield from columns(
+        ("total", "euros"), [(name, amounts.microcents(total)) for name, total in judgement.totals.items()]
+    )
 
 
 def zone_lines(sums):

@@ -66,7 +66,9 @@ def one_line(text):
 
 def run(command, what):
     try:
-        done = subprocess.run(command, cwd=ROOT, stdin=subprocess.DEVNULL, capture_output=True, text=True, errors="replace")
+        done = subprocess.run(
+            command, cwd=ROOT, stdin=subprocess.DEVNULL, capture_output=True, text=True, errors="replace"
+        )
     except OSError as fault:
         raise BuildError(f"{what}: {command[0]}: {fault.strerror}") from None
     if done.returncode:

@@ -41,7 +41,7 @@ class Field:
 
 @dataclass(frozen=True)
 class Explanation:
-    """Number and index as the verdict has them, the place and the cause in words, and the fields: that at fault first."""
+    """Number and index as the verdict has them, place and cause in words, and the fields, the one at fault first."""
 
     number: int
     index: int
@@ -126,7 +126,9 @@ def wrong_mark(number, file, data):
     cause = f"the {file} begins with {shown}, not {due.decode()}"
     if other is not None:
         cause += f"; {shown} is a {other}'s mark"
-    return Explanation(number, 0, "", cause, (header_field(file, "mark", mark.hex(" "), f"{due.hex(' ')}, {due.decode()}"),))
+    return Explanation(
+        number, 0, "", cause, (header_field(file, "mark", mark.hex(" "), f"{due.hex(' ')}, {due.decode()}"),)
+    )
 
 
 def wrong_version(number, file, data):
@@ -235,7 +237,9 @@ def order_fault(index, row, counts):
     zone, side = row[:2]
     if zone >= counts["zones"]:
         field = field_of("case", "order", index, 0, counts, str(zone), known_zones(counts))
-        return f"zone {zone} is unknown: the case has {counted(counts['zones'], 'zone')}, {known_zones(counts)}", (field,)
+        return f"zone {zone} is unknown: the case has {counted(counts['zones'], 'zone')}, {known_zones(counts)}", (
+            field,
+        )
     if side not in (0, 1):
         field = field_of("case", "order", index, 1, counts, str(side), "0 buys, 1 sells")
         return f"side {side} is neither 0, which buys, nor 1, which sells", (field,)
@@ -269,7 +273,9 @@ def wrong_share(proposal):
         return None
     limits = limit_words(*rules.LIMITS["share"], amounts.per_cent)
     field = header_field("proposal", "share", stored(share, amounts.per_cent(share)), limits)
-    return Explanation(13, 0, "", f"the LTA share {over_or_under(share, *rules.LIMITS['share'], amounts.per_cent)}", (field,))
+    return Explanation(
+        13, 0, "", f"the LTA share {over_or_under(share, *rules.LIMITS['share'], amounts.per_cent)}", (field,)
+    )
 
 
 def wrong_shadow_price(proposal, counts):
@@ -306,8 +312,8 @@ class ClearingCauses:
     def volume(self):
         for index, order in enumerate(self.sums.orders):
             if order.volume > order.quantity:
-                cause = f"volume {amounts.mwh(order.volume)} is over the order's quantity of {amounts.mwh(order.quantity)}, "
-                cause += f"by {amounts.mwh(order.volume - order.quantity)}"
+                cause = f"volume {amounts.mwh(order.volume)} is over the order's quantity of "
+                cause += f"{amounts.mwh(order.quantity)}, by {amounts.mwh(order.volume - order.quantity)}"
                 limit = f"at most {amounts.mwh(order.quantity)}"
                 volume = self.in_proposal("volume", index, stored(order.volume, amounts.mwh(order.volume)), limit)
                 quantity = self.in_case("order", index, 2, stored(order.quantity, amounts.mwh(order.quantity)))
@@ -326,7 +332,9 @@ class ClearingCauses:
         start = hour.record_offset("volume", 0, self.counts)
         value = f"bought less sold {amounts.mwh(total)}"
         count = len(self.sums.orders)
-        volumes = Field("proposal", start, 4 * count, f"the volumes of all {counted(count, 'order')}", value, amounts.mwh(0))
+        volumes = Field(
+            "proposal", start, 4 * count, f"the volumes of all {counted(count, 'order')}", value, amounts.mwh(0)
+        )
         return Explanation(22, 0, "", cause, (volumes,))
 
     def link(self):
@@ -347,8 +355,8 @@ class ClearingCauses:
             load, room = self.sums.loads[index], self.sums.branch_rooms[index]
             if load > room:
                 rest = amounts.per_cent(rules.WHOLE - self.sums.share)
-                cause = f"load {amounts.load_mw(load)} is over {rest} of {amounts.mw(branch.ram)} = {amounts.load_mw(room)}, "
-                cause += f"by {amounts.load_mw(load - room)}"
+                cause = f"load {amounts.load_mw(load)} is over {rest} of {amounts.mw(branch.ram)} = "
+                cause += f"{amounts.load_mw(room)}, by {amounts.load_mw(load - room)}"
                 limit = f"load at most {amounts.load_mw(room)}"
                 ram = self.in_case("branch", index, 0, stored(branch.ram, amounts.mw(branch.ram)), limit)
                 return Explanation(24, index, f"branch {index}", cause, (ram, self.share(), *self.load_parts(index)))
@@ -380,7 +388,8 @@ class ClearingCauses:
         """The shadow prices that a zone's price comes from, beside the system price."""
         for index, branch in enumerate(self.sums.branches):
             if branch.shadow and branch.ptdfs[zone]:
-                value = f"{stored(branch.shadow, SHOWN['price'](branch.shadow))} times the PTDF {amounts.factor(branch.ptdfs[zone])}"
+                value = stored(branch.shadow, SHOWN["price"](branch.shadow))
+                value += f" times the PTDF {amounts.factor(branch.ptdfs[zone])}"
                 made = f"{amounts.grains(branch.shadow * branch.ptdfs[zone])} euros/MWh"
                 yield self.in_proposal("shadow", index, f"{value} = {made}")
 
@@ -389,15 +398,21 @@ class ClearingCauses:
             return None
         gap, tolerance = amounts.microcents(self.sums.gap), amounts.microcents(self.sums.tolerance)
         over = amounts.microcents(self.sums.gap - self.sums.tolerance)
-        cause = f"the gap of {gap} euros is over the tolerance of {tolerance}" + (f", by {over}" if self.sums.tolerance else "")
+        cause = f"the gap of {gap} euros is over the tolerance of {tolerance}" + (
+            f", by {over}" if self.sums.tolerance else ""
+        )
         stands = stored(self.counts["tolerance"], SHOWN["tolerance"](self.counts["tolerance"]))
-        return Explanation(26, 0, "", cause, (header_field("case", "tolerance", stands, f"gap at most {tolerance} euros"),))
+        return Explanation(
+            26, 0, "", cause, (header_field("case", "tolerance", stands, f"gap at most {tolerance} euros"),)
+        )
 
 
 def own_reading(case, proposal, room=rules.REPORT_ROOM):
     """The outcome as it is read here, row by row as the table stands."""
     if room < rules.REPORT_ROOM:
-        return Explanation(30, 0, "", f"the report buffer has {counted(room, 'byte')}, and a report may take {rules.REPORT_ROOM}")
+        return Explanation(
+            30, 0, "", f"the report buffer has {counted(room, 'byte')}, and a report may take {rules.REPORT_ROOM}"
+        )
     found = short_file(1, "case", case) or wrong_mark(2, "case", case) or wrong_version(3, "case", case)
     if found:
         return found

@@ -22,28 +22,28 @@ Judges, explains, shows, builds and draws hours of the day-ahead coupling.
   lta help [text]
 
 A FILE is one of these:
-  X.case with a proposal        the proposal is X.proposal if that is named, else the next FILE, else X.proposal beside it
+  X.case with a proposal        X.proposal if that is named, else the next FILE, else the X.proposal beside it
   X.bin, X.joined or -          a case and at once its proposal, cut as the desk cuts it; - is standard input
   X.txt                         the text of an hour, as in hours/; its expect lines are compared
   a folder                      all of these in it and in its folders
-Two files of other names are a case and its proposal; else a file of another name is joined to what follows it if that is
-a proposal, and is a text or a joined file if not. --pairs and --joined say that all are so.
+Two files of other names are a case and its proposal. Of more, one of another name is a case if a proposal follows it,
+and else a text or a joined file. --pairs and --joined say that all are so.
 
-judge prints a table: file, verdict, index, welfare, gap, rent and owed in euros. --csv and --json are for machines, with
-amounts exact. Without a FILE it reads a joined hour from standard input.
-explain says the verdict in words: the field, its offset in decimal and hex, its value and its limit; and of an hour whose
-files are in order its zones, branches and links, and the gap's parts, largest first.
+judge prints a table: file, verdict, index, welfare, gap, rent and owed in euros. --csv and --json are for machines and
+have every decimal. Without a FILE it reads a joined hour from standard input.
+explain says the verdict in words: the field, its offset in decimal and hex, its value and its limit; and of an hour
+whose files are in order its zones, branches and links, and the gap's parts, largest first.
 page writes one page that a browser shows, for an hour or for all hours of a folder; without -o it is named after it.
 show prints the text of a case and a proposal. Building that text gives back the same bytes, however broken.
 field says which field of the last file named stands at OFFSET, a number or hex digits after 0x.
 build writes the files asked for, - being standard output; without one it says the two sizes.
 Nothing that is there is written over without --force.
 
-Verdicts, totals and prices come from the proved archive alone; on first use, and after a change in crates/, it is proved
-and built, which takes some minutes. Explanations and pages are computed beside it and say so.
+Verdicts, totals and prices come from the proved archive alone; on first use, and after a change in crates/, it is
+proved and built, which takes some minutes. Explanations and pages are computed beside it and say so.
 
-Status: 0 every hour is accepted, or as its text expects; 1 not so; 2 something could not be read, judged or written, and
-a line says what. page, show, field and build: 0 or 2.
+Status: 0 every hour is accepted, or as its text expects; 1 not so; 2 something could not be read, judged or written,
+and a line says what. page, show, field and build: 0 or 2.
 """
 
 
@@ -146,7 +146,8 @@ def run_page(options):
 
     sources = gather(options.files, options.way)
     if len(sources) > page.MOST_HOURS:
-        raise Failure(f"{options.files[0]}: {len(sources):,} hours, and a page takes at most {page.MOST_HOURS:,}; lta judge takes any number")
+        most = f"a page takes at most {page.MOST_HOURS:,}; lta judge takes any number"
+        raise Failure(f"{options.files[0]}: {len(sources):,} hours, and {most}")
     out = options.out or page_name(options.files, sources)
     refuse_if_there([out], options.force)
     write(out, page.page(options.files, sources).encode())
@@ -243,7 +244,9 @@ def main(arguments):
     try:
         if arguments and arguments[0] in ("--help", "-h"):
             arguments = ["help", *arguments[1:]]
-        elif any(word in ("--help", "-h") for word in arguments[: arguments.index("--") if "--" in arguments else None]):
+        elif any(
+            word in ("--help", "-h") for word in arguments[: arguments.index("--") if "--" in arguments else None]
+        ):
             arguments = ["help"]
         options = parser().parse_args(arguments)
         status = options.run(options)
@@ -267,12 +270,17 @@ def ended_by(number):
     os.kill(os.getpid(), number)
 
 
+def whole_stream(stream):
+    """A stream that prints every character somehow, and writes all: Python's own, unbuffered, drops what a pipe leaves."""
+    if stream is None:
+        return None
+    return open(stream.fileno(), "w", encoding=stream.encoding, errors="backslashreplace", newline="", closefd=False)
+
+
 def run():
     """The process: main over its arguments, its streams, and the signals that end it."""
     try:
-        for stream in (sys.stdout, sys.stderr):
-            if stream is not None:
-                stream.reconfigure(errors="backslashreplace")
+        sys.stdout, sys.stderr = whole_stream(sys.stdout), whole_stream(sys.stderr)
         status = main(sys.argv[1:])
     except KeyboardInterrupt:
         complain("interrupted")

@@ -10,6 +10,7 @@ from dataclasses import dataclass
 from . import hour, rules
 
 LONGEST = 64 * 2**20  # bytes; a legal hour has at most 12,443
+CHUNK = 2**20
 JOINED, TEXT, CASE, PROPOSAL = "joined", "text", "case", "proposal"
 SUFFIXES = {".txt": TEXT, ".case": CASE, ".proposal": PROPOSAL, ".bin": JOINED, ".joined": JOINED}
 
@@ -33,16 +34,27 @@ def why_not(fault):
     return printable(getattr(fault, "strerror", None) or str(fault))
 
 
+def read_whole(file):
+    """What a file has to its end, or more than an hour can have."""
+    data = bytearray()
+    while len(data) <= LONGEST:
+        chunk = file.read(CHUNK)
+        if not chunk:
+            break
+        data += chunk
+    return bytes(data)
+
+
 def read(path):
     """The bytes of a file, - being standard input."""
     try:
         if path == "-":
             if sys.stdin is None:
                 raise InputError("standard input", "it is closed")
-            data = sys.stdin.buffer.read(LONGEST + 1)
+            data = read_whole(sys.stdin.buffer)
         else:
-            with open(path, "rb") as file:
-                data = file.read(LONGEST + 1)
+            with open(path, "rb", buffering=0) as file:
+                data = read_whole(file)
     except (OSError, ValueError) as fault:
         raise InputError("standard input" if path == "-" else path, why_not(fault)) from None
     if len(data) > LONGEST:
@@ -146,7 +158,9 @@ def hours_of_folder(folder):
         paths = [os.path.join(place, name) for name in names if not name.startswith(".")]
         found += hours_of_files(sorted(path for path in paths if regular(path)))
     if not found:
-        raise InputError(folder, "no hour in it: no .case and .proposal, .txt, .bin or .joined file, nor one that begins with LTC")
+        raise InputError(
+            folder, "no hour in it: no .case and .proposal, .txt, .bin or .joined file, nor one that begins with LTC"
+        )
     return sorted(found, key=lambda one: one.name)
 
 
@@ -166,7 +180,11 @@ class Named:
         if beside in self.words and beside != case:
             return self.words.index(beside)
         following = at + 1
-        if following < len(self.words) and following not in self.taken and kind_of(self.words[following]) in (PROPOSAL, None):
+        if (
+            following < len(self.words)
+            and following not in self.taken
+            and kind_of(self.words[following]) in (PROPOSAL, None)
+        ):
             return following
         return beside if kind_of(case) == CASE and os.path.exists(beside) else None
 
@@ -194,7 +212,9 @@ class Named:
                 # Its case takes it by its name.
                 if os.path.splitext(word)[0] + ".case" not in self.words:
                     raise InputError(word, "a proposal without its case before it")
-            elif self.proposal_of(at) is not None and mark_of(self.words[self.proposal_of(at)]) == hour.MARKS["proposal"]:
+            elif (
+                self.proposal_of(at) is not None and mark_of(self.words[self.proposal_of(at)]) == hour.MARKS["proposal"]
+            ):
                 yield self.pair(at)
             else:
                 yield Input(word, text_or_joined(word), (word,))
@@ -205,7 +225,7 @@ def kind_of(word):
 
 
 def text_or_joined(path):
-    """A file with none of our suffixes that is no pair's: a text if its first line that says something could be one's."""
+    """A file with none of our suffixes that is no pair's: a text if its first word could be one's."""
     try:
         with open(path, "rb") as file:
             start = file.read(4096).decode("ascii", "strict").split()
@@ -233,7 +253,7 @@ def gather(words, way=None):
 
 
 def two_files(words):
-    """Whether two words, and no more, are a case and its proposal. Broken files are, unless they say that they are something else."""
+    """Whether two words, and no more, are a case and its proposal. Broken files are, unless they say otherwise."""
     if [kind_of(word) for word in words] == [None, None]:
         return mark_of(words[1]) != hour.MARKS["case"] and TEXT not in map(text_or_joined, words)
     return len(words) == 2 and kind_of(words[0]) in (CASE, None) and kind_of(words[1]) in (PROPOSAL, None)

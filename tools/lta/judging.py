@@ -29,7 +29,9 @@ class Row:
         if self.expected is None:
             return None
         verdict, totals = self.expected
-        return self.judgement.verdict == verdict and (verdict[0] not in hour.REPORTED or self.judgement.totals == totals)
+        return self.judgement.verdict == verdict and (
+            verdict[0] not in hour.REPORTED or self.judgement.totals == totals
+        )
 
     @property
     def good(self):

@@ -1,5 +1,5 @@
-"""lta page: one self-contained page of an hour, or of many with a first table. It asks for nothing from elsewhere and runs no
-script. Verdicts, totals and prices are the archive's; what is drawn beside them is computed here, and the page says so.
+"""lta page: one self-contained page of an hour, or of many with a first table. It asks for nothing from elsewhere and
+runs no script. Verdicts, totals and prices are the archive's; what is drawn beside them is computed here, and it says so.
 """
 
 from __future__ import annotations
@@ -11,21 +11,38 @@ from dataclasses import dataclass
 
 from . import account, amounts, archive, drawing, hour, judging, rules
 from .causes import Disagreement, Explanation, explain
+from .drawing import element
 from .inputs import InputError, printable
 
 MOST_HOURS = 1000
 MOST_NAMED = 12  # hours of a page up to which each order of a curve has a name of its own
-MOST_PARTS = 20
+MOST_PARTS = 20  # of a gap, or of what a field is held to
 STYLE = pathlib.Path(__file__).with_name("page.css")
-NOT_PROVED = "Verdict, totals and zone prices are the proved archive's. All else on this page is computed beside it and is not proved."
-LEGEND = (
-    ('<line class="stair buys" x1="0" x2="30" y1="7" y2="7"/>', "buys"),
-    ('<line class="stair sells" x1="0" x2="30" y1="7" y2="7"/>', "sells"),
-    ('<line class="taken buys" x1="0" x2="15" y1="7" y2="7"/><line class="taken sells" x1="15" x2="30" y1="7" y2="7"/>', "accepted (thick)"),
-    ('<rect class="buys" width="15" height="14"/><rect class="sells" x="15" width="15" height="14"/>', "what it gains at the zone price"),
-    ('<rect class="loss" width="30" height="14"/>', "accepted at a loss"),
-    ('<line class="price" x1="0" x2="30" y1="7" y2="7"/>', "zone price"),
+NOT_PROVED = (
+    "Verdict, totals and zone prices are the proved archive's. All else here is computed beside it and is not proved."
 )
+POLICY = "default-src 'none'; style-src 'unsafe-inline'"
+
+# What is said under a heading.
+NOTES = {
+    "Gap, rent and owed": "The tick in the gap's bar is the tolerance, where it is on the scale; the tick in the rent's is owed "
+    "less gap, which the rent must reach.",
+    "Zones": "Import is positive. The LTA part goes over the links, the flow-based part over the branches.",
+    "Order curves": "Price in € per MWh over MWh: buys from the dearest down, sells from the cheapest up.",
+    "Branches": "Load of the flow-based part against the margin's flow-based share; the tick is where the room ends. A binding "
+    "branch is full and has a shadow price.",
+    "Links": "Flow against the LTA share of the capacity. A binding link is full, to a tenth of a MW, and has a positive spread.",
+    "Prices through the hours": "In the table's order; an hour that is refused leaves a hole.",
+}
+
+# How a branch or a link stands to its room: the kind of its card, and what it says.
+STANDINGS = {
+    "BROKEN": ("card broken", "✗ over"),
+    "binding": ("card binding", "■ binding"),
+    "full": ("card", "full"),
+    "priced, not full": ("card", "□ priced, not full"),
+    "": ("card", ""),
+}
 
 
 @dataclass(frozen=True)
@@ -45,6 +62,14 @@ class Drawn:
         return self.explanation.words if self.explanation else self.fault
 
     @property
+    def as_expected(self):
+        return None if self.expected is None else self.judgement.verdict == self.expected
+
+    @property
+    def good(self):
+        return self.judgement.accepted if self.expected is None else self.as_expected
+
+    @property
     def sums(self):
         if self.explanation is None or not account.clearable(self.judgement.number):
             return None
@@ -54,13 +79,13 @@ class Drawn:
 def drawn_hour(source, folder=None):
     """An hour, judged. In a folder it is named from there."""
     read, name = source.read(), source.name if folder is None else os.path.relpath(source.name, folder)
-    judgement, expected = archive.judge(read.case, read.proposal), None
-    if read.expected is not None:
-        expected = read.expected[1]
+    judgement, found, fault = archive.judge(read.case, read.proposal), None, ""
     try:
-        return Drawn(name, read.case, read.proposal, judgement, explain(read.case, read.proposal, judgement), "", expected)
-    except Disagreement as fault:
-        return Drawn(name, read.case, read.proposal, judgement, None, str(fault), expected)
+        found = explain(read.case, read.proposal, judgement)
+    except Disagreement as said:
+        fault = str(said)
+    apart = None if read.expected is None else read.expected[1]
+    return Drawn(name, read.case, read.proposal, judgement, found, fault, apart)
 
 
 def text(words):
@@ -71,6 +96,18 @@ def euros(microcents):
     return f"{amounts.microcents(microcents)} €"
 
 
+def part(level, title, body, note=""):
+    """A part of a page under a heading, none without a body."""
+    told = " ".join(filter(None, (note, NOTES.get(title, ""))))
+    noted = element("p", text(told), "note") if told else ""
+    return element("section", element(level, title) + noted + body, "part") + "\n" if body else ""
+
+
+def table(head, rows):
+    body = element("thead", element("tr", head)) + element("tbody", "".join(rows))
+    return element("div", element("table", body), "scroll")
+
+
 # The verdict.
 
 
@@ -78,32 +115,36 @@ def answer_words(judgement):
     return "✓ Accepted" if judgement.accepted else f"✗ Refused by {judgement.number}"
 
 
-def counts_words(one):
-    counts = hour.case_counts(one.case)
-    words = [f"case {amounts.counted(len(one.case), 'byte')}", f"proposal {amounts.counted(len(one.proposal), 'byte')}"]
-    if one.judgement.number not in (1, 2, 3, 4) and counts:
-        words += [amounts.counted(counts[f"{noun}s" if noun != "branch" else "branches"], noun) for noun in ("zone", "branch", "link", "order")]
-    sums = one.sums
-    if sums:
-        words.append(f"LTA share {amounts.per_cent(sums.share)}")
-        words.append(f"tolerance {euros(sums.tolerance)}")
-    return words
+def fact_words(one, sums):
+    """The sizes, the counts where the header is good, and of a clearing the share and the tolerance."""
+    yield f"case {amounts.counted(len(one.case), 'byte')}"
+    yield f"proposal {amounts.counted(len(one.proposal), 'byte')}"
+    if rules.header_good(one.case):
+        counts = hour.case_counts(one.case)
+        yield amounts.counted(counts["zones"], "zone")
+        for kind, name in hour.RECORDS["case"]:
+            yield amounts.counted(counts[name], kind)
+    if sums is not None:
+        yield f"LTA share {amounts.per_cent(sums.share)}"
+        yield f"tolerance {euros(sums.tolerance)}"
+
+
+def expected_words(one):
+    if one.expected is None:
+        return ""
+    words = "✓ as its text expects" if one.as_expected else "✗ its text expects {} {}".format(*one.expected)
+    return element("p", words, "good-text" if one.as_expected else "bad-text")
+
+
+def facts(words):
+    return element("div", "".join(element("span", text(word)) for word in words), "facts")
 
 
 def verdict(one, level):
-    kind = "good" if one.judgement.accepted else "bad"
-    facts = "".join(f"<span>{text(words)}</span>" for words in counts_words(one))
-    expected = ""
-    if one.expected is not None:
-        held = one.judgement.verdict == one.expected
-        said = "✓ as its text expects" if held else "✗ its text expects {} {}".format(*one.expected)
-        expected = f'<p class="{"good" if held else "bad"}-text">{said}</p>'
-    return (
-        f'<div class="verdict {kind}"><p class="answer">{answer_words(one.judgement)}'
-        f' <span class="soft">· verdict {one.judgement.number}, index {one.judgement.index:,}</span></p>'
-        f"<{level}>{text(one.name)}</{level}>"
-        f'<p class="words">{text(one.words)}</p>{expected}<div class="facts">{facts}</div></div>\n'
-    )
+    place = element("span", f"· verdict {one.judgement.number}, index {one.judgement.index:,}", "soft")
+    body = element("p", f"{answer_words(one.judgement)} {place}", "answer") + element(level, text(one.name))
+    body += element("p", text(one.words), "words") + expected_words(one) + facts(fact_words(one, one.sums))
+    return element("div", body, f"verdict {'good' if one.judgement.accepted else 'bad'}") + "\n"
 
 
 # Where a field stands.
@@ -113,9 +154,9 @@ def marked_bytes(data, field):
     """The bytes around a field with its own marked."""
     lines = []
     for row, row_bytes in account.hex_rows(data, field):
-        shown = " ".join(f"<mark>{byte:02x}</mark>" if own else f"{byte:02x}" for byte, own in row_bytes)
+        shown = " ".join(element("mark", f"{byte:02x}") if own else f"{byte:02x}" for byte, own in row_bytes)
         lines.append(f"{row:>6} 0x{row:04x}  {shown.replace('</mark> <mark>', ' ')}")
-    return "\n".join(lines)
+    return element("pre", "\n".join(lines))
 
 
 def where(one):
@@ -126,43 +167,43 @@ def where(one):
     rows += [("with", f"{other.name}: {other.value}; {other.place()}") for other in others[:MOST_PARTS]]
     if len(others) > MOST_PARTS:
         rows.append(("with", f"and {len(others) - MOST_PARTS} more"))
-    body = "".join(f"<dt>{name}</dt><dd>{text(words)}</dd>" for name, words in rows if words)
-    data = {"case": one.case, "proposal": one.proposal}[first.file]
-    shown = f"<pre>{marked_bytes(data, first)}</pre>" if first.size else ""
-    return f'<div class="card"><dl class="where">{body}</dl>{shown}</div>'
-
-
-def part(level, title, body, note=""):
-    told = f'<p class="note">{note}</p>' if note else ""
-    return f'<section class="part"><{level}>{title}</{level}>{told}{body}</section>\n' if body else ""
+    body = "".join(element("dt", name) + element("dd", text(words)) for name, words in rows if words)
+    shown = marked_bytes({"case": one.case, "proposal": one.proposal}[first.file], first) if first.size else ""
+    return element("div", element("dl", body, "where") + shown, "card")
 
 
 # Totals.
 
 
-def totals(one, sums):
-    if one.judgement.number not in hour.REPORTED:
-        return ""
-    answer = one.judgement
-    beside = {
-        "gap": f"tolerance {euros(sums.tolerance)}",
-        "rent": f"rent less owed {euros(answer.rent - answer.owed)}",
-        "owed": f"{amounts.counted(sum(spread > 0 for spread in sums.spreads), 'link')} with a positive spread",
-    }
-    largest = max(abs(answer.gap), abs(answer.rent), abs(answer.owed))
-    signed = answer.rent < 0
-    cards = ""
-    for name, note in beside.items():
-        amount = getattr(answer, name)
-        mark = sums.tolerance if name == "gap" else answer.owed - answer.gap if name == "rent" else None
-        words = f"{name} {amounts.microcents(amount)} euros"
-        cards += f'<div class="card"><h4>{name}</h4><p class="big">{euros(amount)}</p>'
-        cards += f'{drawing.amount_bar(amount, largest, signed, words, mark)}<p class="soft">{text(note)}</p></div>'
-    told = f"Welfare {euros(answer.welfare)}; no clearing has more than the bound of {euros(answer.bound)}." if answer.accepted else (
-        f"Welfare {euros(answer.welfare)}, bound {euros(answer.bound)}."
+def total_card(name, amount, bar, note):
+    body = element("h4", name) + element("p", euros(amount), "big") + bar + element("p", note, "soft")
+    return element("div", body, "card")
+
+
+def totals(judgement, sums):
+    """Gap, rent and owed side by side on one scale."""
+    positive = amounts.counted(sum(spread > 0 for spread in sums.spreads), "link")
+    rows = (
+        ("gap", judgement.gap, sums.tolerance, f"tolerance {euros(sums.tolerance)}"),
+        (
+            "rent",
+            judgement.rent,
+            judgement.owed - judgement.gap,
+            f"rent less owed {euros(judgement.rent - judgement.owed)}",
+        ),
+        ("owed", judgement.owed, None, f"{positive} with a positive spread"),
     )
-    told += " The tick in the gap's bar is the tolerance where it is on the scale; in the rent's, owed less gap, which it must reach."
-    return f'<div class="cards totals">{cards}</div>', told
+    largest, cards = max(abs(amount) for _, amount, _, _ in rows), ""
+    for name, amount, mark, note in rows:
+        words = f"{name} {amounts.microcents(amount)} euros"
+        cards += total_card(name, amount, drawing.amount_bar(amount, largest, judgement.rent < 0, words, mark), note)
+    return element("div", cards, "cards totals")
+
+
+def totals_note(judgement):
+    if judgement.accepted:
+        return f"Welfare {euros(judgement.welfare)}; no clearing has more than the bound of {euros(judgement.bound)}."
+    return f"Welfare {euros(judgement.welfare)}, bound {euros(judgement.bound)}."
 
 
 # Zones.
@@ -174,48 +215,73 @@ def position_words(net):
     return f"{'← imports' if net > 0 else '→ exports'} {amounts.mw(abs(net))}"
 
 
+def zone_row(sums, zone, largest):
+    net = sums.net[zone]
+    cells = element("th", str(zone), "left") + element("td", amounts.grains(sums.prices[zone]))
+    cells += element("td", drawing.amount_bar(net, largest, True, f"net position {amounts.mw(net)}"), "meter")
+    for values in (sums.net, sums.lta, sums.flow_based):
+        cells += element("td", amounts.scaled(values[zone], 1, 1))
+    return element("tr", cells)
+
+
 def zone_table(sums):
-    largest = max(map(abs, sums.net), default=0)
-    rows = ""
-    for zone, price in enumerate(sums.prices):
-        meter = drawing.amount_bar(sums.net[zone], largest, True, f"net position {amounts.mw(sums.net[zone])}")
-        parts = "".join(f"<td>{amounts.scaled(values[zone], 1, 1)}</td>" for values in (sums.net, sums.lta, sums.flow_based))
-        rows += f'<tr><th class="left">{zone}</th><td>{amounts.grains(price)}</td><td class="meter">{meter}</td>{parts}</tr>'
-    head = '<th class="left">zone</th><th>price, €/MWh</th><th class="meter">export ← 0 → import</th>'
-    head += "<th>net position, MW</th><th>LTA part</th><th>flow-based part</th>"
-    return f'<div class="scroll"><table><thead><tr>{head}</tr></thead><tbody>{rows}</tbody></table></div>'
+    largest = max(map(abs, sums.net))
+    head = element("th", "zone", "left") + element("th", "price, €/MWh") + element("th", "export ← 0 → import", "meter")
+    head += "".join(element("th", name) for name in ("net position, MW", "LTA part", "flow-based part"))
+    return table(head, (zone_row(sums, zone, largest) for zone in range(sums.zones)))
 
 
-def zone_cards(sums, named):
-    cards = ""
-    for zone, price in enumerate(sums.prices):
-        orders = [(index, order) for index, order in enumerate(sums.orders) if order.zone == zone]
-        if orders:
-            curves = drawing.Curves(zone, orders, price, named)
-            body = curves.drawing()
-            if curves.outside:
-                body += f'<p class="soft">{amounts.counted(curves.outside, "order")} drawn at the frame, with prices past it</p>'
-        else:
-            body = '<p class="soft">no order</p>'
-        cards += f'<div class="card"><header><h4>Zone {zone}</h4><span class="chip">{position_words(sums.net[zone])}</span></header>'
-        cards += f'<p class="big">{amounts.grains(price)} <span class="unit">€/MWh</span></p>{body}</div>'
-    return f'<div class="cards zones">{cards}</div>'
+def zone_curves(sums, zone, named):
+    orders = [(index, order) for index, order in enumerate(sums.orders) if order.zone == zone]
+    if not orders:
+        return element("p", "no order", "soft")
+    curves = drawing.Curves(zone, orders, sums.prices[zone], named)
+    outside = f"{amounts.counted(curves.outside, 'order')} drawn at the frame, with prices past it"
+    return curves.drawing() + (element("p", outside, "soft") if curves.outside else "")
+
+
+def zone_card(sums, zone, named):
+    chip = element("span", position_words(sums.net[zone]), "chip")
+    unit = element("span", "€/MWh", "unit")
+    body = element("header", element("h4", f"Zone {zone}") + chip)
+    body += element("p", f"{amounts.grains(sums.prices[zone])} {unit}", "big") + zone_curves(sums, zone, named)
+    return element("div", body, "card")
 
 
 def legend():
-    items = "".join(f'<li><svg viewBox="0 0 30 14" aria-hidden="true">{body}</svg>{words}</li>' for body, words in LEGEND)
-    return f'<ul class="legend">{items}</ul>'
+    """What the lines and hatchings of a curve are."""
+    line, block = {"y1": "7", "y2": "7"}, {"height": "14"}
+    rows = (
+        (element("line", "", "stair buys", x1="0", x2="30", **line), "buys"),
+        (element("line", "", "stair sells", x1="0", x2="30", **line), "sells"),
+        (
+            element("line", "", "taken buys", x1="0", x2="15", **line)
+            + element("line", "", "taken sells", x1="15", x2="30", **line),
+            "accepted (thick)",
+        ),
+        (
+            element("rect", "", "buys", width="15", **block)
+            + element("rect", "", "sells", x="15", width="15", **block),
+            "what it gains at the zone price",
+        ),
+        (element("rect", "", "loss", width="30", **block), "accepted at a loss"),
+        (element("line", "", "price", x1="0", x2="30", **line), "zone price"),
+    )
+    shown = (element("svg", body, viewBox="0 0 30 14", aria_hidden="true") + words for body, words in rows)
+    return element("ul", "".join(element("li", item) for item in shown), "legend")
+
+
+def zone_cards(sums, named):
+    return legend() + element("div", "".join(zone_card(sums, zone, named) for zone in range(sums.zones)), "cards zones")
 
 
 # Branches and links.
 
-STANDINGS = {"BROKEN": ("broken", "✗ over"), "binding": ("binding", "■ binding"), "full": ("", "full"), "priced, not full": ("", "□ priced, not full")}
-
 
 def room_card(title, state, price, bar, words):
-    kind, chip = STANDINGS.get(state, ("", ""))
-    head = f'<header><h4>{title}</h4><span class="chip">{chip}</span></header>'
-    return f'<div class="card {kind}">{head}{bar}<p class="under"><span>{words}</span><b>{price}</b></p></div>'
+    kind, chip = STANDINGS[state]
+    body = element("header", element("h4", title) + element("span", chip, "chip")) + bar
+    return element("div", body + element("p", element("span", words) + element("b", price), "under"), kind)
 
 
 def room_words(kind, amount, room):
@@ -228,81 +294,84 @@ def branch_cards(sums):
     for index, (branch, load, room) in enumerate(zip(sums.branches, sums.loads, sums.branch_rooms)):
         words = room_words("load", load, room)
         price = f"shadow price {amounts.cents(branch.shadow)} €/MWh" if branch.shadow else ""
-        state = account.standing(load, room, branch.shadow > 0)
-        cards += room_card(f"Branch {index}", state, price, drawing.bar(load, room, signed, f"branch {index}: {words}"), words)
-    return f'<div class="cards">{cards}</div>' if cards else ""
+        bar = drawing.bar(load, room, signed, f"branch {index}: {words}")
+        cards += room_card(f"Branch {index}", account.standing(load, room, branch.shadow > 0), price, bar, words)
+    return element("div", cards, "cards") if cards else ""
 
 
 def link_cards(sums):
     cards = ""
     for index, (link, use, room, spread) in enumerate(zip(sums.links, sums.uses, sums.link_rooms, sums.spreads)):
         words = room_words("flow", use, room)
+        title = f"Link {index} " + element("span", f"zone {link.source} → zone {link.sink}", "unit")
         state = account.standing(use, room, spread > 0, rules.WHOLE)
-        title = f'Link {index} <span class="unit">zone {link.source} → zone {link.sink}</span>'
-        price = f"spread {amounts.grains(spread)} €/MWh"
-        cards += room_card(title, state, price, drawing.bar(use, room, False, f"link {index}: {words}"), words)
-    return f'<div class="cards">{cards}</div>' if cards else ""
+        bar = drawing.bar(use, room, False, f"link {index}: {words}")
+        cards += room_card(title, state, f"spread {amounts.grains(spread)} €/MWh", bar, words)
+    return element("div", cards, "cards") if cards else ""
 
 
 # The gap.
 
 
+def gap_row(name, amount, gap, bar):
+    cells = element("td", text(name), "wide") + element("td", bar, "meter")
+    return element(
+        "tr", cells + element("td", amounts.gap_part(amount)) + element("td", drawing.share_of_gap(amount, gap))
+    )
+
+
 def gap_table(sums):
     parts = account.gap_parts(sums)
     if not parts:
-        return "<p>0.00 €: no order, branch or link falls short.</p>"
-    largest, rows = parts[0][1], ""
+        return element("p", "0.00 €: no order, branch or link falls short.")
+    largest, rows = parts[0][1], []
     for name, amount in parts[:MOST_PARTS]:
-        meter = drawing.amount_bar(amount, largest, False, f"{amounts.gap_part(amount)} euros")
-        share = f"{drawing.share_of(amount, sums.gap):.1f} %"
-        rows += f'<tr><td class="wide">{text(name)}</td><td class="meter">{meter}</td><td>{amounts.gap_part(amount)}</td><td>{share}</td></tr>'
+        bar = drawing.amount_bar(amount, largest, False, f"{amounts.gap_part(amount)} euros")
+        rows.append(gap_row(name, amount, sums.gap, bar))
     if len(parts) > MOST_PARTS:
         rest = sum(amount for _, amount in parts[MOST_PARTS:])
-        share = f"{drawing.share_of(rest, sums.gap):.1f} %"
-        rows += f'<tr><td class="wide">{len(parts) - MOST_PARTS:,} more</td><td class="meter"></td><td>{amounts.gap_part(rest)}</td><td>{share}</td></tr>'
-    head = '<th class="left">what falls short</th><th class="meter"></th><th>euros</th><th>of the gap</th>'
-    return f'<div class="scroll"><table><thead><tr>{head}</tr></thead><tbody>{rows}</tbody></table></div>'
+        rows.append(gap_row(f"{len(parts) - MOST_PARTS:,} more", rest, sums.gap, ""))
+    head = element("th", "what falls short", "left") + element("th", "", "meter")
+    return table(head + element("th", "euros") + element("th", "of the gap"), rows)
 
 
 # Pages.
 
 
 def hour_body(one, level, named):
-    sums, parts = one.sums, []
-    if not one.judgement.accepted:
-        parts.append(part(level, "Where it is", where(one)))
-    if sums is not None:
-        if one.judgement.number in hour.REPORTED:
-            parts.append(part(level, "Gap, rent and owed", *totals(one, sums)))
-        parts.append(part(level, "Zones", zone_table(sums), "Import is positive. The LTA part goes over the links, the flow-based part over the branches."))
-        parts.append(part(level, "Order curves", legend() + zone_cards(sums, named), "Price in € per MWh over MWh: buys from the dearest down, sells from the cheapest up."))
-        parts.append(part(level, "Branches", branch_cards(sums), "Load of the flow-based part against the margin's flow-based share; the tick is where the room ends. A binding branch is full and has a shadow price."))
-        parts.append(part(level, "Links", link_cards(sums), "Flow against the LTA share of the capacity. A binding link is full, to a tenth of a MW, and has a positive spread."))
-        if one.judgement.number in hour.REPORTED:
-            parts.append(part(level, "The gap's parts, largest first", gap_table(sums)))
-    return "".join(parts)
+    """All of an hour that stands under its verdict."""
+    sums, reported = one.sums, one.judgement.number in hour.REPORTED
+    body = "" if one.judgement.accepted else part(level, "Where it is", where(one))
+    if sums is None:
+        return body
+    if reported:
+        body += part(level, "Gap, rent and owed", totals(one.judgement, sums), totals_note(one.judgement))
+    body += part(level, "Zones", zone_table(sums)) + part(level, "Order curves", zone_cards(sums, named))
+    body += part(level, "Branches", branch_cards(sums)) + part(level, "Links", link_cards(sums))
+    return body + (part(level, "The gap's parts, largest first", gap_table(sums)) if reported else "")
 
 
-def row(one, place, money, expecting):
-    kind, glyph = ("accepted", "✓") if one.judgement.accepted else ("refused", "✗")
-    cells = "".join(f"<td>{amount}</td>" for amount in money)
-    held = "" if one.expected is None else "✓" if one.judgement.verdict == one.expected else "✗ {} {}".format(*one.expected)
+def hour_row(one, place, money, expecting):
+    """An hour's row in the first table."""
+    glyph, held = "✓" if one.judgement.accepted else "✗", ""
+    if one.expected is not None:
+        held = "✓" if one.as_expected else "✗ {} {}".format(*one.expected)
     words = "accepted" if one.judgement.accepted and one.explanation else text(one.words)
-    return (
-        f'<tr class="{kind}"><th class="left"><a href="#hour-{place}">{text(one.name)}</a></th>'
-        f"<td>{glyph} {one.judgement.number}</td><td>{one.judgement.index:,}</td>{f'<td>{held}</td>' if expecting else ''}"
-        f'<td class="wide">{words}</td>{cells}</tr>'
-    )
+    cells = element("th", element("a", text(one.name), href=f"#hour-{place}"), "left")
+    cells += element("td", f"{glyph} {one.judgement.number}") + element("td", f"{one.judgement.index:,}")
+    cells += (element("td", held) if expecting else "") + element("td", words, "wide")
+    cells += "".join(element("td", amount) for amount in money)
+    return element("tr", cells, "accepted" if one.judgement.accepted else "refused")
 
 
 def hours_table(hours):
     expecting = any(one.expected is not None for one in hours)
     columns = (judging.money_column([getattr(one.judgement, name) for one in hours]) for name in judging.COLUMNS)
-    rows = "".join(row(one, place, money, expecting) for place, (one, money) in enumerate(zip(hours, zip(*columns))))
+    rows = (hour_row(one, place, money, expecting) for place, (one, money) in enumerate(zip(hours, zip(*columns))))
     names = ["verdict", "index"] + ["as expected"] * expecting
-    head = '<th class="left">hour</th>' + "".join(f"<th>{name}</th>" for name in names) + '<th class="left">in words</th>'
-    head += "".join(f"<th>{name}, €</th>" for name in judging.COLUMNS)
-    return f'<div class="scroll"><table><thead><tr>{head}</tr></thead><tbody>{rows}</tbody></table></div>'
+    head = element("th", "hour", "left") + "".join(element("th", name) for name in names)
+    head += element("th", "in words", "left") + "".join(element("th", f"{name}, €") for name in judging.COLUMNS)
+    return table(head, rows)
 
 
 def prices_through(hours):
@@ -314,60 +383,60 @@ def prices_through(hours):
     for zone in range(len(reported[0])):
         prices = [one.judgement.prices[zone] if one.judgement.prices else None for one in hours]
         body, low, high = drawing.through_hours(zone, prices)
-        cards += f'<div class="card"><header><h4>Zone {zone}</h4><span class="chip">{low:,.2f} to {high:,.2f} €/MWh</span></header>{body}</div>'
-    return f'<div class="cards">{cards}</div>'
+        chip = element("span", f"{low:,.2f} to {high:,.2f} €/MWh", "chip")
+        cards += element("div", element("header", element("h4", f"Zone {zone}") + chip) + body, "card")
+    return element("div", cards, "cards")
 
 
 def summary(hours, unread):
     accepted = sum(one.judgement.accepted for one in hours)
-    words = [amounts.counted(len(hours), "hour"), f"✓ {accepted:,} accepted", f"✗ {len(hours) - accepted:,} refused"]
-    held = [one.judgement.verdict == one.expected for one in hours if one.expected is not None]
+    yield amounts.counted(len(hours), "hour")
+    yield f"✓ {accepted:,} accepted"
+    yield f"✗ {len(hours) - accepted:,} refused"
+    held = [one.as_expected for one in hours if one.expected is not None]
     if held:
-        words.append(f"{sum(held):,} as their texts expect, {len(held) - sum(held):,} not")
+        yield f"{sum(held):,} as their texts expect, {len(held) - sum(held):,} not"
     if unread:
-        words.append(f"{len(unread):,} not read")
-    return words
+        yield f"{len(unread):,} not read"
 
 
 def whole(title, body):
-    style = STYLE.read_text(encoding="utf-8")
-    return (
-        '<!DOCTYPE html>\n<html lang="en">\n<head>\n<meta charset="utf-8">\n'
-        '<meta name="viewport" content="width=device-width, initial-scale=1">\n'
-        "<meta http-equiv=\"Content-Security-Policy\" content=\"default-src 'none'; style-src 'unsafe-inline'\">\n"
-        f"<title>{text(title)}</title>\n<style>\n{style}</style>\n</head>\n<body>\n{drawing.HATCHINGS}<main>\n{body}"
-        f"<footer>{NOT_PROVED}</footer>\n</main>\n</body>\n</html>\n"
-    )
+    """The page with its head and foot."""
+    head = '<meta charset="utf-8">\n<meta name="viewport" content="width=device-width, initial-scale=1">\n'
+    head += f'<meta http-equiv="Content-Security-Policy" content="{POLICY}">\n{element("title", text(title))}\n'
+    head += element("style", "\n" + STYLE.read_text(encoding="utf-8"))
+    main = element("main", "\n" + body + element("footer", NOT_PROVED) + "\n")
+    made = element("head", f"\n{head}\n") + "\n" + element("body", f"\n{drawing.hatchings()}{main}\n")
+    return "<!DOCTYPE html>\n" + element("html", f"\n{made}\n", lang="en") + "\n"
 
 
-def one_page(one):
+def page_of_one(one):
     return whole(f"{answer_words(one.judgement)}: {one.name}", verdict(one, "h1") + hour_body(one, "h2", True))
 
 
-def many_pages(title, hours, unread):
-    good = not unread and all(one.judgement.accepted if one.expected is None else one.judgement.verdict == one.expected for one in hours)
-    facts = "".join(f"<span>{text(words)}</span>" for words in summary(hours, unread))
-    body = f'<div class="verdict {"good" if good else "bad"}"><h1 id="hours">{text(title)}</h1><div class="facts">{facts}</div></div>\n'
-    if unread:
-        body += part("h2", "Not read", "".join(f"<p>✗ {text(fault)}</p>" for fault in unread))
+def page_of_many(title, hours, unread):
+    good = not unread and all(one.good for one in hours)
+    top = element("h1", text(title), id="hours") + facts(summary(hours, unread))
+    body = element("div", top, f"verdict {'good' if good else 'bad'}") + "\n"
+    body += part("h2", "Not read", "".join(element("p", f"✗ {text(fault)}") for fault in unread))
     body += part("h2", "The hours", hours_table(hours) if hours else "")
-    body += part("h2", "Prices through the hours", prices_through(hours), "In the table's order; an hour that is refused leaves a hole.")
-    named = len(hours) <= MOST_NAMED
+    body += part("h2", "Prices through the hours", prices_through(hours))
+    back = element("p", element("a", "↑ all hours", href="#hours"), "back")
     for place, one in enumerate(hours):
-        back = '<p class="back"><a href="#hours">↑ all hours</a></p>'
-        body += f'<article class="hour" id="hour-{place}">{verdict(one, "h2")}{hour_body(one, "h3", named)}{back}</article>\n'
+        shown = verdict(one, "h2") + hour_body(one, "h3", len(hours) <= MOST_NAMED) + back
+        body += element("article", shown, "hour", id=f"hour-{place}") + "\n"
     return whole(title, body)
 
 
 def page(files, sources):
-    """The page of what a command line named. A file that cannot be read is named on a page of many, and ends that of one."""
+    """The page of what a command line named. What cannot be read is named on a page of many, and ends that of one."""
     if len(sources) == 1 and not os.path.isdir(files[0]):
-        return one_page(drawn_hour(sources[0]))
+        return page_of_one(drawn_hour(sources[0]))
     hours, unread = [], []
-    folder = files[0] if len(files) == 1 and os.path.isdir(files[0]) else None
+    folder = files[0] if len(files) == 1 else None
     for source in sources:
         try:
-            hours.append(drawn_hour(source, folder))
+            hours.append(drawn_hour(source, folder if folder and os.path.isdir(folder) else None))
         except InputError as fault:
             unread.append(str(fault))
-    return many_pages(" ".join(files), hours, unread)
+    return page_of_many(" ".join(files), hours, unread)

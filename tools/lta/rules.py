@@ -75,7 +75,7 @@ def header_good(case):
 
 
 def cut(joined):
-    """The case and the proposal of a joined file: cut at the length that the header demands, if it is good and they are there."""
+    """A joined file's case and proposal, cut at the length that the header demands if it is good and so much is there."""
     if header_good(joined):
         length = hour.demanded_length("case", hour.case_counts(joined))
         if length <= len(joined):
@@ -111,9 +111,7 @@ class Sums:
             self.lta[link.sink] += link.flow
             self.lta[link.source] -= link.flow
         self.flow_based = [net - lta for net, lta in zip(self.net, self.lta)]
-        self.loads = [
-            sum(ptdf * part for ptdf, part in zip(branch.ptdfs, self.flow_based)) for branch in self.branches
-        ]
+        self.loads = [sum(ptdf * part for ptdf, part in zip(branch.ptdfs, self.flow_based)) for branch in self.branches]
         self.branch_rooms = [(WHOLE - self.share) * branch.ram for branch in self.branches]
         self.uses = [WHOLE * link.flow for link in self.links]
         self.link_rooms = [self.share * link.capacity for link in self.links]
@@ -129,7 +127,10 @@ class Sums:
     def add_totals(self):
         """Rules 7 to 11."""
         self.surpluses = [
-            max(0, order.quantity * (1 if order.buys else -1) * (GRAINS_PER_CENT * order.price - self.prices[order.zone]))
+            max(
+                0,
+                order.quantity * (1 if order.buys else -1) * (GRAINS_PER_CENT * order.price - self.prices[order.zone]),
+            )
             for order in self.orders
         ]
         signed = [order.volume if order.buys else -order.volume for order in self.orders]
@@ -141,7 +142,7 @@ class Sums:
         self.rent = sum(net * price for net, price in zip(self.net, self.prices))
 
     def gap_parts(self):
-        """The gap taken apart, as `Gap` of crates/rules does: each part's name and place, in hundred-thousandths of a microcent."""
+        """The gap taken apart as `Gap` of crates/rules does it: kind, place, and hundred-thousandths of a microcent."""
         parts = []
         for place, (order, surplus) in enumerate(zip(self.orders, self.surpluses)):
             signed = order.volume if order.buys else -order.volume
