@@ -87,35 +87,48 @@ def refuse_if_there(paths, force):
             raise Failure(f"{path}: it is there, and is written over only with --force")
 
 
-def write(path, data):
-    """Writes a file whole or not at all; what is no regular file is written to as it stands."""
-    if path == "-":
-        put_bytes(data)
-        return
+def write_new(path, data):
+    """Writes a file that is not there, whole or not at all."""
+    with open(path, "xb") as file:
+        try:
+            file.write(data)
+            file.flush()
+        except BaseException:
+            os.unlink(path)
+            raise
+
+
+def write_over(path, data):
+    """Writes a file in the place of one that is there, whole or not at all."""
+    # Through a link the file that it names is written.
+    path = os.path.realpath(path)
+    handle, part = tempfile.mkstemp(dir=os.path.dirname(path), prefix=".lta-")
     try:
-        if os.path.lexists(path) and not os.path.isfile(path):
+        with open(handle, "wb") as file:
+            file.write(data)
+        os.chmod(part, os.stat(path).st_mode)
+        os.replace(part, path)
+    except BaseException:
+        os.unlink(part)
+        raise
+
+
+def write(path, data, force):
+    """Writes an output. What is there and is no file, as a device, is written to."""
+    try:
+        if path == "-":
+            put_bytes(data)
+        elif not force or not os.path.exists(path):
+            write_new(path, data)
+        elif os.path.isfile(path):
+            write_over(path, data)
+        else:
             with open(path, "wb") as file:
                 file.write(data)
-            return
-        # Through a link the file that it names is written.
-        path = os.path.realpath(path)
-        handle, part = tempfile.mkstemp(dir=os.path.dirname(path) or ".", prefix=".lta-")
-        try:
-            with open(handle, "wb") as file:
-                file.write(data)
-            os.chmod(part, os.stat(path).st_mode if os.path.exists(path) else 0o666 & ~mask())
-            os.replace(part, path)
-        except BaseException:
-            os.unlink(part)
-            raise
+    except FileExistsError:
+        raise Failure(f"{path}: it is there, and is written over only with --force") from None
     except (OSError, ValueError) as fault:
         raise Failure(f"{path}: it cannot be written: {why_not(fault)}") from None
-
-
-def mask():
-    found = os.umask(0)
-    os.umask(found)
-    return found
 
 
 # Commands.
@@ -150,7 +163,7 @@ def run_page(options):
         raise Failure(f"{options.files[0]}: {len(sources):,} hours, and {most}")
     out = options.out or page_name(options.files, sources)
     refuse_if_there([out], options.force)
-    write(out, page.page(options.files, sources).encode())
+    write(out, page.page(options.files, sources).encode(), options.force)
     if out != "-":
         put(f"wrote {printable(out)}\n")
     return 0
@@ -195,7 +208,7 @@ def run_build(options):
     wanted = [(path, data) for path, data in wanted if path is not None]
     refuse_if_there([path for path, _ in wanted], options.force)
     for path, data in wanted:
-        write(path, data)
+        write(path, data, options.force)
     if not wanted:
         put(f"case {len(built.case)} bytes, proposal {len(built.proposal)} bytes\n")
     return 0
@@ -271,7 +284,7 @@ def ended_by(number):
 
 
 def whole_stream(stream):
-    """A stream that prints every character somehow, and writes all: Python's own, unbuffered, drops what a pipe leaves."""
+    """A stream that prints any character and writes all: Python's own, where unbuffered, drops what a pipe leaves."""
     if stream is None:
         return None
     return open(stream.fileno(), "w", encoding=stream.encoding, errors="backslashreplace", newline="", closefd=False)

@@ -105,6 +105,8 @@ EUROS = re.compile("".join(rf" {name} (-?[0-9]+(?:\.[0-9]{{1,8}})?)" for name in
 MICROCENT_DECIMALS = 8
 REPORTED = (0, 26)
 HEX_BYTES_PER_LINE = 32
+LONGEST = 64 * 2**20  # bytes that are read of a file; a legal hour has at most 12,443
+CHUNK = 2**20
 
 
 class TextError(ValueError):
@@ -610,9 +612,21 @@ def read_text(path):
         return file.read()
 
 
+def read_whole(file):
+    """What an open file has to its end; one that goes on past all that an hour can have is refused."""
+    data = bytearray()
+    while True:
+        chunk = file.read(CHUNK)
+        data += chunk
+        if not chunk:
+            return bytes(data)
+        if len(data) > LONGEST:
+            raise ValueError(f"over {LONGEST // 2**20} MiB, and no hour is that long")
+
+
 def read_bytes(path):
-    with open(path, "rb") as file:
-        return file.read()
+    with open(path, "rb", buffering=0) as file:
+        return read_whole(file)
 
 
 def offset_of(word):

@@ -9,8 +9,6 @@ from dataclasses import dataclass
 
 from . import hour, rules
 
-LONGEST = 64 * 2**20  # bytes; a legal hour has at most 12,443
-CHUNK = 2**20
 JOINED, TEXT, CASE, PROPOSAL = "joined", "text", "case", "proposal"
 SUFFIXES = {".txt": TEXT, ".case": CASE, ".proposal": PROPOSAL, ".bin": JOINED, ".joined": JOINED}
 
@@ -34,32 +32,15 @@ def why_not(fault):
     return printable(getattr(fault, "strerror", None) or str(fault))
 
 
-def read_whole(file):
-    """What a file has to its end, or more than an hour can have."""
-    data = bytearray()
-    while len(data) <= LONGEST:
-        chunk = file.read(CHUNK)
-        if not chunk:
-            break
-        data += chunk
-    return bytes(data)
-
-
 def read(path):
     """The bytes of a file, - being standard input."""
+    name = "standard input" if path == "-" else path
+    if path == "-" and sys.stdin is None:
+        raise InputError(name, "it is closed")
     try:
-        if path == "-":
-            if sys.stdin is None:
-                raise InputError("standard input", "it is closed")
-            data = read_whole(sys.stdin.buffer)
-        else:
-            with open(path, "rb", buffering=0) as file:
-                data = read_whole(file)
+        return hour.read_whole(sys.stdin.buffer) if path == "-" else hour.read_bytes(path)
     except (OSError, ValueError) as fault:
-        raise InputError("standard input" if path == "-" else path, why_not(fault)) from None
-    if len(data) > LONGEST:
-        raise InputError(path, f"over {LONGEST // 2**20} MiB, and no hour is that long")
-    return data
+        raise InputError(name, why_not(fault)) from None
 
 
 def mark_of(path):

@@ -1,5 +1,5 @@
 """lta page: one self-contained page of an hour, or of many with a first table. It asks for nothing from elsewhere and
-runs no script. Verdicts, totals and prices are the archive's; what is drawn beside them is computed here, and it says so.
+runs no script. Verdicts, totals and prices are the archive's; what is drawn beside them is computed here, as it says.
 """
 
 from __future__ import annotations

@@ -75,7 +75,7 @@ def header_good(case):
 
 
 def cut(joined):
-    """A joined file's case and proposal, cut at the length that the header demands if it is good and so much is there."""
+    """A joined file's case and proposal, cut at the length that the header demands if it is good and all is there."""
     if header_good(joined):
         length = hour.demanded_length("case", hour.case_counts(joined))
         if length <= len(joined):
