@@ -125,6 +125,8 @@ def write(path, data, force):
         else:
             with open(path, "wb") as file:
                 file.write(data)
+    except BrokenPipeError:
+        raise
     except FileExistsError:
         raise Failure(f"{path}: it is there, and is written over only with --force") from None
     except (OSError, ValueError) as fault:
