@@ -47,7 +47,12 @@ def field_lines(field):
     yield f"  place   {field.place()}"
 
 
-def fault_lines(explanation, files):
+def joined_line(case):
+    """Where to look for the proposal's offsets in a joined file."""
+    return f"  joined  the proposal begins at offset {len(case)} (0x{len(case):x}) of the file"
+
+
+def fault_lines(explanation, files, joined):
     """The field at fault, the bytes around it, and the fields that it is held to."""
     if not explanation.fields:
         return
@@ -58,6 +63,8 @@ def fault_lines(explanation, files):
         yield from hex_lines(files[first.file], first)
     for other in others:
         yield f"  with    {other.name}: {other.value}; {other.place()}"
+    if joined and any(field.file == "proposal" for field in explanation.fields):
+        yield joined_line(files["case"])
 
 
 def totals_lines(judgement):
@@ -185,10 +192,10 @@ def clearable(number):
     return number == 0 or 21 <= number <= 26
 
 
-def account(case, proposal, judgement, explanation):
-    """All that lta explain prints."""
+def account(case, proposal, judgement, explanation, joined=False):
+    """All that lta explain prints, of two files or of a joined one."""
     lines = [explanation.words]
-    lines += fault_lines(explanation, {"case": case, "proposal": proposal})
+    lines += fault_lines(explanation, {"case": case, "proposal": proposal}, joined)
     if clearable(judgement.number):
         lines += hour_lines(judgement, rules.Sums(case, proposal))
     return "\n".join([*lines, "", NOT_PROVED]) + "\n"

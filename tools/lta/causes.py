@@ -36,7 +36,7 @@ class Field:
     limit: str = ""
 
     def place(self):
-        return f"offset {self.offset:,} (0x{self.offset:x}) of the {self.file}"
+        return f"offset {self.offset} (0x{self.offset:x}) of the {self.file}"
 
 
 @dataclass(frozen=True)

@@ -8,7 +8,7 @@ import tempfile
 
 from . import account, archive, hour, judging
 from .causes import Disagreement, explain
-from .inputs import InputError, gather, one_hour, printable, read, text_hour, why_not
+from .inputs import JOINED, InputError, gather, one_hour, printable, read, text_hour, why_not
 
 HELP = """\
 Judges, explains, shows, builds and draws hours of the day-ahead coupling.
@@ -150,9 +150,11 @@ def run_judge(options):
 
 
 def run_explain(options):
-    source = one_hour(options.files, options.way).read()
-    judgement = archive.judge(source.case, source.proposal)
-    put(account.account(source.case, source.proposal, judgement, explain(source.case, source.proposal, judgement)))
+    source = one_hour(options.files, options.way)
+    read_hour = source.read()
+    files = (read_hour.case, read_hour.proposal)
+    judgement = archive.judge(*files)
+    put(account.account(*files, judgement, explain(*files, judgement), source.kind == JOINED))
     return 0 if judgement.accepted else 1
 
 

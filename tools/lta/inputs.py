@@ -9,7 +9,7 @@ from dataclasses import dataclass
 
 from . import hour, rules
 
-JOINED, TEXT, CASE, PROPOSAL = "joined", "text", "case", "proposal"
+JOINED, TEXT, CASE, PROPOSAL, UNREAD = "joined", "text", "case", "proposal", "unread"
 SUFFIXES = {".txt": TEXT, ".case": CASE, ".proposal": PROPOSAL, ".bin": JOINED, ".joined": JOINED}
 
 
@@ -43,12 +43,19 @@ def read(path):
         raise InputError(name, why_not(fault)) from None
 
 
-def mark_of(path):
+def start_of(path, size):
+    """How a file begins. Of what is no file, as a pipe, nothing is taken beforehand."""
     try:
-        with open(path, "rb") as file:
-            return file.read(3)
+        if not stat.S_ISREG(os.stat(path).st_mode):
+            return b""
+        with open(path, "rb", buffering=0) as file:
+            return file.read(size)
     except (OSError, ValueError):
         return b""
+
+
+def mark_of(path):
+    return start_of(path, 3)
 
 
 @dataclass(frozen=True)
@@ -63,13 +70,15 @@ class Hour:
 
 @dataclass(frozen=True)
 class Input:
-    """Where an hour is to be read from."""
+    """Where an hour is to be read from: the paths, or of a folder that cannot be read why."""
 
     name: str
     kind: str
     paths: tuple
 
     def read(self):
+        if self.kind == UNREAD:
+            raise InputError(self.name, self.paths[0])
         if self.kind == CASE:
             return Hour(*map(read, self.paths))
         data = read(self.paths[0])
@@ -130,11 +139,12 @@ def regular(path):
 def hours_of_folder(folder):
     """The hours of a folder and of those in it, in the order of their names."""
 
-    def fail(fault):
-        raise InputError(fault.filename or folder, why_not(fault))
-
     found = []
-    for place, folders, names in os.walk(folder, onerror=fail):
+
+    def unread(fault):
+        found.append(Input(fault.filename, UNREAD, (why_not(fault),)))
+
+    for place, folders, names in os.walk(folder, onerror=unread):
         folders[:] = [name for name in folders if not name.startswith(".")]
         paths = [os.path.join(place, name) for name in names if not name.startswith(".")]
         found += hours_of_files(sorted(path for path in paths if regular(path)))
@@ -152,53 +162,50 @@ class Named:
     """The words of a command line, taken from the left."""
 
     def __init__(self, words):
-        self.words, self.taken = list(words), set()
+        self.words, self.taken = words, set()
+        self.places = {word: at for at, word in reversed(list(enumerate(words)))}
 
     def proposal_of(self, at):
-        """The word that is the proposal of the case at a place: by name, else the next word, else by name beside it."""
-        case = self.words[at]
-        beside = os.path.splitext(case)[0] + ".proposal"
-        if beside in self.words and beside != case:
-            return self.words.index(beside)
-        following = at + 1
-        if (
-            following < len(self.words)
-            and following not in self.taken
-            and kind_of(self.words[following]) in (PROPOSAL, None)
-        ):
-            return following
-        return beside if kind_of(case) == CASE and os.path.exists(beside) else None
+        """The proposal of the case at a place, and its own place: by name, else the next word, else by name beside it."""
+        named, following = os.path.splitext(self.words[at])[0] + ".proposal", at + 1
+        if named in self.places:
+            return named, self.places[named]
+        if following < len(self.words) and following not in self.taken and may_follow(self.words[following]):
+            return self.words[following], following
+        return (named, None) if os.path.exists(named) else (None, None)
 
     def pair(self, at):
-        found = self.proposal_of(at)
-        if found is None:
+        proposal, place = self.proposal_of(at)
+        if proposal is None:
             raise InputError(self.words[at], "its proposal does not follow it")
-        if isinstance(found, int):
-            self.taken.add(found)
-            found = self.words[found]
-        return paired(self.words[at], found)
+        self.taken.add(place)
+        return paired(self.words[at], proposal)
+
+    def hour_at(self, at):
+        word, kind = self.words[at], kind_of(self.words[at])
+        if kind in (TEXT, JOINED):
+            return Input(word, kind, (word,))
+        proposal, _ = self.proposal_of(at)
+        if kind == CASE or (proposal is not None and mark_of(proposal) == hour.MARKS["proposal"]):
+            return self.pair(at)
+        return Input(word, text_or_joined(word), (word,))
 
     def hours(self):
         for at, word in enumerate(self.words):
             if at in self.taken:
                 continue
-            kind = kind_of(word)
             if os.path.isdir(word):
                 yield from hours_of_folder(word)
-            elif kind in (TEXT, JOINED):
-                yield Input(word, kind, (word,))
-            elif kind == CASE:
-                yield self.pair(at)
-            elif kind == PROPOSAL:
-                # Its case takes it by its name.
-                if os.path.splitext(word)[0] + ".case" not in self.words:
-                    raise InputError(word, "a proposal without its case before it")
-            elif (
-                self.proposal_of(at) is not None and mark_of(self.words[self.proposal_of(at)]) == hour.MARKS["proposal"]
-            ):
-                yield self.pair(at)
-            else:
-                yield Input(word, text_or_joined(word), (word,))
+            elif kind_of(word) != PROPOSAL:
+                yield self.hour_at(at)
+            elif os.path.splitext(word)[0] + ".case" not in self.places:
+                # Else its case takes it by its name.
+                raise InputError(word, "a proposal without its case before it")
+
+
+def may_follow(word):
+    """Whether a word can be the proposal of the case before it."""
+    return kind_of(word) in (PROPOSAL, None) and not os.path.isdir(word)
 
 
 def kind_of(word):
@@ -207,12 +214,8 @@ def kind_of(word):
 
 def text_or_joined(path):
     """A file with none of our suffixes that is no pair's: a text if its first word could be one's."""
-    try:
-        with open(path, "rb") as file:
-            start = file.read(4096).decode("ascii", "strict").split()
-    except (OSError, ValueError):
-        return JOINED
-    return TEXT if start and (start[0].startswith("#") or start[0] == "case") else JOINED
+    words = start_of(path, 4096).split()
+    return TEXT if words and (words[0].startswith(b"#") or words[0] == b"case") else JOINED
 
 
 def gather(words, way=None):

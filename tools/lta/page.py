@@ -141,7 +141,7 @@ def facts(words):
 
 
 def verdict(one, level):
-    place = element("span", f"· verdict {one.judgement.number}, index {one.judgement.index:,}", "soft")
+    place = element("span", f"· verdict {one.judgement.number}, index {one.judgement.index}", "soft")
     body = element("p", f"{answer_words(one.judgement)} {place}", "answer") + element(level, text(one.name))
     body += element("p", text(one.words), "words") + expected_words(one) + facts(fact_words(one, one.sums))
     return element("div", body, f"verdict {'good' if one.judgement.accepted else 'bad'}") + "\n"
@@ -358,7 +358,7 @@ def hour_row(one, place, money, expecting):
         held = "✓" if one.as_expected else "✗ {} {}".format(*one.expected)
     words = "accepted" if one.judgement.accepted and one.explanation else text(one.words)
     cells = element("th", element("a", text(one.name), href=f"#hour-{place}"), "left")
-    cells += element("td", f"{glyph} {one.judgement.number}") + element("td", f"{one.judgement.index:,}")
+    cells += element("td", f"{glyph} {one.judgement.number}") + element("td", str(one.judgement.index))
     cells += (element("td", held) if expecting else "") + element("td", words, "wide")
     cells += "".join(element("td", amount) for amount in money)
     return element("tr", cells, "accepted" if one.judgement.accepted else "refused")
