@@ -417,10 +417,10 @@ def page_of_one(one):
 def page_of_many(title, hours, unread):
     good = not unread and all(one.good for one in hours)
     top = element("h1", text(title), id="hours") + facts(summary(hours, unread))
-    body = element("div", top, f"verdict {'good' if good else 'bad'}") + "\n"
-    body += part("h2", "Not read", "".join(element("p", f"✗ {text(fault)}") for fault in unread))
-    body += part("h2", "The hours", hours_table(hours) if hours else "")
-    body += part("h2", "Prices through the hours", prices_through(hours))
+    first = element("div", top, f"verdict {'good' if good else 'bad'}") + "\n"
+    first += part("h2", "Not read", "".join(element("p", f"✗ {text(fault)}") for fault in unread))
+    first += part("h2", "The hours", hours_table(hours) if hours else "")
+    body = element("div", first, "sideways") + part("h2", "Prices through the hours", prices_through(hours))
     back = element("p", element("a", "↑ all hours", href="#hours"), "back")
     for place, one in enumerate(hours):
         shown = verdict(one, "h2") + hour_body(one, "h3", len(hours) <= MOST_NAMED) + back
