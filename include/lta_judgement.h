@@ -308,6 +308,7 @@ static inline const char *lta_number_text(uint32_t number)
     case LTA_ZONE_PRICE: return "zone price out of range";
     case LTA_GAP_ABOVE_TOLERANCE: return "gap above the tolerance";
     case LTA_NO_ROOM: return "report buffer under 176 bytes";
+    case LTA_DESK_NO_ROOM: return "output too short for the desk's lines";
     case LTA_SHEET_ZONES: return "zone count is 0 or over 16";
     case LTA_SHEET_FIELD: return "sheet line with the wrong fields or no number";
     case LTA_SHEET_DECIMAL: return "decimal past ours is not zero";
