@@ -24,6 +24,16 @@ const LENGTH: Duration = Duration::from_micros(60);
 const BRANCH_BYTES: u32 = 4 + 4 * 16;
 const LINKS_AT: u32 = 14 + 64 * BRANCH_BYTES;
 
+/// Six sizes of an hour: zones, branches, links and orders.
+const CLASSES: [(&str, [usize; 4]); 6] = [
+    ("tiny", [3, 2, 1, 6]),
+    ("small", [4, 8, 4, 20]),
+    ("middling", [8, 24, 12, 150]),
+    ("many branches", [16, 64, 2, 20]),
+    ("many links", [16, 4, 64, 20]),
+    ("largest", [16, 64, 64, 512]),
+];
+
 /// Nanoseconds of one call and the ratio, each the median of the repetitions.
 struct Times {
     proved: f64,
@@ -173,50 +183,45 @@ fn main() {
     let of =
         |hour: &Hour, number, index| measure_judges(&hour.case(), &hour.proposal(), number, index);
     print("P1", &of(&three_zone_hour(), 0, 0));
-    print(
-        "middling: 6 zones, 12, 10 and 60 rows",
-        &of(&sized(6, 12, 10, 60), 0, 0),
-    );
-    let largest = sized(16, 64, 64, 512);
-    print(
-        "largest: 16 zones, 64, 64 and 512 rows",
-        &of(&largest, 0, 0),
-    );
+    for (name, [zones, branches, links, orders]) in CLASSES {
+        print(
+            &format!("{name}: {zones}, {branches}, {links}, {orders}"),
+            &of(&sized(zones, branches, links, orders), 0, 0),
+        );
+    }
+
+    heading("refusals of the largest");
+    let [zones, branches, links, orders] = CLASSES[5].1;
+    let largest = sized(zones, branches, links, orders);
     let header = Hour {
         tolerance: 1_000_000_001,
         ..largest.clone()
     };
-    print("largest, refused at the header (4)", &of(&header, 4, 10));
+    print("at the header (4)", &of(&header, 4, 10));
     let mut field = largest.clone();
     field.branches[63].ram = 500_001;
     print(
-        "largest, refused at the last branch (6)",
+        "at the last branch (6)",
         &of(&field, 6, 14 + 63 * BRANCH_BYTES),
     );
     let mut link = largest.clone();
     link.links[63].capacity = 100_001;
-    print(
-        "largest, refused at the last link (7)",
-        &of(&link, 7, LINKS_AT + 63 * 6 + 2),
-    );
+    print("at the last link (7)", &of(&link, 7, LINKS_AT + 63 * 6 + 2));
     let mut order = largest.clone();
     order.orders[511].price = 400_001;
     print(
-        "largest, refused at the last order (8)",
+        "at the last order (8)",
         &of(&order, 8, LINKS_AT + 64 * 6 + 511 * 10 + 6),
     );
     let mut shadow = largest.clone();
     shadow.shadow_prices[63] = 1_000_001;
     print(
-        "largest, refused at the last price (14)",
+        "at the last price (14)",
         &of(&shadow, 14, 13 + 4 * (512 + 64 + 63)),
     );
     let mut rule = largest.clone();
     rule.branches[63].ram = -500_000;
-    print(
-        "largest, refused at the last branch (24)",
-        &of(&rule, 24, 63),
-    );
+    print("at the last branch (24)", &of(&rule, 24, 63));
 
     heading("growth, sixteen zones");
     for count in [0, 64, 128, 256, 512] {
