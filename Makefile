@@ -18,7 +18,8 @@ all: target/shared/lib$(NAME).so
 target/staticlib/libhost.a: FORCE
 	rt staticlib host
 
-target/shared/lib$(NAME).so: target/staticlib/libhost.a
+# Linked anew each time, so that what is installed comes from this archive and from no other.
+target/shared/lib$(NAME).so: target/staticlib/libhost.a FORCE
 	mkdir -p target/shared
 	tools/link_shared target/staticlib/libhost.a $@
 

@@ -4,18 +4,22 @@ The one place from which a verdict or a total comes.
 
 from __future__ import annotations
 
+import contextlib
 import ctypes
+import hashlib
 import os
 import pathlib
 import subprocess
-import sys
 import tempfile
 from dataclasses import dataclass
 
 from . import hour, rules
+from .telling import tell
 
 ROOT = pathlib.Path(__file__).resolve().parent.parent.parent
+OWN = ROOT / "target" / "staticlib" / "libhost.a"
 SHARED = "liblta_judgement.so"
+LINKED_FROM = "linked-from"
 REPORTED = hour.REPORTED
 
 
@@ -57,6 +61,8 @@ class Judgement:
 
 # Building.
 
+NOT_LINKED = "the shared object cannot be linked"
+
 
 def one_line(text):
     """The last line of what a command printed that says something."""
@@ -94,14 +100,13 @@ def newer(path, than):
 def made_archive():
     """The archive, proved and built where it is missing or older than a source."""
     given = os.environ.get("LTA_ARCHIVE_DIR")
-    archive = pathlib.Path(given or ROOT / "target" / "staticlib") / "libhost.a"
+    archive = pathlib.Path(given) / OWN.name if given else OWN
     if given:
         if not archive.is_file():
             raise BuildError(f"{archive}: there is no archive; rt staticlib host writes it")
         return archive
     if not archive.is_file() or any(newer(source, archive.stat().st_mtime_ns) for source in sources()):
-        if sys.stderr is not None:
-            print("lta: proving and building, some minutes the first time", file=sys.stderr, flush=True)
+        tell("lta: proving and building, some minutes the first time\n")
         run(["rt", "staticlib", "host"], "the archive cannot be built")
         if not archive.is_file():
             raise BuildError(f"the archive cannot be built: rt staticlib host left no {archive}")
@@ -110,22 +115,51 @@ def made_archive():
     return archive
 
 
+def hashes(archive, shared):
+    """The hashes of an archive and of the shared object linked from it, as sha256sum prints them."""
+    named = ((archive, f"../staticlib/{OWN.name}"), (shared, SHARED))
+    return "".join(f"{hashlib.sha256(path.read_bytes()).hexdigest()}  {name}\n" for path, name in named)
+
+
+def link(archive, folder):
+    """Links an archive's shared object in a folder."""
+    linked = pathlib.Path(folder) / SHARED
+    run([str(ROOT / "tools" / "link_shared"), str(archive), str(linked)], NOT_LINKED)
+    return linked
+
+
+def kept_shared(shared):
+    """Our own archive's shared object, linked where the one that is there is not known, by hash, to be linked from it.
+    It is put in place whole.
+    """
+    linked_from = shared.with_name(LINKED_FROM)
+    with contextlib.suppress(OSError, ValueError):
+        if linked_from.read_text() == hashes(OWN, shared):
+            return
+    shared.parent.mkdir(parents=True, exist_ok=True)
+    with tempfile.TemporaryDirectory(dir=shared.parent) as folder:
+        linked = link(OWN, folder)
+        said = linked.with_name(LINKED_FROM)
+        said.write_text(hashes(OWN, linked))
+        os.replace(linked, shared)
+        os.replace(said, linked_from)
+
+
+@contextlib.contextmanager
 def made_shared():
-    """The shared object, linked where it is missing or older than the archive. It is put in place whole."""
-    archive = made_archive()
-    shared = ROOT / "target" / "shared" / SHARED
-    if shared.is_file() and not newer(archive, shared.stat().st_mtime_ns):
-        return shared
-    what = "the shared object cannot be linked"
-    try:
-        shared.parent.mkdir(parents=True, exist_ok=True)
-        with tempfile.TemporaryDirectory(dir=shared.parent) as folder:
-            linked = os.path.join(folder, SHARED)
-            run([str(ROOT / "tools" / "link_shared"), str(archive), linked], what)
-            os.replace(linked, shared)
-    except OSError as fault:
-        raise BuildError(f"{what}: {fault.filename or shared}: {fault.strerror}") from None
-    return shared
+    """The path of the archive's shared object. That of an archive from elsewhere is linked anew and does not stay, so
+    that no later call is answered by it.
+    """
+    archive, shared = made_archive(), ROOT / "target" / "shared" / SHARED
+    with contextlib.ExitStack() as ends:
+        try:
+            if OWN.is_file() and os.path.samefile(archive, OWN):
+                kept_shared(shared)
+            else:
+                shared = link(archive, ends.enter_context(tempfile.TemporaryDirectory()))
+        except OSError as fault:
+            raise BuildError(f"{NOT_LINKED}: {fault.filename or shared}: {fault.strerror}") from None
+        yield shared
 
 
 # Calling.
@@ -137,20 +171,30 @@ def entry():
     """lta_judge, loaded once."""
     global _entry
     if _entry is None:
-        shared = made_shared()
-        try:
-            found = ctypes.CDLL(str(shared)).lta_judge
-        except (OSError, AttributeError) as fault:
-            raise BuildError(f"{shared}: it cannot be loaded: {one_line(str(fault))}") from None
+        with made_shared() as shared:
+            try:
+                found = ctypes.CDLL(str(shared)).lta_judge
+            except (OSError, AttributeError) as fault:
+                raise BuildError(f"{shared}: it cannot be loaded: {one_line(str(fault))}") from None
         found.restype = ctypes.c_uint64
         found.argtypes = [ctypes.c_char_p, ctypes.c_size_t] * 3
         _entry = found
     return _entry
 
 
+def bytes_of(data):
+    """The bytes of what holds bytes. A number would be as many zeros, and a name is not its file."""
+    try:
+        return bytes(memoryview(data))
+    except TypeError:
+        raise TypeError(f"bytes are judged, not a path or a number: {type(data).__name__}") from None
+
+
 def judge(case, proposal, room=rules.REPORT_ROOM):
     """Has a case and a proposal, as bytes, judged by the archive, with a report buffer of the room's bytes."""
-    case, proposal = bytes(case), bytes(proposal)
+    case, proposal = bytes_of(case), bytes_of(proposal)
+    if room < 0:
+        raise ValueError(f"the report's room is {room} bytes")
     report = ctypes.create_string_buffer(max(room, 1))
     verdict = entry()(case, len(case), proposal, len(proposal), report, room)
     number, index = verdict % 256, verdict // 256
@@ -163,4 +207,4 @@ def judge(case, proposal, room=rules.REPORT_ROOM):
 
 def judge_joined(joined):
     """The same of a joined file, the case and at once the proposal, cut as the desk cuts it."""
-    return judge(*rules.cut(bytes(joined)))
+    return judge(*rules.cut(bytes_of(joined)))
