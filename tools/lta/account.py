@@ -47,9 +47,9 @@ def field_lines(field):
     yield f"  place   {field.place()}"
 
 
-def joined_line(case):
+def joined_words(case):
     """Where to look for the proposal's offsets in a joined file."""
-    return f"  joined  the proposal begins at offset {len(case)} (0x{len(case):x}) of the file"
+    return f"the proposal begins at offset {len(case)} (0x{len(case):x}) of the file"
 
 
 def fault_lines(explanation, files, joined):
@@ -64,7 +64,7 @@ def fault_lines(explanation, files, joined):
     for other in others:
         yield f"  with    {other.name}: {other.value}; {other.place()}"
     if joined and any(field.file == "proposal" for field in explanation.fields):
-        yield joined_line(files["case"])
+        yield f"  joined  {joined_words(files['case'])}"
 
 
 def totals_lines(judgement):
@@ -95,7 +95,7 @@ def use_of(amount, room):
     """An amount in per cent of its room; 100 only where it is just that."""
     if room <= 0:
         return ""
-    shown = f"{100 * amount / room:.1f} %"
+    shown = f"{100 * amount / room:,.1f} %"
     if shown == "100.0 %" and amount != room:
         shown = "> 100 %" if amount > room else "< 100 %"
     return shown

@@ -9,6 +9,7 @@ import tempfile
 from . import account, archive, hour, judging
 from .causes import Disagreement, explain
 from .inputs import JOINED, InputError, gather, one_hour, printable, read, text_hour, why_not
+from .telling import tell
 
 HELP = """\
 Judges, explains, shows, builds and draws hours of the day-ahead coupling.
@@ -57,8 +58,7 @@ class Parser(argparse.ArgumentParser):
 
 
 def complain(fault):
-    if sys.stderr is not None:
-        print(f"lta: {printable(fault)}", file=sys.stderr, flush=True)
+    tell(f"lta: {printable(fault)}\n")
 
 
 def put(text):
@@ -167,10 +167,13 @@ def run_page(options):
         raise Failure(f"{options.files[0]}: {len(sources):,} hours, and {most}")
     out = options.out or page_name(options.files, sources)
     refuse_if_there([out], options.force)
-    write(out, page.page(options.files, sources).encode(), options.force)
+    unread = []
+    write(out, page.page(options.files, sources, unread.append).encode(), options.force)
     if out != "-":
         put(f"wrote {printable(out)}\n")
-    return 0
+    for fault in unread:
+        complain(fault)
+    return 2 if unread else 0
 
 
 def page_name(files, sources):

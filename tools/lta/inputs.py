@@ -17,7 +17,7 @@ class InputError(Exception):
     """A file or folder that gives no hour: one line that names it and says why."""
 
     def __init__(self, path, why):
-        super().__init__(f"{printable(path)}: {why}")
+        super().__init__(f"{printable(path) or repr('')}: {why}")
 
 
 def printable(text):
@@ -70,7 +70,7 @@ class Hour:
 
 @dataclass(frozen=True)
 class Input:
-    """Where an hour is to be read from: the paths, or of a folder that cannot be read why."""
+    """Where an hour is to be read from: the paths, or why it cannot be read."""
 
     name: str
     kind: str
@@ -97,6 +97,15 @@ def text_hour(path, data):
     except ValueError as fault:
         raise InputError(path, why_not(fault)) from None
     return Hour(case, proposal, case + proposal, expected)
+
+
+def lonely(path, why):
+    """A file that gives no hour by itself; one that is not there lacks more than its fellow."""
+    try:
+        os.stat(path)
+    except (OSError, ValueError) as fault:
+        why = why_not(fault)
+    return Input(path, UNREAD, (why,))
 
 
 def paired(case, proposal):
@@ -149,9 +158,8 @@ def hours_of_folder(folder):
         paths = [os.path.join(place, name) for name in names if not name.startswith(".")]
         found += hours_of_files(sorted(path for path in paths if regular(path)))
     if not found:
-        raise InputError(
-            folder, "no hour in it: no .case and .proposal, .txt, .bin or .joined file, nor one that begins with LTC"
-        )
+        why = "no hour in it: no .case and .proposal, .txt, .bin or .joined file, nor one that begins with LTC"
+        return [Input(folder, UNREAD, (why,))]
     return sorted(found, key=lambda one: one.name)
 
 
@@ -177,7 +185,7 @@ class Named:
     def pair(self, at):
         proposal, place = self.proposal_of(at)
         if proposal is None:
-            raise InputError(self.words[at], "its proposal does not follow it")
+            return lonely(self.words[at], "its proposal does not follow it")
         self.taken.add(place)
         return paired(self.words[at], proposal)
 
@@ -200,7 +208,7 @@ class Named:
                 yield self.hour_at(at)
             elif os.path.splitext(word)[0] + ".case" not in self.places:
                 # Else its case takes it by its name.
-                raise InputError(word, "a proposal without its case before it")
+                yield lonely(word, "a proposal without its case before it")
 
 
 def may_follow(word):

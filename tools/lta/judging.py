@@ -11,6 +11,7 @@ from dataclasses import dataclass
 
 from . import amounts, archive, hour
 from .inputs import InputError, printable
+from .telling import tell
 
 COLUMNS = ("welfare", "gap", "rent", "owed")
 MONEY_DECIMALS, PRICE_DECIMALS = 8, 7
@@ -18,11 +19,16 @@ MONEY_DECIMALS, PRICE_DECIMALS = 8, 7
 
 @dataclass(frozen=True)
 class Row:
-    """An hour as judged, and what its text expects: the verdict and the totals, or None."""
+    """An hour as judged, joined or apart where these differ, and what its text expects: verdict and totals, or None."""
 
-    name: str
+    source: str
     judgement: archive.Judgement
     expected: tuple | None = None
+    way: str = ""
+
+    @property
+    def name(self):
+        return f"{self.source} ({self.way})" if self.way else self.source
 
     @property
     def as_expected(self):
@@ -37,31 +43,35 @@ class Row:
     def good(self):
         return self.judgement.accepted if self.expected is None else self.as_expected
 
+    def due(self):
+        """What was expected and is not so: the verdict, else the totals."""
+        verdict, totals = self.expected
+        if self.judgement.verdict != verdict:
+            return "{} {}".format(*verdict)
+        wrong = [name for name, total in totals.items() if self.judgement.totals[name] != total]
+        return ", ".join(f"{name} {amounts.microcents(totals[name])}" for name in wrong)
+
     def remark(self):
         """What the last column says: what was expected where it is not so, else what the number means."""
         if self.good or self.expected is None:
             return self.judgement.text
-        verdict, totals = self.expected
-        words = "NOT AS EXPECTED: {} {}".format(*verdict)
-        if self.judgement.verdict == verdict:
-            wrong = [name for name, total in totals.items() if self.judgement.totals[name] != total]
-            words = "NOT AS EXPECTED: " + ", ".join(f"{name} {amounts.microcents(totals[name])}" for name in wrong)
-        return words
+        return f"NOT AS EXPECTED: {self.due()}"
 
 
-def judged(source):
-    """The rows of one input. A joined file and its two parts can be answered otherwise; then a text has two."""
-    read = source.read()
+def rows_of(name, read):
+    """The rows of an hour. A joined file and its two parts can be answered otherwise; then a text has two, apart last."""
     if read.expected is None:
-        return [Row(source.name, archive.judge(read.case, read.proposal))]
+        return [Row(name, archive.judge(read.case, read.proposal))]
     due, apart_due, totals = read.expected
     joined, apart = archive.judge_joined(read.joined), archive.judge(read.case, read.proposal)
     if due == apart_due and joined == apart:
-        return [Row(source.name, joined, (due, totals))]
-    return [
-        Row(f"{source.name} (joined)", joined, (due, totals)),
-        Row(f"{source.name} (apart)", apart, (apart_due, totals)),
-    ]
+        return [Row(name, joined, (due, totals))]
+    return [Row(name, joined, (due, totals), "joined"), Row(name, apart, (apart_due, totals), "apart")]
+
+
+def judged(source):
+    """The rows of one input."""
+    return rows_of(source.name, source.read())
 
 
 class Progress:
@@ -75,13 +85,11 @@ class Progress:
         now = time.monotonic()
         if self.wanted and now - self.began > 0.5 and now - self.shown > 0.1:
             self.shown = now
-            sys.stderr.write(f"\r{done:,} of {self.total:,} hours judged")
-            sys.stderr.flush()
+            tell(f"\r{done:,} of {self.total:,} hours judged")
 
     def end(self):
         if self.shown:
-            sys.stderr.write("\r\x1b[K")
-            sys.stderr.flush()
+            tell("\r\x1b[K")
 
 
 def judge_all(sources, complain):

@@ -9,10 +9,10 @@ import os
 import pathlib
 from dataclasses import dataclass
 
-from . import account, amounts, archive, drawing, hour, judging, rules
+from . import account, amounts, drawing, hour, judging, rules
 from .causes import Disagreement, Explanation, explain
 from .drawing import element
-from .inputs import InputError, printable
+from .inputs import JOINED, UNREAD, InputError, printable
 
 MOST_HOURS = 1000
 MOST_NAMED = 12  # hours of a page up to which each order of a curve has a name of its own
@@ -47,15 +47,21 @@ STANDINGS = {
 
 @dataclass(frozen=True)
 class Drawn:
-    """An hour as a page has it: where it came from, the archive's answer, and the explanation or why there is none."""
+    """An hour as a page has it: where it came from, the archive's answers as judge has them, of which the last is that
+    of the two files apart, and the explanation or why there is none.
+    """
 
     name: str
     case: bytes
     proposal: bytes
-    judgement: archive.Judgement
+    rows: list
     explanation: Explanation | None
     fault: str = ""
-    expected: tuple | None = None
+    joined: bool = False
+
+    @property
+    def judgement(self):
+        return self.rows[-1].judgement
 
     @property
     def words(self):
@@ -63,11 +69,17 @@ class Drawn:
 
     @property
     def as_expected(self):
-        return None if self.expected is None else self.judgement.verdict == self.expected
+        """Whether all is as the text expects; None where there is none that does."""
+        return None if self.rows[-1].expected is None else all(row.as_expected for row in self.rows)
 
     @property
     def good(self):
-        return self.judgement.accepted if self.expected is None else self.as_expected
+        return all(row.good for row in self.rows)
+
+    @property
+    def missed(self):
+        """The answers that are not as expected."""
+        return [row for row in self.rows if row.as_expected is False]
 
     @property
     def sums(self):
@@ -79,13 +91,12 @@ class Drawn:
 def drawn_hour(source, folder=None):
     """An hour, judged. In a folder it is named from there."""
     read, name = source.read(), source.name if folder is None else os.path.relpath(source.name, folder)
-    judgement, found, fault = archive.judge(read.case, read.proposal), None, ""
+    rows, found, fault = judging.rows_of(name, read), None, ""
     try:
-        found = explain(read.case, read.proposal, judgement)
+        found = explain(read.case, read.proposal, rows[-1].judgement)
     except Disagreement as said:
         fault = str(said)
-    apart = None if read.expected is None else read.expected[1]
-    return Drawn(name, read.case, read.proposal, judgement, found, fault, apart)
+    return Drawn(name, read.case, read.proposal, rows, found, fault, source.kind == JOINED)
 
 
 def text(words):
@@ -129,10 +140,19 @@ def fact_words(one, sums):
         yield f"tolerance {euros(sums.tolerance)}"
 
 
+def due_words(row):
+    """What was expected and is not so. The answer to the joined file is not otherwise on the page."""
+    if row.way != "joined":
+        return row.due()
+    return "{} of the joined file, which is answered {} {}".format(row.due(), *row.judgement.verdict)
+
+
 def expected_words(one):
-    if one.expected is None:
+    if one.as_expected is None:
         return ""
-    words = "✓ as its text expects" if one.as_expected else "✗ its text expects {} {}".format(*one.expected)
+    words = "✓ as its text expects"
+    if one.missed:
+        words = "✗ its text expects " + "; ".join(map(due_words, one.missed))
     return element("p", words, "good-text" if one.as_expected else "bad-text")
 
 
@@ -167,6 +187,8 @@ def where(one):
     rows += [("with", f"{other.name}: {other.value}; {other.place()}") for other in others[:MOST_PARTS]]
     if len(others) > MOST_PARTS:
         rows.append(("with", f"and {len(others) - MOST_PARTS} more"))
+    if one.joined and any(field.file == "proposal" for field in one.explanation.fields):
+        rows.append(("joined", account.joined_words(one.case)))
     body = "".join(element("dt", name) + element("dd", text(words)) for name, words in rows if words)
     shown = marked_bytes({"case": one.case, "proposal": one.proposal}[first.file], first) if first.size else ""
     return element("div", element("dl", body, "where") + shown, "card")
@@ -354,8 +376,8 @@ def hour_body(one, level, named):
 def hour_row(one, place, money, expecting):
     """An hour's row in the first table."""
     glyph, held = "✓" if one.judgement.accepted else "✗", ""
-    if one.expected is not None:
-        held = "✓" if one.as_expected else "✗ {} {}".format(*one.expected)
+    if one.as_expected is not None:
+        held = "✓" if one.as_expected else "✗ " + "; ".join(f"{row.due()} {row.way}".rstrip() for row in one.missed)
     words = "accepted" if one.judgement.accepted and one.explanation else text(one.words)
     cells = element("th", element("a", text(one.name), href=f"#hour-{place}"), "left")
     cells += element("td", f"{glyph} {one.judgement.number}") + element("td", str(one.judgement.index))
@@ -365,7 +387,7 @@ def hour_row(one, place, money, expecting):
 
 
 def hours_table(hours):
-    expecting = any(one.expected is not None for one in hours)
+    expecting = any(one.as_expected is not None for one in hours)
     columns = (judging.money_column([getattr(one.judgement, name) for one in hours]) for name in judging.COLUMNS)
     rows = (hour_row(one, place, money, expecting) for place, (one, money) in enumerate(zip(hours, zip(*columns))))
     names = ["verdict", "index"] + ["as expected"] * expecting
@@ -393,7 +415,7 @@ def summary(hours, unread):
     yield amounts.counted(len(hours), "hour")
     yield f"✓ {accepted:,} accepted"
     yield f"✗ {len(hours) - accepted:,} refused"
-    held = [one.as_expected for one in hours if one.expected is not None]
+    held = [one.as_expected for one in hours if one.as_expected is not None]
     if held:
         yield f"{sum(held):,} as their texts expect, {len(held) - sum(held):,} not"
     if unread:
@@ -428,9 +450,11 @@ def page_of_many(title, hours, unread):
     return whole(title, body)
 
 
-def page(files, sources):
-    """The page of what a command line named. What cannot be read is named on a page of many, and ends that of one."""
-    if len(sources) == 1 and not os.path.isdir(files[0]):
+def page(files, sources, complain=lambda fault: None):
+    """The page of what a command line named. What cannot be read is named on a page of many, of which complain is told,
+    and ends that of one.
+    """
+    if len(sources) == 1 and (sources[0].kind == UNREAD or not os.path.isdir(files[0])):
         return page_of_one(drawn_hour(sources[0]))
     hours, unread = [], []
     folder = files[0] if len(files) == 1 else None
@@ -439,4 +463,5 @@ def page(files, sources):
             hours.append(drawn_hour(source, folder if folder and os.path.isdir(folder) else None))
         except InputError as fault:
             unread.append(str(fault))
+            complain(fault)
     return page_of_many(" ".join(files), hours, unread)
