@@ -8,7 +8,20 @@ import tempfile
 
 from . import account, archive, hour, judging
 from .causes import Disagreement, explain
-from .inputs import JOINED, InputError, gather, one_hour, printable, read, text_hour, why_not
+from .inputs import (
+    CASE,
+    JOINED,
+    PROPOSAL,
+    TEXT,
+    InputError,
+    gather,
+    kind_of,
+    one_hour,
+    printable,
+    read,
+    text_hour,
+    why_not,
+)
 from .telling import tell
 
 HELP = """\
@@ -35,7 +48,8 @@ have every decimal. Without a FILE it reads a joined hour from standard input.
 explain says the verdict in words: the field, its offset in decimal and hex, its value and its limit; and of an hour
 whose files are in order its zones, branches and links, and the gap's parts, largest first.
 page writes one page that a browser shows, for an hour or for all hours of a folder; without -o it is named after it.
-show prints the text of a case and a proposal. Building that text gives back the same bytes, however broken.
+show prints the text of a case and a proposal, of a joined file, or of the files that a text gives. Building that text
+gives back the same bytes, however broken.
 field says which field of the last file named stands at OFFSET, a number or hex digits after 0x.
 build writes the files asked for, - being standard output; without one it says the two sizes.
 Nothing that is there is written over without --force.
@@ -183,9 +197,25 @@ def page_name(files, sources):
     return f"{stem}.html"
 
 
+def refuse_to_show(files, way):
+    """Files whose names say that they are not what show would take them for."""
+    takes = "show takes a case and a proposal, one joined file, or one text"
+    if len(files) > 2:
+        raise Failure(f"{files[2]}: {takes}")
+    if way is None and kind_of(files[0]) == PROPOSAL:
+        raise InputError(files[0], "a proposal is shown after its case")
+    if len(files) == 2:
+        for path, kinds in zip(files, ((CASE, None), (PROPOSAL, None))):
+            if path != "-" and kind_of(path) not in kinds:
+                raise InputError(path, takes)
+
+
 def run_show(options):
-    if len(options.files) > 2:
-        raise Failure(f"{options.files[2]}: show takes a case and a proposal, or one joined file")
+    refuse_to_show(options.files, options.way)
+    if options.way is None and kind_of(options.files[0]) == TEXT:
+        built = text_hour(options.files[0], read(options.files[0]))
+        put(hour.show(built.case, built.proposal))
+        return 0
     first = read(options.files[0])
     if len(options.files) == 2:
         put(hour.show(first, read(options.files[1])))
@@ -228,14 +258,22 @@ def run_help(options):
 
 def parser():
     top = Parser(prog="lta", add_help=False, allow_abbrev=False)
-    commands = top.add_subparsers(dest="command", required=True, parser_class=Parser)
+    commands = top.add_subparsers(dest="command", parser_class=Parser)
+    top.set_defaults(needed="command")
 
     def command(name, run, ways=()):
         made = commands.add_parser(name, add_help=False, allow_abbrev=False)
-        made.set_defaults(run=run, way=None)
+        made.set_defaults(run=run, way=None, needed=None)
         group = made.add_mutually_exclusive_group()
         for way in ways:
             group.add_argument(f"--{way}", dest="way", action="store_const", const=way)
+        return made
+
+    def needing(name, run, ways=()):
+        """A command over files. That some are needed is asked after the options, so that a wrong one is named first."""
+        made = command(name, run, ways)
+        made.add_argument("files", nargs="*")
+        made.set_defaults(needed="files")
         return made
 
     judge = command("judge", run_judge, ("pairs", "joined"))
@@ -243,20 +281,28 @@ def parser():
     form = judge.add_mutually_exclusive_group()
     form.add_argument("--csv", dest="form", action="store_const", const="csv")
     form.add_argument("--json", dest="form", action="store_const", const="json")
-    command("explain", run_explain, ("pairs", "joined")).add_argument("files", nargs="+")
-    page = command("page", run_page, ("pairs", "joined"))
-    page.add_argument("files", nargs="+")
+    needing("explain", run_explain, ("pairs", "joined"))
+    page = needing("page", run_page, ("pairs", "joined"))
     page.add_argument("-o", dest="out")
     page.add_argument("--force", action="store_true")
-    command("show", run_show, ("joined",)).add_argument("files", nargs="+")
-    command("field", run_field).add_argument("files", nargs="+")
+    needing("show", run_show, ("joined",))
+    needing("field", run_field)
     build = command("build", run_build)
-    build.add_argument("text")
+    build.add_argument("text", nargs="?")
+    build.set_defaults(needed="text")
     for name in ("case", "proposal", "joined"):
         build.add_argument(f"--{name}")
     build.add_argument("--force", action="store_true")
     command("help", run_help).add_argument("topic", nargs="?", choices=("text",))
     return top
+
+
+def parsed(arguments):
+    taker = parser()
+    options = taker.parse_args(arguments)
+    if options.needed is not None and not getattr(options, options.needed):
+        taker.error(f"the following arguments are required: {options.needed}")
+    return options
 
 
 def main(arguments):
@@ -268,7 +314,7 @@ def main(arguments):
             word in ("--help", "-h") for word in arguments[: arguments.index("--") if "--" in arguments else None]
         ):
             arguments = ["help"]
-        options = parser().parse_args(arguments)
+        options = parsed(arguments)
         status = options.run(options)
         if sys.stdout is not None:
             sys.stdout.flush()

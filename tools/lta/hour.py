@@ -107,6 +107,7 @@ REPORTED = (0, 26)
 HEX_BYTES_PER_LINE = 32
 LONGEST = 64 * 2**20  # bytes that are read of a file; a legal hour has at most 12,443
 CHUNK = 2**20
+MOST_QUOTED = 40  # characters of a wrong word that a message repeats
 
 
 class TextError(ValueError):
@@ -158,13 +159,18 @@ def demanded_length(file, counts):
 # Text to bytes.
 
 
+def short(word):
+    """A word as a message quotes it: of a long one the beginning."""
+    return word if len(word) <= MOST_QUOTED else word[:MOST_QUOTED] + "..."
+
+
 def number(word, name, code):
     """The whole number of a word, refused when the field's bits cannot hold it."""
     if not WHOLE_NUMBER.fullmatch(word):
-        raise ValueError(f"{name} {word!r} is not a whole number")
+        raise ValueError(f"{name} {short(word)!r} is not a whole number")
     least, greatest = RANGES[code]
     if len(word) > 20 or not least <= int(word) <= greatest:
-        raise ValueError(f"{name} {word} is not from {least} to {greatest}")
+        raise ValueError(f"{name} {short(word)} is not from {least} to {greatest}")
     return int(word)
 
 
@@ -173,7 +179,7 @@ def value(word, name, code):
     if name == "side" and word in SIDES:
         return SIDES.index(word)
     if name == "side" and not WHOLE_NUMBER.fullmatch(word):
-        raise ValueError(f"side {word!r} is not buy, sell or a number")
+        raise ValueError(f"side {short(word)!r} is not buy, sell or a number")
     return number(word, name, code)
 
 
@@ -182,19 +188,19 @@ def named_numbers(words, codes):
     found = {}
     for name, word in zip(words[::2], words[1::2]):
         if name not in codes:
-            raise ValueError(f"{name!r} is not one of {', '.join(codes)}")
+            raise ValueError(f"{short(name)!r} is not one of {', '.join(codes)}")
         if name in found:
             raise ValueError(f"{name} stands twice")
         found[name] = number(word, name, codes[name])
     if len(words) % 2:
-        raise ValueError(f"{words[-1]!r} has no number")
+        raise ValueError(f"{short(words[-1])!r} has no number")
     return found
 
 
 def hex_bytes(words):
     digits = "".join(words)
     if not HEX_PAIRS.fullmatch(digits):
-        raise ValueError(f"{digits!r} is not pairs of hex digits")
+        raise ValueError(f"{short(digits)!r} is not pairs of hex digits")
     return bytes.fromhex(digits)
 
 
@@ -219,7 +225,7 @@ def sheet_numbers(sheet, columns):
         for field, (name, _, _) in zip(fields, columns):
             text, found = field.decode("ascii", "backslashreplace"), SHEET_NUMBER.fullmatch(field)
             if found is None:
-                refuse_line(51, index, f"{name} {text!r} is no number")
+                refuse_line(51, index, f"{name} {short(text)!r} is no number")
             row.append((text, *found.groups(b"")))
         table.append(row)
     return table
@@ -234,7 +240,7 @@ def sheet_branches(sheet, zones):
     for index, row in enumerate(table):
         for (text, _, _, fraction), (name, decimals, _) in zip(row, columns):
             if fraction[decimals:].strip(b"0"):
-                refuse_line(52, index, f"{name} {text} goes past {decimals} decimals")
+                refuse_line(52, index, f"{name} {short(text)} goes past {decimals} decimals")
     branches = []
     for index, row in enumerate(table):
         branch = []
@@ -242,7 +248,7 @@ def sheet_branches(sheet, zones):
             digits = (whole + fraction[:decimals].ljust(decimals, b"0")).lstrip(b"0") or b"0"
             if len(digits) > len(str(most)) or int(digits) > most:
                 limit = most // 10**decimals
-                refuse_line(53, index, f"{name} {text} is not from -{limit} to {limit}")
+                refuse_line(53, index, f"{name} {short(text)} is not from -{limit} to {limit}")
             # Sheets count export positive, a case import: the PTDFs turn, and the margin does not.
             negative = bool(sign) != (name == "PTDF")
             branch.append(-int(digits) if negative else int(digits))
@@ -283,7 +289,7 @@ class Hour:
         elif keyword in ("cut", "append", "byte"):
             self.take_edit(line, keyword, words)
         else:
-            raise ValueError(f"{keyword!r} is not an item of an hour")
+            raise ValueError(f"{short(keyword)!r} is not an item of an hour")
 
     def take_header(self, line, file, words):
         if file in self.headers:
@@ -301,7 +307,7 @@ class Hour:
         if file not in self.headers:
             raise ValueError(f"{kind} before the {file} line")
         if kind == "branch" and self.sheet is not None:
-            raise ValueError(f"branch beside the sheet {self.sheet}")
+            raise ValueError(f"branch beside the sheet {short(self.sheet)}")
         fields = record_fields(kind, self.zones())
         if len(words) != len(fields):
             wanted = ", ".join(name for name, _ in FIELDS[kind])
@@ -322,9 +328,9 @@ class Hour:
         try:
             self.records["branch"] = sheet_branches(read_bytes(os.path.join(self.folder, self.sheet)), self.zones())
         except OSError as fault:
-            raise ValueError(f"{self.sheet}: {fault.strerror}") from None
+            raise ValueError(f"{short(self.sheet)}: {fault.strerror}") from None
         except ValueError as fault:
-            raise ValueError(f"{self.sheet}: {fault}") from None
+            raise ValueError(f"{short(self.sheet)}: {fault}") from None
 
     def take_mark(self, words):
         if not self.headers:
@@ -332,7 +338,7 @@ class Hour:
         if len(words) != 1:
             raise ValueError(f"mark takes 1 value, not {len(words)}")
         if not MARK.fullmatch(words[0]):
-            raise ValueError(f"mark {words[0]!r} is not three characters or six hex digits")
+            raise ValueError(f"mark {short(words[0])!r} is not three characters or six hex digits")
         mark = words[0].encode("ascii") if len(words[0]) == 3 else hex_bytes(words)
         self.marks[list(self.headers)[-1]] = mark
 
@@ -345,7 +351,7 @@ class Hour:
     def take_edit(self, line, edit, words):
         file, *words = words or [""]
         if file not in HEADERS:
-            raise ValueError(f"{edit} takes case or proposal first, not {file!r}")
+            raise ValueError(f"{edit} takes case or proposal first, not {short(file)!r}")
         wanted = {"cut": 1, "byte": 2}.get(edit, len(words))
         if len(words) != wanted:
             raise ValueError(f"{edit} {file} takes {wanted} values, not {len(words)}")
@@ -411,13 +417,14 @@ def expected(text):
     """The verdict of the joined file, that of the two files apart, and the totals in microcents by name."""
     found = {}
     for line, content in enumerate(text.split("\n"), 1):
+        content = content.rstrip("\r")
         match = EXPECTATION.match(content)
         if match is None:
             continue
         name, rest = match.groups()
         values = (EUROS if name == "totals" else VERDICT).fullmatch(rest)
         if values is None:
-            raise TextError(line, f"{content!r} is no {name} line")
+            raise TextError(line, f"{short(content)!r} is no {name} line")
         if name in found:
             raise TextError(line, f"a second {name} line")
         found[name] = values.groups()
@@ -632,7 +639,7 @@ def read_bytes(path):
 def offset_of(word):
     """The offset that a word says, a number or hex digits after 0x."""
     if not OFFSET.fullmatch(word):
-        raise OffsetError(f"offset {word!r} is not a whole number, nor hex digits after 0x")
+        raise OffsetError(f"offset {short(word)!r} is not a whole number, nor hex digits after 0x")
     if len(word) > 20:
-        raise OffsetError(f"offset {word} is past the end of every file")
+        raise OffsetError(f"offset {short(word)} is past the end of every file")
     return int(word, 16 if word[1:2] in ("x", "X") else 10)

@@ -153,15 +153,22 @@ def closing(rows, unread):
     return "; ".join(said)
 
 
+def fixed_totals(totals):
+    """All totals by name, None for those that are not there."""
+    return {name: amounts.fixed(totals[name], MONEY_DECIMALS) if name in totals else None for name in hour.TOTALS}
+
+
 def record(row):
     """A row for machines: amounts in euros with all their decimals, as text, since they can pass what a float holds."""
     judgement = row.judgement
     made = {"file": row.name, "number": judgement.number, "index": judgement.index, "text": judgement.text}
-    for name in hour.TOTALS:
-        total = getattr(judgement, name)
-        made[name] = None if total is None else amounts.fixed(total, MONEY_DECIMALS)
+    made.update(fixed_totals(judgement.totals))
     made["prices"] = [amounts.fixed(price, PRICE_DECIMALS) for price in judgement.prices]
-    made["expected"] = None if row.expected is None else dict(zip(("number", "index"), row.expected[0]))
+    made["expected"] = None
+    if row.expected is not None:
+        verdict, totals = row.expected
+        due = totals if verdict[0] in hour.REPORTED else {}
+        made["expected"] = {"number": verdict[0], "index": verdict[1], **fixed_totals(due)}
     made["as_expected"] = row.as_expected
     return made
 
@@ -173,12 +180,14 @@ def as_json(rows):
 def as_csv(rows):
     out = io.StringIO()
     writer = csv.writer(out, lineterminator="\n")
-    writer.writerow(["file", "number", "index", "text", *hour.TOTALS, "prices", "expected", "as_expected"])
+    dues = [f"expected_{name}" for name in hour.TOTALS]
+    writer.writerow(["file", "number", "index", "text", *hour.TOTALS, "prices", "expected", "as_expected", *dues])
     for row in rows:
         made = record(row)
         due, held = made["expected"], made["as_expected"]
         made["prices"] = " ".join(made["prices"])
         made["expected"] = "{number} {index}".format(**due) if due else ""
         made["as_expected"] = "" if held is None else "yes" if held else "no"
+        made.update({f"expected_{name}": due[name] if due else None for name in hour.TOTALS})
         writer.writerow("" if value is None else value for value in made.values())
     return out.getvalue()
