@@ -368,7 +368,7 @@ class BadText(unittest.TestCase):
             "order 0 256 1 1": "side 256 is not from 0 to 255",
             "order 0 buy 1.5 1": "quantity '1.5' is not a whole number",
             "order 0 buy 1 -2147483649": "price -2147483649 is not from -2147483648 to 2147483647",
-            "order 0 buy 1 " + "9" * 5000: "price " + "9" * 5000 + " is not from -2147483648 to 2147483647",
+            "order 0 buy 1 " + "9" * 5000: "price " + "9" * 40 + "... is not from -2147483648 to 2147483647",
             "order 0 buy 1 1_0": "price '1_0' is not a whole number",
             "volume 1": "volume before the proposal line",
             "case version 1 zones 2 tolerance 0": "a second case line",
@@ -468,7 +468,7 @@ class MarginSheet(unittest.TestCase):
             b"0,-0.000001": "line 1 (52 index 0): PTDF -0.000001 goes past 5 decimals",
             b"0,0\n50000.1,0": "line 2 (53 index 1): margin 50000.1 is not from -50000 to 50000",
             b"0,-2.00001": "line 1 (53 index 0): PTDF -2.00001 is not from -2 to 2",
-            b"9" * 5000 + b",0": f"line 1 (53 index 0): margin {'9' * 5000} is not from -50000 to 50000",
+            b"9" * 5000 + b",0": f"line 1 (53 index 0): margin {'9' * 40}... is not from -50000 to 50000",
             b"0,0\n" * 65: "(54) a sheet takes at most 64 lines, not 65",
         }
         for sheet, message in refusals.items():

@@ -159,9 +159,9 @@ def demanded_length(file, counts):
 # Text to bytes.
 
 
-def short(word):
+def short(word, most=MOST_QUOTED):
     """A word as a message quotes it: of a long one the beginning."""
-    return word if len(word) <= MOST_QUOTED else word[:MOST_QUOTED] + "..."
+    return word if len(word) <= most else word[:most] + "..."
 
 
 def number(word, name, code):
@@ -424,7 +424,7 @@ def expected(text):
         name, rest = match.groups()
         values = (EUROS if name == "totals" else VERDICT).fullmatch(rest)
         if values is None:
-            raise TextError(line, f"{short(content)!r} is no {name} line")
+            raise TextError(line, f"{short(content, 2 * MOST_QUOTED)!r} is no {name} line")
         if name in found:
             raise TextError(line, f"a second {name} line")
         found[name] = values.groups()
