@@ -7,8 +7,6 @@ use borrow.Author.Count.{below-more}
 use lib.ListN.{length, getD, set, length-set}
 use lib.Seq.{getD-set-same, getD-set-other}
 use lib.IntN.{ℤ, pos, _+ℤ_, _*ℤ_, +ℤ-assoc}
-use mir.Syntax.{w64}
-use mir.Val.{SFits}
 use Rattle.integers.specs.Ranges.{Within}
 use Rattle.integers.specs.Sums.{sumTo, sum-more}
 use Rattle.measures.specs.Meaning.Limits as limits

@@ -12,7 +12,7 @@ use lib.IntN.{ℤ, pos, negℤ}
 use Rattle.integers.specs.Ranges.{Range, outside}
 use Rattle.integers.specs.Bytes.{signed32}
 use Rattle.measures.specs.Meaning.Limits as limits
-use Rattle.rules.specs.Meaning.Layout.{caseHeader, zonesIn, branchesIn, zoneCounts, branchFieldAt}
+use Rattle.rules.specs.Meaning.Layout.{caseHeader, zonesIn, branchesIn, zoneCounts}
 use Rattle.rules.specs.Meaning.Hour.{caseOf}
 use Rattle.rows.specs.declared.Outcome.{Outcome}
 use Rattle.rows.specs.Meaning.Rows.{Row, anyBelow, refusal, answer, once, each, Pass}

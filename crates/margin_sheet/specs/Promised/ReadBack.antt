@@ -19,8 +19,7 @@ use Rattle.rules.specs.Steps.LayoutLaws.{signed-there}
 use Rattle.rules.specs.Meaning.Hour.{caseOf}
 use Rattle.rows.specs.Promised.RowLaws.{any-none}
 use Rattle.rules.specs.Meaning.Verdict.{branchFault}
-use Rattle.numerals.specs.Meaning.Numeral.{value}
-use Rattle.margin_sheet.specs.Meaning.Sheet.{limit, entry, Header, Holds, fieldOf, entryOf, lineOf, lineCount, branchPart, entryBytes, lineBytes, sheetBytes, sheetOutcome, sheetWritten, sheetOutput}
+use Rattle.margin_sheet.specs.Meaning.Sheet.{limit, entry, Header, Holds, entryOf, lineOf, lineCount, branchPart, entryBytes, lineBytes, sheetBytes, sheetOutcome, sheetWritten, sheetOutput}
 use Rattle.margin_sheet.specs.Promised.Causes.{sheet-writes}
 use Rattle.margin_sheet.specs.Promised.Answered.{not-outside}
 use Rattle.margin_sheet.specs.Steps.Lines.{signed-length, entries-length, lines-length}
