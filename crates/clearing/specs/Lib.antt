@@ -1,5 +1,4 @@
--- What the stages of the clearing cite: arrays by zone, the parts while links are taken off, what earlier verdicts leave, and the terms of the welfare
+-- What the stages of the clearing cite: arrays by zone, the parts while links are taken off, and what earlier verdicts leave
 pub mod Held
 pub mod Parts
 pub mod Stages
-pub mod Terms

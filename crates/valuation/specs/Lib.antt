@@ -1,3 +1,2 @@
--- Prices by zone, and the terms of the totals
-pub mod Prices
-pub mod Terms
+-- The rent while the prices are asked
+pub mod Rent

@@ -1,13 +1,12 @@
 -- `case_branches::walk_ptdfs` meets its contract. Where none is out of range the row passes. Else the loop's invariant: the cursor stands past as many PTDFs
 -- as turns, none of which is out of range. They stand within the file, so that none is missing. The measure is what is left of the zones. Assumes nothing.
 use mathlib.Core.Path.{_≡_, refl, sym, ap, _∙_}
-use mathlib.Core.Bool.{not}
+use mathlib.Core.Bool.{true, false}
 use mathlib.Core.List.{List}
 use mathlib.Core.Option.{none}
 use Prim.Native.Nat.{ℕ, _+_, _*_, _-_, _≤_, _<_}
 use native.Mathlib.Omega.{arith}
 use borrow.Author.Needs.{needs}
-use lib.Dec.{T}
 use lib.ListN.{length}
 use Rattle.integers.specs.Ranges.{outside}
 use Rattle.measures.specs.Meaning.Limits as limits
@@ -17,10 +16,8 @@ use Rattle.rules.specs.Meaning.Layout.{i32At}
 use Rattle.rows.specs.Meaning.Rows.{firstBelow}
 use Rattle.rows.specs.Promised.RowLaws.{first-none, first-later, no-place}
 use Rattle.fields.specs.declared.Cursor.{Cursor}
-use Rattle.fields.specs.declared.Walked.the-variants.{Past}
-use Rattle.fields.specs.Walk.{cursor, raw, signedField, Took, signed-took, signed-short}
-use Rattle.fields.specs.Walked.{refusedAt, walk-stops, walk-ends}
-use Rattle.case_branches.specs.Branch.{ptdfFault, ptdfsRow, not-some}
+use Rattle.fields.specs.Walk.{raw, signedField, Took, signed-took, signed-short}
+use Rattle.case_branches.specs.Branch.{ptdfFault, ended, ptdfs-stop, ptdfs-end, not-some}
 use Rattle.case_branches.proofs.walk_ptdfs.Statement.{statement}
 use Rattle.case_branches.proofs.walk_ptdfs.Tie as tie
 
@@ -43,15 +40,18 @@ add-new c = let a = c .before .before .before in omega (arith, a .pre .1 .0, a .
 new-requires : tie.Need-new-requires Inv-loop μ-loop
 new-requires c κs = search needs
 
+ptdfs-end-requires : tie.Need-ptdfs-end-requires Inv-loop μ-loop
+ptdfs-end-requires c κs = search needs
+
 returns : tie.Need-returns Inv-loop μ-loop
 returns c =
-    let t = c .before in
+    let t = c .before .before in
     let o = t .before in
     let a = o .before .before in
     let s = a .args .«case» .now in
-    let r = ptdfsRow s (a .args .start .at) (a .args .zones) in
-    ap Past (c .new .ensures)
-    ∙ walk-ends r (cursor (a .args .start .at + 4 * a .args .zones)) (a .args .zones) (first-none (a .args .zones) (ptdfFault s (a .args .start .at)) (no-place (a .args .zones) (ptdfFault s (a .args .start .at)) (not-some _ (o .some-outside .ensures) (t .if1 .taken)))) (omega arith) (omega arith)
+    let f = ptdfFault s (a .args .start .at) in
+    c .ptdfs-end .ensures ∙ ap (λ (d : Cursor). record { cursor = d; fault = false }) (c .before .new .ensures)
+    ∙ ptdfs-end s (a .args .start .at) (a .args .zones) (a .args .zones) (first-none (a .args .zones) f (no-place (a .args .zones) f (not-some _ (o .some-outside .ensures) (t .if1 .taken)))) (omega arith) (omega arith)
 
 -- THE FIRST THAT IS
 loop-holds : tie.Need-loop-holds Inv-loop μ-loop
@@ -91,8 +91,8 @@ of-ptdf c = c .before .before .before
 ptdf-took : (c : tie.After-ptdf Inv-loop μ-loop) → let l = of-ptdf c in Took (file l) (at l) 4 (raw (i32At (file l) (at l))) (c .ptdf .given .0 .0) (c .ptdf .given .0 .1 .0)
 ptdf-took c = let l = of-ptdf c in signed-took (file l) (at l) (sym (ptdf-is (c .before .before)) ∙ c .ptdf .given .1)
 
-refuse-requires : tie.Need-refuse-requires Inv-loop μ-loop
-refuse-requires c κs = let l = c .before .before .before in omega (arith, l .before .loop .inv .1, inside l)
+ptdfs-end-requires-2 : tie.Need-ptdfs-end-requires-2 Inv-loop μ-loop
+ptdfs-end-requires-2 c κs = search needs
 
 returns-2 : tie.Need-returns-2 Inv-loop μ-loop
 returns-2 c =
@@ -116,8 +116,8 @@ ptdf-of c = c .before .before
 ptdf-test : (c : tie.After-new2 Inv-loop μ-loop) → let l = of-ptdf (ptdf-of c) in ptdfFault (file l) (base l .args .start .at) (zone l) ≡ outside limits.ptdf (ptdf-of c .ptdf .given .0 .0 .0)
 ptdf-test c = ap (λ (x : Raw). outside limits.ptdf (x .0)) (sym (ptdf-took (ptdf-of c) .is))
 
-refuse-requires-2 : tie.Need-refuse-requires-2 Inv-loop μ-loop
-refuse-requires-2 c κs = let l = of-ptdf (ptdf-of (c .before .before)) in omega (arith, l .before .loop .inv .1, inside l)
+ptdfs-end-requires-3 : tie.Need-ptdfs-end-requires-3 Inv-loop μ-loop
+ptdfs-end-requires-3 c κs = search needs
 
 returns-3 : tie.Need-returns-3 Inv-loop μ-loop
 returns-3 c =
@@ -125,8 +125,8 @@ returns-3 c =
     let n = e .before .before in
     let l = of-ptdf (ptdf-of n) in
     let a = base l in
-    c .refuse2 .ensures ∙ ap (refusedAt 6) (l .before .loop .inv .1)
-    ∙ walk-stops (ptdfsRow (file l) (a .args .start .at) (a .args .zones)) (cursor (a .args .start .at + 4 * a .args .zones)) (zone l) (l .before .loop .inv .2) (l .loop-test .taken)
+    c .ptdfs-end3 .ensures ∙ ap (λ (n : ℕ). ended n true) (l .before .loop .inv .1)
+    ∙ ptdfs-stop (file l) (a .args .start .at) (a .args .zones) (zone l) (l .before .loop .inv .2) (l .loop-test .taken)
     (ptdf-test n ∙ ptdf-outside _ _ (sym (n .new2 .ensures) ∙ e .enum-told3 .given .1))
 
 add-counter : tie.Need-add-counter Inv-loop μ-loop
@@ -144,13 +144,17 @@ loop-again c =
       first-later (ptdfFault (file l) (base l .args .start .at)) (zone l) (l .before .loop .inv .2) (ptdf-test n ∙ (ptdf-held _ _ (c .enum-told2 .given .0 .0) (sym (n .new2 .ensures) ∙ c .enum-told2 .given .1)) .0),
     )
 
+ptdfs-end-requires-4 : tie.Need-ptdfs-end-requires-4 Inv-loop μ-loop
+ptdfs-end-requires-4 c κs = search needs
+
 returns-4 : tie.Need-returns-4 Inv-loop μ-loop
 returns-4 c =
-    let l = c .before in
+    let e = c .before in
+    let l = e .before in
     let a = l .before .before .before .before in
-    let all : l .loop .counter ≡ a .args .zones = omega (arith, l .loop .inv .0, c .loop-test .left) in
-    ap (λ (n : ℕ). Past (cursor n)) (l .loop .inv .1 ∙ ap (λ (n : ℕ). a .args .start .at + 4 * n) all)
-    ∙ walk-ends (ptdfsRow (a .args .«case» .now) (a .args .start .at) (a .args .zones)) (cursor (a .args .start .at + 4 * a .args .zones)) (l .loop .counter) (l .loop .inv .2) (omega (arith, all)) (omega (arith, all))
+    let all : l .loop .counter ≡ a .args .zones = omega (arith, l .loop .inv .0, e .loop-test .left) in
+    c .ptdfs-end4 .ensures ∙ ap (λ (n : ℕ). ended n false) (l .loop .inv .1 ∙ ap (λ (n : ℕ). a .args .start .at + 4 * n) all)
+    ∙ ptdfs-end (a .args .«case» .now) (a .args .start .at) (a .args .zones) (l .loop .counter) (l .loop .inv .2) (omega (arith, all)) (omega (arith, all))
 
 pub walk-ptdfs-spec : {M : Type 1} → statement M
 walk-ptdfs-spec =
@@ -162,19 +166,21 @@ walk-ptdfs-spec =
     mul-new
     add-new
     new-requires
+    ptdfs-end-requires
     returns
     loop-holds
     signed-requires
     enum-known-ptdf
     enum-told
-    refuse-requires
+    ptdfs-end-requires-2
     returns-2
     new-requires-2
     enum-told-2
     enum-told-3
-    refuse-requires-2
+    ptdfs-end-requires-3
     returns-3
     add-counter
     loop-less
     loop-again
+    ptdfs-end-requires-4
     returns-4)

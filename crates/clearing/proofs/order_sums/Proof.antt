@@ -10,19 +10,18 @@ use lib.Dec.{eqb, nltb→le}
 use lib.IntN.{ℤ, pos, _+ℤ_, _*ℤ_}
 use lib.Signed.{ltZ}
 use mir.Syntax.{w64}
-use Rattle.integers.specs.Sums.{sumTo, only, sum-scale-l}
+use Rattle.integers.specs.Sums.{sumTo, only}
 use Rattle.integers.specs.Size.{near-fits, near-mul, near-unsigned}
 use Rattle.integers.specs.Machine.{SumsFit, step, step-fits, sfits-by}
-use Rattle.measures.specs.Meaning.Limits.{partsInOne, grainsOf}
+use Rattle.measures.specs.Meaning.Limits.{partsInOne}
 use Rattle.rules.specs.Meaning.Hour.{Case, Plan, caseOf, planOf, signed, buys, orderNet, net, orderWelfare, welfare}
 use Rattle.rows.specs.Meaning.Rows.{firstBelow}
 use Rattle.rows.specs.Promised.RowLaws.{first-here, first-later, first-nowhere, not-below}
 use Rattle.rules.specs.Meaning.Verdict.{over}
 use Rattle.rules.specs.Steps.Passed.{case-sound}
-use Rattle.rules.specs.Promised.Fits.{in-grains, near-zone-price, net-sums, welfare-sums}
+use Rattle.rules.specs.Promised.Fits.{near-order-price, net-sums, welfare-sums, welfare-near}
 use Rattle.orders.specs.declared.Order.{Order}
 use Rattle.case_header.specs.declared.Counts.{Counts}
-use Rattle.clearing.specs.Terms.{order-value}
 use Rattle.clearing.specs.Held.{tenthsAt, Holds, zeros-hold, keyed, keyed-next, keyed-set}
 use Rattle.clearing.proofs.order_sums.Statement.{statement}
 use Rattle.clearing.proofs.order_sums.Tie as tie
@@ -31,7 +30,7 @@ abbrev Inv-loop : tie.InvT-loop
 Inv-loop case k proposal orders nets₀ welfare₀ i₀ nets welfare i =
     (i ≤ k .orders)
     × ((firstBelow i (λ j. over ((caseOf case) .quantity j) ((planOf case proposal) .volume j)) ≡ none)
-    × (Holds (keyed ((caseOf case) .zone) (orderNet (caseOf case) (planOf case proposal)) i) nets × (welfare .0 ≡ sumTo i (λ j. pos partsInOne *ℤ orderWelfare (caseOf case) (planOf case proposal) j))))
+    × (Holds (keyed ((caseOf case) .zone) (orderNet (caseOf case) (planOf case proposal)) i) nets × (welfare .0 ≡ sumTo i (λ j. orderWelfare (caseOf case) (planOf case proposal) j))))
 
 abbrev μ-loop : tie.MeasureT-loop
 μ-loop case k proposal orders nets₀ welfare₀ i₀ nets welfare i = k .orders - i
@@ -86,7 +85,7 @@ held c j h = nltb→le _ _ (not-below _ _ (passed c) j h)
 net-fit : (c : tie.Else1 Inv-loop μ-loop) (z : ℕ) → SumsFit (λ j. only (eqb (hour (c .before .before .before .before .before .before .before .before .before) .zone j) z) (orderNet (hour (c .before .before .before .before .before .before .before .before .before)) (plan (c .before .before .before .before .before .before .before .before .before)) j)) (c .before .before .before .before .before .before .loop .i + 1)
 net-fit c z = net-sums _ (case-sound _ (c .before .before .before .before .before .before .before .before .before .pre .opened .readable)) _ _ (omega (arith, inside (c .before .before .before .before .before))) (held c) z
 
-welfare-fit : (c : tie.Else1 Inv-loop μ-loop) → SumsFit (λ j. pos partsInOne *ℤ orderWelfare (hour (c .before .before .before .before .before .before .before .before .before)) (plan (c .before .before .before .before .before .before .before .before .before)) j) (c .before .before .before .before .before .before .loop .i + 1)
+welfare-fit : (c : tie.Else1 Inv-loop μ-loop) → SumsFit (λ j. orderWelfare (hour (c .before .before .before .before .before .before .before .before .before)) (plan (c .before .before .before .before .before .before .before .before .before)) j) (c .before .before .before .before .before .before .loop .i + 1)
 welfare-fit c = welfare-sums _ (case-sound _ (c .before .before .before .before .before .before .before .before .before .pre .opened .readable)) _ _ (omega (arith, inside (c .before .before .before .before .before))) (held c)
 
 -- this order's zone, and what it adds
@@ -125,31 +124,23 @@ mul-nets c = omega (arith, zone-in (c .before .before .before .before .before .b
 array-set-from-nets : tie.Need-array-set-from-nets Inv-loop μ-loop
 array-set-from-nets c = zone-in (c .before .before .before .before .before .before)
 
-in-grains-requires : tie.Need-in-grains-requires Inv-loop μ-loop
-unfolding caseOf
-in-grains-requires c κs =
-    let o = c .before .before .before .before .before .before in
-    sfits-by w64 (ap (λ (o : Order). grainsOf (o .price .0)) (o .order-at .ensures))
-    (near-fits w64 (omega arith) (near-zone-price _ (in-grains _ ((case-sound _ (o .before .before .before .before .before .pre .opened .readable)) .price-in (o .before .before .loop .i) (inside (o .before))))))
-
-cost-requires : tie.Need-cost-requires Inv-loop μ-loop
+value-requires : tie.Need-value-requires Inv-loop μ-loop
 unfolding caseOf planOf
-cost-requires c κs =
+value-requires c κs =
     let e = c .before .before .before in
     let o = e .before .before .before .before in
     let i = o .before in
     let cs = case-sound _ (o .before .before .before .before .before .pre .opened .readable) in
-    sfits-by w64 (λ j. e .before .before .before .volume-at .ensures j *ℤ (c .in-grains .ensures ∙ ap (λ (o : Order). grainsOf (o .price .0)) (o .order-at .ensures)) j)
+    sfits-by w64 (λ j. e .before .before .before .volume-at .ensures j *ℤ (o .order-at .ensures j) .price .0)
     (near-fits w64 (omega arith) (near-mul (near-unsigned _ 100000 (omega (arith, cs .quantity-in (i .before .loop .i) (inside i), held e (i .before .loop .i) (omega arith))))
-    (near-zone-price _ (in-grains _ (cs .price-in (i .before .loop .i) (inside i))))))
+    (near-order-price _ (cs .price-in (i .before .loop .i) (inside i)))))
 
 -- this order's part of the welfare
-value-is : (c : tie.After-cost Inv-loop μ-loop) → signed (c .before .before .before .before .before .before .before .before .order-at .result .buys) (c .cost .result .0) ≡ pos partsInOne *ℤ orderWelfare (hour (c .before .before .before .before .before .before .before .before .before .before .before .before .before)) (plan (c .before .before .before .before .before .before .before .before .before .before .before .before .before)) (c .before .before .before .before .before .before .before .before .before .before .loop .i)
+value-is : (c : tie.After-value Inv-loop μ-loop) → signed (c .before .before .before .before .before .before .before .before .order-at .result .buys) (c .value .result .0) ≡ orderWelfare (hour (c .before .before .before .before .before .before .before .before .before .before .before .before .before)) (plan (c .before .before .before .before .before .before .before .before .before .before .before .before .before)) (c .before .before .before .before .before .before .before .before .before .before .loop .i)
 unfolding orderWelfare buys caseOf planOf
 value-is c =
     let o = c .before .before .before .before .before .before .before .before .order-at .ensures in
-    (λ j. signed ((o j) .buys) ((c .cost .ensures ∙ (λ i. c .before .before .before .before .before .before .before .volume-at .ensures i *ℤ (c .before .in-grains .ensures ∙ ap (λ (o : Order). grainsOf (o .price .0)) o) i)) j))
-    ∙ order-value (buys (hour (c .before .before .before .before .before .before .before .before .before .before .before .before .before)) (c .before .before .before .before .before .before .before .before .before .before .loop .i)) (pos (plan (c .before .before .before .before .before .before .before .before .before .before .before .before .before) .volume (c .before .before .before .before .before .before .before .before .before .before .loop .i))) (hour (c .before .before .before .before .before .before .before .before .before .before .before .before .before) .price (c .before .before .before .before .before .before .before .before .before .before .loop .i))
+    λ j. signed ((o j) .buys) ((c .value .ensures ∙ (λ i. c .before .before .before .before .before .before .before .volume-at .ensures i *ℤ (o i) .price .0)) j)
 
 welfare-with-order-requires : tie.Need-welfare-with-order-requires Inv-loop μ-loop
 welfare-with-order-requires c κs =
@@ -178,16 +169,30 @@ loop-again c =
       ),
     )
 
+-- after the last order
+ended : (c : tie.After-loop Inv-loop μ-loop) → c .before .loop .i ≡ hour (c .before .before .before .before) .orders
+ended c = omega (arith, orders-is (c .before .before .before .before))
+
+welfare-is : (c : tie.After-loop Inv-loop μ-loop) → pos partsInOne *ℤ c .before .loop .welfare .0 ≡ welfare (hour (c .before .before .before .before)) (plan (c .before .before .before .before))
+unfolding welfare
+welfare-is c =
+    let a = c .before .before .before .before in
+    ap (λ (x : ℤ). pos partsInOne *ℤ x) (c .before .loop .inv .1 .1 .1 ∙ ap (λ (n : ℕ). sumTo n (λ j. orderWelfare (hour a) (plan a) j)) (ended c))
+
+in-microcents-requires : tie.Need-in-microcents-requires Inv-loop μ-loop
+in-microcents-requires c κs =
+    let a = c .before .before .before .before in
+    sfits-by w64 (welfare-is c) (near-fits w64 (omega arith) (welfare-near _ (case-sound _ (a .pre .opened .readable)) _ (λ j h. nltb→le _ _ (not-below _ _ (c .before .loop .inv .1 .0) j (omega (arith, ended c))))))
+
 returns-2 : tie.Need-returns-2 Inv-loop μ-loop
-unfolding net welfare
+unfolding net
 returns-2 c =
-    let l = c .before in
-    let a = l .before .before .before in
-    let e : l .loop .i ≡ hour a .orders = omega (arith, orders-is a) in (
-      sym (first-nowhere _ (l .loop .i) (omega arith) (omega arith) (l .loop .inv .1 .0)),
+    let l = c .before .before in
+    let a = l .before .before .before in (
+      sym (first-nowhere _ (l .loop .i) (omega (arith, ended (c .before))) (omega (arith, ended (c .before))) (l .loop .inv .1 .0)),
       (
-        λ n. subst (λ (n : ℕ). Holds (keyed (hour a .zone) (orderNet (hour a) (plan a)) n) (l .loop .nets)) e (l .loop .inv .1 .1 .0),
-        λ n. l .loop .inv .1 .1 .1 ∙ ap (λ (n : ℕ). sumTo n (λ j. pos partsInOne *ℤ orderWelfare (hour a) (plan a) j)) e ∙ sum-scale-l (hour a .orders) (λ j. orderWelfare (hour a) (plan a) j) (pos partsInOne),
+        λ n. subst (λ (n : ℕ). Holds (keyed (hour a .zone) (orderNet (hour a) (plan a)) n) (l .loop .nets)) (ended (c .before)) (l .loop .inv .1 .1 .0),
+        λ n. c .in-microcents .ensures ∙ welfare-is (c .before),
       ),
     )
 
@@ -207,10 +212,10 @@ order-sums-spec =
     net-with-order-requires
     mul-nets
     array-set-from-nets
-    in-grains-requires
-    cost-requires
+    value-requires
     welfare-with-order-requires
     add-i
     loop-less
     loop-again
+    in-microcents-requires
     returns-2)

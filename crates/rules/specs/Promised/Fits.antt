@@ -76,8 +76,8 @@ module _ (c : Case) (cs : CaseSound c) where
     unfolding orderWelfare
     welfare-term-near i h = near-signed (buys c i) 40000000000 _ (near-mul (volume-near i h) (near-order-price (c .price i) (cs .price-in i (omega arith))))
 
-    pub welfare-sums : SumsFit (λ i. pos partsInOne *ℤ orderWelfare c p i) n
-    welfare-sums = small-sums _ 4000000000000000 n (λ i h. near-mul (near-pos partsInOne) (welfare-term-near i h)) (omega (arith, cs .orders-in))
+    pub welfare-sums : SumsFit (λ i. orderWelfare c p i) n
+    welfare-sums = small-sums _ 40000000000 n welfare-term-near (omega (arith, cs .orders-in))
 
   -- after row 21
   module _ (p : Plan) (volumes : (i : ℕ) → i < c .orders → p .volume i ≤ c .quantity i) where
@@ -131,12 +131,27 @@ module _ (c : Case) (cs : CaseSound c) where
     unfolding branchValue
     branch-term-near m h = near-mul (near-within 500000 limits.margin (c .ram m) (omega arith) (omega arith) (cs .ram-in m h)) (near-unsigned (d .shadow m) 1000000 (shadows m h))
 
-    pub branchTotal-sums : SumsFit (λ m. pos partsInOne *ℤ branchValue c d m) (c .branches)
-    branchTotal-sums = small-sums _ 50000000000000000 (c .branches) (λ m h. near-mul (near-pos partsInOne) (branch-term-near m h)) (omega (arith, cs .branches-in))
+    pub branchTotal-sums : SumsFit (λ m. branchValue c d m) (c .branches)
+    branchTotal-sums = small-sums _ 500000000000 (c .branches) branch-term-near (omega (arith, cs .branches-in))
 
     pub branchTotal-near : Near 3200000000000000000 (branchTotal c d)
     unfolding branchTotal
     branchTotal-near = near-le (omega (arith, cs .branches-in)) (near-mul (near-pos partsInOne) (near-sum (c .branches) 500000000000 _ branch-term-near))
+
+    -- while row 25 is asked: of the first n zones, no price outside its limits
+    module _ (p : Plan) (volumes : (i : ℕ) → i < c .orders → p .volume i ≤ c .quantity i) (n : ℕ) (few : n ≤ c .zones) (prices : (z : ℕ) → z < n → Within limits.zonePrice (zonePrice c d z)) where
+      -- the net positions of the first m of these at their prices: no more than the volumes at theirs
+      rent-partial-near : (m : ℕ) → m ≤ n → Near 2048000000000000000 (sumTo m (λ z. net c p z *ℤ zonePrice c d z))
+      unfolding net
+      rent-partial-near m h = near-le (omega (arith, cs .orders-in))
+          (near-gathered (c .orders) m 4000000000000000 (c .zone) (λ i. orderNet c p i) (zonePrice c d)
+          (λ i l k. near-mul (orderNet-near p (c .orders) (omega arith) volumes i l) (near-zone-price _ (prices (c .zone i) (omega arith)))))
+
+      pub rent-sums : SumsFit (λ z. net c p z *ℤ zonePrice c d z) n
+      rent-sums = record {
+        term = λ z h. near-fits w64 (omega arith) (near-mul (net-near p volumes z) (near-zone-price _ (prices z h)));
+        fits = λ m h. near-fits w64 (omega arith) (rent-partial-near m h);
+      }
 
     -- after row 25
     module _ (prices : (z : ℕ) → z < c .zones → Within limits.zonePrice (zonePrice c d z)) where
@@ -172,22 +187,9 @@ module _ (c : Case) (cs : CaseSound c) where
         unfolding gap
         gap-near = near-sub bound-near (welfare-near p volumes)
 
-        -- the net positions of the first n zones at their prices: no more than the volumes at theirs
-        rent-partial-near : (n : ℕ) → n ≤ c .zones → Near 2048000000000000000 (sumTo n (λ z. net c p z *ℤ zonePrice c d z))
-        unfolding net
-        rent-partial-near n h = near-le (omega (arith, cs .orders-in))
-            (near-gathered (c .orders) n 4000000000000000 (c .zone) (λ i. orderNet c p i) (zonePrice c d)
-            (λ i l k. near-mul (orderNet-near p (c .orders) (omega arith) volumes i l) (near-zone-price _ (prices (c .zone i) (omega arith)))))
-
-        pub rent-sums : SumsFit (λ z. net c p z *ℤ zonePrice c d z) (c .zones)
-        rent-sums = record {
-          term = λ z h. near-fits w64 (omega arith) (near-mul (net-near p volumes z) (near-zone-price _ (prices z h)));
-          fits = λ n h. near-fits w64 (omega arith) (rent-partial-near n h);
-        }
-
         rent-near : Near 2048000000000000000 (rent c p d)
         unfolding rent
-        rent-near = rent-partial-near (c .zones) (omega arith)
+        rent-near = rent-partial-near p volumes (c .zones) (omega arith) prices (c .zones) (omega arith)
 
 -- THE REPORTED NUMBERS: the totals and the zone prices
 pub record Fit (c : Case) (p : Plan) (d : Prices) : Type 0 where

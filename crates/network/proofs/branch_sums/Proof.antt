@@ -1,4 +1,4 @@
--- `valuation::branch_sums` meets its contract. After m turns no branch passed is overloaded, each price has the first m branches added, and the total is
+-- `network::branch_sums` meets its contract. After m turns no branch passed is overloaded, each price has the first m branches added, and the total is
 -- theirs. After z turns of the inner loop the load is that of the first z zones, and their prices have branch m besides. Assumes nothing.
 use mathlib.Core.Path.{_≡_, refl, ap, sym, subst, _∙_}
 use mathlib.Core.List.{List, []}
@@ -13,7 +13,7 @@ use lib.IntN.{ℤ, pos, _+ℤ_, _*ℤ_, +ℤ-idr, +ℤ-assoc}
 use lib.Signed.{ltZ}
 use mir.Syntax.{w32, w64}
 use mir.Facts.{toZ-ofZ}
-use Rattle.integers.specs.Sums.{sumTo, sum-more, sum-scale-l}
+use Rattle.integers.specs.Sums.{sumTo, sum-more}
 use Rattle.integers.specs.Size.{Near, near-fits, near-sub, near-mul, near-pos, near-unsigned, near-within}
 use Rattle.integers.specs.Machine.{SumsFit, step, step-fits, sfits-by}
 use Rattle.measures.specs.Meaning.Limits as limits
@@ -25,14 +25,13 @@ use Rattle.rows.specs.Meaning.Rows.{firstBelow}
 use Rattle.rows.specs.Promised.RowLaws.{first-here, first-later, first-nowhere}
 use Rattle.rules.specs.Meaning.Verdict.{overZ}
 use Rattle.rules.specs.Steps.Passed.{case-sound, proposal-sound}
-use Rattle.rules.specs.Promised.Fits.{branchUse-sums, branchTotal-sums, system-near, price-near, price-term-near}
+use Rattle.rules.specs.Promised.Fits.{branchUse-sums, branchTotal-sums, branchTotal-near, system-near, price-near, price-term-near}
 use Rattle.case_header.specs.declared.Counts.{Counts}
 use Rattle.case_branches.specs.Table.{table-entry}
 use Rattle.clearing.specs.Held.{tenthsAt}
-use Rattle.valuation.specs.Prices.{noGrains, grainsAt, added, AddedTo, add-step, Partly, branch-step}
-use Rattle.valuation.specs.Terms.{branch-value}
-use Rattle.valuation.proofs.branch_sums.Statement.{statement}
-use Rattle.valuation.proofs.branch_sums.Tie as tie
+use Rattle.network.specs.Prices.{noGrains, grainsAt, added, AddedTo, add-step, Partly, branch-step}
+use Rattle.network.proofs.branch_sums.Statement.{statement}
+use Rattle.network.proofs.branch_sums.Tie as tie
 
 abbrev Inv-loop2 : tie.InvT-loop2
 Inv-loop2 case k proposal flow-based table parts zones branches prices₀ total m shadow margin load₀ z₀ prices load z =
@@ -45,7 +44,7 @@ abbrev Inv-loop : tie.InvT-loop
 Inv-loop case k proposal flow-based table parts zones branches prices₀ total₀ m₀ prices total m =
     (m ≤ k .branches)
     × ((firstBelow m (λ j. overZ (branchRoom (caseOf case) (planOf case proposal) j) (branchUse (caseOf case) (planOf case proposal) j)) ≡ none)
-    × (Partly (caseOf case) (pricesOf case proposal) m prices × (total .0 ≡ sumTo m (λ j. pos partsInOne *ℤ branchValue (caseOf case) (pricesOf case proposal) j))))
+    × (Partly (caseOf case) (pricesOf case proposal) m prices × (total .0 ≡ sumTo m (λ j. branchValue (caseOf case) (pricesOf case proposal) j))))
 
 abbrev μ-loop : tie.MeasureT-loop
 μ-loop case k proposal flow-based table parts zones branches prices₀ total₀ m₀ prices total m = k .branches - m
@@ -78,7 +77,7 @@ few-branches a = omega (arith, branches-is a, (case-sound _ (a .pre .0 .opened .
 loads-fit : (a : tie.Start Inv-loop2 μ-loop2 Inv-loop μ-loop) (m : ℕ) → m < hour a .branches → SumsFit (λ z. hour a .ptdf m z *ℤ fbPart (hour a) (plan a) z) (hour a .zones)
 loads-fit a m h = branchUse-sums _ (case-sound _ (a .pre .0 .opened .readable)) _ (a .pre .1 .0 .within) (a .pre .1 .1 .0 .within) m h
 
-total-fits : (a : tie.Start Inv-loop2 μ-loop2 Inv-loop μ-loop) → SumsFit (λ j. pos partsInOne *ℤ branchValue (hour a) (rates a) j) (hour a .branches)
+total-fits : (a : tie.Start Inv-loop2 μ-loop2 Inv-loop μ-loop) → SumsFit (λ j. branchValue (hour a) (rates a) j) (hour a .branches)
 total-fits a = branchTotal-sums _ (case-sound _ (a .pre .0 .opened .readable)) _ (system-near _ _) ((proposal-sound _ _ (a .pre .0 .passed)) .shadow-in)
 
 shadow-near : (a : tie.Start Inv-loop2 μ-loop2 Inv-loop μ-loop) (m : ℕ) → m < hour a .branches → Near 1000000 (pos (shadowIn (now (a .args .«case»)) (now (a .args .proposal)) m))
@@ -284,37 +283,30 @@ returns c =
       (λ n. absurd (Option·some-ne-none _ n), λ n. absurd (Option·some-ne-none _ n)),
     )
 
-in-grains-requires-2 : tie.Need-in-grains-requires-2 Inv-loop2 μ-loop2 Inv-loop μ-loop
-in-grains-requires-2 c κs =
-    let i = c .before .before .before .before .before .before .before in
-    sfits-by w64 (ap grainsOf (c .before .before .before .before .before .before .shadow-at .ensures)) (near-fits w64 (omega arith) (near-mul (near-pos partsInOne) (shadow-near (i .before .before .before .before .before) (i .before .loop .m) (inside i))))
-
-cost-requires : tie.Need-cost-requires Inv-loop2 μ-loop2 Inv-loop μ-loop
+value-requires : tie.Need-value-requires Inv-loop2 μ-loop2 Inv-loop μ-loop
 unfolding caseOf
-cost-requires c κs =
-    let i = c .before .before .before .before .before .before .before .before in
+value-requires c κs =
+    let i = c .before .before .before .before .before .before .before in
     let a = i .before .before .before .before .before in
-    sfits-by w64 (λ j. c .before .before .before .before .before .before .margin-at .ensures j *ℤ (c .in-grains2 .ensures ∙ ap grainsOf (c .before .before .before .before .before .before .before .shadow-at .ensures)) j)
+    sfits-by w64 (λ j. c .before .before .before .before .before .margin-at .ensures j *ℤ c .before .before .before .before .before .before .shadow-at .ensures j)
     (near-fits w64 (omega arith) (near-mul (near-within 500000 limits.margin _ (omega arith) (omega arith) ((case-sound _ (a .pre .0 .opened .readable)) .ram-in (i .before .loop .m) (inside i)))
-    (near-mul (near-pos partsInOne) (shadow-near a (i .before .loop .m) (inside i)))))
+    (shadow-near a (i .before .loop .m) (inside i))))
 
 -- this branch's part of the total
-value-is : (c : tie.After-cost Inv-loop2 μ-loop2 Inv-loop μ-loop) → c .cost .result .0 ≡ pos partsInOne *ℤ branchValue (hour (c .before .before .before .before .before .before .before .before .before .before .before .before .before .before)) (rates (c .before .before .before .before .before .before .before .before .before .before .before .before .before .before)) (c .before .before .before .before .before .before .before .before .before .before .loop .m)
+value-is : (c : tie.After-value Inv-loop2 μ-loop2 Inv-loop μ-loop) → c .value .result .0 ≡ branchValue (hour (c .before .before .before .before .before .before .before .before .before .before .before .before .before)) (rates (c .before .before .before .before .before .before .before .before .before .before .before .before .before)) (c .before .before .before .before .before .before .before .before .before .loop .m)
 unfolding branchValue caseOf pricesOf
-value-is c =
-    c .cost .ensures ∙ (λ j. c .before .before .before .before .before .before .before .margin-at .ensures j *ℤ (c .before .in-grains2 .ensures ∙ ap grainsOf (c .before .before .before .before .before .before .before .before .shadow-at .ensures)) j)
-    ∙ branch-value (hour (c .before .before .before .before .before .before .before .before .before .before .before .before .before .before) .ram (c .before .before .before .before .before .before .before .before .before .before .loop .m)) (pos (rates (c .before .before .before .before .before .before .before .before .before .before .before .before .before .before) .shadow (c .before .before .before .before .before .before .before .before .before .before .loop .m)))
+value-is c = c .value .ensures ∙ (λ j. c .before .before .before .before .before .before .margin-at .ensures j *ℤ c .before .before .before .before .before .before .before .shadow-at .ensures j)
 
 plus-requires-3 : tie.Need-plus-requires-3 Inv-loop2 μ-loop2 Inv-loop μ-loop
 plus-requires-3 c κs =
-    let i = c .before .before .before .before .before .before .before .before .before in
+    let i = c .before .before .before .before .before .before .before .before in
     step-fits (total-fits (i .before .before .before .before .before)) (i .before .loop .m) (inside i) (i .before .loop .inv .1 .1 .1) (value-is c)
 
 add-m : tie.Need-add-m Inv-loop2 μ-loop2 Inv-loop μ-loop
-add-m c = omega (arith, c .before .before .before .before .before .before .before .before .before .before .loop-test .taken, few-branches (c .before .before .before .before .before .before .before .before .before .before .before .before .before .before .before))
+add-m c = omega (arith, c .before .before .before .before .before .before .before .before .before .loop-test .taken, few-branches (c .before .before .before .before .before .before .before .before .before .before .before .before .before .before))
 
 loop-less : tie.Need-loop-less Inv-loop2 μ-loop2 Inv-loop μ-loop
-loop-less c = omega (arith, c .before .before .before .before .before .before .before .before .before .before .loop-test .taken)
+loop-less c = omega (arith, c .before .before .before .before .before .before .before .before .before .loop-test .taken)
 
 -- what this branch adds to a zone's price, as the table has it
 term-is : (c : tie.After-shadow-at Inv-loop2 μ-loop2 Inv-loop μ-loop) (z : ℕ) → z < hour (c .before .before .before .before .before .before) .zones
@@ -324,34 +316,49 @@ term-is c z h = λ j. entry-is (c .before .before .before .before .before .befor
 
 loop-again : tie.Need-loop-again Inv-loop2 μ-loop2 Inv-loop μ-loop
 loop-again c =
-    let i = c .before .before .before .before .before .before .before .before .before .before in
+    let i = c .before .before .before .before .before .before .before .before .before in
     let l = i .before in
-    let a = c .before .before .before .before .before .before .before .before .before .before .before .before .before .before .before in
-    let e = c .before .before .before .before .before .before in
+    let a = c .before .before .before .before .before .before .before .before .before .before .before .before .before .before in
+    let e = c .before .before .before .before .before in
     let q = e .before in
     let row = getD (a .args .t4) (l .loop .m) [] in
-    let shadow = c .before .before .before .before .before .before .before .before .before .shadow-at .result .0 in (
+    let shadow = c .before .before .before .before .before .before .before .before .shadow-at .result .0 in (
       omega (arith, i .loop-test .taken),
       (
-        first-later _ (l .loop .m) (l .loop .inv .1 .0) (sym (answered (c .before .before .before .before)) ∙ c .before .before .before .if1 .left),
+        first-later _ (l .loop .m) (l .loop .inv .1 .0) (sym (answered (c .before .before .before)) ∙ c .before .before .if1 .left),
         (
-          branch-step (hour a) (rates a) (l .loop .m) (l .loop .prices) (q .loop2 .prices) row shadow (λ z h. term-is (c .before .before .before .before .before .before .before .before .before) z h) (l .loop .inv .1 .1 .0)
+          branch-step (hour a) (rates a) (l .loop .m) (l .loop .prices) (q .loop2 .prices) row shadow (λ z h. term-is (c .before .before .before .before .before .before .before .before) z h) (l .loop .inv .1 .1 .0)
               (subst (λ (n : ℕ). AddedTo (l .loop .prices) (q .loop2 .prices) row shadow n n) (zones-is a) (subst (λ (n : ℕ). AddedTo (l .loop .prices) (q .loop2 .prices) row shadow n (a .args .k .zones)) (ended e) (q .loop2 .inv .1 .1))),
           step (total-fits a) (l .loop .m) (l .loop .inv .1 .1 .1) (value-is (c .before)) (c .plus3 .ensures),
         ),
       ),
     )
 
+-- after the last branch
+all-asked : (c : tie.After-loop Inv-loop2 μ-loop2 Inv-loop μ-loop) → c .before .loop .m ≡ hour (c .before .before .before .before .before) .branches
+all-asked c = omega (arith, branches-is (c .before .before .before .before .before))
+
+total-is : (c : tie.After-loop Inv-loop2 μ-loop2 Inv-loop μ-loop) → pos partsInOne *ℤ c .before .loop .total .0 ≡ branchTotal (hour (c .before .before .before .before .before)) (rates (c .before .before .before .before .before))
+unfolding branchTotal
+total-is c =
+    let a = c .before .before .before .before .before in
+    ap (λ (x : ℤ). pos partsInOne *ℤ x) (c .before .loop .inv .1 .1 .1 ∙ ap (λ (n : ℕ). sumTo n (λ j. branchValue (hour a) (rates a) j)) (all-asked c))
+
+in-microcents-requires : tie.Need-in-microcents-requires Inv-loop2 μ-loop2 Inv-loop μ-loop
+in-microcents-requires c κs =
+    let a = c .before .before .before .before .before in
+    sfits-by w64 (total-is c) (near-fits w64 (omega arith) (branchTotal-near _ (case-sound _ (a .pre .0 .opened .readable)) _ (system-near _ _) ((proposal-sound _ _ (a .pre .0 .passed)) .shadow-in)))
+
 returns-2 : tie.Need-returns-2 Inv-loop2 μ-loop2 Inv-loop μ-loop
-unfolding zonePrice branchTotal
+unfolding zonePrice
 returns-2 c =
-    let l = c .before in
-    let a = l .before .before .before .before in
-    let e : l .loop .m ≡ hour a .branches = omega (arith, branches-is a) in (
-      sym (first-nowhere _ (l .loop .m) (omega arith) (omega arith) (l .loop .inv .1 .0)),
+    let e = c .before in
+    let l = e .before in
+    let a = l .before .before .before .before in (
+      sym (first-nowhere _ (l .loop .m) (omega (arith, all-asked e)) (omega (arith, all-asked e)) (l .loop .inv .1 .0)),
       (
-        λ n. record { each = λ z h. l .loop .inv .1 .1 .0 .each z h ∙ ap (λ (n : ℕ). grainsOf (rates a .system) +ℤ sumTo n (λ k. branchPrice (hour a) (rates a) z k)) e },
-        λ n. l .loop .inv .1 .1 .1 ∙ ap (λ (n : ℕ). sumTo n (λ j. pos partsInOne *ℤ branchValue (hour a) (rates a) j)) e ∙ sum-scale-l (hour a .branches) (λ j. branchValue (hour a) (rates a) j) (pos partsInOne),
+        λ n. record { each = λ z h. l .loop .inv .1 .1 .0 .each z h ∙ ap (λ (n : ℕ). grainsOf (rates a .system) +ℤ sumTo n (λ k. branchPrice (hour a) (rates a) z k)) (all-asked e) },
+        λ n. c .in-microcents .ensures ∙ total-is e,
       ),
     )
 
@@ -389,10 +396,10 @@ branch-sums-spec =
     part-requires
     exceeds-requires
     returns
-    in-grains-requires-2
-    cost-requires
+    value-requires
     plus-requires-3
     add-m
     loop-less
     loop-again
+    in-microcents-requires
     returns-2)

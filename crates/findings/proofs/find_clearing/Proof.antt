@@ -1,14 +1,15 @@
--- `judgement::find` meets its contract: a row of the table for each stage, in the table's order, past each that passes to the one that fails.
+-- `findings::find_clearing` meets its contract: a row of the table for each stage, in the table's order, past each that passes to the one that fails.
 -- A stage reaches what it rests on through the stage before it, so that a row put between two others is met by the one that follows it. Assumes nothing.
 use mathlib.Core.Path.{_≡_, refl, ap, sym, subst, _∙_}
 use mathlib.Core.Bool.{not}
 use mathlib.Core.List.{List}
 use mathlib.Core.Option.{Option, none, some}
-use Prim.Native.Nat.{ℕ, _≤_}
+use Prim.Native.Nat.{ℕ, _≤_, _<_}
 use native.Mathlib.Omega.{arith}
 use borrow.Author.Needs.{needs}
 use denote.Ref.{now}
-use lib.IntN.{ℤ, pos, _-ℤ_}
+use lib.Dec.{T}
+use lib.IntN.{ℤ, pos, _-ℤ_, _*ℤ_}
 use lib.Signed.{ltZ}
 use mir.Syntax.{w64}
 use Rattle.integers.specs.Ranges.{isZero, outside, within}
@@ -17,23 +18,23 @@ use Rattle.integers.specs.Size.{near-fits, near-sub, near-pos, near-unsigned}
 use Rattle.integers.specs.Machine.{SumsFit, sfits-by}
 use Rattle.measures.specs.Meaning.Limits as limits
 use Rattle.measures.specs.Meaning.Limits.{microcentsOf}
-use Rattle.rules.specs.Meaning.Hour.{Case, Plan, Prices, caseOf, planOf, pricesOf, net, netSum, gap}
+use Rattle.rules.specs.Meaning.Hour.{Case, Plan, Prices, caseOf, planOf, pricesOf, net, netSum, zonePrice, gap, rent}
 use Rattle.rows.specs.declared.Outcome.{Outcome}
 use Rattle.rows.specs.Meaning.Rows.{Row, verdict, failing, firstBelow}
 use Rattle.rows.specs.Promised.RowLaws.{placeOf, Comes, clear, fails-at, none-left, once-fails, once-passes, behind, not-below, at-place, at-none, first-ext, place-below}
 use Rattle.rules.specs.Meaning.Verdict.{overZ, excessVolume, overusedLink, overloadedBranch, priceOutside, clearingRows}
 use Rattle.rules.specs.Steps.Passed.{CaseSound, case-sound, proposal-sound}
-use Rattle.rules.specs.Promised.Fits.{balance-sums}
+use Rattle.rules.specs.Promised.Fits.{balance-sums, rent-sums, system-near}
 use Rattle.rules.specs.Meaning.Report as rules
 use Rattle.rules.specs.Meaning.Report.{totalsOf, reports}
 use Rattle.case_header.specs.declared.Counts.{Counts}
 use Rattle.proposal_file.specs.declared.Opening.{Opening}
-use Rattle.clearing.specs.Held.{Holds}
+use Rattle.clearing.specs.Held.{tenthsAt, Holds}
 use Rattle.clearing.specs.Stages.{VolumesIn, volumes-in, flows-in, fit-ext}
-use Rattle.valuation.specs.Prices.{grainsAt, Priced}
-use Rattle.judgement.specs.Judged.{finds-refused, finds-valued}
-use Rattle.judgement.proofs.find.Statement.{statement}
-use Rattle.judgement.proofs.find.Tie as tie
+use Rattle.network.specs.Prices.{grainsAt, Priced}
+use Rattle.findings.specs.Found.{finds-refused, finds-valued}
+use Rattle.findings.proofs.find_clearing.Statement.{statement}
+use Rattle.findings.proofs.find_clearing.Tie as tie
 
 -- the hour that is judged, and its rows
 abbrev hour : tie.Start → Case
@@ -90,7 +91,7 @@ refused-requires c κs = let o = c .before in place-below _ _ _ 4294967296 (exce
 
 returns : tie.Need-returns
 unfolding clearingRows reports
-returns c = finds-refused 21 _ (c .refused .ensures) refl (fails-at _ (excess-at (c .before .before)))
+returns c = finds-refused (verdict 21 _) (c .refused .ensures) refl ((fails-at _ (excess-at (c .before .before))) .is)
 
 enum-told : tie.Need-enum-told
 enum-told c = search needs
@@ -140,7 +141,7 @@ returns-2 : tie.Need-returns-2
 unfolding clearingRows reports
 returns-2 c =
     let z = c .before .before in
-    finds-refused 22 _ (c .refused2 .ensures) refl (past-volumes (volumes-of z) _ (fails-at 0 (once-fails (sym (ap not (balance-is z)) ∙ c .before .if1 .taken))))
+    finds-refused (verdict 22 _) (c .refused2 .ensures) refl ((past-volumes (volumes-of z) _ (fails-at 0 (once-fails (sym (ap not (balance-is z)) ∙ c .before .if1 .taken)))) .is)
 
 past-balance : (c : tie.Else1) → Past (asked (orders (volumes-of (c .before)))) 22
 unfolding clearingRows
@@ -175,7 +176,7 @@ returns-3 : tie.Need-returns-3
 unfolding clearingRows reports
 returns-3 c =
     let o = c .before .before in
-    finds-refused 23 _ (c .refused3 .ensures) refl (past-balance (o .before .before .before) _ (fails-at _ (overused-at o)))
+    finds-refused (verdict 23 _) (c .refused3 .ensures) refl ((past-balance (o .before .before .before) _ (fails-at _ (overused-at o))) .is)
 
 enum-told-2 : tie.Need-enum-told-2
 enum-told-2 c = search needs
@@ -240,7 +241,7 @@ returns-4 : tie.Need-returns-4
 unfolding clearingRows reports
 returns-4 c =
     let o = c .before .before in
-    finds-refused 24 _ (c .refused4 .ensures) refl (past-links (before-branches (o .before .before)) _ (fails-at _ (overloaded-at o)))
+    finds-refused (verdict 24 _) (c .refused4 .ensures) refl ((past-links (before-branches (o .before .before)) _ (fails-at _ (overloaded-at o))) .is)
 
 enum-told-3 : tie.Need-enum-told-3
 enum-told-3 c = search needs
@@ -256,20 +257,36 @@ priced : (c : tie.After-enum-told3) → Priced (hour (branches-asked (branches c
 priced c = branches c .branch-sums .ensures .1 .0 (ap placeOf (c .enum-told3 .given .1))
 
 -- 25, THE ZONE PRICES
-abbrev before-prices : tie.After-first-price-outside → tie.After-enum-told3
+abbrev before-prices : tie.After-zone-sums → tie.After-enum-told3
 before-prices c = c .before .before
 
-abbrev prices-asked : tie.After-first-price-outside → tie.Start
+abbrev prices-asked : tie.After-zone-sums → tie.Start
 prices-asked c = branches-asked (branches (before-prices c))
 
-abbrev prices : tie.After-enum-told4 → tie.After-first-price-outside
+abbrev prices : tie.After-enum-told4 → tie.After-zone-sums
 prices c = c .before .before
 
-first-price-outside-requires : tie.Need-first-price-outside-requires
-first-price-outside-requires c κs = few-zones (branches-asked (branches (c .before)))
+-- a zone's part of the rent
+rent-term : (c : tie.After-enum-told3) (z : ℕ) → z < hour (branches-asked (branches c)) .zones
+    → tenthsAt (orders (before-links (links (before-branches (branches c)))) .order-sums .result .nets) z *ℤ grainsAt (branches c .branch-sums .result .prices) z
+    ≡ net (hour (branches-asked (branches c))) (plan (branches-asked (branches c))) z *ℤ zonePrice (hour (branches-asked (branches c))) (rates (branches-asked (branches c))) z
+rent-term c z h = λ j. (nets (before-links (links (before-branches (branches c))))) .each z (omega (arith, few-zones (branches-asked (branches c)), zones-is (branches-asked (branches c)))) j *ℤ (priced c) .each z h j
+
+zone-sums-requires : tie.Need-zone-sums-requires
+zone-sums-requires c κs =
+    let b = c .before in
+    let v = before-links (links (before-branches (branches b))) in
+    let a = branches-asked (branches b) in (
+      few-zones a,
+      record {
+        sums = λ n h e. fit-ext _ _ n (λ z l. rent-term b z (omega (arith, zones-is a)))
+            (rent-sums _ (sound a) _ (system-near _ _) ((proposal-sound _ _ (a .pre .0 .passed)) .shadow-in) _ ((volumes v) .within) n (omega (arith, zones-is a))
+            (λ z l. within limits.zonePrice _ (subst (λ (x : ℤ). T (not (outside limits.zonePrice x))) ((priced b) .each z (omega (arith, zones-is a))) (not-below _ _ e z l))));
+      },
+    )
 
 -- the search over the computed prices is the table's over the zone prices
-searched : (c : tie.After-first-price-outside)
+searched : (c : tie.After-zone-sums)
     → firstBelow (prices-asked c .args .k .zones) (λ z. outside limits.zonePrice (grainsAt (branches (before-prices c) .branch-sums .result .prices) z)) ≡ failing (priceOutside (hour (prices-asked c)) (rates (prices-asked c)))
 searched c =
     let a = prices-asked c in
@@ -280,7 +297,7 @@ enum-known-outside : tie.Need-enum-known-outside
 enum-known-outside c = search needs
 
 outside-at : (c : tie.After-outside) → failing (priceOutside (hour (prices-asked (c .before .before))) (rates (prices-asked (c .before .before)))) ≡ some (c .outside .given .0 .0)
-outside-at c = let f = c .before .before in sym (searched f) ∙ at-place _ _ _ (f .first-price-outside .ensures) (c .outside .given .1)
+outside-at c = let f = c .before .before in sym (searched f) ∙ at-place _ _ _ (f .zone-sums .ensures .0) (c .outside .given .1)
 
 refused-requires-5 : tie.Need-refused-requires-5
 refused-requires-5 c κs = let o = c .before in let a = prices-asked (o .before .before) in place-below _ _ _ 4294967296 (outside-at o) (omega (arith, (sound a) .zones-in .1))
@@ -289,19 +306,27 @@ returns-5 : tie.Need-returns-5
 unfolding clearingRows reports
 returns-5 c =
     let o = c .before .before in
-    finds-refused 25 _ (c .refused5 .ensures) refl (past-branches (before-prices (o .before .before)) _ (fails-at _ (outside-at o)))
+    finds-refused (verdict 25 _) (c .refused5 .ensures) refl ((past-branches (before-prices (o .before .before)) _ (fails-at _ (outside-at o))) .is)
 
 enum-told-4 : tie.Need-enum-told-4
 enum-told-4 c = search needs
 
 none-outside : (c : tie.After-enum-told4) → failing (priceOutside (hour (prices-asked (prices c))) (rates (prices-asked (prices c)))) ≡ none
-none-outside c = let f = prices c in sym (searched f) ∙ at-none _ _ (f .first-price-outside .ensures) (c .enum-told4 .given .1)
+none-outside c = let f = prices c in sym (searched f) ∙ at-none _ _ (f .zone-sums .ensures .0) (c .enum-told4 .given .1)
 
 past-prices : (c : tie.After-enum-told4) → Past (prices-asked (prices c)) 25
 unfolding clearingRows
 past-prices c o q = past-branches (before-prices (prices c)) o (clear (none-outside c) q)
 
 -- 26, THE GAP
+rent-is : (c : tie.After-enum-told4) → prices c .zone-sums .result .rent .0 ≡ rent (hour (prices-asked (prices c))) (plan (prices-asked (prices c))) (rates (prices-asked (prices c)))
+unfolding rent
+rent-is c =
+    let a = prices-asked (prices c) in
+    prices c .zone-sums .ensures .1 (ap placeOf (c .enum-told4 .given .1))
+    ∙ sum-ext _ _ _ (λ z h. rent-term (before-prices (prices c)) z (omega (arith, zones-is a)))
+    ∙ ap (λ (n : ℕ). sumTo n (λ z. net (hour a) (plan a) z *ℤ zonePrice (hour a) (rates a) z)) (zones-is a)
+
 totals-requires : tie.Need-totals-requires
 totals-requires c κs =
     let b = before-prices (prices c) in
@@ -311,15 +336,12 @@ totals-requires c κs =
       (
         volumes v,
         (
-          nets v,
+          priced b,
           (
-            priced b,
+            record { within = λ z h. within limits.zonePrice _ (not-below _ _ (none-outside c) z h) },
             (
-              record { within = λ z h. within limits.zonePrice _ (not-below _ _ (none-outside c) z h) },
-              (
-                branches b .branch-sums .ensures .1 .1 (ap placeOf (b .enum-told3 .given .1)),
-                orders v .order-sums .ensures .1 .1 (ap placeOf (v .enum-told .given .1)),
-              ),
+              branches b .branch-sums .ensures .1 .1 (ap placeOf (b .enum-told3 .given .1)),
+              (orders v .order-sums .ensures .1 .1 (ap placeOf (v .enum-told .given .1)), rent-is c),
             ),
           ),
         ),
@@ -331,6 +353,9 @@ before-gap c = c .before .before .before .before
 
 abbrev gap-asked : tie.After-exceeds → tie.Start
 gap-asked c = prices-asked (prices (before-gap c))
+
+gap-nets : (c : tie.After-exceeds) → Holds (net (hour (gap-asked c)) (plan (gap-asked c))) (orders (before-links (links (before-branches (branches (before-prices (prices (before-gap c))))))) .order-sums .result .nets)
+gap-nets c = nets (before-links (links (before-branches (branches (before-prices (prices (before-gap c)))))))
 
 exceeds-requires : tie.Need-exceeds-requires
 exceeds-requires c κs = search needs
@@ -348,8 +373,8 @@ returns-6 : tie.Need-returns-6
 unfolding clearingRows reports
 returns-6 c =
     let e = c .before .before in
-    finds-valued 26 _ _ (some (verdict 26 0)) (c .valued .ensures) refl refl (past-prices (before-gap e) _ (fails-at 0 (once-fails (sym (gap-is e) ∙ c .before .if2 .taken))))
-    (e .before .before .before .totals .ensures) (priced (before-prices (prices (before-gap e))))
+    finds-valued 26 _ _ _ _ (some (verdict 26 0)) (c .valued .ensures) refl refl (past-prices (before-gap e) _ (fails-at 0 (once-fails (sym (gap-is e) ∙ c .before .if2 .taken))))
+    (few-zones (gap-asked e)) (zones-is (gap-asked e)) (gap-nets e) (priced (before-prices (prices (before-gap e)))) (e .before .before .before .totals .ensures)
 
 valued-requires-2 : tie.Need-valued-requires-2
 valued-requires-2 c κs = search needs
@@ -358,11 +383,11 @@ returns-7 : tie.Need-returns-7
 unfolding clearingRows reports
 returns-7 c =
     let e = c .before .before in
-    finds-valued 0 _ _ none (c .valued2 .ensures) refl refl (past-prices (before-gap e) _ (clear (once-passes (sym (gap-is e) ∙ c .before .if2 .left)) none-left))
-    (e .before .before .before .totals .ensures) (priced (before-prices (prices (before-gap e))))
+    finds-valued 0 _ _ _ _ none (c .valued2 .ensures) refl refl (past-prices (before-gap e) _ (clear (once-passes (sym (gap-is e) ∙ c .before .if2 .left)) none-left))
+    (few-zones (gap-asked e)) (zones-is (gap-asked e)) (gap-nets e) (priced (before-prices (prices (before-gap e)))) (e .before .before .before .totals .ensures)
 
-pub find-spec : {M : Type 1} → statement M
-find-spec =
+pub find-clearing-spec : {M : Type 1} → statement M
+find-clearing-spec =
     tie.close
     (tie.spec
     order-sums-requires
@@ -386,7 +411,7 @@ find-spec =
     refused-requires-4
     returns-4
     enum-told-3
-    first-price-outside-requires
+    zone-sums-requires
     enum-known-outside
     refused-requires-5
     returns-5

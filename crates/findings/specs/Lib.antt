@@ -1,0 +1,2 @@
+-- What the driver finds
+pub mod Found

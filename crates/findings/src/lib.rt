@@ -1,0 +1,162 @@
+// THE DRIVER: what the verdict table from row 1 to row 26 finds in an hour. Each stage is asked in the table's order, and may rest on what those before it passed.
+ghost use mathlib.Core.Path.{_≡_};
+ghost use Prim.Native.Nat.{_<_};
+ghost use Rattle.rules.specs.Meaning.Hour.{caseOf, planOf, pricesOf};
+ghost use Rattle.rows.specs.Meaning.Rows.{refusal};
+ghost use Rattle.rules.specs.Meaning.Verdict.{clearingRows};
+ghost use Rattle.proposal_file.specs.Proposed.{Proposed};
+ghost use Rattle.proposal_file.specs.Answer.{openingOf};
+ghost use Rattle.findings.specs.Found.{Finds, hourRows, refusedAs, valuedAs};
+use case_branches::ptdf_table;
+use case_file::CaseAnswer;
+use case_file::read_case;
+use case_header::Counts;
+use clearing::link_sums;
+use clearing::net_sum;
+use clearing::order_sums;
+use measures::Grains;
+use measures::Microcents;
+use measures::Tenths;
+use network::branch_sums;
+use proposal_file::Opening;
+use proposal_file::ProposalAnswer;
+use proposal_file::read_proposal;
+use report::Totals;
+use rows::Outcome;
+use rows::Place;
+use valuation::totals;
+use valuation::zone_sums;
+
+// The verdict, and of an hour that is valued, which is one of verdict 0 or 26, its zones, net positions, prices and totals.
+pub struct Found {
+    pub verdict: Outcome,
+    pub valued: bool,
+    pub zones: usize,
+    pub nets: [Tenths; 16],
+    pub prices: [Grains; 16],
+    pub totals: Totals,
+}
+
+const NO_TOTALS: Totals = Totals {
+    welfare: Microcents::ZERO,
+    bound: Microcents::ZERO,
+    gap: Microcents::ZERO,
+    rent: Microcents::ZERO,
+    owed: Microcents::ZERO,
+};
+
+// Refused, so that there is nothing to report.
+fn refused_by(verdict: Outcome) -> Found
+    ensures { λ r. ⌜ r ≡ refusedAs verdict ⌝ }
+{
+    Found {
+        verdict,
+        valued: false,
+        zones: 0,
+        nets: [Tenths::ZERO; 16],
+        prices: [Grains::ZERO; 16],
+        totals: NO_TOTALS,
+    }
+}
+
+fn refused(number: u32, place: usize) -> Found
+    requires { ⌜ place < 4294967296 ⌝ }
+    ensures { λ r. ⌜ r ≡ refusedAs (record { number = number; index = place }) ⌝ }
+{
+    refused_by(Outcome {
+        number,
+        index: place as u32,
+    })
+}
+
+fn valued(
+    number: u32,
+    zones: usize,
+    nets: [Tenths; 16],
+    prices: [Grains; 16],
+    totals: Totals,
+) -> Found
+    ensures { λ r. ⌜ r ≡ valuedAs number zones nets prices totals ⌝ }
+{
+    Found {
+        verdict: Outcome { number, index: 0 },
+        valued: true,
+        zones,
+        nets,
+        prices,
+        totals,
+    }
+}
+
+// Rows 21 to 26, of files that were read.
+fn find_clearing(case: &[u8], k: Counts, proposal: &[u8], opening: Opening) -> Found
+    requires { ⌜ Proposed (now «case») k (now proposal) ⌝ }
+    requires { ⌜ opening ≡ openingOf (now proposal) ⌝ }
+    ensures { λ r. ⌜ Finds (clearingRows (caseOf (now («case» .entry))) (planOf (now («case» .entry)) (now (proposal .entry))) (pricesOf (now («case» .entry)) (now (proposal .entry)))) (now («case» .entry)) (now (proposal .entry)) r ⌝ }
+{
+    let zones = k.zones;
+    let share = opening.share;
+    let accepted = order_sums(case, k, proposal);
+    let excess = accepted.excess;
+    if let Place::At(i) = excess {
+        return refused(21, i);
+    }
+    let nets = accepted.nets;
+    if !net_sum(nets, zones).is_zero() {
+        return refused(22, 0);
+    }
+    let exchange = link_sums(case, k, proposal, share, nets);
+    let overused = exchange.overused;
+    if let Place::At(l) = overused {
+        return refused(23, l);
+    }
+    let parts = exchange.parts;
+    let table = ptdf_table(case, k);
+    let branches = branch_sums(
+        case,
+        k,
+        proposal,
+        table,
+        parts,
+        share.rest(),
+        opening.system,
+    );
+    let overloaded = branches.overloaded;
+    if let Place::At(m) = overloaded {
+        return refused(24, m);
+    }
+    let prices = branches.prices;
+    let zoned = zone_sums(nets, prices, zones);
+    let outside = zoned.outside;
+    if let Place::At(z) = outside {
+        return refused(25, z);
+    }
+    let totals = totals(
+        case,
+        k,
+        proposal,
+        accepted.welfare,
+        prices,
+        branches.total,
+        zoned.rent,
+    );
+    let gap = totals.gap;
+    let tolerance = k.tolerance;
+    if gap.exceeds(tolerance) {
+        return valued(26, zones, nets, prices, totals);
+    }
+    valued(0, zones, nets, prices, totals)
+}
+
+// The hour, from its first byte: the case, the proposal, the clearing.
+pub fn find(case: &[u8], proposal: &[u8]) -> Found
+    ensures { λ r. ⌜ Finds (hourRows (now («case» .entry)) (now (proposal .entry))) (now («case» .entry)) (now (proposal .entry)) r ⌝ }
+{
+    match read_case(case) {
+        CaseAnswer::Refused(refusal) => refused_by(refusal),
+        CaseAnswer::Readable(k) => match read_proposal(case, k, proposal) {
+            ProposalAnswer::Refused(refusal) => refused_by(refusal),
+            ProposalAnswer::Sound(opening) => find_clearing(case, k, proposal, opening),
+        },
+    }
+}

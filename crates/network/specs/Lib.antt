@@ -1,0 +1,2 @@
+-- Prices by zone
+pub mod Prices

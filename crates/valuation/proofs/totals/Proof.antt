@@ -1,0 +1,70 @@
+-- `valuation::totals` meets its contract: each total is its rule's, and none leaves 64 bits. Assumes nothing.
+use mathlib.Core.Path.{_≡_, _∙_}
+use Prim.Native.Nat.{ℕ, _≤_, _<_}
+use native.Mathlib.Omega.{arith}
+use denote.Ref.{now}
+use lib.IntN.{_+ℤ_, _-ℤ_}
+use mir.Syntax.{w64}
+use Rattle.integers.specs.Size.{near-fits}
+use Rattle.integers.specs.Machine.{sfits-by}
+use Rattle.rules.specs.Steps.Passed.{case-sound, proposal-sound, CaseSound}
+use Rattle.rules.specs.Promised.Fits.{system-near, bound-near, gap-near}
+use Rattle.integers.specs.Order.{larger}
+use Rattle.rules.specs.Meaning.Hour.{caseOf, planOf, pricesOf, networkBound, bound, gap}
+use Rattle.rules.specs.Meaning.Report.{totalsOf}
+use borrow.Author.Needs.{needs}
+use Rattle.valuation.proofs.totals.Statement.{statement}
+use Rattle.valuation.proofs.totals.Tie as tie
+
+owed-requires : tie.Need-owed-requires
+owed-requires c κs = search needs
+
+larger-requires : tie.Need-larger-requires
+larger-requires c κs = search needs
+
+surpluses-requires : tie.Need-surpluses-requires
+surpluses-requires c κs = search needs
+
+cs : (a : tie.Start) → CaseSound (caseOf (now (a .args .«case»)))
+cs a = case-sound _ (a .pre .0 .opened .readable)
+
+shadows : (a : tie.Start) → (m : ℕ) → m < (caseOf (now (a .args .«case»))) .branches → (pricesOf (now (a .args .«case»)) (now (a .args .proposal))) .shadow m ≤ 1000000
+shadows a = (proposal-sound _ _ (a .pre .0 .passed)) .shadow-in
+
+-- the bound and the gap as the machine adds them
+bound-of : (c : tie.After-surpluses) → c .surpluses .result .0 +ℤ c .before .larger .result .0 ≡ bound (caseOf (now (c .before .before .before .before .before .args .«case»))) (pricesOf (now (c .before .before .before .before .before .args .«case»)) (now (c .before .before .before .before .before .args .proposal)))
+unfolding bound networkBound
+bound-of c = λ j. c .surpluses .ensures j +ℤ (c .before .larger .ensures ∙ (λ i. larger (c .before .before .before .before .before .pre .1 .1 .1 .1 .0 i) (c .before .before .owed .ensures i))) j
+
+gap-of : (c : tie.After-plus) → c .plus .result .0 -ℤ c .before .before .before .before .before .before .args .total-welfare .0 ≡ gap (caseOf (now (c .before .before .before .before .before .before .args .«case»))) (planOf (now (c .before .before .before .before .before .before .args .«case»)) (now (c .before .before .before .before .before .before .args .proposal))) (pricesOf (now (c .before .before .before .before .before .before .args .«case»)) (now (c .before .before .before .before .before .before .args .proposal)))
+unfolding gap
+gap-of c = λ j. (c .plus .ensures ∙ bound-of (c .before)) j -ℤ c .before .before .before .before .before .before .pre .1 .1 .1 .1 .1 .0 j
+
+plus-requires : tie.Need-plus-requires
+plus-requires c κs = sfits-by w64 (bound-of c) (near-fits w64 (omega arith) (bound-near _ (cs (c .before .before .before .before .before)) _ (system-near _ _) (shadows (c .before .before .before .before .before)) (c .before .before .before .before .before .pre .1 .1 .1 .0 .within)))
+
+minus-requires : tie.Need-minus-requires
+minus-requires c κs = sfits-by w64 (gap-of c) (near-fits w64 (omega arith) (gap-near _ (cs (c .before .before .before .before .before .before)) _ (system-near _ _) (shadows (c .before .before .before .before .before .before)) (c .before .before .before .before .before .before .pre .1 .1 .1 .0 .within) _ (c .before .before .before .before .before .before .pre .1 .0 .within)))
+
+returns : tie.Need-returns
+unfolding totalsOf
+returns c =
+    let a = c .before .before .before .before .before .before .before in
+    λ j. record {
+      welfare = a .pre .1 .1 .1 .1 .1 .0 j;
+      bound = (c .before .plus .ensures ∙ bound-of (c .before .before)) j;
+      gap = (c .minus .ensures ∙ gap-of (c .before)) j;
+      rent = a .pre .1 .1 .1 .1 .1 .1 j;
+      owed = c .before .before .before .before .owed .ensures j;
+    }
+
+pub totals-spec : {M : Type 1} → statement M
+totals-spec =
+    tie.close
+    (tie.spec
+    owed-requires
+    larger-requires
+    surpluses-requires
+    plus-requires
+    minus-requires
+    returns)
