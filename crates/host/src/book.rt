@@ -14,7 +14,7 @@ pub extern "C" fn lta_book_surplus(orders: &[OrderRow], zone_prices: &[i64]) -> 
 {
     let mut account = open_book(orders.len(), zone_prices);
     let mut i = 0;
-    while i < orders.len() {
+    while account.asks_row(i, orders.len()) {
         account = add_row(account, orders[i], zone_prices);
         i += 1;
     }

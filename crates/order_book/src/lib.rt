@@ -11,7 +11,7 @@ ghost use Rattle.measures.specs.Steps.Held.{grainsIn};
 ghost use Rattle.orders.specs.Admitted.{admitted};
 ghost use Rattle.rows.specs.Promised.RowLaws.{placeOf};
 ghost use Rattle.rules.specs.Meaning.Book.{priceAt};
-ghost use Rattle.order_book.specs.Steps.Account.{newAccount, isFinal, refusedRow, withRow, firstPriceOutside, openOf, addOf, answered, closeOf, counted, OrderIn, Ready};
+ghost use Rattle.order_book.specs.Steps.Account.{newAccount, isOpen, asksRow, refusedRow, withRow, firstPriceOutside, openOf, addOf, answered, closeOf, counted, OrderIn, Ready};
 use measures::Grains;
 use measures::GrainsAnswer;
 use measures::Microcents;
@@ -60,14 +60,24 @@ impl Account {
         }
     }
 
-    // No row changes it any more.
-    fn is_final(self) -> bool
-        ensures { λ r. ⌜ r ≡ isFinal self ⌝ }
+    // A row may still change it: it is refused by neither 4 nor 8.
+    fn is_open(self) -> bool
+        ensures { λ r. ⌜ r ≡ isOpen self ⌝ }
     {
         if self.number == 0 {
-            return false;
+            return true;
         }
-        self.number != 25
+        self.number == 25
+    }
+
+    // Whether the row at `i` of `count` is to be read.
+    pub fn asks_row(self, i: usize, count: usize) -> bool
+        ensures { λ r. ⌜ r ≡ asksRow self i count ⌝ }
+    {
+        if self.is_open() {
+            return i < count;
+        }
+        false
     }
 
     // Refused at the row that follows those taken.
@@ -190,14 +200,11 @@ fn order_surplus(order: Order, prices: &[i64]) -> Microcents
     surplus(order, price)
 }
 
-// The account with one row more.
+// The account with the row that it asks for.
 pub fn add_row(account: Account, row: OrderRow, prices: &[i64]) -> Account
     requires { ⌜ Ready account ⌝ }
     ensures { λ r. ⌜ r ≡ addOf account row (now (prices .entry)) ⌝ }
 {
-    if account.is_final() {
-        return account;
-    }
     let OrderAnswer::Held(order) = admit_row(prices.len(), row) else {
         return account.refuse_row();
     };

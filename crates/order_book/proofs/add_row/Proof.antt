@@ -1,5 +1,5 @@
 -- `order_book::add_row` meets its contract: each return goes by the tests passed on the way. Assumes nothing.
-use mathlib.Core.Path.{_≡_, refl, ap, sym, subst, _∙_}
+use mathlib.Core.Path.{_≡_, ap, sym, subst, _∙_}
 use mathlib.Core.Bool.{false}
 use lib.ListN.{length}
 use lib.IntN.{ℤ}
@@ -13,14 +13,6 @@ use borrow.Author.Needs.{needs}
 use Rattle.order_book.proofs.add_row.Statement.{statement}
 use Rattle.order_book.proofs.add_row.Tie as tie
 
-is-final-requires : tie.Need-is-final-requires
-is-final-requires c κs = search needs
-
-returns : tie.Need-returns
-returns c =
-    let a = c .before .before .args in
-    added-by (a .account) (a .row) (a .prices .now) (sym (c .before .is-final .ensures) ∙ c .if1 .taken) refl
-
 admit-row-requires : tie.Need-admit-row-requires
 admit-row-requires c κs = search needs
 
@@ -33,55 +25,51 @@ enum-told c = search needs
 refuse-row-requires : tie.Need-refuse-row-requires
 refuse-row-requires c κs = search needs
 
-returns-2 : tie.Need-returns-2
-returns-2 c =
+returns : tie.Need-returns
+returns c =
     let r = c .before .before .before in
-    let a = r .before .before .before .args in
+    let a = r .before .args in
     c .refuse-row .ensures
-    ∙ added-by (a .account) (a .row) (a .prices .now) (sym (r .before .before .is-final .ensures) ∙ r .before .if1 .left)
-    (order-outside (rowOrder (a .row)) _ (sym (r .admit-row .ensures) ∙ c .before .enum-told .given .1))
+    ∙ added-by (a .account) (a .row) (a .prices .now) (order-outside (rowOrder (a .row)) _ (sym (r .admit-row .ensures) ∙ c .before .enum-told .given .1))
 
 -- the order that is held is the row's, and the row is in range
 held : (c : tie.After-known-told)
-    → (badIn (c .before .before .before .before .before .before .args .prices .now) (c .before .before .before .before .before .before .args .row) ≡ false)
-    × (c .before .order .given .0 .0 ≡ rowOrder (c .before .before .before .before .before .before .args .row))
-held c = order-held (rowOrder (c .before .before .before .before .before .before .args .row)) (c .before .order .given .0 .0) _ (sym (c .before .before .before .admit-row .ensures) ∙ c .before .order .given .1)
+    → (badIn (c .before .before .before .before .args .prices .now) (c .before .before .before .before .args .row) ≡ false)
+    × (c .before .order .given .0 .0 ≡ rowOrder (c .before .before .before .before .args .row))
+held c = order-held (rowOrder (c .before .before .before .before .args .row)) (c .before .order .given .0 .0) _ (sym (c .before .before .before .admit-row .ensures) ∙ c .before .order .given .1)
 
 order-surplus-requires : tie.Need-order-surplus-requires
 order-surplus-requires c κs =
-    let a = c .before .before .before .before .before .before .args in
+    let a = c .before .before .before .before .args in
     let h = held c in
     subst (λ (o : Order). OrderIn (length (a .prices .now)) o) (sym (h .1)) (order-in (a .prices .now) (a .row) (is-false (h .0)))
 
 -- the row's surplus
 row-surplus : (c : tie.After-order-surplus)
-    → c .order-surplus .result .0 ≡ counted (rowOrder (c .before .before .before .before .before .before .before .args .row)) (c .before .before .before .before .before .before .before .args .prices .now)
-row-surplus c = c .order-surplus .ensures ∙ ap (λ (o : Order). counted o (c .before .before .before .before .before .before .before .args .prices .now)) ((held (c .before)) .1)
+    → c .order-surplus .result .0 ≡ counted (rowOrder (c .before .before .before .before .before .args .row)) (c .before .before .before .before .before .args .prices .now)
+row-surplus c = c .order-surplus .ensures ∙ ap (λ (o : Order). counted o (c .before .before .before .before .before .args .prices .now)) ((held (c .before)) .1)
 
 take-row-requires : tie.Need-take-row-requires
 take-row-requires c κs =
-    let s = c .before .before .before .before .before .before .before in
+    let s = c .before .before .before .before .before in
     (s .pre .taken-in, next-fits (s .args .account) _ (s .pre) (subst (λ (x : ℤ). Near 4500000000000000 x) (sym (row-surplus c)) (counted-near (s .args .prices .now) (s .args .row) (is-false ((held (c .before)) .0)))))
 
-returns-3 : tie.Need-returns-3
-returns-3 c =
-    let e = c .before .before .before .before .before .before in
-    let a = e .before .before .args in
+returns-2 : tie.Need-returns-2
+returns-2 c =
+    let a = c .before .before .before .before .before .before .args in
     c .take-row .ensures
     ∙ ap (withRow (a .account)) (row-surplus (c .before))
-    ∙ added-by (a .account) (a .row) (a .prices .now) (sym (e .before .is-final .ensures) ∙ e .if1 .left) ((held (c .before .before)) .0)
+    ∙ added-by (a .account) (a .row) (a .prices .now) ((held (c .before .before)) .0)
 
 pub add-row-spec : {M : Type 1} → statement M
 add-row-spec =
     tie.close
     (tie.spec
-    is-final-requires
-    returns
     admit-row-requires
     enum-known-order
     enum-told
     refuse-row-requires
-    returns-2
+    returns
     order-surplus-requires
     take-row-requires
-    returns-3)
+    returns-2)

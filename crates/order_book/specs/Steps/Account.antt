@@ -1,11 +1,11 @@
--- The account of a lent book, row by row: what `open_book`, `add_row` and `close_book` give. That the account closed after the last row is the answer of
--- document 01 is shown in Closing.antt. Assumes nothing.
-use mathlib.Core.Bool.{Bool, true, false, not, _||_}
+-- The account of a lent book, row by row: what `open_book`, `add_row` and `close_book` give, and when a row is read. That the account closed where no more
+-- rows are read is the answer of document 01 is shown in Closing.antt. Assumes nothing.
+use mathlib.Core.Bool.{Bool, true, false, not, cond, _&&_, _||_}
 use mathlib.Core.List.{List}
 use mathlib.Core.Option.{Option, none, some}
 use Prim.Native.Nat.{ℕ, zero, suc, _+_, _*_, _<_}
 use lib.ListN.{length, getD}
-use lib.Dec.{eqb}
+use lib.Dec.{eqb, ltb}
 use lib.IntN.{ℤ, pos, _+ℤ_}
 use Rattle.integers.specs.Ranges.{outside, Within}
 use Rattle.integers.specs.Size.{Near}
@@ -25,9 +25,12 @@ use Rattle.order_book.specs.declared.Surplus.{Surplus}
 abbrev pub newAccount : ℕ → ℕ → Account
 newAccount number index = record { number = number; index = index; taken = 0; sum = record { 0 = pos 0 } }
 
--- refused by 4 or 8: no row changes it any more
-abbrev pub isFinal : Account → Bool
-isFinal a = not (eqb (a .number) 0 || eqb (a .number) 25)
+-- refused by neither 4 nor 8: a row may still change it, and the next one is read
+abbrev pub isOpen : Account → Bool
+isOpen a = eqb (a .number) 0 || eqb (a .number) 25
+
+abbrev pub asksRow : Account → ℕ → ℕ → Bool
+asksRow a i count = isOpen a && ltb i count
 
 abbrev pub refusedRow : Account → Account
 refusedRow a = record { number = 8; index = a .taken; taken = a .taken; sum = a .sum }
@@ -58,13 +61,12 @@ badIn prices o = badRow (length prices) (o .zone) (o .side) (o .quantity) (o .pr
 abbrev pub rowOrder : OrderRow → Order
 rowOrder o = orderOf (o .zone) (o .side) (pos (o .quantity)) (o .price)
 
-abbrev pub addBy : Account → Bool → Bool → ℤ → Account
-addBy a true bad x = a
-addBy a false true x = refusedRow a
-addBy a false false x = withRow a x
+abbrev pub addBy : Account → Bool → ℤ → Account
+addBy a true x = refusedRow a
+addBy a false x = withRow a x
 
 abbrev pub addOf : Account → OrderRow → List ℤ → Account
-addOf a o prices = addBy a (isFinal a) (badIn prices o) (counted (rowOrder o) prices)
+addOf a o prices = addBy a (badIn prices o) (counted (rowOrder o) prices)
 
 -- CLOSED: a refusal's sum is 0
 abbrev pub answered : ℕ → ℕ → ℤ → Surplus
@@ -77,10 +79,13 @@ closeOf a = answered (a .number) (a .index) (only (eqb (a .number) 0) (a .sum .0
 abbrev pub noOrder : OrderRow
 noOrder = record { zone = 0; side = 0; quantity = 0; price = pos 0 }
 
--- after the first i rows
+-- after the first i rows; a refusal by 4 or 8 stays
+abbrev pub nextOf : Account → OrderRow → List ℤ → Account
+nextOf a o prices = cond (isOpen a) (addOf a o prices) a
+
 unfoldable pub accountAt : List OrderRow → List ℤ → ℕ → Account
 accountAt orders prices zero = openOf (length orders) prices
-accountAt orders prices (suc i) = addOf (accountAt orders prices i) (getD orders i noOrder) prices
+accountAt orders prices (suc i) = nextOf (accountAt orders prices i) (getD orders i noOrder) prices
 
 -- an order of a row that is in range, with `zones` prices
 pub record OrderIn (zones : ℕ) (o : Order) : Type 0 where

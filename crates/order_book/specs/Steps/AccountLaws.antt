@@ -1,23 +1,22 @@
 -- What each step on an account gives, by the tests passed on the way; what a row that is in range leaves; and that its surplus keeps the sum small.
 -- Assumes nothing.
 use mathlib.Core.Path.{_≡_, refl, ap, sym, _∙_}
-use mathlib.Core.Bool.{Bool, true, false, not}
+use mathlib.Core.Bool.{Bool, true, false, not, cond, _&&_}
 use mathlib.Core.List.{List}
 use mathlib.Core.Option.{Option}
-use Prim.Native.Nat.{ℕ}
+use Prim.Native.Nat.{ℕ, _<_}
 use native.Mathlib.Omega.{arith}
-use lib.Dec.{T, leb, ltb, nleb→lt, eqb}
+use lib.Dec.{T, leb, ltb, ltb→lt, nleb→lt, eqb}
 use lib.ListN.{length}
 use lib.IntN.{ℤ, pos, _+ℤ_}
 use mir.Syntax.{w64}
 use mir.Val.{SFits}
-use Rattle.integers.specs.Ranges.{outside, within, nat-within, is-false}
+use Rattle.integers.specs.Ranges.{outside, within, nat-within, is-true, is-false}
 use Rattle.integers.specs.Size.{Near, near-le, near-pos, near-add, near-fits}
 use Rattle.integers.specs.Sums.{only}
 use Rattle.measures.specs.Meaning.Limits as limits
 use Rattle.orders.specs.Admitted.{surplusAt}
 use Rattle.orders.specs.declared.Order.{Order}
-use Rattle.orders.specs.declared.OrderAnswer.the-variants.{Outside}
 use Rattle.rules.specs.Meaning.Layout.{zoneCounts, orderCounts}
 use Rattle.rules.specs.Meaning.Hour.{surplusOf}
 use Rattle.rows.specs.Meaning.Rows.{anyBelow}
@@ -27,14 +26,25 @@ use Rattle.rules.specs.Promised.Fits.{surplus-near}
 use Rattle.rules.specs.Meaning.Book.{priceAt}
 use Rattle.order_book.specs.declared.Account.{Account}
 use Rattle.order_book.specs.declared.OrderRow.{OrderRow}
-use Rattle.order_book.specs.Steps.Account.{openBy, openOf, firstPriceOutside, counted, badIn, rowOrder, isFinal, addBy, addOf, answered, closeOf, OrderIn, Ready}
+use Rattle.order_book.specs.Steps.Account.{openBy, openOf, firstPriceOutside, counted, badIn, rowOrder, isOpen, asksRow, addBy, addOf, nextOf, answered, closeOf, OrderIn, Ready}
 
 pub opened-by : (count : ℕ) (prices : List ℤ) {a b : Bool} {z : Option ℕ} → outside zoneCounts (pos (length prices)) ≡ a → outside orderCounts (pos count) ≡ b → firstPriceOutside prices ≡ z
     → openBy a b z ≡ openOf count prices
 opened-by count prices ha hb hz = sym (λ j. openBy (ha j) (hb j) (hz j))
 
-pub added-by : (a : Account) (o : OrderRow) (prices : List ℤ) {s b : Bool} → isFinal a ≡ s → badIn prices o ≡ b → addBy a s b (counted (rowOrder o) prices) ≡ addOf a o prices
-added-by a o prices hs hb = sym (λ j. addBy a (hs j) (hb j) (counted (rowOrder o) prices))
+pub added-by : (a : Account) (o : OrderRow) (prices : List ℤ) {b : Bool} → badIn prices o ≡ b → addBy a b (counted (rowOrder o) prices) ≡ addOf a o prices
+added-by a o prices hb = sym (ap (λ (b : Bool). addBy a b (counted (rowOrder o) prices)) hb)
+
+pub next-by : (a : Account) (o : OrderRow) (prices : List ℤ) {s : Bool} → isOpen a ≡ s → nextOf a o prices ≡ cond s (addOf a o prices) a
+next-by a o prices hs = ap (λ (s : Bool). cond s (addOf a o prices) a) hs
+
+-- a row that is asked for is there, and no refusal by 4 or 8 stands before it
+asked-by : (s : Bool) (i count : ℕ) → T (s && ltb i count) → (s ≡ true) × (i < count)
+asked-by true i count t = (refl, ltb→lt i count t)
+asked-by false i count t = absurd t
+
+pub asked : (a : Account) (i count : ℕ) → asksRow a i count ≡ true → (isOpen a ≡ true) × (i < count)
+asked a i count e = asked-by (isOpen a) i count (is-true e)
 
 pub closed-by : (a : Account) {b : Bool} {x : ℤ} → eqb (a .number) 0 ≡ b → x ≡ only b (a .sum .0) → answered (a .number) (a .index) x ≡ closeOf a
 closed-by a hb hx = ap (answered (a .number) (a .index)) (hx ∙ ap (λ (b : Bool). only b (a .sum .0)) (sym hb))

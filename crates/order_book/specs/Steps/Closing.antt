@@ -1,13 +1,14 @@
--- The account closed after the last row is document 01's answer, and before each row it has room for that row. After i rows with no refusal it has taken
--- i rows and their sum; at the first row that is out of range, k, it stops with 8 and k. Assumes nothing.
+-- The account closed where no more rows are read is document 01's answer, and before each row it has room for that row. After i rows with no refusal it has
+-- taken i rows and their sum; at the first row that is out of range, k, it stops with 8 and k. Assumes nothing.
 use mathlib.Core.Path.{_≡_, refl, sym, ap, subst, _∙_}
-use mathlib.Core.Bool.{Bool, true, false, not, cond}
+use mathlib.Core.Bool.{Bool, true, false, not, cond, _&&_}
 use mathlib.Core.List.{List, [], _∷_, map}
 use mathlib.Core.Option.{Option, none, some}
-use Prim.Native.Nat.{ℕ, zero, suc, _*_, _<_}
+use Prim.Native.Nat.{ℕ, zero, suc, _*_, _≤_, _<_}
 use native.Mathlib.Numerals.{add-one}
 use native.Mathlib.Omega.{arith}
-use lib.Dec.{T, eqb}
+use native.Mathlib.Decide.{decLt}
+use lib.Dec.{T, eqb, ltb, nltb→le}
 use lib.ListN.{length, getD, length-map, List·getD-map}
 use lib.IntN.{ℤ, pos}
 use Rattle.integers.specs.Ranges.{outside, nat-within}
@@ -24,9 +25,9 @@ use Rattle.rules.specs.Meaning.Book.{BookRow, priceAt, badBookRow, bookRows, bo
 use Rattle.order_book.specs.declared.Account.{Account}
 use Rattle.order_book.specs.declared.OrderRow.{OrderRow}
 use Rattle.order_book.specs.Meaning.Lent.{bookRow, given, lentAnswer}
-use Rattle.order_book.specs.Steps.Account.{newAccount, firstPriceOutside, openBy, openOf, counted, badIn, rowOrder, isFinal, addBy, addOf, closeOf, noOrder, accountAt, Ready}
+use Rattle.order_book.specs.Steps.Account.{newAccount, firstPriceOutside, openBy, openOf, counted, badIn, rowOrder, isOpen, asksRow, addBy, addOf, nextOf, closeOf, noOrder, accountAt, Ready}
 use Rattle.integers.specs.Ranges.{is-false, not-is}
-use Rattle.order_book.specs.Steps.AccountLaws.{opened-by, added-by, counted-by, order-in, counted-near}
+use Rattle.order_book.specs.Steps.AccountLaws.{opened-by, next-by, asked, counted-by, order-in, counted-near}
 
 -- after i rows whose surpluses are f, by the first row that is out of range
 abbrev reached : Account → ℕ → (ℕ → ℤ) → Option ℕ → Account
@@ -53,11 +54,20 @@ module _ (orders : List OrderRow) (prices : List ℤ) where
   abbrev priceOutside : ℕ → Bool
   priceOutside z = outside limits.zonePrice (priceAt prices z)
 
-  -- REFUSED BY 4: no row is looked at
-  stays : isFinal (openOf (length orders) prices) ≡ true → (i : ℕ) → accountAt orders prices i ≡ openOf (length orders) prices
+  -- REFUSED BY 4 OR 8: no row changes it
+  stays : (k i : ℕ) → k ≤ i → isOpen (accountAt orders prices k) ≡ false → accountAt orders prices i ≡ accountAt orders prices k
   unfolding accountAt
-  stays s zero = refl
-  stays s (suc i) = ap (λ (a : Account). addOf a (at i) prices) (stays s i) ∙ sym (added-by (openOf (length orders) prices) (at i) prices s refl)
+  stays k zero h s = let e : zero ≡ k = omega (arith, h) in ap (accountAt orders prices) e
+  stays k (suc i) h s =
+      elim (decLt i k) [
+        | yes l ↦ let e : suc i ≡ k = omega (arith, h, l) in ap (accountAt orders prices) e
+        | no g ↦ ap (λ (a : Account). nextOf a (at i) prices) (stays k i (omega (arith, g)) s) ∙ next-by (accountAt orders prices k) (at i) prices s
+      ]
+
+  -- refused by 4 at once
+  never-read : (k : ℕ) → openOf (length orders) prices ≡ newAccount 4 k → (i : ℕ) → accountAt orders prices i ≡ newAccount 4 k
+  unfolding accountAt
+  never-read k e i = stays 0 i (omega arith) (ap isOpen e) ∙ e
 
   -- ROW BY ROW
   module _ (z : Option ℕ) where
@@ -69,23 +79,23 @@ module _ (orders : List OrderRow) (prices : List ℤ) where
     starts (some k) = refl
     starts none = refl
 
-    not-final : (y : Option ℕ) (i : ℕ) → isFinal (reached (openBy false false y) i term none) ≡ false
-    not-final (some k) i = refl
-    not-final none i = refl
+    still-open : (y : Option ℕ) (i : ℕ) → isOpen (reached (openBy false false y) i term none) ≡ true
+    still-open (some k) i = refl
+    still-open none i = refl
 
-    by-row : (i : ℕ) (b : Bool) → addBy (reached opened i term none) false b (term i) ≡ reached opened (suc i) term (cond b (some i) none)
+    by-row : (i : ℕ) (b : Bool) → addBy (reached opened i term none) b (term i) ≡ reached opened (suc i) term (cond b (some i) none)
     unfolding sumTo
     by-row i true = refl
     by-row i false = λ j. record { number = opened .number; index = opened .index; taken = add-one i j; sum = record { 0 = sumTo (suc i) term } }
 
-    next : (i : ℕ) (x : Option ℕ) → addOf (reached opened i term x) (at i) prices ≡ reached opened (suc i) term (elim x [ some k ↦ some k | none ↦ cond (bad i) (some i) none ])
+    next : (i : ℕ) (x : Option ℕ) → nextOf (reached opened i term x) (at i) prices ≡ reached opened (suc i) term (elim x [ some k ↦ some k | none ↦ cond (bad i) (some i) none ])
     next i (some k) = refl
-    next i none = sym (added-by (reached opened i term none) (at i) prices (not-final z i) refl) ∙ by-row i (bad i)
+    next i none = next-by (reached opened i term none) (at i) prices (still-open z i) ∙ by-row i (bad i)
 
     taken : openOf (length orders) prices ≡ opened → (i : ℕ) → accountAt orders prices i ≡ reached opened i term (firstBelow i bad)
     unfolding accountAt firstBelow
     taken e zero = e ∙ starts z
-    taken e (suc i) = ap (λ (a : Account). addOf a (at i) prices) (taken e i) ∙ next i (firstBelow i bad)
+    taken e (suc i) = ap (λ (a : Account). nextOf a (at i) prices) (taken e i) ∙ next i (firstBelow i bad)
 
   -- what the answer goes by, over the lent rows themselves
   abbrev rows : List BookRow
@@ -130,12 +140,9 @@ module _ (orders : List OrderRow) (prices : List ℤ) where
   by-tests : (a b : Bool) → outside zoneCounts (pos (length prices)) ≡ a → outside orderCounts (pos (length orders)) ≡ b → (z : Option ℕ) → firstPriceOutside prices ≡ z
       → (k : Option ℕ) → firstBelow (length orders) bad ≡ k → closeOf (accountAt orders prices (length orders)) ≡ lentAnswer orders prices
   unfolding firstPriceOutside
-  by-tests true b ea eb z ez k ek =
-      let e = sym (opened-by (length orders) prices ea refl refl) in
-      closed-by (stays (ap isFinal e) (length orders) ∙ e) (field-fails 4 5 _ ea) refl
+  by-tests true b ea eb z ez k ek = closed-by (never-read 5 (sym (opened-by (length orders) prices ea refl refl)) (length orders)) (field-fails 4 5 _ ea) refl
   by-tests false true ea eb z ez k ek =
-      let e = sym (opened-by (length orders) prices ea eb refl) in
-      closed-by (stays (ap isFinal e) (length orders) ∙ e) (field-passes 4 5 _ ea ∙ field-fails 4 8 _ eb) refl
+      closed-by (never-read 8 (sym (opened-by (length orders) prices ea eb refl)) (length orders)) (field-passes 4 5 _ ea ∙ field-fails 4 8 _ eb) refl
   by-tests false false ea eb z ez (some k) ek =
       closed-by (taken z (sym (opened-by (length orders) prices ea eb ez)) (length orders) ∙ ap (reached (openBy false false z) (length orders) term) ek)
       (field-passes 4 5 _ ea ∙ field-passes 4 8 _ eb ∙ row-found (each 8 (length orders) bad) _ k ek) refl
@@ -147,9 +154,17 @@ module _ (orders : List OrderRow) (prices : List ℤ) where
       (field-passes 4 5 _ ea ∙ field-passes 4 8 _ eb ∙ row-clear (each 8 (length orders) bad) _ ek ∙ row-clear (each 25 (length prices) priceOutside) [] ez ∙ no-cause)
       (ap (λ (x : ℤ). given (bookAnswerBy x none)) (sum-ext (length orders) _ _ (term-is ek ez) ∙ sym sum-is))
 
-  -- CLOSED AFTER THE LAST ROW: the answer
-  pub closing : closeOf (accountAt orders prices (length orders)) ≡ lentAnswer orders prices
-  closing = by-tests (outside zoneCounts (pos (length prices))) (outside orderCounts (pos (length orders))) refl refl (firstPriceOutside prices) refl (firstBelow (length orders) bad) refl
+  -- closed after the last row: the answer
+  after-last : closeOf (accountAt orders prices (length orders)) ≡ lentAnswer orders prices
+  after-last = by-tests (outside zoneCounts (pos (length prices))) (outside orderCounts (pos (length orders))) refl refl (firstPriceOutside prices) refl (firstBelow (length orders) bad) refl
+
+  -- CLOSED WHERE NO MORE ROWS ARE READ: the same, since a refusal stays, or all were read
+  last-is : (i : ℕ) → i ≤ length orders → (s : Bool) → isOpen (accountAt orders prices i) ≡ s → T (not (s && ltb i (length orders))) → accountAt orders prices (length orders) ≡ accountAt orders prices i
+  last-is i h true s t = ap (accountAt orders prices) (omega (arith, h, nltb→le i (length orders) t))
+  last-is i h false s t = stays i (length orders) h s
+
+  pub closing : (i : ℕ) → i ≤ length orders → asksRow (accountAt orders prices i) i (length orders) ≡ false → closeOf (accountAt orders prices i) ≡ lentAnswer orders prices
+  closing i h e = ap closeOf (sym (last-is i h (isOpen (accountAt orders prices i)) refl (is-false e))) ∙ after-last
 
   -- ROOM FOR EACH ROW
   sum-near : (i : ℕ) → ((j : ℕ) → j < i → T (not (bad j))) → Near (i * 4500000000000000) (sumTo i term)
@@ -160,11 +175,16 @@ module _ (orders : List OrderRow) (prices : List ℤ) where
   ready-at o i none e h = record { taken-in = h; sum-near = sum-near i (not-below i bad e) }
 
   ready-before : (a b : Bool) → outside zoneCounts (pos (length prices)) ≡ a → outside orderCounts (pos (length orders)) ≡ b → (i : ℕ) → i < length orders → Ready (accountAt orders prices i)
-  ready-before true b ea eb i h = let e = sym (opened-by (length orders) prices ea refl refl) in subst Ready (sym (stays (ap isFinal e) i ∙ e)) (ready-first 4 5)
-  ready-before false true ea eb i h = let e = sym (opened-by (length orders) prices ea eb refl) in subst Ready (sym (stays (ap isFinal e) i ∙ e)) (ready-first 4 8)
+  ready-before true b ea eb i h = subst Ready (sym (never-read 5 (sym (opened-by (length orders) prices ea refl refl)) i)) (ready-first 4 5)
+  ready-before false true ea eb i h = subst Ready (sym (never-read 8 (sym (opened-by (length orders) prices ea eb refl)) i)) (ready-first 4 8)
   ready-before false false ea eb i h =
       subst Ready (sym (taken (firstPriceOutside prices) (sym (opened-by (length orders) prices ea eb refl)) i))
       (ready-at (openBy false false (firstPriceOutside prices)) i (firstBelow i bad) refl (omega (arith, h, (nat-within 0 512 (length orders) (is-false eb)) .1)))
 
-  pub ready : (i : ℕ) → i < length orders → Ready (accountAt orders prices i)
-  ready i h = ready-before (outside zoneCounts (pos (length prices))) (outside orderCounts (pos (length orders))) refl refl i h
+  pub ready : (i : ℕ) → asksRow (accountAt orders prices i) i (length orders) ≡ true → Ready (accountAt orders prices i)
+  ready i e = ready-before (outside zoneCounts (pos (length prices))) (outside orderCounts (pos (length orders))) refl refl i ((asked (accountAt orders prices i) i (length orders) e) .1)
+
+  -- EACH ROW THAT IS READ is added
+  pub reading : (i : ℕ) → asksRow (accountAt orders prices i) i (length orders) ≡ true → addOf (accountAt orders prices i) (at i) prices ≡ accountAt orders prices (suc i)
+  unfolding accountAt
+  reading i e = sym (next-by (accountAt orders prices i) (at i) prices ((asked (accountAt orders prices i) i (length orders) e) .0))
