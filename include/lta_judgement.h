@@ -209,6 +209,9 @@ struct lta_surplus {
  *   LTA_CASE_HEADER, index 8   over 512 rows
  *   LTA_CASE_ORDER             a row with a field out of range; index: the row
  *   LTA_ZONE_PRICE             a price out of range; index: the zone
+ *
+ * It stops at a refusal: for LTA_CASE_HEADER no row is read, for LTA_CASE_ORDER none past the row named. That is tested, and not proved.
+ * All rows lent are to be readable none the less.
  */
 struct lta_surplus lta_book_surplus(const struct lta_order *orders, size_t order_count,
                                     const int64_t *zone_prices, size_t price_count);

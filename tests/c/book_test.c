@@ -1,5 +1,5 @@
-/* lta_book_surplus through the archive: P1's book, each refusal at its limits, refusals that meet, the widest books, null pointers. Every
- * call is made with rows and prices at both places between unreadable pages, and unwritable. */
+/* lta_book_surplus through the archive: P1's book, each refusal at its limits, refusals that meet, the widest books, null pointers, rows
+ * that no answer needs. Every call is made with rows and prices at both places between unreadable pages, and unwritable. */
 #include "harness.h"
 #include "hours.h"
 #include "lta_judgement.h"
@@ -263,6 +263,49 @@ static void nulls(void)
     }
 }
 
+/* A refusal by a count, with every row in an unreadable page. */
+static void refused_unread(size_t rows, size_t prices, uint32_t index)
+{
+    struct book b = three_zone_book();
+    bool ok = true;
+    for (unsigned k = 0; k < PLACES * PLACES && ok; k++) {
+        const struct lta_order *nowhere = lend(row_arena, k % PLACES, b.row, 0);
+        const int64_t *lent = lend(price_arena, k / PLACES, b.price, prices * sizeof *b.price);
+        ok = unreadable((const uint8_t *)nowhere) && is(lta_book_surplus(nowhere, rows, lent, prices), LTA_CASE_HEADER, index, 0);
+    }
+    check(ok);
+}
+
+/* Each of 512 rows refused in turn, with an unreadable page behind it. */
+static void row_refused_unread(const char *name, int64_t price)
+{
+    struct book b = rows_alike(ROWS_MOST, (struct lta_order){0, LTA_BUYS, 1, 0}, price);
+    bool ok = unreadable(row_arena.start + row_arena.size);
+    for (uint32_t row = 0; row < ROWS_MOST && ok; row++) {
+        about("row %" PRIu32 " out of range, none after it readable, %s", row, name);
+        b.row[row].quantity = 0;
+        const struct lta_order *rows = lend(row_arena, AT_END, b.row, (row + 1) * sizeof *b.row);
+        ok = is(lta_book_surplus(rows, ROWS_MOST, b.price, b.prices), LTA_CASE_ORDER, row, 0);
+        b.row[row].quantity = 1;
+    }
+    check(ok);
+}
+
+/* A refused book is read up to the cause: no row where a count is refused, and none past the first row that is. */
+static void unread(void)
+{
+    about("513 rows, none readable");
+    refused_unread(ROWS_MOST + 1, 3, 8);
+    about("50,000,000 rows, none readable");
+    refused_unread(50000000, 3, 8);
+    about("no prices, and no row readable");
+    refused_unread(ROWS_MOST, 0, 5);
+    about("17 prices, and no row readable");
+    refused_unread(ROWS_MOST, PRICES_MOST + 1, 5);
+    row_refused_unread("price in range", 0);
+    row_refused_unread("price out of range", INT64_MAX);
+}
+
 static struct {
     struct book book;
     struct lta_surplus answer;
@@ -289,6 +332,7 @@ int main(void)
     group("refusals", refusals);
     group("which cause and which index", causes);
     group("null with count 0", nulls);
+    group("rows that no answer needs", unread);
     group("a small stack", small_stack);
     return closing();
 }
