@@ -1,0 +1,2 @@
+-- What is proved of it for him.
+pub mod Duality

@@ -1,0 +1,2 @@
+// Transports along ordered pairs of zones: what they are and what holds of them. It stands in specs/; there is no code.
+pub fn nothing() {}
