@@ -1,2 +1,3 @@
--- A set of zones and what it holds
+-- A set of zones and what it holds, and the pairs of zones seen as such sets
 pub mod Zones
+pub mod Pairs

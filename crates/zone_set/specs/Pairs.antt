@@ -1,4 +1,4 @@
--- The pairs of the links before one, as a set of zones for each zone: zone b is in the set of zone a where a link before goes from a to b. Assumes nothing.
+-- The pairs of zones seen so far, as a set of zones for each zone: zone b is in the set of zone a where a pair before goes from a to b. Assumes nothing.
 use mathlib.Core.Path.{_≡_, refl, sym, ap, _∙_}
 use mathlib.Core.Bool.{Bool, true, false, _&&_, _||_, or-false}
 use mathlib.Core.List.{List}
@@ -9,9 +9,8 @@ use lib.Dec.{eqb}
 use lib.ListN.{length, getD, set, replicate, length-set}
 use lib.Seq.{getD-set-same, getD-set-other}
 use borrow.Author.Tests.{eqb-true, eqb-false}
-use Rattle.rules.specs.Meaning.Layout.{fromIn, toIn}
 use Rattle.rows.specs.Meaning.Rows.{anyBelow}
 use Rattle.zone_set.specs.Zones.{member, added, member-added, member-none}
 
 abbrev pub holds : List ℕ → ℕ → ℕ → Bool
 holds seen a b = member (getD seen a 0) b
@@ -38,21 +37,21 @@ blank zero a = refl
 blank (suc n) zero = refl
 blank (suc n) (suc a) = blank n a
 
--- THE PAIRS SEEN: those of the first l links
-abbrev samePair : List ℕ → ℕ → ℕ → ℕ → Bool
-samePair s a b j = eqb (fromIn s j) a && eqb (toIn s j) b
+-- THE PAIRS SEEN: the first l, of which pair j goes from `from j` to `to j`
+abbrev pub samePair : (ℕ → ℕ) → (ℕ → ℕ) → ℕ → ℕ → ℕ → Bool
+samePair from to a b j = eqb (from j) a && eqb (to j) b
 
-pub record Seen (s : List ℕ) (l : ℕ) (seen : List ℕ) : Type 0 where
+pub record Seen (from to : ℕ → ℕ) (l : ℕ) (seen : List ℕ) : Type 0 where
   pub places : length seen ≡ 16
-  pub held : (a b : ℕ) → holds seen a b ≡ anyBelow l (samePair s a b)
+  pub held : (a b : ℕ) → holds seen a b ≡ anyBelow l (samePair from to a b)
 
-pub seen-none : (s : List ℕ) → Seen s 0 (replicate 16 0)
+pub seen-none : (from to : ℕ → ℕ) → Seen from to 0 (replicate 16 0)
 unfolding anyBelow
-seen-none s = record { places = refl; held = λ a b. ap (λ (n : ℕ). member n b) (blank 16 a) ∙ member-none b }
+seen-none from to = record { places = refl; held = λ a b. ap (λ (n : ℕ). member n b) (blank 16 a) ∙ member-none b }
 
-pub seen-more : (s : List ℕ) (l : ℕ) {seen : List ℕ} {f t : ℕ} → Seen s l seen → f ≡ fromIn s l → t ≡ toIn s l → f < 16 → t < 16 → Seen s (l + 1) (withPair seen f t)
+pub seen-more : (from to : ℕ → ℕ) (l : ℕ) {seen : List ℕ} {f t : ℕ} → Seen from to l seen → f ≡ from l → t ≡ to l → f < 16 → t < 16 → Seen from to (l + 1) (withPair seen f t)
 unfolding anyBelow
-seen-more s l {seen} {f} {t} w ef et hf ht = record {
+seen-more from to l {seen} {f} {t} w ef et hf ht = record {
   places = length-set seen f _ ∙ w .places;
-  held = λ a b. holds-more seen f t (omega (arith, w .places)) ht a b ∙ (λ j. w .held a b j || (eqb (ef j) a && eqb (et j) b)) ∙ ap (λ (n : ℕ). anyBelow n (samePair s a b)) (sym (add-one l));
+  held = λ a b. holds-more seen f t (omega (arith, w .places)) ht a b ∙ (λ j. w .held a b j || (eqb (ef j) a && eqb (et j) b)) ∙ ap (λ (n : ℕ). anyBelow n (samePair from to a b)) (sym (add-one l));
 }

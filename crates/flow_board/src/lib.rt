@@ -1,0 +1,101 @@
+// The board of a transport (request S-3): 96 numbers of a lent scratch, one per pair for what flows along it, one per zone for export used, one per zone
+// for import used. Amounts are tenths; they are bare numbers here since a lent list holds no measure.
+ghost use mathlib.Core.Path.{_≡_};
+ghost use Prim.Native.Nat.{_+_, _-_, _≤_, _<_};
+ghost use lib.ListN.{length, getD, set};
+ghost use lib.IntN.{pos};
+ghost use lib.Signed.{leZ};
+ghost use Rattle.integers.specs.Difference.{up, dn};
+ghost use Rattle.flow_board.specs.Board.{amountAt};
+ghost use Rattle.flow_board.specs.Cleared.{Cleared};
+
+// So many numbers, and where the zones' own begin.
+pub const BOARD: usize = 96;
+
+pub const SENT: usize = 64;
+
+pub const GOT: usize = 80;
+
+// The part of a number above zero.
+fn positive(x: i64) -> u64
+    ensures { λ r. ⌜ r ≡ up x ⌝ }
+{
+    if x < 0 { 0 } else { x as u64 }
+}
+
+// The part of a number below zero.
+fn negative(x: i64) -> u64
+    requires { ⌜ dn x ≤ 51200000 ⌝ }
+    ensures { λ r. ⌜ r ≡ dn x ⌝ }
+{
+    if x < 0 { (-x) as u64 } else { 0 }
+}
+
+pub fn amount(s: &[i64], k: usize) -> u64
+    requires { ⌜ k < length (now s) ⌝ }
+    ensures { λ r. ⌜ r ≡ amountAt (now (s .entry)) k ⌝ }
+{
+    positive(s[k])
+}
+
+pub fn import_of(net: &[i64], z: usize) -> u64
+    requires { ⌜ z < length (now net) ⌝ }
+    requires { ⌜ dn (getD (now net) z (pos 0)) ≤ 51200000 ⌝ }
+    ensures { λ r. ⌜ r ≡ dn (getD (now (net .entry)) z (pos 0)) ⌝ }
+{
+    negative(net[z])
+}
+
+pub fn store(s: &mut [i64], k: usize, v: u64)
+    requires { ⌜ k < length (now s) ⌝ }
+    requires { ⌜ v < 9223372036854775808 ⌝ }
+    ensures { λ _. ⌜ now (s .exit) ≡ set (now (s .entry)) k (pos v) ⌝ }
+{
+    s[k] = v as i64;
+}
+
+// Whether a pair counts: its first price is at most its second.
+pub fn counts(prices: &[i64], a: usize, b: usize) -> bool
+    requires { ⌜ a < length (now prices) ⌝ }
+    requires { ⌜ b < length (now prices) ⌝ }
+    ensures { λ r. ⌜ r ≡ leZ (getD (now (prices .entry)) a (pos 0)) (getD (now (prices .entry)) b (pos 0)) ⌝ }
+{
+    prices[a] <= prices[b]
+}
+
+// What is left of a zone's export.
+pub fn export_left(net: &[i64], s: &[i64], z: usize) -> u64
+    requires { ⌜ z < length (now net) ⌝ }
+    requires { ⌜ length (now net) ≤ 16 ⌝ }
+    requires { ⌜ 96 ≤ length (now s) ⌝ }
+    ensures { λ r. ⌜ r ≡ up (getD (now (net .entry)) z (pos 0)) - amountAt (now (s .entry)) (64 + z) ⌝ }
+{
+    let all = amount(net, z);
+    let used = amount(s, SENT + z);
+    if used < all { all - used } else { 0 }
+}
+
+// What is left of a zone's import.
+pub fn import_left(net: &[i64], s: &[i64], z: usize) -> u64
+    requires { ⌜ z < length (now net) ⌝ }
+    requires { ⌜ length (now net) ≤ 16 ⌝ }
+    requires { ⌜ 96 ≤ length (now s) ⌝ }
+    requires { ⌜ dn (getD (now net) z (pos 0)) ≤ 51200000 ⌝ }
+    ensures { λ r. ⌜ r ≡ dn (getD (now (net .entry)) z (pos 0)) - amountAt (now (s .entry)) (80 + z) ⌝ }
+{
+    let all = import_of(net, z);
+    let used = amount(s, GOT + z);
+    if used < all { all - used } else { 0 }
+}
+
+// The first n numbers become zero.
+pub fn clear(s: &mut [i64], n: usize)
+    requires { ⌜ n ≤ length (now s) ⌝ }
+    ensures { λ _. ⌜ Cleared n (now (s .entry)) (now (s .exit)) ⌝ }
+{
+    let mut i = 0;
+    while i < n {
+        store(s, i, 0);
+        i += 1;
+    }
+}

@@ -1,0 +1,105 @@
+// Ordered pairs of zones lent as bytes (request S-3): the first zone and the second of each, and the first pair that row 84 refuses.
+ghost use mathlib.Core.Path.{_≡_};
+ghost use Prim.Native.Nat.{_+_, _*_, _≤_, _<_};
+ghost use lib.ListN.{length, getD};
+ghost use Rattle.rows.specs.Meaning.Rows.{firstBelow};
+ghost use Rattle.rows.specs.Promised.RowLaws.{placeOf};
+ghost use Rattle.zone_set.specs.Pairs.{Seen};
+ghost use Rattle.zone_pairs.specs.Steps.Tests.{Good};
+ghost use Rattle.zone_pairs.specs.Meaning.Pairs.{pairCount, firstZone, secondZone, badPair};
+use rows::Place;
+
+// No zone's number: what stands for the second zone of a last byte alone.
+const NO_ZONE: usize = 16;
+
+// So many pairs are taken.
+const PAIRS_GREATEST: usize = 64;
+
+pub fn pair_count(pairs: &[u8]) -> usize
+    ensures { λ r. ⌜ r ≡ pairCount (now (pairs .entry)) ⌝ }
+{
+    pairs.len() / 2 + pairs.len() % 2
+}
+
+// A byte of a pair as a zone.
+pub fn zone_at(pairs: &[u8], i: usize) -> usize
+    requires { ⌜ i < length (now pairs) ⌝ }
+    ensures { λ r. ⌜ r ≡ getD (now (pairs .entry)) i 16 ⌝ }
+{
+    pairs[i] as usize
+}
+
+fn zone_or_none(pairs: &[u8], i: usize) -> usize
+    ensures { λ r. ⌜ r ≡ getD (now (pairs .entry)) i 16 ⌝ }
+{
+    if i < pairs.len() {
+        return zone_at(pairs, i);
+    }
+    NO_ZONE
+}
+
+fn first_zone(pairs: &[u8], k: usize) -> usize
+    requires { ⌜ 2 * k + 1 < 18446744073709551616 ⌝ }
+    ensures { λ r. ⌜ r ≡ firstZone (now (pairs .entry)) k ⌝ }
+{
+    zone_or_none(pairs, 2 * k)
+}
+
+fn second_zone(pairs: &[u8], k: usize) -> usize
+    requires { ⌜ 2 * k + 1 < 18446744073709551616 ⌝ }
+    ensures { λ r. ⌜ r ≡ secondZone (now (pairs .entry)) k ⌝ }
+{
+    zone_or_none(pairs, 2 * k + 1)
+}
+
+// Whether row 84 refuses pair k, by the zones seen after each zone in the pairs before it.
+fn bad_pair(pairs: &[u8], zones: usize, seen: &[u16; zone_set::ZONES], k: usize) -> bool
+    requires { ⌜ zones ≤ 16 ⌝ }
+    requires { ⌜ Seen (firstZone (now pairs)) (secondZone (now pairs)) k (now seen) ⌝ }
+    ensures { λ r. ⌜ r ≡ badPair zones (now (pairs .entry)) k ⌝ }
+{
+    if PAIRS_GREATEST <= k {
+        return true;
+    }
+    let first = first_zone(pairs, k);
+    if zones <= first {
+        return true;
+    }
+    let second = second_zone(pairs, k);
+    if zones <= second {
+        return true;
+    }
+    if first == second {
+        return true;
+    }
+    zone_set::has(seen[first], second)
+}
+
+// Pair k is seen too.
+fn see_pair(pairs: &[u8], seen: &mut [u16; zone_set::ZONES], k: usize)
+    requires { ⌜ Good 16 (now pairs) k ⌝ }
+    requires { ⌜ Seen (firstZone (now pairs)) (secondZone (now pairs)) k (now seen) ⌝ }
+    ensures { λ _. ⌜ Seen (firstZone (now (pairs .entry))) (secondZone (now (pairs .entry))) (k + 1) (now (seen .exit)) ⌝ }
+{
+    let first = first_zone(pairs, k);
+    let second = second_zone(pairs, k);
+    seen[first] = zone_set::with(seen[first], second);
+}
+
+// The first pair that row 84 refuses.
+pub fn first_bad_pair(pairs: &[u8], zones: usize) -> Place
+    requires { ⌜ zones ≤ 16 ⌝ }
+    ensures { λ r. ⌜ placeOf r ≡ firstBelow (pairCount (now (pairs .entry))) (badPair zones (now (pairs .entry))) ⌝ }
+{
+    let mut seen = [0u16; zone_set::ZONES];
+    let count = pair_count(pairs);
+    let mut k = 0;
+    while k < count {
+        if bad_pair(pairs, zones, &seen, k) {
+            return Place::At(k);
+        }
+        see_pair(pairs, &mut seen, k);
+        k += 1;
+    }
+    Place::Nowhere
+}
