@@ -1,0 +1,111 @@
+-- `augmenting_path::walk_back` meets its contract. The loop's invariant: whatever path led to the zone at which the walk began leads to the zone at which it
+-- is. The measure is the depth. Assumes nothing.
+use mathlib.Core.List.{List}
+use Prim.Native.Nat.{ℕ, _+_, _≤_, _<_}
+use native.Mathlib.Omega.{arith}
+use borrow.Author.Needs.{needs}
+use lib.ListN.{length, getD}
+use lib.IntN.{ℤ, pos}
+use denote.Ref.{now}
+use Rattle.flow_board.specs.Board.{Rest, rest-refl, rest-trans}
+use Rattle.augmenting_path.specs.Path.{PathBack, SomePath, trailOf, step-safe, path-step}
+use Rattle.augmenting_path.proofs.walk_back.Statement.{statement}
+use Rattle.augmenting_path.proofs.walk_back.Tie as tie
+
+abbrev Inv-loop : tie.InvT-loop
+Inv-loop pairs s₀ marks t d z₀ s z =
+    ((net prices : List ℤ) (total : ℕ) → PathBack net prices total pairs s₀ (trailOf marks) d z₀ → PathBack net prices total pairs s (trailOf marks) d z) × Rest s₀ s
+
+abbrev μ-loop : tie.MeasureT-loop
+μ-loop pairs s₀ marks t d z₀ s z = getD marks (16 + z) 0
+
+loop-holds : tie.Need-loop-holds Inv-loop μ-loop
+loop-holds c = (λ net prices total h. h, rest-refl (now (c .before .args .s)))
+
+-- the path as it is at the loop's head
+module _ (c : tie.At-loop Inv-loop μ-loop) where
+  abbrev st : tie.Start Inv-loop μ-loop
+  st = c .before .before
+
+  abbrev some : SomePath (now (st .args .pairs)) (now (st .args .s)) (trailOf (now (st .args .marks))) (st .args .d) (st .args .t)
+  some = st .pre
+
+  at : PathBack (some .net) (some .prices) (some .total) (now (st .args .pairs)) (c .loop .s) (trailOf (now (st .args .marks))) (st .args .d) (c .loop .z)
+  at = c .loop .inv .0 (some .net) (some .prices) (some .total) (some .path)
+
+  low : c .loop .z < 16
+  low = omega (arith, at .inside, at .sized .zones)
+
+add-if1 : tie.Need-add-if1 Inv-loop μ-loop
+add-if1 c = omega (arith, low c)
+
+mul-if1 : tie.Need-mul-if1 Inv-loop μ-loop
+mul-if1 c = omega (arith, low c)
+
+element-copy-out-if1 : tie.Need-element-copy-out-if1 Inv-loop μ-loop
+element-copy-out-if1 c = omega (arith, low c)
+
+add-k : tie.Need-add-k Inv-loop μ-loop
+add-k c = omega (arith, low (c .before .before))
+
+mul-k : tie.Need-mul-k Inv-loop μ-loop
+mul-k c = omega (arith, low (c .before .before))
+
+element-copy-out-k : tie.Need-element-copy-out-k Inv-loop μ-loop
+element-copy-out-k c = omega (arith, low (c .before .before))
+
+shift-requires : tie.Need-shift-requires Inv-loop μ-loop
+shift-requires c κs =
+    let t = c .before .before in
+    let h = t .before .before in
+    let w = step-safe _ _ _ _ _ _ _ _ (at h) (t .if1 .taken) in
+    ((omega (arith, w .0, at h .sized .even), omega (arith, w .0, at h .sized .pairs)), (at h .room, (w .1 .0, w .1 .1)))
+
+-- the step taken
+module _ (c : tie.After-s Inv-loop μ-loop) where
+  abbrev h : tie.At-loop Inv-loop μ-loop
+  h = c .before .before .before .before .before .before
+
+  stepped : (net prices : List ℤ) (total : ℕ) → PathBack net prices total (now (st h .args .pairs)) (h .loop .s) (trailOf (now (st h .args .marks))) (st h .args .d) (h .loop .z)
+      → PathBack net prices total (now (st h .args .pairs)) (c .before .shift .last .1 .0) (trailOf (now (st h .args .marks))) (st h .args .d) (c .before .shift .result)
+      × ((getD (now (st h .args .marks)) (16 + c .before .shift .result) 0 < getD (now (st h .args .marks)) (16 + h .loop .z) 0) × Rest (h .loop .s) (c .before .shift .last .1 .0))
+  stepped net prices total p = path-step net prices total _ _ _ _ _ p (c .before .before .before .before .if1 .taken) (c .before .shift .last .1 .0) (c .before .shift .result) (c .before .shift .ensures)
+
+loop-less : tie.Need-loop-less Inv-loop μ-loop
+loop-less c = let o = some (h c) in stepped c (o .net) (o .prices) (o .total) (at (h c)) .1 .0
+
+loop-again : tie.Need-loop-again Inv-loop μ-loop
+loop-again c =
+    let o = some (h c) in (
+      λ net prices total w. stepped c net prices total (h c .loop .inv .0 net prices total w) .0,
+      rest-trans (h c .loop .inv .1) (stepped c (o .net) (o .prices) (o .total) (at (h c)) .1 .1),
+    )
+
+same-length : tie.Need-same-length Inv-loop μ-loop
+same-length c = c .before .before .loop .inv .1 .len
+
+returns : tie.Need-returns Inv-loop μ-loop
+returns c = record {
+  path = λ net prices total h. c .before .before .loop .inv .0 net prices total h;
+  root = omega arith;
+  rest = c .before .before .loop .inv .1;
+}
+
+pub walk-back-spec : {M : Type 1} → statement M
+walk-back-spec =
+    tie.close
+    (tie.spec
+    Inv-loop
+    μ-loop
+    loop-holds
+    add-if1
+    mul-if1
+    element-copy-out-if1
+    add-k
+    mul-k
+    element-copy-out-k
+    shift-requires
+    loop-less
+    loop-again
+    same-length
+    returns)

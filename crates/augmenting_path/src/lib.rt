@@ -1,0 +1,66 @@
+// An augmenting path (request S-3): d more is brought to a zone with import left, back along the pairs that a search marked, to a zone with export left.
+ghost use mathlib.Core.Path.{_≡_};
+ghost use Prim.Native.Nat.{_+_, _*_, _≤_, _<_};
+ghost use lib.ListN.{length};
+ghost use Rattle.zone_pairs.specs.Meaning.Pairs.{secondZone};
+ghost use Rattle.flow_board.specs.Board.{amountAt};
+ghost use Rattle.augmenting_path.specs.Path.{trailOf, Shifted, SomePath, Walked, SomeAugment, Augmented};
+use flow_board::GOT;
+use flow_board::SENT;
+use flow_board::amount;
+use flow_board::store;
+use zone_pairs::zone_at;
+
+// The marks of a search: how much can be brought to each zone (0: not reached), its depth, the pair by which it was reached, and the order in which zones were.
+pub const MARKS: usize = 64;
+
+pub const DEPTH: usize = 16;
+
+pub const VIA: usize = 32;
+
+pub const ORDER: usize = 48;
+
+// Zone z lacks d: pair k makes it even, and its other zone lacks d. Flow back along a used pair is less of it.
+fn shift(pairs: &[u8], s: &mut [i64], k: usize, z: usize, d: u64) -> usize
+    requires { ⌜ (2 * k + 1 < length (now pairs)) × (k < 64) ⌝ }
+    requires { ⌜ 96 ≤ length (now s) ⌝ }
+    requires { ⌜ amountAt (now s) k + d < 9223372036854775808 ⌝ }
+    requires { ⌜ ((secondZone (now pairs) k ≡ z → ⊥) → d ≤ amountAt (now s) k) ⌝ }
+    ensures { λ r. ⌜ Shifted (now (pairs .entry)) (now (s .entry)) (now (s .exit)) k z d r ⌝ }
+{
+    let first = zone_at(pairs, 2 * k);
+    let second = zone_at(pairs, 2 * k + 1);
+    let flow = amount(s, k);
+    if second == z {
+        store(s, k, flow + d);
+        first
+    } else {
+        store(s, k, flow - d);
+        second
+    }
+}
+
+// From a zone that lacks d back along its path, to a zone with export left.
+fn walk_back(pairs: &[u8], s: &mut [i64], marks: &[u64; MARKS], t: usize, d: u64) -> usize
+    requires { ⌜ SomePath (now pairs) (now s) (trailOf (now marks)) d t ⌝ }
+    ensures { λ r. ⌜ Walked (now (pairs .entry)) (now (s .entry)) (now (s .exit)) (trailOf (now (marks .entry))) d t r ⌝ }
+{
+    let mut z = t;
+    while 0 < marks[DEPTH + z] {
+        let k = marks[VIA + z] as usize;
+        z = shift(pairs, s, k, z, d);
+    }
+    z
+}
+
+// Brings d more to zone t, from a zone with export left.
+pub fn augment(pairs: &[u8], s: &mut [i64], marks: &[u64; MARKS], t: usize, d: u64)
+    requires { ⌜ SomeAugment (now pairs) (now s) (trailOf (now marks)) d t ⌝ }
+    ensures { λ _. ⌜ Augmented (now (pairs .entry)) (now (s .entry)) (now (s .exit)) (trailOf (now (marks .entry))) d t ⌝ }
+{
+    let got = amount(s, GOT + t);
+    store(s, GOT + t, got + d);
+    let z = walk_back(pairs, s, marks, t, d);
+    let sent = amount(s, SENT + z);
+    store(s, SENT + z, sent + d);
+}
