@@ -13,9 +13,9 @@ use Rattle.flow_board.specs.Board.{amountAt, boardOf, Rest, rest-set, set-flow,
 use Rattle.augmenting_path.specs.Lacking.{Lacking, State, more-along, less-along, use-got, use-sent}
 use Rattle.augmenting_path.specs.Links.{Trail, Link, Links, links-on, links-back, links-got}
 
--- the marks as they lie in one list of 64 numbers: 16 for what can be brought, 16 for the depth, 16 for the pair; and 16 for the order of a search
+-- the marks as they lie in one list, four numbers to a zone; the fourth is of the order of a search
 abbrev pub trailOf : List ℕ → Trail
-trailOf marks = record { lab = λ z. getD marks z 0; dep = λ z. getD marks (16 + z) 0; by = λ z. getD marks (32 + z) 0 }
+trailOf marks = record { lab = λ z. getD marks (4 * z) 0; dep = λ z. getD marks (4 * z + 1) 0; by = λ z. getD marks (4 * z + 2) 0 }
 
 -- the sizes of an hour that no row refuses
 pub record Sized (net prices : List ℤ) (bytes : List ℕ) : Type 0 where

@@ -11,14 +11,19 @@ use flow_board::amount;
 use flow_board::store;
 use zone_pairs::zone_at;
 
-// The marks of a search: how much can be brought to each zone (0: not reached), its depth, the pair by which it was reached, and the order in which zones were.
-pub const MARKS: usize = 64;
+// The marks of a search, four numbers for each of sixteen zones: how much can be brought to it (0: not reached), its depth, the pair by which it was reached, and
+// the zone that was reached as the so manieth; then, in the last of four numbers more, how many were reached.
+pub const MARKS: usize = 68;
 
-pub const DEPTH: usize = 16;
+pub const MARK: usize = 4;
 
-pub const VIA: usize = 32;
+pub const DEPTH: usize = 1;
 
-pub const ORDER: usize = 48;
+pub const VIA: usize = 2;
+
+pub const ORDER: usize = 3;
+
+pub const COUNT: usize = 67;
 
 // Zone z lacks d: pair k makes it even, and its other zone lacks d. Flow back along a used pair is less of it.
 fn shift(pairs: &[u8], s: &mut [i64], k: usize, z: usize, d: u64) -> usize
@@ -46,8 +51,8 @@ fn walk_back(pairs: &[u8], s: &mut [i64], marks: &[u64; MARKS], t: usize, d: u64
     ensures { λ r. ⌜ Walked (now (pairs .entry)) (now (s .entry)) (now (s .exit)) (trailOf (now (marks .entry))) d t r ⌝ }
 {
     let mut z = t;
-    while 0 < marks[DEPTH + z] {
-        let k = marks[VIA + z] as usize;
+    while 0 < marks[MARK * z + DEPTH] {
+        let k = marks[MARK * z + VIA] as usize;
         z = shift(pairs, s, k, z, d);
     }
     z

@@ -1,7 +1,7 @@
 -- `augmenting_path::walk_back` meets its contract. The loop's invariant: whatever path led to the zone at which the walk began leads to the zone at which it
 -- is. The measure is the depth. Assumes nothing.
 use mathlib.Core.List.{List}
-use Prim.Native.Nat.{ℕ, _+_, _≤_, _<_}
+use Prim.Native.Nat.{ℕ, _+_, _*_, _<_}
 use native.Mathlib.Omega.{arith}
 use borrow.Author.Needs.{needs}
 use lib.ListN.{length, getD}
@@ -17,7 +17,7 @@ Inv-loop pairs s₀ marks t d z₀ s z =
     ((net prices : List ℤ) (total : ℕ) → PathBack net prices total pairs s₀ (trailOf marks) d z₀ → PathBack net prices total pairs s (trailOf marks) d z) × Rest s₀ s
 
 abbrev μ-loop : tie.MeasureT-loop
-μ-loop pairs s₀ marks t d z₀ s z = getD marks (16 + z) 0
+μ-loop pairs s₀ marks t d z₀ s z = getD marks (4 * z + 1) 0
 
 loop-holds : tie.Need-loop-holds Inv-loop μ-loop
 loop-holds c = (λ net prices total h. h, rest-refl (now (c .before .args .s)))
@@ -36,20 +36,26 @@ module _ (c : tie.At-loop Inv-loop μ-loop) where
   low : c .loop .z < 16
   low = omega (arith, at .inside, at .sized .zones)
 
+mul-if1 : tie.Need-mul-if1 Inv-loop μ-loop
+mul-if1 c = omega (arith, low c)
+
 add-if1 : tie.Need-add-if1 Inv-loop μ-loop
 add-if1 c = omega (arith, low c)
 
-mul-if1 : tie.Need-mul-if1 Inv-loop μ-loop
-mul-if1 c = omega (arith, low c)
+mul-if1-2 : tie.Need-mul-if1-2 Inv-loop μ-loop
+mul-if1-2 c = omega (arith, low c)
 
 element-copy-out-if1 : tie.Need-element-copy-out-if1 Inv-loop μ-loop
 element-copy-out-if1 c = omega (arith, low c)
 
+mul-k : tie.Need-mul-k Inv-loop μ-loop
+mul-k c = omega (arith, low (c .before .before))
+
 add-k : tie.Need-add-k Inv-loop μ-loop
 add-k c = omega (arith, low (c .before .before))
 
-mul-k : tie.Need-mul-k Inv-loop μ-loop
-mul-k c = omega (arith, low (c .before .before))
+mul-k-2 : tie.Need-mul-k-2 Inv-loop μ-loop
+mul-k-2 c = omega (arith, low (c .before .before))
 
 element-copy-out-k : tie.Need-element-copy-out-k Inv-loop μ-loop
 element-copy-out-k c = omega (arith, low (c .before .before))
@@ -68,7 +74,7 @@ module _ (c : tie.After-s Inv-loop μ-loop) where
 
   stepped : (net prices : List ℤ) (total : ℕ) → PathBack net prices total (now (st h .args .pairs)) (h .loop .s) (trailOf (now (st h .args .marks))) (st h .args .d) (h .loop .z)
       → PathBack net prices total (now (st h .args .pairs)) (c .before .shift .last .1 .0) (trailOf (now (st h .args .marks))) (st h .args .d) (c .before .shift .result)
-      × ((getD (now (st h .args .marks)) (16 + c .before .shift .result) 0 < getD (now (st h .args .marks)) (16 + h .loop .z) 0) × Rest (h .loop .s) (c .before .shift .last .1 .0))
+      × ((getD (now (st h .args .marks)) (4 * c .before .shift .result + 1) 0 < getD (now (st h .args .marks)) (4 * h .loop .z + 1) 0) × Rest (h .loop .s) (c .before .shift .last .1 .0))
   stepped net prices total p = path-step net prices total _ _ _ _ _ p (c .before .before .before .before .if1 .taken) (c .before .shift .last .1 .0) (c .before .shift .result) (c .before .shift .ensures)
 
 loop-less : tie.Need-loop-less Inv-loop μ-loop
@@ -98,11 +104,13 @@ walk-back-spec =
     Inv-loop
     μ-loop
     loop-holds
-    add-if1
     mul-if1
+    add-if1
+    mul-if1-2
     element-copy-out-if1
-    add-k
     mul-k
+    add-k
+    mul-k-2
     element-copy-out-k
     shift-requires
     loop-less
