@@ -1,0 +1,2 @@
+-- Augmenting paths until none is left, and the answer that this gives
+pub mod Filled

@@ -1,0 +1,85 @@
+// The largest transport of an hour (request S-3), by augmenting paths on a board in the lent scratch.
+ghost use mathlib.Core.Path.{_≡_};
+ghost use Prim.Native.Nat.{ℕ, _≤_, _<_};
+ghost use lib.ListN.{length, getD};
+ghost use lib.IntN.{pos};
+ghost use Rattle.integers.specs.Difference.{up};
+ghost use Rattle.integers.specs.NaturalSums.{sumNat};
+ghost use Rattle.zone_pairs.specs.Meaning.Pairs.{networkOf};
+ghost use Rattle.flow_board.specs.Board.{boardOf, Rest};
+ghost use Rattle.flow_board.specs.Cleared.{Cleared};
+ghost use Rattle.augmenting_path.specs.Lacking.{State};
+ghost use Rattle.augmenting_path.specs.Path.{Sized};
+ghost use Rattle.largest_transport.specs.Filled.{Filled, Answer};
+use augmenting_path::MARK;
+use augmenting_path::MARKS;
+use augmenting_path::augment;
+use flow_board::BOARD;
+use flow_board::amount;
+use flow_board::clear;
+use flow_board::import_left;
+use residual_search::least;
+use residual_search::search;
+
+// Whether every export is carried to imports, and the largest total that is, in tenths.
+pub struct LargestTransport {
+    pub all: bool,
+    pub total: u64,
+}
+
+// Augments as long as a zone with import left is reached. The board is empty at first.
+fn fill(net: &[i64], prices: &[i64], pairs: &[u8], s: &mut [i64]) -> u64
+    requires { ⌜ Sized (now net) (now prices) (now pairs) ⌝ }
+    requires { ⌜ 96 ≤ length (now s) ⌝ }
+    requires { ⌜ State (networkOf (now net) (now prices) (now pairs)) (boardOf (now s)) 0 ⌝ }
+    ensures filled { λ r. ⌜ Filled (networkOf (now (net .entry)) (now (prices .entry)) (now (pairs .entry))) (boardOf (now (s .exit))) r ⌝ }
+    ensures rest { λ r. ⌜ Rest (now (s .entry)) (now (s .exit)) ⌝ }
+{
+    let mut marks = [0u64; MARKS];
+    let mut total = 0;
+    loop {
+        let t = search(net, prices, pairs, s, &mut marks);
+        if net.len() <= t {
+            return total;
+        }
+        let d = least(marks[MARK * t], import_left(net, s, t));
+        augment(pairs, s, &marks, t, d);
+        total += d;
+    }
+}
+
+fn all_exports(net: &[i64]) -> u64
+    requires { ⌜ (length (now net) ≤ 16) × ((z : ℕ) → z < length (now net) → up (getD (now net) z (pos 0)) ≤ 51200000) ⌝ }
+    ensures { λ r. ⌜ r ≡ sumNat (length (now (net .entry))) (λ z. up (getD (now (net .entry)) z (pos 0))) ⌝ }
+{
+    let mut sum = 0;
+    let mut z = 0;
+    while z < net.len() {
+        sum += amount(net, z);
+        z += 1;
+    }
+    sum
+}
+
+// With a scratch of at least n numbers, whose first n are zero afterwards. The board takes 96.
+pub fn largest_transport(
+    net: &[i64],
+    prices: &[i64],
+    pairs: &[u8],
+    s: &mut [i64],
+    n: usize,
+) -> LargestTransport
+    requires { ⌜ Sized (now net) (now prices) (now pairs) ⌝ }
+    requires { ⌜ (96 ≤ n) × (n ≤ length (now s)) ⌝ }
+    ensures answer { λ r. ⌜ Answer (networkOf (now (net .entry)) (now (prices .entry)) (now (pairs .entry))) (r .all) (r .total) ⌝ }
+    ensures total { λ r. ⌜ r .total ≤ 819200000 ⌝ }
+    ensures scratch { λ r. ⌜ Cleared n (now (s .entry)) (now (s .exit)) ⌝ }
+{
+    clear(s, BOARD);
+    let total = fill(net, prices, pairs, s);
+    clear(s, n);
+    LargestTransport {
+        all: total == all_exports(net),
+        total,
+    }
+}
