@@ -14,7 +14,8 @@ use Rattle.integers.specs.Difference.{up, dn}
 use Rattle.integers.specs.NaturalSums.{sumNat, only, sum-le, sum-zero, sum-ext, sum-bound, only-zero}
 use Rattle.transports.specs.Meaning.Network.{Network, Placed, Transport, Carries, carried, allExports, Largest, Excess, CarriesAll}
 use Rattle.transports.specs.Steps.Saturated.{Saturated, largest-of, yes-of, no-of}
-use Rattle.zone_pairs.specs.Meaning.Pairs.{networkOf, positionAt}
+use Rattle.net_positions.specs.Meaning.Positions.{positionAt}
+use Rattle.zone_pairs.specs.Meaning.Pairs.{networkOf}
 use Rattle.flow_board.specs.Board.{amountAt, boardOf}
 use Rattle.flow_board.specs.Cleared.{Cleared}
 use Rattle.augmenting_path.specs.Lacking.{State}

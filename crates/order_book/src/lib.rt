@@ -136,7 +136,7 @@ fn price_outside(prices: &[i64], zone: usize) -> bool
 }
 
 // The first zone whose price is out of range.
-fn first_price_outside(prices: &[i64]) -> Place
+pub fn first_price_outside(prices: &[i64]) -> Place
     ensures { λ r. ⌜ placeOf r ≡ firstPriceOutside (now (prices .entry)) ⌝ }
 {
     let mut zone = 0;

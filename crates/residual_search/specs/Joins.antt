@@ -12,7 +12,8 @@ use lib.Signed.{leZ}
 use Rattle.integers.specs.Difference.{up, dn}
 use Rattle.transports.specs.Meaning.Network.{Network, Carries}
 use Rattle.transports.specs.Steps.Saturated.{Saturated}
-use Rattle.zone_pairs.specs.Meaning.Pairs.{pairCount, firstZone, secondZone, networkOf, positionAt, priceAt}
+use Rattle.net_positions.specs.Meaning.Positions.{positionAt}
+use Rattle.zone_pairs.specs.Meaning.Pairs.{pairCount, firstZone, secondZone, networkOf, priceAt}
 use Rattle.flow_board.specs.Board.{amountAt, boardOf}
 use Rattle.augmenting_path.specs.Links.{Link}
 use Rattle.augmenting_path.specs.Path.{trailOf, Sized}

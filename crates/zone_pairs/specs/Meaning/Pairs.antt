@@ -8,6 +8,7 @@ use lib.IntN.{ℤ, pos}
 use lib.Signed.{leZ}
 use Rattle.integers.specs.Difference.{up, dn}
 use Rattle.rows.specs.Meaning.Rows.{anyBelow}
+use Rattle.net_positions.specs.Meaning.Positions.{positionAt}
 use Rattle.zone_set.specs.Pairs.{samePair}
 use Rattle.transports.specs.Meaning.Network.{Network}
 
@@ -32,9 +33,6 @@ badPair zones bytes k =
     leb 64 k || (leb zones (firstZone bytes k) || (leb zones (secondZone bytes k) || (eqb (firstZone bytes k) (secondZone bytes k) || repeated bytes k)))
 
 -- THE NETWORK OF AN HOUR, from net positions with export positive and zone prices: a pair counts when its first price is at most its second
-abbrev pub positionAt : List ℤ → ℕ → ℤ
-positionAt net z = getD net z (pos 0)
-
 abbrev pub priceAt : List ℤ → ℕ → ℤ
 priceAt prices z = getD prices z (pos 0)
 

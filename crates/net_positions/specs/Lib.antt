@@ -1,0 +1,2 @@
+-- The rooms: `Meaning` is to be read and believed
+pub mod Meaning

@@ -1,0 +1,20 @@
+-- REQUEST S-3: net positions lent by the host, in tenths and with export positive, and the tests of row 82. Assumes nothing.
+use mathlib.Core.Bool.{Bool, not}
+use mathlib.Core.List.{List}
+use Prim.Native.Nat.{ℕ}
+use lib.ListN.{length, getD}
+use lib.IntN.{ℤ, pos}
+use Rattle.integers.specs.Ranges.{outside, isZero}
+use Rattle.integers.specs.Sums.{sumTo}
+use Rattle.measures.specs.Meaning.Limits as limits
+
+abbrev pub positionAt : List ℤ → ℕ → ℤ
+positionAt net z = getD net z (pos 0)
+
+-- a position exceeds 51,200,000 either way
+abbrev pub positionOutside : List ℤ → ℕ → Bool
+positionOutside net z = outside limits.netPosition (positionAt net z)
+
+-- asked next: their sum is not zero
+abbrev pub unbalanced : List ℤ → Bool
+unbalanced net = not (isZero (sumTo (length net) (positionAt net)))
