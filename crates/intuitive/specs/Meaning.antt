@@ -1,0 +1,2 @@
+-- THE MEANING, to be read beside request S-3
+pub mod Intuitive

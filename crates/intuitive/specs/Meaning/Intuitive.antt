@@ -1,0 +1,60 @@
+-- REQUEST S-3: whether an hour's exchanges can all go from lower or equal price to higher, by 001's annex 5.1: its causes 81 to 85, what a yes, a no and the
+-- largest total mean, and the scratch afterwards. The network of an hour stands in `zone_pairs`, its transports in `transports`. Assumes nothing.
+use mathlib.Core.Path.{_≡_}
+use mathlib.Core.Bool.{Bool, _||_}
+use mathlib.Core.List.{List, [], _∷_, _++_}
+use mathlib.Core.Option.{Option, none, some}
+use Prim.Native.Nat.{ℕ}
+use lib.ListN.{length, drop, replicate}
+use lib.IntN.{ℤ, pos}
+use Rattle.integers.specs.Ranges.{outside}
+use Rattle.measures.specs.Meaning.Limits as limits
+use Rattle.rows.specs.declared.Outcome.{Outcome}
+use Rattle.rows.specs.Meaning.Rows.{Row, refusal, answer, once, each}
+use Rattle.rules.specs.Meaning.Layout.{zoneCounts}
+use Rattle.rules.specs.Meaning.Verdict.{under, differ}
+use Rattle.net_positions.specs.Meaning.Positions.{positionOutside, unbalanced}
+use Rattle.zone_pairs.specs.Meaning.Pairs.{pairCount, badPair, priceAt}
+use Rattle.transports.specs.Meaning.Network.{Network, Largest}
+
+-- so many numbers of scratch are lent
+abbrev pub scratchRoom : ℕ
+scratchRoom = 324
+
+-- no zone or over 16, or lists of two lengths
+abbrev pub unfit : List ℤ → List ℤ → Bool
+unfit net prices = outside zoneCounts (pos (length net)) || differ (length prices) (length net)
+
+abbrev pub priceOutside : List ℤ → ℕ → Bool
+priceOutside prices z = outside limits.zonePrice (priceAt prices z)
+
+-- THE TABLE, for a scratch of `room` numbers of which n are asked for: each row is asked over its whole list before the next
+unfoldable pub intuitiveRows : List ℤ → List ℤ → List ℕ → ℕ → ℕ → List Row
+intuitiveRows net prices pairs n room =
+    once 81 (unfit net prices)
+    ∷ each 82 (length net) (positionOutside net)
+    ∷ once 82 (unbalanced net)
+    ∷ each 83 (length prices) (priceOutside prices)
+    ∷ each 84 (pairCount pairs) (badPair (length net) pairs)
+    ∷ once 85 (under n room)
+    ∷ []
+
+unfoldable pub intuitiveRefusal : List ℤ → List ℤ → List ℕ → ℕ → ℕ → Option Outcome
+intuitiveRefusal net prices pairs n room = refusal (intuitiveRows net prices pairs n room)
+
+unfoldable pub intuitiveOutcome : List ℤ → List ℤ → List ℕ → ℕ → ℕ → Outcome
+intuitiveOutcome net prices pairs n room = answer (intuitiveRefusal net prices pairs n room)
+
+-- THE LARGEST TOTAL in tenths; a yes and a no are `CarriesAll` and `Excess`
+pub record LargestTotal (c : Network) (total : ℤ) : Type 0 where
+  pub volume : ℕ
+  pub is : total ≡ pos volume
+  pub largest : Largest c volume
+
+-- THE SCRATCH afterwards: of an answer its first n numbers are zero and the others as they were; of a refusal all are as they were
+abbrev pub scratchBy : Option Outcome → ℕ → List ℤ → List ℤ
+scratchBy (some o) n s = s
+scratchBy none n s = replicate n (pos 0) ++ drop n s
+
+unfoldable pub intuitiveScratch : List ℤ → List ℤ → List ℕ → ℕ → List ℤ → List ℤ
+intuitiveScratch net prices pairs n s = scratchBy (intuitiveRefusal net prices pairs n (length s)) n s

@@ -1,0 +1,3 @@
+-- WHAT HOLDS of it: the order of its causes, and that the answer is a function of the input
+pub mod Causes
+pub mod OneAnswer

@@ -1,0 +1,131 @@
+// Intuitive hours (request S-3): whether an hour's exchanges can all go from lower or equal price to higher, and the largest total that can.
+ghost use mathlib.Core.Path.{_≡_};
+ghost use Prim.Native.Nat.{_≤_, _<_};
+ghost use lib.ListN.{length};
+ghost use lib.IntN.{pos};
+ghost use Rattle.rows.specs.Meaning.Rows.{verdict};
+ghost use Rattle.zone_pairs.specs.Meaning.Pairs.{networkOf};
+ghost use Rattle.transports.specs.Meaning.Network.{CarriesAll, Excess};
+ghost use Rattle.intuitive.specs.Meaning.Intuitive.{intuitiveOutcome, LargestTotal, intuitiveScratch};
+ghost use Rattle.intuitive.specs.Steps.Answers.{flagOf, Met};
+use largest_transport::largest_transport;
+use measures::Raw;
+use measures::Tenths;
+use net_positions::first_position_outside;
+use net_positions::is_unbalanced;
+use order_book::PRICES_GREATEST;
+use order_book::PRICES_LEAST;
+use order_book::first_price_outside;
+use rows::Outcome;
+use rows::Place;
+use rows::count_outside;
+use zone_pairs::first_bad_pair;
+
+// The number and index of the refusal, with 0 and 0; or 0 and 0, 1 for a yes and 0 for a no, and the largest total in tenths.
+#[repr(C)]
+pub struct Carried {
+    pub number: u32,
+    pub index: u32,
+    pub intuitive: u32,
+    pub total: Tenths,
+}
+
+// So many numbers of scratch are lent.
+const SCRATCH: usize = 324;
+
+fn outcome(number: u32, index: usize) -> Outcome
+    requires { ⌜ index < 4294967296 ⌝ }
+    ensures { λ r. ⌜ r ≡ verdict number index ⌝ }
+{
+    Outcome {
+        number,
+        index: index as u32,
+    }
+}
+
+// 81 to 85 with their index, or 0, for a scratch of `room` numbers of which n are asked for.
+fn examine(net: &[i64], prices: &[i64], pairs: &[u8], n: usize, room: usize) -> Outcome
+    ensures { λ r. ⌜ r ≡ intuitiveOutcome (now (net .entry)) (now (prices .entry)) (now (pairs .entry)) n room ⌝ }
+{
+    if count_outside(PRICES_LEAST, PRICES_GREATEST, net.len()) {
+        return outcome(81, 0);
+    }
+    if prices.len() != net.len() {
+        return outcome(81, 0);
+    }
+    let position = first_position_outside(net);
+    if let Place::At(zone) = position {
+        return outcome(82, zone);
+    }
+    if is_unbalanced(net) {
+        return outcome(82, 0);
+    }
+    let price = first_price_outside(prices);
+    if let Place::At(zone) = price {
+        return outcome(83, zone);
+    }
+    let pair = first_bad_pair(pairs, net.len());
+    if let Place::At(k) = pair {
+        return outcome(84, k);
+    }
+    if room < n {
+        return outcome(85, 0);
+    }
+    outcome(0, 0)
+}
+
+fn flag(all: bool) -> u32
+    ensures { λ r. ⌜ r ≡ flagOf all ⌝ }
+{
+    if all { 1 } else { 0 }
+}
+
+// The largest transport's volume, which 32 bits hold.
+fn volume(total: u64) -> Tenths
+    requires { ⌜ total ≤ 819200000 ⌝ }
+    ensures { λ r. ⌜ r .0 ≡ pos total ⌝ }
+{
+    Tenths::of(Raw::unsigned(total as u32))
+}
+
+// With n numbers of scratch, of which the board takes 96.
+fn intuitive_in(net: &[i64], prices: &[i64], pairs: &[u8], scratch: &mut [i64], n: usize) -> Carried
+    requires { ⌜ 96 ≤ n ⌝ }
+    ensures { λ r. ⌜ Met (now (net .entry)) (now (prices .entry)) (now (pairs .entry)) n (now (scratch .entry)) r (now (scratch .exit)) ⌝ }
+{
+    let o = examine(net, prices, pairs, n, scratch.len());
+    let number = o.number;
+    if number != 0 {
+        return Carried {
+            number,
+            index: o.index,
+            intuitive: 0,
+            total: Tenths::ZERO,
+        };
+    }
+    let r = largest_transport(net, prices, pairs, scratch, n);
+    Carried {
+        number: 0,
+        index: 0,
+        intuitive: flag(r.all),
+        total: volume(r.total),
+    }
+}
+
+// Net positions with export positive, zone prices in grains and pairs of zones, two bytes to a pair; as `host` exports it.
+pub fn intuitive(
+    net_exports: &[i64],
+    zone_prices: &[i64],
+    pairs: &[u8],
+    scratch: &mut [i64],
+) -> Carried
+    ensures outcome { λ r. ⌜ verdict (r .number) (r .index) ≡ intuitiveOutcome (now («net_exports» .entry)) (now («zone_prices» .entry)) (now (pairs .entry)) 324 (length (now (scratch .entry))) ⌝ }
+    ensures yes { λ r. ⌜ (r .number ≡ 0 → r .intuitive ≡ 1 → CarriesAll (networkOf (now («net_exports» .entry)) (now («zone_prices» .entry)) (now (pairs .entry)))) ⌝ }
+    ensures no { λ r. ⌜ (r .number ≡ 0 → r .intuitive ≡ 0 → Excess (networkOf (now («net_exports» .entry)) (now («zone_prices» .entry)) (now (pairs .entry)))) ⌝ }
+    ensures yes_or_no { λ r. ⌜ r .intuitive < 2 ⌝ }
+    ensures largest { λ r. ⌜ (r .number ≡ 0 → LargestTotal (networkOf (now («net_exports» .entry)) (now («zone_prices» .entry)) (now (pairs .entry))) (r .total .0)) ⌝ }
+    ensures scratch { λ r. ⌜ now (scratch .exit) ≡ intuitiveScratch (now («net_exports» .entry)) (now («zone_prices» .entry)) (now (pairs .entry)) 324 (now (scratch .entry)) ⌝ }
+    ensures refused { λ r. ⌜ (0 < r .number → (r .intuitive ≡ 0) × (r .total .0 ≡ pos 0)) ⌝ }
+{
+    intuitive_in(net_exports, zone_prices, pairs, scratch, SCRATCH)
+}
