@@ -76,10 +76,11 @@ pub fn largest_transport(
     ensures scratch { λ r. ⌜ Cleared n (now (s .entry)) (now (s .exit)) ⌝ }
 {
     clear(s, BOARD);
-    let total = fill(net, prices, pairs, s);
+    let carried = fill(net, prices, pairs, s);
     clear(s, n);
+    let exports = all_exports(net);
     LargestTransport {
-        all: total == all_exports(net),
-        total,
+        all: carried == exports,
+        total: carried,
     }
 }

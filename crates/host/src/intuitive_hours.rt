@@ -1,0 +1,33 @@
+// Whether an hour's exchanges can all go from lower or equal price to higher (request S-3).
+ghost use mathlib.Core.Path.{_≡_};
+ghost use Prim.Native.Nat.{_<_};
+ghost use lib.ListN.{length};
+ghost use lib.IntN.{pos};
+ghost use Rattle.rows.specs.Meaning.Rows.{verdict};
+ghost use Rattle.zone_pairs.specs.Meaning.Pairs.{networkOf};
+ghost use Rattle.transports.specs.Meaning.Network.{CarriesAll, Excess};
+ghost use Rattle.intuitive.specs.Meaning.Intuitive.{intuitiveOutcome, LargestTotal, intuitiveScratch};
+use intuitive::Carried;
+use intuitive::intuitive;
+
+// Net positions with export positive, zone prices in grains, and ordered pairs of zones, two bytes to a pair; a pair counts when its first price is at most its
+// second. A yes (1) has flows along counted pairs that carry every export to imports; a no (0) has a set of zones that no counted pair leaves and whose
+// exports exceed its imports; the total is the largest that any flows carry. The scratch's first 324 numbers are zero after an answer. A refusal, 81 to 85
+// in that order, has 0 and 0, and leaves the scratch as it was.
+#[no_mangle]
+pub extern "C" fn lta_intuitive(
+    net_exports: &[i64],
+    zone_prices: &[i64],
+    pairs: &[u8],
+    scratch: &mut [i64],
+) -> Carried
+    ensures outcome { λ r. ⌜ verdict (r .number) (r .index) ≡ intuitiveOutcome (now («net_exports» .entry)) (now («zone_prices» .entry)) (now (pairs .entry)) 324 (length (now (scratch .entry))) ⌝ }
+    ensures yes { λ r. ⌜ (r .number ≡ 0 → r .intuitive ≡ 1 → CarriesAll (networkOf (now («net_exports» .entry)) (now («zone_prices» .entry)) (now (pairs .entry)))) ⌝ }
+    ensures no { λ r. ⌜ (r .number ≡ 0 → r .intuitive ≡ 0 → Excess (networkOf (now («net_exports» .entry)) (now («zone_prices» .entry)) (now (pairs .entry)))) ⌝ }
+    ensures yes_or_no { λ r. ⌜ r .intuitive < 2 ⌝ }
+    ensures largest { λ r. ⌜ (r .number ≡ 0 → LargestTotal (networkOf (now («net_exports» .entry)) (now («zone_prices» .entry)) (now (pairs .entry))) (r .total .0)) ⌝ }
+    ensures scratch { λ r. ⌜ now (scratch .exit) ≡ intuitiveScratch (now («net_exports» .entry)) (now («zone_prices» .entry)) (now (pairs .entry)) 324 (now (scratch .entry)) ⌝ }
+    ensures refused { λ r. ⌜ (0 < r .number → (r .intuitive ≡ 0) × (r .total .0 ≡ pos 0)) ⌝ }
+{
+    intuitive(net_exports, zone_prices, pairs, scratch)
+}
