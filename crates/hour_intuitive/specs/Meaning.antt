@@ -1,0 +1,2 @@
+-- An hour's own question
+pub mod Hour

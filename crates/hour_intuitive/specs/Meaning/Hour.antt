@@ -1,0 +1,40 @@
+-- REQUEST S-3, of an hour: its net positions with export positive (ours are turned first), its zone prices, and what is asked of it: the verdict table with
+-- room enough for a report, and then the causes 81 to 85 of its positions and prices. Assumes nothing.
+use mathlib.Core.List.{List, [], _∷_, _++_}
+use Prim.Native.Nat.{ℕ, zero, suc}
+use lib.ListN.{length}
+use lib.IntN.{ℤ, pos, _-ℤ_}
+use Rattle.rows.specs.declared.Outcome.{Outcome}
+use Rattle.rows.specs.Meaning.Rows.{Row, refusal, answer}
+use Rattle.rules.specs.Meaning.Layout.{reportRoom}
+use Rattle.rules.specs.Meaning.Hour.{caseOf, planOf, pricesOf, net, zonePrice}
+use Rattle.rules.specs.Meaning.Verdict.{table}
+use Rattle.transports.specs.Meaning.Network.{Network}
+use Rattle.zone_pairs.specs.Meaning.Pairs.{networkOf}
+use Rattle.intuitive.specs.Meaning.Intuitive.{intuitiveRows, scratchBy}
+
+-- a list of n numbers, by their places
+unfoldable pub listTo : ℕ → (ℕ → ℤ) → List ℤ
+listTo zero f = []
+listTo (suc n) f = listTo n f ++ (f n ∷ [])
+
+-- net positions with export positive, and zone prices in grains
+unfoldable pub hourExports : List ℕ → List ℕ → List ℤ
+hourExports s t = listTo ((caseOf s) .zones) (λ z. pos 0 -ℤ net (caseOf s) (planOf s t) z)
+
+unfoldable pub hourPrices : List ℕ → List ℕ → List ℤ
+hourPrices s t = listTo ((caseOf s) .zones) (λ z. zonePrice (caseOf s) (pricesOf s t) z)
+
+abbrev pub hourNetwork : List ℕ → List ℕ → List ℕ → Network
+hourNetwork s t pairs = networkOf (hourExports s t) (hourPrices s t) pairs
+
+-- THE TABLE, for a case s, a proposal t, pairs, and a scratch of `room` numbers of which n are asked for
+unfoldable pub askedRows : List ℕ → List ℕ → List ℕ → ℕ → ℕ → List Row
+askedRows s t pairs n room = table s t reportRoom (caseOf s) (planOf s t) (pricesOf s t) ++ intuitiveRows (hourExports s t) (hourPrices s t) pairs n room
+
+unfoldable pub hourOutcome : List ℕ → List ℕ → List ℕ → ℕ → ℕ → Outcome
+hourOutcome s t pairs n room = answer (refusal (askedRows s t pairs n room))
+
+-- the scratch afterwards
+unfoldable pub hourScratch : List ℕ → List ℕ → List ℕ → ℕ → List ℤ → List ℤ
+hourScratch s t pairs n scratch = scratchBy (refusal (askedRows s t pairs n (length scratch))) n scratch

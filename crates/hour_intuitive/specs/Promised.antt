@@ -1,0 +1,2 @@
+-- What holds of an hour's answer
+pub mod Asked

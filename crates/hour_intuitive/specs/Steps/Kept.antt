@@ -1,0 +1,114 @@
+-- From what was found in an hour, and from the answer for its lists, to the contract. Assumes nothing.
+use mathlib.Core.Path.{_≡_, refl, sym, ap, subst, _∙_}
+use mathlib.Core.Bool.{Bool, true}
+use mathlib.Core.List.{List}
+use mathlib.Core.Option.{Option, none, some}
+use Prim.Native.Nat.{ℕ, _≤_, _<_}
+use native.Mathlib.Omega.{arith}
+use lib.ListN.{length, take}
+use lib.IntN.{ℤ, pos, _-ℤ_}
+use mir.Syntax.{w64}
+use Rattle.integers.specs.Size.{near-fits}
+use Rattle.integers.specs.Machine.{sfits-by}
+use Rattle.rows.specs.declared.Outcome.{Outcome}
+use Rattle.rows.specs.Meaning.Rows.{verdict, refusal, answer}
+use Rattle.rows.specs.Promised.RowLaws.{field-passes}
+use Rattle.rules.specs.Meaning.Layout.{reportRoom}
+use Rattle.rules.specs.Meaning.Hour.{caseOf, planOf, pricesOf, net, zonePrice}
+use Rattle.rules.specs.Meaning.Report.{reports}
+use Rattle.rules.specs.Meaning.Verdict.{roomRows, table, outcome}
+use Rattle.rules.specs.Promised.Fits.{near-zone-price}
+use Rattle.measures.specs.declared.Tenths.{Tenths}
+use Rattle.measures.specs.declared.Grains.{Grains}
+use Rattle.clearing.specs.Held.{tenthsAt}
+use Rattle.network.specs.Prices.{grainsAt}
+use Rattle.transports.specs.Meaning.Network.{Network, CarriesAll, Excess}
+use Rattle.zone_pairs.specs.Meaning.Pairs.{networkOf}
+use Rattle.intuitive.specs.declared.Carried.{Carried}
+use Rattle.intuitive.specs.Meaning.Intuitive.{LargestTotal, scratchBy, intuitiveRefusal, intuitiveOutcome, intuitiveScratch}
+use Rattle.findings.specs.declared.Found.{Found}
+use Rattle.findings.specs.Found.{Finds, hourRows}
+use Rattle.hour_intuitive.specs.Meaning.Hour.{listTo, hourExports, hourPrices, hourNetwork, askedRows, hourOutcome, hourScratch}
+use Rattle.hour_intuitive.specs.Promised.Asked.{refused-first, asked-then, none-refused, position-near, price-in}
+use Rattle.hour_intuitive.specs.Steps.Lent.{FitsTo, Lists, part-is, same-list, refusedAs}
+
+-- the clauses, of the outcome o, the network c and the scratch b′ that they name
+abbrev Clauses : Outcome → Network → List ℤ → Carried → List ℤ → Type 0
+Clauses o c b′ r b =
+    (verdict (r .number) (r .index) ≡ o)
+    × ((r .number ≡ 0 → r .intuitive ≡ 1 → CarriesAll c)
+    × ((r .number ≡ 0 → r .intuitive ≡ 0 → Excess c)
+    × ((r .intuitive < 2)
+    × ((r .number ≡ 0 → LargestTotal c (r .total .0))
+    × ((b ≡ b′)
+    × (0 < r .number → (r .intuitive ≡ 0) × (r .total .0 ≡ pos 0)))))))
+
+module _ (s t pairs : List ℕ) (n : ℕ) (scratch : List ℤ) where
+  abbrev pub Kept : Carried → List ℤ → Type 0
+  Kept = Clauses (hourOutcome s t pairs n (length scratch)) (hourNetwork s t pairs) (hourScratch s t pairs n scratch)
+
+  -- with room enough 30 passes
+  past-room : refusal (table s t reportRoom (caseOf s) (planOf s t) (pricesOf s t)) ≡ refusal (hourRows s t)
+  unfolding table roomRows
+  past-room = field-passes 30 0 (hourRows s t) refl
+
+  module _ (f : Found) (h : Finds (hourRows s t) s t f) where
+    -- NOT ACCEPTED
+    pub kept-refused : 0 < f .verdict .number → {r : Carried} → r ≡ refusedAs (f .verdict) → Kept r scratch
+    unfolding hourOutcome hourScratch
+    kept-refused l e = subst (λ (r : Carried). Kept r scratch) (sym e) (by (refusal (hourRows s t)) refl)
+      where
+        apart : {X : Type 0} → f .verdict .number ≡ 0 → X
+        apart q = absurd (omega (arith, l))
+
+        by : (o : Option Outcome) → refusal (hourRows s t) ≡ o → Kept (refusedAs (f .verdict)) scratch
+        by (some x) q =
+            let asked = refused-first s t pairs n (length scratch) x (past-room ∙ q) in (
+              h .verdict-is ∙ ap answer (q ∙ sym asked),
+              (
+                λ z. apart z,
+                (λ z. apart z, (omega arith, (λ z. apart z, (sym (ap (λ (o : Option Outcome). scratchBy o n scratch) asked), λ p. (refl, refl))))),
+              ),
+            )
+        by none q = apart (ap (λ (o : Outcome). o .number) (h .verdict-is ∙ ap answer q))
+
+    -- ACCEPTED
+    module _ (e : f .verdict .number ≡ 0) where
+      accepted : (outcome s t reportRoom) .number ≡ 0
+      unfolding outcome
+      accepted = ap (λ (o : Option Outcome). (answer o) .number) past-room ∙ ap (λ (o : Outcome). o .number) (sym (h .verdict-is)) ∙ e
+
+      valued : f .valued ≡ true
+      unfolding reports
+      valued = h .valued-is ∙ ap reports e
+
+      net-is : (z : ℕ) → z < f .zones → pos 0 -ℤ tenthsAt (f .nets) z ≡ pos 0 -ℤ net (caseOf s) (planOf s t) z
+      net-is z l = ap (λ (x : ℤ). pos 0 -ℤ x) ((h .nets-are valued) .each z (omega (arith, h .few-zones)))
+
+      price-is : (z : ℕ) → z < f .zones → grainsAt (f .prices) z ≡ zonePrice (caseOf s) (pricesOf s t) z
+      price-is z l = (h .prices-are valued) .each z (omega (arith, h .zones-are valued))
+
+      pub exports-fit : FitsTo (λ z. pos 0 -ℤ tenthsAt (f .nets) z) (f .zones)
+      exports-fit = record { fits = λ z l. sfits-by w64 (net-is z l) (near-fits w64 (omega arith) (position-near s t pairs n (length scratch) accepted z)) }
+
+      pub prices-fit : FitsTo (λ z. grainsAt (f .prices) z) (f .zones)
+      prices-fit = record { fits = λ z l. sfits-by w64 (price-is z l) (near-fits w64 (omega arith) (near-zone-price _ (price-in s t pairs n (length scratch) accepted z (omega (arith, h .zones-are valued))))) }
+
+      -- the lists that are lent are the hour's
+      pub exports-are : (xs : List ℤ) → Lists (λ z. pos 0 -ℤ tenthsAt (f .nets) z) (f .zones) xs → take (f .zones) xs ≡ hourExports s t
+      unfolding hourExports
+      exports-are xs l = part-is _ (f .zones) xs (h .few-zones) l ∙ same-list (f .zones) _ _ net-is ∙ ap (λ (k : ℕ). listTo k (λ z. pos 0 -ℤ net (caseOf s) (planOf s t) z)) (h .zones-are valued)
+
+      pub prices-are : (xs : List ℤ) → Lists (λ z. grainsAt (f .prices) z) (f .zones) xs → take (f .zones) xs ≡ hourPrices s t
+      unfolding hourPrices
+      prices-are xs l = part-is _ (f .zones) xs (h .few-zones) l ∙ same-list (f .zones) _ _ price-is ∙ ap (λ (k : ℕ). listTo k (λ z. zonePrice (caseOf s) (pricesOf s t) z)) (h .zones-are valued)
+
+      -- so that their answer is the hour's
+      pub kept-answer : (exports prices : List ℤ) → exports ≡ hourExports s t → prices ≡ hourPrices s t → {r : Carried} {b : List ℤ}
+          → Clauses (intuitiveOutcome exports prices pairs n (length scratch)) (networkOf exports prices pairs) (intuitiveScratch exports prices pairs n scratch) r b → Kept r b
+      unfolding hourOutcome hourScratch intuitiveOutcome intuitiveRefusal intuitiveScratch
+      kept-answer exports prices x y {r} {b} k =
+          let asked = sym (asked-then s t pairs n (length scratch) (none-refused s t pairs n (length scratch) accepted)) in
+          subst (λ (o : Option Outcome). Clauses (answer o) (hourNetwork s t pairs) (scratchBy o n scratch) r b) asked
+          (subst (λ (q : List ℤ). Clauses (answer (intuitiveRefusal (hourExports s t) q pairs n (length scratch))) (networkOf (hourExports s t) q pairs) (scratchBy (intuitiveRefusal (hourExports s t) q pairs n (length scratch)) n scratch) r b) y
+          (subst (λ (p : List ℤ). Clauses (answer (intuitiveRefusal p prices pairs n (length scratch))) (networkOf p prices pairs) (scratchBy (intuitiveRefusal p prices pairs n (length scratch)) n scratch) r b) x k))

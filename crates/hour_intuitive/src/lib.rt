@@ -1,0 +1,93 @@
+// Whether an hour is intuitive (request S-3): it is judged, and where it is accepted its net positions, turned, and its zone prices are asked.
+ghost use mathlib.Core.Path.{_≡_};
+ghost use Prim.Native.Nat.{_≤_, _<_};
+ghost use lib.ListN.{length};
+ghost use lib.IntN.{pos, _-ℤ_};
+ghost use mir.Syntax.{w64};
+ghost use mir.Val.{toZ};
+ghost use Rattle.rows.specs.Meaning.Rows.{verdict};
+ghost use Rattle.clearing.specs.Held.{tenthsAt};
+ghost use Rattle.network.specs.Prices.{grainsAt};
+ghost use Rattle.transports.specs.Meaning.Network.{CarriesAll, Excess};
+ghost use Rattle.intuitive.specs.Meaning.Intuitive.{scratchRoom, LargestTotal};
+ghost use Rattle.hour_intuitive.specs.Meaning.Hour.{hourOutcome, hourNetwork, hourScratch};
+ghost use Rattle.hour_intuitive.specs.Steps.Lent.{FitsTo, Lists, refusedAs};
+use findings::find;
+use intuitive::Carried;
+use intuitive::intuitive;
+use measures::Bits;
+use measures::Grains;
+use measures::Tenths;
+use rows::Outcome;
+
+// The number that 64 bits stand for in two's complement, as a list of numbers has it that is lent.
+fn lent(x: Bits) -> i64
+    ensures { λ r. ⌜ r ≡ toZ w64 (x .0) ⌝ }
+{
+    if x.0 < 9223372036854775808 {
+        return x.0 as i64;
+    }
+    -((18446744073709551615 - x.0) as i64) - 1
+}
+
+// The net positions of the zones with export positive: ours are import positive.
+fn turned(nets: [Tenths; 16], zones: usize) -> [i64; 16]
+    requires { ⌜ zones ≤ 16 ⌝ }
+    requires { ⌜ FitsTo (λ z. pos 0 -ℤ tenthsAt nets z) zones ⌝ }
+    ensures { λ r. ⌜ Lists (λ z. pos 0 -ℤ tenthsAt nets z) zones r ⌝ }
+{
+    let mut exports = [0i64; 16];
+    for z in 0..zones {
+        let net = nets[z];
+        exports[z] = lent(Tenths::ZERO.minus(net).bits());
+    }
+    exports
+}
+
+// The zones' prices.
+fn listed(prices: [Grains; 16], zones: usize) -> [i64; 16]
+    requires { ⌜ zones ≤ 16 ⌝ }
+    requires { ⌜ FitsTo (λ z. grainsAt prices z) zones ⌝ }
+    ensures { λ r. ⌜ Lists (λ z. grainsAt prices z) zones r ⌝ }
+{
+    let mut list = [0i64; 16];
+    for z in 0..zones {
+        let price = prices[z];
+        list[z] = lent(price.bits());
+    }
+    list
+}
+
+fn refused(verdict: Outcome) -> Carried
+    ensures { λ r. ⌜ r ≡ refusedAs verdict ⌝ }
+{
+    Carried {
+        number: verdict.number,
+        index: verdict.index,
+        intuitive: 0,
+        total: Tenths::ZERO,
+    }
+}
+
+// The judgement's number and index where the hour is not accepted; else the answer for its exports, its prices and these pairs. As `host` exports it.
+pub fn hour_intuitive(case: &[u8], proposal: &[u8], pairs: &[u8], scratch: &mut [i64]) -> Carried
+    ensures outcome { λ r. ⌜ verdict (r .number) (r .index) ≡ hourOutcome (now («case» .entry)) (now (proposal .entry)) (now (pairs .entry)) scratchRoom (length (now (scratch .entry))) ⌝ }
+    ensures yes { λ r. ⌜ (r .number ≡ 0 → r .intuitive ≡ 1 → CarriesAll (hourNetwork (now («case» .entry)) (now (proposal .entry)) (now (pairs .entry)))) ⌝ }
+    ensures no { λ r. ⌜ (r .number ≡ 0 → r .intuitive ≡ 0 → Excess (hourNetwork (now («case» .entry)) (now (proposal .entry)) (now (pairs .entry)))) ⌝ }
+    ensures yes_or_no { λ r. ⌜ r .intuitive < 2 ⌝ }
+    ensures largest { λ r. ⌜ (r .number ≡ 0 → LargestTotal (hourNetwork (now («case» .entry)) (now (proposal .entry)) (now (pairs .entry))) (r .total .0)) ⌝ }
+    ensures scratch { λ r. ⌜ now (scratch .exit) ≡ hourScratch (now («case» .entry)) (now (proposal .entry)) (now (pairs .entry)) scratchRoom (now (scratch .entry)) ⌝ }
+    ensures refused { λ r. ⌜ (0 < r .number → (r .intuitive ≡ 0) × (r .total .0 ≡ pos 0)) ⌝ }
+{
+    let found = find(case, proposal);
+    let judged = found.verdict;
+    if judged.number != 0 {
+        return refused(judged);
+    }
+    let zones = found.zones;
+    let nets = found.nets;
+    let prices = found.prices;
+    let exports = turned(nets, zones);
+    let list = listed(prices, zones);
+    intuitive(&exports[..zones], &list[..zones], pairs, scratch)
+}
