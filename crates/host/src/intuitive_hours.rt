@@ -6,7 +6,9 @@ ghost use lib.IntN.{pos};
 ghost use Rattle.rows.specs.Meaning.Rows.{verdict};
 ghost use Rattle.zone_pairs.specs.Meaning.Pairs.{networkOf};
 ghost use Rattle.transports.specs.Meaning.Network.{CarriesAll, Excess};
-ghost use Rattle.intuitive.specs.Meaning.Intuitive.{intuitiveOutcome, LargestTotal, intuitiveScratch};
+ghost use Rattle.intuitive.specs.Meaning.Intuitive.{scratchRoom, intuitiveOutcome, LargestTotal, intuitiveScratch};
+ghost use Rattle.hour_intuitive.specs.Meaning.Hour.{hourOutcome, hourNetwork, hourScratch};
+use hour_intuitive::hour_intuitive;
 use intuitive::Carried;
 use intuitive::intuitive;
 
@@ -21,13 +23,33 @@ pub extern "C" fn lta_intuitive(
     pairs: &[u8],
     scratch: &mut [i64],
 ) -> Carried
-    ensures outcome { λ r. ⌜ verdict (r .number) (r .index) ≡ intuitiveOutcome (now («net_exports» .entry)) (now («zone_prices» .entry)) (now (pairs .entry)) 324 (length (now (scratch .entry))) ⌝ }
+    ensures outcome { λ r. ⌜ verdict (r .number) (r .index) ≡ intuitiveOutcome (now («net_exports» .entry)) (now («zone_prices» .entry)) (now (pairs .entry)) scratchRoom (length (now (scratch .entry))) ⌝ }
     ensures yes { λ r. ⌜ (r .number ≡ 0 → r .intuitive ≡ 1 → CarriesAll (networkOf (now («net_exports» .entry)) (now («zone_prices» .entry)) (now (pairs .entry)))) ⌝ }
     ensures no { λ r. ⌜ (r .number ≡ 0 → r .intuitive ≡ 0 → Excess (networkOf (now («net_exports» .entry)) (now («zone_prices» .entry)) (now (pairs .entry)))) ⌝ }
     ensures yes_or_no { λ r. ⌜ r .intuitive < 2 ⌝ }
     ensures largest { λ r. ⌜ (r .number ≡ 0 → LargestTotal (networkOf (now («net_exports» .entry)) (now («zone_prices» .entry)) (now (pairs .entry))) (r .total .0)) ⌝ }
-    ensures scratch { λ r. ⌜ now (scratch .exit) ≡ intuitiveScratch (now («net_exports» .entry)) (now («zone_prices» .entry)) (now (pairs .entry)) 324 (now (scratch .entry)) ⌝ }
+    ensures scratch { λ r. ⌜ now (scratch .exit) ≡ intuitiveScratch (now («net_exports» .entry)) (now («zone_prices» .entry)) (now (pairs .entry)) scratchRoom (now (scratch .entry)) ⌝ }
     ensures refused { λ r. ⌜ (0 < r .number → (r .intuitive ≡ 0) × (r .total .0 ≡ pos 0)) ⌝ }
 {
     intuitive(net_exports, zone_prices, pairs, scratch)
+}
+
+// The same question of an hour. It is judged first, and answered with the judgement's number and index where it is not accepted; else the answer is for its net
+// positions, turned since ours are import positive, and its zone prices. 81, 82 and 83 cannot occur.
+#[no_mangle]
+pub extern "C" fn lta_hour_intuitive(
+    case: &[u8],
+    proposal: &[u8],
+    pairs: &[u8],
+    scratch: &mut [i64],
+) -> Carried
+    ensures outcome { λ r. ⌜ verdict (r .number) (r .index) ≡ hourOutcome (now («case» .entry)) (now (proposal .entry)) (now (pairs .entry)) scratchRoom (length (now (scratch .entry))) ⌝ }
+    ensures yes { λ r. ⌜ (r .number ≡ 0 → r .intuitive ≡ 1 → CarriesAll (hourNetwork (now («case» .entry)) (now (proposal .entry)) (now (pairs .entry)))) ⌝ }
+    ensures no { λ r. ⌜ (r .number ≡ 0 → r .intuitive ≡ 0 → Excess (hourNetwork (now («case» .entry)) (now (proposal .entry)) (now (pairs .entry)))) ⌝ }
+    ensures yes_or_no { λ r. ⌜ r .intuitive < 2 ⌝ }
+    ensures largest { λ r. ⌜ (r .number ≡ 0 → LargestTotal (hourNetwork (now («case» .entry)) (now (proposal .entry)) (now (pairs .entry))) (r .total .0)) ⌝ }
+    ensures scratch { λ r. ⌜ now (scratch .exit) ≡ hourScratch (now («case» .entry)) (now (proposal .entry)) (now (pairs .entry)) scratchRoom (now (scratch .entry)) ⌝ }
+    ensures refused { λ r. ⌜ (0 < r .number → (r .intuitive ≡ 0) × (r .total .0 ≡ pos 0)) ⌝ }
+{
+    hour_intuitive(case, proposal, pairs, scratch)
 }
