@@ -9,6 +9,7 @@
 mod book;
 mod desk;
 pub mod hours;
+mod intuitive;
 mod judge;
 pub mod limits;
 mod misnamed;
@@ -17,6 +18,9 @@ mod sheet;
 
 pub use book::{book_surplus, BookAnswer, Row};
 pub use desk::{desk_lines, desk_output};
+pub use intuitive::{
+    hour_intuitive, hour_intuitive_as, intuitive, intuitive_as, CarriedAnswer, IntuitiveBuild,
+};
 pub use judge::{judge, judge_as, Build};
 pub use sheet::{sheet_branches, sheet_branches_as, SheetBuild};
 

@@ -25,6 +25,9 @@ pub const SHADOW_PRICE: RangeInclusive<u32> = 0..=1_000_000;
 /// Grains: -50,000 to 400,000 cents.
 pub const ZONE_PRICE: RangeInclusive<i64> = -50_000 * GRAINS..=400_000 * GRAINS;
 
+/// Tenths, export positive: what 512 orders can come to.
+pub const NET_EXPORT: RangeInclusive<i64> = -51_200_000..=51_200_000;
+
 /// Grains in a cent per MWh, and hundred-thousandths in 1.
 pub const GRAINS: i64 = 100_000;
 /// Microcents in a cent.
@@ -36,6 +39,9 @@ pub const MOST_ORDERS: usize = 512;
 pub const LEAST_BUFFER: usize = 176;
 /// An output for the desk's lines shorter than this is refused with 31.
 pub const LEAST_OUTPUT: usize = 1_024;
+/// S-3: pairs that are taken, and numbers of scratch, under which it is 85.
+pub const MOST_PAIRS: usize = 64;
+pub const SCRATCH: usize = 324;
 
 /// The report: offsets in its header, the header's bytes, how many totals
 /// follow it before the zone prices, and the bytes of each total or price.
