@@ -1,5 +1,7 @@
 //! The proved judge, called over the C interface of its archive.
 
+#[cfg(feature = "intuitive")]
+use second_judge::CarriedAnswer;
 #[cfg(any(feature = "desk", feature = "sheet"))]
 use second_judge::OutputAnswer;
 #[cfg(feature = "book")]
@@ -34,6 +36,30 @@ extern "C" {
         out: *mut u8,
         out_len: usize,
     ) -> Written;
+
+    #[cfg(feature = "intuitive")]
+    fn lta_intuitive(
+        net_exports: *const i64,
+        net_count: usize,
+        zone_prices: *const i64,
+        price_count: usize,
+        pairs: *const u8,
+        pairs_len: usize,
+        scratch: *mut i64,
+        scratch_count: usize,
+    ) -> Carried;
+
+    #[cfg(feature = "intuitive")]
+    fn lta_hour_intuitive(
+        case_bytes: *const u8,
+        case_len: usize,
+        proposal: *const u8,
+        proposal_len: usize,
+        pairs: *const u8,
+        pairs_len: usize,
+        scratch: *mut i64,
+        scratch_count: usize,
+    ) -> Carried;
 }
 
 /// struct lta_order.
@@ -84,6 +110,28 @@ impl From<Written> for OutputAnswer {
             number: written.number,
             index: written.index,
             length: written.length,
+        }
+    }
+}
+
+/// struct lta_carried.
+#[cfg(feature = "intuitive")]
+#[repr(C)]
+pub struct Carried {
+    number: u32,
+    index: u32,
+    intuitive: u32,
+    total: i64,
+}
+
+#[cfg(feature = "intuitive")]
+impl From<Carried> for CarriedAnswer {
+    fn from(carried: Carried) -> CarriedAnswer {
+        CarriedAnswer {
+            number: carried.number,
+            index: carried.index,
+            intuitive: carried.intuitive,
+            total: carried.total,
         }
     }
 }
@@ -174,4 +222,74 @@ pub fn sheet_branches(sheet: &[u8], zones: usize, out: &mut [u8], null: bool) ->
     };
     // Safe: each pointer comes with the length of its own slice.
     unsafe { lta_sheet_branches(sheet_at, sheet.len(), zones, out_at, out.len()) }.into()
+}
+
+/// Where a list begins; `null` gives a null pointer for an empty one.
+#[cfg(feature = "intuitive")]
+fn start<T>(list: &[T], null: bool) -> *const T {
+    match list {
+        [] if null => std::ptr::null(),
+        _ => list.as_ptr(),
+    }
+}
+
+#[cfg(feature = "intuitive")]
+fn start_mut<T>(list: &mut [T], null: bool) -> *mut T {
+    match list {
+        [] if null => std::ptr::null_mut(),
+        _ => list.as_mut_ptr(),
+    }
+}
+
+/// Whether net positions are intuitive at these prices; `null` gives a null
+/// pointer for each empty list.
+#[cfg(feature = "intuitive")]
+#[allow(dead_code)]
+pub fn intuitive(
+    net: &[i64],
+    prices: &[i64],
+    pairs: &[u8],
+    scratch: &mut [i64],
+    null: bool,
+) -> CarriedAnswer {
+    // Safe: each pointer comes with the length of its own list.
+    unsafe {
+        lta_intuitive(
+            start(net, null),
+            net.len(),
+            start(prices, null),
+            prices.len(),
+            start(pairs, null),
+            pairs.len(),
+            start_mut(scratch, null),
+            scratch.len(),
+        )
+    }
+    .into()
+}
+
+/// The same of an hour.
+#[cfg(feature = "intuitive")]
+#[allow(dead_code)]
+pub fn hour_intuitive(
+    case: &[u8],
+    proposal: &[u8],
+    pairs: &[u8],
+    scratch: &mut [i64],
+    null: bool,
+) -> CarriedAnswer {
+    // Safe: each pointer comes with the length of its own list.
+    unsafe {
+        lta_hour_intuitive(
+            start(case, null),
+            case.len(),
+            start(proposal, null),
+            proposal.len(),
+            start(pairs, null),
+            pairs.len(),
+            start_mut(scratch, null),
+            scratch.len(),
+        )
+    }
+    .into()
 }

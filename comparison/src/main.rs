@@ -11,8 +11,12 @@ mod archive;
 mod book;
 #[cfg(feature = "desk")]
 mod desk;
+#[cfg(feature = "intuitive")]
+mod exchange;
 mod families;
 mod fields;
+#[cfg(feature = "intuitive")]
+mod intuitive;
 mod make;
 mod offsets;
 mod places;
@@ -75,6 +79,8 @@ fn main() -> ExitCode {
     book::books(&mut run, &mut Rng::new(seed));
     #[cfg(feature = "sheet")]
     sheet::sheets(&mut run, &mut Rng::new(seed));
+    #[cfg(feature = "intuitive")]
+    intuitive::exchanges(&mut run, &mut Rng::new(seed));
 
     run.section("verdicts, times met");
     for number in NUMBERS {
@@ -102,6 +108,7 @@ fn main() -> ExitCode {
         ("book", cfg!(feature = "book")),
         ("desk", cfg!(feature = "desk")),
         ("sheet", cfg!(feature = "sheet")),
+        ("intuitive", cfg!(feature = "intuitive")),
     ] {
         if !built {
             println!("NOT COMPARED: the {name} entry (built without the feature {name})");

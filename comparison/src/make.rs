@@ -60,7 +60,7 @@ impl Shape {
 }
 
 /// So many different ordered pairs of zones.
-fn pairs(rng: &mut Rng, zones: usize, count: usize) -> Vec<(u8, u8)> {
+pub fn pairs(rng: &mut Rng, zones: usize, count: usize) -> Vec<(u8, u8)> {
     let zones = zones as u8;
     let mut all: Vec<(u8, u8)> = (0..zones)
         .flat_map(|from| (0..zones).map(move |to| (from, to)))

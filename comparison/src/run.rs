@@ -143,7 +143,12 @@ impl Run {
     }
 
     /// Counts an input that was compared elsewhere.
-    #[cfg(any(feature = "book", feature = "desk", feature = "sheet"))]
+    #[cfg(any(
+        feature = "book",
+        feature = "desk",
+        feature = "intuitive",
+        feature = "sheet"
+    ))]
     pub fn count(&mut self) {
         self.family_inputs += 1;
     }
