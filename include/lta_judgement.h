@@ -3,26 +3,28 @@
  * An hour is a case (zones, branches, links and orders) and a proposal for its clearing (volumes, flows and prices). lta_judge answers
  * whether the proposal is accepted, or else the first cause for which it is refused. lta_book_surplus values an order book that lies in
  * memory. lta_desk_lines gives a judgement as text. lta_sheet_branches turns a published margin sheet into the branches of a case.
+ * lta_hour_intuitive answers whether an accepted hour's exchanges can all go from a lower or equal price to a higher one, and lta_intuitive
+ * answers it of net positions and zone prices.
  *
  * Each promise below is part of a contract in crates/host, and the archive is built only if every function in it is proved to meet its
  * contract. A word in brackets, as [outcome], is the name of the clause that says it.
  *
  * What the caller owes, in every call:
- *   - A pointer and the length or count after it are one array: all of it may be read, and all of `report` or `out` may be written.
- *     A null pointer is allowed where the length or count is 0.
- *   - `report` and `out` overlap no other argument, and nothing else writes to an argument during the call.
- *   - `orders` and `zone_prices` are aligned as their types demand.
+ *   - A pointer and the length or count after it are one array: all of it may be read, and all of `report`, `out` or `scratch` may be
+ *     written. A null pointer is allowed where the length or count is 0.
+ *   - `report`, `out` and `scratch` overlap no other argument, and nothing else writes to an argument during the call.
+ *   - `orders`, `zone_prices`, `net_exports` and `scratch` are aligned as their types demand.
  *   - There is stack enough. The proofs are about a machine that cannot run out of it; by test, 16 KiB are enough.
  *
  * What holds then, of every call, whatever the bytes are:
  *   - It returns.
  *   - It reads nothing but its arguments. The answer, and what is written, depend on nothing else.
- *   - It writes nothing but what is said below of `report` and `out`. The case, the proposal, the input, the orders, the prices and the
- *     sheet stay as they were, and no file is read or written.
+ *   - It writes nothing but what is said below of `report`, `out` and `scratch`. The case, the proposal, the input, the orders, the prices,
+ *     the sheet, the net positions and the pairs stay as they were, and no file is read or written.
  *   - It is reentrant: nothing is kept between calls, so every entry may be called from several threads at once.
  *
  * Measures:
- *   tenth      0.1 MW, for one hour 0.1 MWh     margins, capacities, quantities, volumes, flows
+ *   tenth      0.1 MW, for one hour 0.1 MWh     margins, capacities, quantities, volumes, flows, net positions, what is carried
  *   cent       0.01 euro per MWh                prices of orders, system price, shadow prices
  *   grain      1 / 100,000 cent per MWh         zone prices
  *   microcent  1 / 1,000,000 cent               money. One tenth at one grain is one microcent.
@@ -41,8 +43,8 @@ extern "C" {
 
 /* The version of this header and of what it declares. The first number rises where a program that was right may no longer be, the second
  * where something is added. LTA_VERSION_NUMBER is for comparing: 1.2.3 is 10203. */
-#define LTA_VERSION "1.0.0"
-#define LTA_VERSION_NUMBER 10000
+#define LTA_VERSION "1.1.0"
+#define LTA_VERSION_NUMBER 10100
 
 #define LTA_GRAINS_PER_CENT 100000
 #define LTA_GRAINS_PER_EURO 10000000
@@ -284,8 +286,76 @@ enum lta_sheet_number {
  */
 struct lta_written lta_sheet_branches(const uint8_t *sheet, size_t sheet_len, size_t zones, uint8_t *out, size_t out_len);
 
-/* What a number of the judgement, of the lent book or of the margin sheet means, in a few words, and "unknown number" for any other. As the
- * readers of a report it is C in this header: tested, and not proved. */
+/* INTUITIVE HOURS, by annex 5.1 of Annex 16.18. The numbers by which lta_intuitive refuses, in the order in which they are asked, each of
+ * the whole input before the next. 82 but for the sum, 83 and 84 name the first such zone or pair, counted from 0; the index of the others
+ * is 0. No number is returned for another cause than its own. */
+enum lta_intuitive_number {
+    LTA_INTUITIVE_ZONES = 81,       /* no zone or over 16, or not as many prices as net positions */
+    LTA_INTUITIVE_POSITION = 82,    /* a net position is out of its range; index: the zone. Asked next: they do not sum to zero; index 0 */
+    LTA_INTUITIVE_PRICE = 83,       /* a price is out of its range, which is LTA_ZONE_PRICE's; index: the zone */
+    LTA_INTUITIVE_PAIR = 84,        /* a pair has an unknown zone or equal ones, repeats an earlier one or is past the 64th; index: the
+                                     * pair */
+    LTA_INTUITIVE_NO_ROOM = 85      /* scratch_count is under LTA_INTUITIVE_SCRATCH */
+};
+
+#define LTA_INTUITIVE_PAIRS 64      /* pairs at most */
+#define LTA_INTUITIVE_SCRATCH 324   /* numbers that a scratch must have, whatever the zones */
+
+/* The answer. */
+struct lta_carried {
+    uint32_t number;    /* 0, or that of the refusal */
+    uint32_t index;
+    uint32_t intuitive; /* 1 for yes; 0 for no, and in a refusal */
+    int64_t total;      /* tenths, the most that can be carried; 0 in a refusal */
+};
+
+/* Whether flows can carry every export to imports, each from a zone to one whose price is not lower, and the most that flows can carry:
+ * number 0, index 0 [outcome], yes or no, and the total; or it refuses, with intuitive 0 and total 0.
+ *
+ *   net_exports, net_count     the net position of each zone in tenths, export positive, for 1 to 16 zones, each from -51,200,000 to
+ *                              51,200,000; together they are zero. lta_judge counts import positive: its net positions are turned.
+ *   zone_prices, price_count   the price of each zone in grains, each from -50,000 to 400,000 cents; as many as net positions
+ *   pairs, pairs_len           two bytes for each ordered pair along which flow may go, its first zone and its second, at most
+ *                              LTA_INTUITIVE_PAIRS pairs. Both zones are below net_count and differ, and each ordered pair occurs once;
+ *                              the reverse pair is another. Of an odd length the last byte is a pair whose second zone is unknown.
+ *   scratch, scratch_count     room to work in, at least LTA_INTUITIVE_SCRATCH numbers, whatever stands in them
+ *
+ * A pair counts when the price of its first zone is at most that of its second. Flows are a number of tenths for each counted pair, none
+ * negative. They are within the exports and imports when what leaves a zone less what enters it is from 0 to its export, of a zone that
+ * exports; from its import, as a negative number, to 0, of one that imports; and 0 of any other. What they carry is the sum over the zones
+ * that export.
+ *
+ * What holds of an answer:
+ *   [carried]  Some flows within the exports and imports carry the total, and none carry more.
+ *   [yes]      If intuitive is 1, some such flows carry every export: the total is the sum of all exports.
+ *   [no]       If intuitive is 0, there is a set of zones that no counted pair leaves and whose exports exceed its imports; the total is
+ *              less than the sum of all exports.
+ *
+ * The numbers of `scratch` afterwards [scratch]: the first LTA_INTUITIVE_SCRATCH are zero, and all past them as they were. In a refusal
+ * every number is as it was.
+ */
+struct lta_carried lta_intuitive(const int64_t *net_exports, size_t net_count,
+                                 const int64_t *zone_prices, size_t price_count,
+                                 const uint8_t *pairs, size_t pairs_len,
+                                 int64_t *scratch, size_t scratch_count);
+
+/* The same of an hour. It is judged first, as lta_judge does with room for the report. If it is not accepted, LTA_GAP_ABOVE_TOLERANCE
+ * too, the answer has the judgement's number and index, with intuitive 0 and total 0, and every number of `scratch` is as it was. Else the
+ * answer and the scratch are those of lta_intuitive for its net positions, turned to export positive, and its zone prices [outcome]
+ * [carried] [yes] [no] [scratch]. Of 81 to 85 only LTA_INTUITIVE_PAIR and LTA_INTUITIVE_NO_ROOM can occur then.
+ *
+ *   case_bytes, case_len       a case, as lta_judge takes it
+ *   proposal, proposal_len     a proposal for it
+ *   pairs, pairs_len           ordered pairs of the case's zones, as lta_intuitive takes them
+ *   scratch, scratch_count     room to work in, at least LTA_INTUITIVE_SCRATCH numbers
+ */
+struct lta_carried lta_hour_intuitive(const uint8_t *case_bytes, size_t case_len,
+                                      const uint8_t *proposal, size_t proposal_len,
+                                      const uint8_t *pairs, size_t pairs_len,
+                                      int64_t *scratch, size_t scratch_count);
+
+/* What a number that an entry returns means, in a few words, and "unknown number" for any other. As the readers of a report it is C in this
+ * header: tested, and not proved. */
 static inline const char *lta_number_text(uint32_t number)
 {
     switch (number) {
@@ -318,6 +388,11 @@ static inline const char *lta_number_text(uint32_t number)
     case LTA_SHEET_RANGE: return "number on the sheet out of range";
     case LTA_SHEET_LINES: return "sheet of over 64 lines";
     case LTA_SHEET_NO_ROOM: return "output too short for the branches";
+    case LTA_INTUITIVE_ZONES: return "no zone, over 16, or lists of two lengths";
+    case LTA_INTUITIVE_POSITION: return "net position out of range, or their sum is not zero";
+    case LTA_INTUITIVE_PRICE: return "price of a zone out of range";
+    case LTA_INTUITIVE_PAIR: return "pair with an unknown zone, equal zones, repeated or past the 64th";
+    case LTA_INTUITIVE_NO_ROOM: return "scratch under 324 numbers";
     default: return "unknown number";
     }
 }
