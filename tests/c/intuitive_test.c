@@ -1,0 +1,586 @@
+/* lta_intuitive and lta_hour_intuitive through the archive: annex 5.1's two price sets, which pairs count, exports that make way for each
+ * other, each limit and one past it, each cause and their order, hours accepted and refused, null pointers. Calls are made with every
+ * argument at both places between unreadable pages, all but the scratch unwritable, and every number of the scratch is compared. */
+#include "harness.h"
+#include "hours.h"
+#include "lta_judgement.h"
+
+#include <inttypes.h>
+#include <stddef.h>
+#include <stdio.h>
+#include <string.h>
+
+#define ZONES_MOST 16
+#define EXPORT_MOST 51200000
+#define SCRATCH LTA_INTUITIVE_SCRATCH
+/* Numbers past the first 324. */
+#define ROOM (SCRATCH + 40)
+#define PAIR_BYTES_MOST 600
+
+/* What is asked, with room for some zones and many pairs too many. */
+struct exchange {
+    size_t zones, prices, bytes;
+    int64_t net[ZONES_MOST + 2], price[ZONES_MOST + 2];
+    uint8_t pair[PAIR_BYTES_MOST];
+};
+
+static struct arena net_arena, price_arena, pair_arena, scratch_arena, case_arena, proposal_arena;
+static const uint8_t zeros[8 * SCRATCH];
+
+static bool is(struct lta_carried a, uint32_t number, uint32_t index, uint32_t intuitive, int64_t total)
+{
+    bool ok = a.number == number && a.index == index && a.intuitive == intuitive && a.total == total;
+    if (!ok)
+        wrong("number %" PRIu32 " index %" PRIu32 " intuitive %" PRIu32 " total %" PRId64 ", and should be %" PRIu32 ", %" PRIu32
+              ", %" PRIu32 " and %" PRId64, a.number, a.index, a.intuitive, a.total, number, index, intuitive, total);
+    return ok;
+}
+
+/* The scratch afterwards: zeros in an answer, and else all as it was. */
+static bool scratch_is(enum place place, size_t room, uint32_t number)
+{
+    return holds(scratch_arena, place, 8 * room, zeros, number == 0 ? sizeof zeros : 0);
+}
+
+/* The answer, and the scratch, with all arguments at each of their places. */
+static void asked(const struct exchange *e, size_t room, uint32_t number, uint32_t index, uint32_t intuitive, int64_t total)
+{
+    bool ok = true;
+    for (unsigned k = 0; k < 16 && ok; k++) {
+        enum place place = k / 8;
+        const int64_t *net = lend(net_arena, k % 2, e->net, 8 * e->zones);
+        const int64_t *price = lend(price_arena, k / 2 % 2, e->price, 8 * e->prices);
+        const uint8_t *pair = lend(pair_arena, k / 4 % 2, e->pair, e->bytes);
+        int64_t *scratch = (int64_t *)(void *)lend_room(scratch_arena, place, 8 * room);
+        struct lta_carried a = lta_intuitive(net, e->zones, price, e->prices, pair, e->bytes, scratch, room);
+        ok = is(a, number, index, intuitive, total);
+        ok = scratch_is(place, room, number) && ok;
+    }
+    check(ok);
+}
+
+static void yes(const struct exchange *e, int64_t total) { asked(e, ROOM, 0, 0, 1, total); }
+static void no(const struct exchange *e, int64_t total) { asked(e, ROOM, 0, 0, 0, total); }
+static void refused(const struct exchange *e, uint32_t number, uint32_t index) { asked(e, ROOM, number, index, 0, 0); }
+
+/* Zones that neither export nor import, all at price 0, without pairs. */
+static struct exchange idle(size_t zones) { return (struct exchange){.zones = zones, .prices = zones}; }
+
+static void add(struct exchange *e, uint8_t from, uint8_t to)
+{
+    e->pair[e->bytes++] = from;
+    e->pair[e->bytes++] = to;
+}
+
+/* As many different pairs as are asked for, from the first zone on. */
+static void add_pairs(struct exchange *e, size_t count)
+{
+    for (uint8_t from = 0; from < e->zones; from++)
+        for (uint8_t to = 0; to < e->zones; to++)
+            if (from != to && e->bytes < 2 * count)
+                add(e, from, to);
+}
+
+/* Zone 0 exports a tenth, which zone 1 imports, at these prices and along one pair. */
+static struct exchange one_tenth(int64_t first, int64_t second, uint8_t from, uint8_t to)
+{
+    struct exchange e = {.zones = 2, .prices = 2, .net = {1, -1}, .price = {first, second}};
+    add(&e, from, to);
+    return e;
+}
+
+static void layout(void)
+{
+    about("struct lta_carried has 24 bytes");
+    check(sizeof(struct lta_carried) == 24 && offsetof(struct lta_carried, number) == 0 && offsetof(struct lta_carried, index) == 4
+          && offsetof(struct lta_carried, intuitive) == 8 && offsetof(struct lta_carried, total) == 16);
+    about("the numbers, the pairs and the scratch that the header names");
+    check(LTA_INTUITIVE_ZONES == 81 && LTA_INTUITIVE_POSITION == 82 && LTA_INTUITIVE_PRICE == 83 && LTA_INTUITIVE_PAIR == 84
+          && LTA_INTUITIVE_NO_ROOM == 85 && LTA_INTUITIVE_PAIRS == 64 && LTA_INTUITIVE_SCRATCH == 324);
+}
+
+/* Zones A to E of annex 5.1: of 1,400 MW 800 can be carried, and all of them once the prices of A and B are exchanged. */
+static void annex(void)
+{
+    struct exchange e = {.zones = 5, .prices = 5, .net = {1000, 13000, -7000, -3000, -4000}};
+    const uint8_t lines[] = {0, 1, 0, 2, 1, 4, 2, 3, 3, 4};
+    const int64_t price[] = {10, 20, 40, 50, 30};
+    for (size_t k = 0; k < sizeof lines; k += 2) {
+        add(&e, lines[k], lines[k + 1]);
+        add(&e, lines[k + 1], lines[k]);
+    }
+    for (size_t z = 0; z < 5; z++)
+        e.price[z] = price[z] * LTA_GRAINS_PER_EURO;
+    about("annex 5.1, the first price set");
+    no(&e, 8000);
+    e.price[0] = 20 * LTA_GRAINS_PER_EURO;
+    e.price[1] = 10 * LTA_GRAINS_PER_EURO;
+    about("annex 5.1, the second price set");
+    yes(&e, 14000);
+    for (size_t z = 0; z < 5; z++)
+        e.net[z] = -e.net[z];
+    about("annex 5.1, net positions not turned");
+    no(&e, 0);
+}
+
+static void counted_pairs(void)
+{
+    struct exchange e = one_tenth(-1, 0, 0, 1);
+    about("a pair from the lower price to the higher");
+    yes(&e, 1);
+    e = one_tenth(7, 7, 0, 1);
+    about("a pair between equal prices");
+    yes(&e, 1);
+    e = one_tenth(0, -1, 0, 1);
+    about("a pair whose first price is a grain above its second");
+    no(&e, 0);
+    e = one_tenth(cents(-50000), cents(400000), 1, 0);
+    about("a pair the other way, down");
+    no(&e, 0);
+    e = one_tenth(3, 3, 1, 0);
+    about("a pair the other way, between equal prices");
+    no(&e, 0);
+    e.bytes = 0;
+    about("no pair");
+    no(&e, 0);
+    e.net[0] = e.net[1] = 0;
+    about("no pair, and nothing to carry");
+    yes(&e, 0);
+    e = idle(1);
+    about("one zone");
+    yes(&e, 0);
+}
+
+static void carried(void)
+{
+    /* zone 0 reaches both imports, zone 1 one of them: whichever comes first, the other zone's import has to be left to it */
+    for (uint8_t first = 2; first <= 3; first++) {
+        struct exchange e = {.zones = 4, .prices = 4, .net = {5, 7}};
+        uint8_t second = 5 - first;
+        e.net[first] = -7;
+        e.net[second] = -5;
+        add(&e, 0, 2);
+        add(&e, 0, 3);
+        add(&e, 1, first);
+        about("exports that make way for each other, by zone %u", first);
+        yes(&e, 12);
+        e.pair[5] = second;
+        about("the same with the pair to the smaller import, by zone %u", second);
+        no(&e, 10);
+    }
+    for (unsigned back = 0; back < 2; back++) {
+        struct exchange e = idle(ZONES_MOST);
+        e.net[0] = EXPORT_MOST;
+        e.net[ZONES_MOST - 1] = -EXPORT_MOST;
+        for (uint8_t z = 1; z < ZONES_MOST; z++)
+            add(&e, (uint8_t)(z - 1), z);
+        if (back == 1) {
+            e.pair[14] = 8;
+            e.pair[15] = 7;
+        }
+        about("a chain of 16 zones%s", back == 1 ? ", one pair of it turned" : "");
+        asked(&e, ROOM, 0, 0, back == 0, back == 0 ? EXPORT_MOST : 0);
+    }
+    struct exchange e = idle(ZONES_MOST);
+    for (uint8_t z = 0; z < 8; z++) {
+        e.net[z] = EXPORT_MOST;
+        e.net[8 + z] = -EXPORT_MOST;
+        e.price[z] = cents(-50000);
+        e.price[8 + z] = cents(400000);
+        for (uint8_t to = 8; to < ZONES_MOST; to++)
+            add(&e, z, to);
+    }
+    about("the widest total, 16 zones and 64 pairs");
+    yes(&e, 8 * (int64_t)EXPORT_MOST);
+    e.bytes -= 16;
+    about("the same without the pairs of one zone");
+    no(&e, 7 * (int64_t)EXPORT_MOST);
+}
+
+static void zone_counts(void)
+{
+    for (size_t zones = 0; zones <= ZONES_MOST + 2; zones++) {
+        for (size_t prices = 0; prices <= ZONES_MOST + 2; prices++) {
+            struct exchange e = idle(zones);
+            e.prices = prices;
+            about("%zu net positions and %zu prices", zones, prices);
+            if (zones == prices && zones >= 1 && zones <= ZONES_MOST)
+                yes(&e, 0);
+            else
+                refused(&e, LTA_INTUITIVE_ZONES, 0);
+        }
+    }
+}
+
+static void positions(void)
+{
+    static const struct {
+        const char *name;
+        int64_t net;
+        bool taken;
+    } nets[] = {
+        {"an export at its limit", EXPORT_MOST, true},
+        {"an export a tenth past its limit", EXPORT_MOST + 1, false},
+        {"the greatest export", INT64_MAX, false},
+        {"an import at its limit", -EXPORT_MOST, true},
+        {"an import a tenth past its limit", -EXPORT_MOST - 1, false},
+        {"the least number as an import", INT64_MIN, false},
+    };
+    for (size_t k = 0; k < sizeof nets / sizeof *nets; k++) {
+        for (size_t zone = 0; zone < 3; zone++) {
+            struct exchange e = idle(3);
+            e.net[zone] = nets[k].net;
+            about("%s, at zone %zu, without its other side", nets[k].name, zone);
+            refused(&e, LTA_INTUITIVE_POSITION, nets[k].taken ? 0 : (uint32_t)zone);
+            if (nets[k].taken) {
+                e.net[(zone + 1) % 3] = -nets[k].net;
+                about("%s, at zone %zu", nets[k].name, zone);
+                no(&e, 0);
+            }
+        }
+    }
+    struct exchange e = idle(ZONES_MOST);
+    for (size_t z = 0; z < ZONES_MOST; z++)
+        e.net[z] = INT64_C(1) << 60;
+    about("16 net positions whose sum is 2^64");
+    refused(&e, LTA_INTUITIVE_POSITION, 0);
+    for (size_t z = 0; z < ZONES_MOST; z++)
+        e.net[z] = EXPORT_MOST;
+    about("16 exports at their limit");
+    refused(&e, LTA_INTUITIVE_POSITION, 0);
+    e = idle(4);
+    e.net[3] = 1;
+    about("net positions that sum to a tenth name no zone");
+    refused(&e, LTA_INTUITIVE_POSITION, 0);
+    e.net[2] = EXPORT_MOST + 1;
+    about("a range is asked before the sum");
+    refused(&e, LTA_INTUITIVE_POSITION, 2);
+}
+
+static void prices(void)
+{
+    static const struct {
+        const char *name;
+        int64_t price;
+        bool taken;
+    } rows[] = {
+        {"a price at its ceiling", INT64_C(40000000000), true},
+        {"a price a grain above its ceiling", INT64_C(40000000001), false},
+        {"the greatest price", INT64_MAX, false},
+        {"a price at its floor", INT64_C(-5000000000), true},
+        {"a price a grain below its floor", INT64_C(-5000000001), false},
+        {"the least price", INT64_MIN, false},
+    };
+    for (size_t k = 0; k < sizeof rows / sizeof *rows; k++) {
+        for (size_t zone = 0; zone < 3; zone++) {
+            struct exchange e = idle(3);
+            e.price[zone] = rows[k].price;
+            about("%s, at zone %zu", rows[k].name, zone);
+            if (rows[k].taken)
+                yes(&e, 0);
+            else
+                refused(&e, LTA_INTUITIVE_PRICE, (uint32_t)zone);
+        }
+    }
+}
+
+static void pairs(void)
+{
+    static const struct {
+        const char *name;
+        size_t bytes;
+        uint8_t pair[8];
+        int32_t fault;
+    } rows[] = {
+        {"both ways", 4, {0, 1, 1, 0}, -1},
+        {"an unknown first zone", 4, {0, 1, 3, 0}, 1},
+        {"an unknown second zone", 4, {0, 1, 0, 3}, 1},
+        {"zones of all bits", 2, {255, 255}, 0},
+        {"equal zones", 6, {0, 1, 1, 2, 2, 2}, 2},
+        {"a pair repeated at once", 4, {2, 0, 2, 0}, 1},
+        {"a pair repeated later", 8, {2, 0, 0, 2, 1, 0, 2, 0}, 3},
+        {"a byte alone", 1, {0}, 0},
+        {"a last byte alone", 5, {0, 1, 1, 2, 0}, 2},
+        {"a last byte alone, of an unknown zone", 3, {0, 1, 9}, 1},
+        {"a fault before a last byte alone", 3, {1, 1, 0}, 0},
+        {"two faults", 6, {0, 1, 0, 0, 7, 7}, 1},
+    };
+    for (size_t k = 0; k < sizeof rows / sizeof *rows; k++) {
+        struct exchange e = idle(3);
+        e.bytes = rows[k].bytes;
+        memcpy(e.pair, rows[k].pair, e.bytes);
+        about("%s", rows[k].name);
+        if (rows[k].fault < 0)
+            yes(&e, 0);
+        else
+            refused(&e, LTA_INTUITIVE_PAIR, (uint32_t)rows[k].fault);
+    }
+    static const size_t counts[] = {0, 1, 63, 64, 65, 66, 128, 240};
+    for (size_t k = 0; k < sizeof counts / sizeof *counts; k++) {
+        struct exchange e = idle(ZONES_MOST);
+        add_pairs(&e, counts[k]);
+        about("%zu pairs", counts[k]);
+        if (counts[k] <= LTA_INTUITIVE_PAIRS)
+            yes(&e, 0);
+        else
+            refused(&e, LTA_INTUITIVE_PAIR, LTA_INTUITIVE_PAIRS);
+        e.pair[e.bytes++] = 0;
+        about("%zu pairs and a byte", counts[k]);
+        refused(&e, LTA_INTUITIVE_PAIR, counts[k] < LTA_INTUITIVE_PAIRS ? (uint32_t)counts[k] : LTA_INTUITIVE_PAIRS);
+    }
+    struct exchange e = idle(ZONES_MOST);
+    add_pairs(&e, 66);
+    memcpy(e.pair + 126, e.pair, 2);
+    about("the 64th pair repeats the first, and two stand past it");
+    refused(&e, LTA_INTUITIVE_PAIR, 63);
+}
+
+static void scratches(void)
+{
+    static const size_t rooms[] = {0, 1, 2, 256, 323, 324, 325, ROOM};
+    struct exchange e = one_tenth(0, 0, 0, 1);
+    for (size_t k = 0; k < sizeof rooms / sizeof *rooms; k++) {
+        about("a scratch of %zu numbers", rooms[k]);
+        if (rooms[k] < SCRATCH)
+            asked(&e, rooms[k], LTA_INTUITIVE_NO_ROOM, 0, 0, 0);
+        else
+            asked(&e, rooms[k], 0, 0, 1, 1);
+    }
+}
+
+/* Several causes at once: the one asked first, of the whole input, and its first place. */
+static void causes(void)
+{
+    struct exchange e = {.zones = 3, .prices = 4, .bytes = 3, .net = {0, 1, INT64_MAX}, .price = {0, 0, INT64_MIN}, .pair = {1, 1, 9}};
+    about("all of 81 to 85");
+    asked(&e, 0, LTA_INTUITIVE_ZONES, 0, 0, 0);
+    e.prices = 3;
+    about("all of 82 to 85");
+    asked(&e, 0, LTA_INTUITIVE_POSITION, 2, 0, 0);
+    e.net[2] = 0;
+    about("82 by the sum, and 83 to 85");
+    asked(&e, 0, LTA_INTUITIVE_POSITION, 0, 0, 0);
+    e.net[2] = -1;
+    about("all of 83 to 85");
+    asked(&e, 0, LTA_INTUITIVE_PRICE, 2, 0, 0);
+    e.price[2] = 0;
+    about("84 and 85");
+    asked(&e, 0, LTA_INTUITIVE_PAIR, 0, 0, 0);
+    e.bytes = 0;
+    about("85 alone");
+    asked(&e, 0, LTA_INTUITIVE_NO_ROOM, 0, 0, 0);
+    e = idle(3);
+    e.price[0] = INT64_MAX;
+    e.net[2] = EXPORT_MOST + 1;
+    about("83 at the first zone, 82 at the last");
+    refused(&e, LTA_INTUITIVE_POSITION, 2);
+}
+
+/* An hour, with all arguments at each of their places. */
+static void asked_hour(const struct file *c, const struct file *p, size_t bytes, const uint8_t *pair, size_t room, struct lta_carried due)
+{
+    bool ok = true;
+    for (unsigned k = 0; k < 16 && ok; k++) {
+        enum place place = k / 8;
+        const uint8_t *case_bytes = lend(case_arena, k % 2, c->bytes, c->length);
+        const uint8_t *proposal = lend(proposal_arena, k / 2 % 2, p->bytes, p->length);
+        const uint8_t *pairs_lent = lend(pair_arena, k / 4 % 2, pair, bytes);
+        int64_t *scratch = (int64_t *)(void *)lend_room(scratch_arena, place, 8 * room);
+        struct lta_carried a = lta_hour_intuitive(case_bytes, c->length, proposal, p->length, pairs_lent, bytes, scratch, room);
+        ok = is(a, due.number, due.index, due.intuitive, due.total);
+        ok = scratch_is(place, room, due.number) && ok;
+    }
+    check(ok);
+}
+
+static void hour_is(const struct hour *h, size_t bytes, const uint8_t *pair, size_t room, struct lta_carried due)
+{
+    struct file c = case_file(h), p = proposal_file(h);
+    asked_hour(&c, &p, bytes, pair, room, due);
+}
+
+/* The largest hour with every sell in zones 0 to 7 and every buy in 8 to 15: at equal prices each link counts, and each zone has links to
+ * the next four. */
+static struct hour sold_across(void)
+{
+    struct hour h = largest_hour(0);
+    for (uint16_t i = 0; i < 512; i++)
+        h.order[i].zone = (uint8_t)(i % 8 + (i < 256 ? 0 : 8));
+    return h;
+}
+
+static size_t links_of(const struct hour *h, uint8_t *pair)
+{
+    for (size_t l = 0; l < h->links; l++) {
+        pair[2 * l] = h->link[l].from;
+        pair[2 * l + 1] = h->link[l].to;
+    }
+    return 2 * (size_t)h->links;
+}
+
+static void hours(void)
+{
+    const struct lta_carried all = {0, 0, 1, 5375}, part = {0, 0, 0, 1000}, none = {0, 0, 0, 0};
+    /* A sells 537.5 MW at 20 euros; B buys 100 at 63.75 and C 437.5 at 50 */
+    struct hour h = three_zone_hour();
+    about("P1 with its link");
+    hour_is(&h, 2, (uint8_t[]){0, 1}, ROOM, part);
+    about("P1 with a pair to each buyer");
+    hour_is(&h, 4, (uint8_t[]){0, 1, 0, 2}, ROOM, all);
+    about("P1 by way of C");
+    hour_is(&h, 4, (uint8_t[]){0, 2, 2, 1}, ROOM, all);
+    about("P1 by way of B, which has the higher price");
+    hour_is(&h, 4, (uint8_t[]){0, 1, 1, 2}, ROOM, part);
+    about("P1 with pairs to the seller, as if net positions were not turned");
+    hour_is(&h, 4, (uint8_t[]){1, 0, 2, 0}, ROOM, none);
+    about("P1 without a pair");
+    hour_is(&h, 0, NULL, ROOM, none);
+    about("P1 with a pair of an unknown zone");
+    hour_is(&h, 4, (uint8_t[]){0, 1, 0, 3}, ROOM, (struct lta_carried){LTA_INTUITIVE_PAIR, 1, 0, 0});
+    about("P1 with a scratch of 323 numbers");
+    hour_is(&h, 2, (uint8_t[]){0, 1}, 323, (struct lta_carried){LTA_INTUITIVE_NO_ROOM, 0, 0, 0});
+    about("P1 with a scratch of 324 numbers");
+    hour_is(&h, 2, (uint8_t[]){0, 1}, 324, part);
+
+    h = sold_across();
+    uint8_t pair[2 * LTA_INTUITIVE_PAIRS];
+    size_t bytes = links_of(&h, pair);
+    about("the largest hour, sold across");
+    hour_is(&h, bytes, pair, ROOM, (struct lta_carried){0, 0, 1, 256 * 100000});
+    h = one_zone_hour();
+    about("one zone and nothing else");
+    hour_is(&h, 0, NULL, ROOM, (struct lta_carried){0, 0, 1, 0});
+}
+
+/* An hour that is not accepted has the judgement's number and index, whatever the pairs and the scratch. */
+static void refused_hours(void)
+{
+    const uint8_t bad[] = {0, 0, 9};
+    struct hour h = unused_link_hour();
+    about("P3, a gap above the tolerance");
+    hour_is(&h, 2, (uint8_t[]){0, 1}, ROOM, (struct lta_carried){LTA_GAP_ABOVE_TOLERANCE, 0, 0, 0});
+    about("P3 with bad pairs and no scratch");
+    hour_is(&h, sizeof bad, bad, 0, (struct lta_carried){LTA_GAP_ABOVE_TOLERANCE, 0, 0, 0});
+    h = three_zone_hour();
+    h.volume[1] = 6001;
+    about("P5, with bad pairs and no scratch");
+    hour_is(&h, sizeof bad, bad, 0, (struct lta_carried){LTA_VOLUME, 1, 0, 0});
+    h = three_zone_hour();
+    h.volume[4]++;
+    about("P6, the balance");
+    hour_is(&h, 2, (uint8_t[]){0, 1}, ROOM, (struct lta_carried){LTA_BALANCE, 0, 0, 0});
+    h = three_zone_hour();
+    h.link[0].capacity = 100001;
+    about("a capacity above its limit, by its offset");
+    hour_is(&h, 2, (uint8_t[]){0, 1}, ROOM, (struct lta_carried){LTA_CASE_LINK, 48, 0, 0});
+    struct file empty = {0}, c = case_file(&h);
+    about("no case");
+    asked_hour(&empty, &empty, 0, NULL, ROOM, (struct lta_carried){LTA_CASE_SHORT, 0, 0, 0});
+    h = three_zone_hour();
+    c = case_file(&h);
+    about("no proposal");
+    asked_hour(&c, &empty, 0, NULL, ROOM, (struct lta_carried){LTA_PROPOSAL_SHORT, 0, 0, 0});
+    h = one_zone_hour();
+    h.system = 400001;
+    about("P11, a zone price");
+    hour_is(&h, 0, NULL, ROOM, (struct lta_carried){LTA_ZONE_PRICE, 0, 0, 0});
+}
+
+/* A null pointer where the length or count is 0. */
+static void nulls(void)
+{
+    struct exchange e = idle(2);
+    struct hour h = three_zone_hour();
+    struct file c = case_file(&h), p = proposal_file(&h);
+    for (unsigned k = 0; k < PLACES; k++) {
+        const int64_t *net = lend(net_arena, k, e.net, 16), *price = lend(price_arena, k, e.price, 16);
+        const uint8_t *pair = lend(pair_arena, k, (uint8_t[]){0, 1}, 2);
+        int64_t *scratch = (int64_t *)(void *)lend_room(scratch_arena, k, 8 * ROOM);
+        about("null for all");
+        check(is(lta_intuitive(NULL, 0, NULL, 0, NULL, 0, NULL, 0), LTA_INTUITIVE_ZONES, 0, 0, 0));
+        about("null for the net positions");
+        check(is(lta_intuitive(NULL, 0, price, 2, pair, 2, scratch, ROOM), LTA_INTUITIVE_ZONES, 0, 0, 0));
+        about("null for the prices");
+        check(is(lta_intuitive(net, 2, NULL, 0, pair, 2, scratch, ROOM), LTA_INTUITIVE_ZONES, 0, 0, 0));
+        about("null for the scratch");
+        check(is(lta_intuitive(net, 2, price, 2, pair, 2, NULL, 0), LTA_INTUITIVE_NO_ROOM, 0, 0, 0));
+        about("no refusal wrote to the scratch");
+        check(scratch_is(k, ROOM, LTA_INTUITIVE_ZONES));
+        about("null for the pairs");
+        check(is(lta_intuitive(net, 2, price, 2, NULL, 0, scratch, ROOM), 0, 0, 1, 0) && scratch_is(k, ROOM, 0));
+
+        const uint8_t *case_bytes = lend(case_arena, k, c.bytes, c.length), *proposal = lend(proposal_arena, k, p.bytes, p.length);
+        scratch = (int64_t *)(void *)lend_room(scratch_arena, k, 8 * ROOM);
+        about("an hour, null for all");
+        check(is(lta_hour_intuitive(NULL, 0, NULL, 0, NULL, 0, NULL, 0), LTA_CASE_SHORT, 0, 0, 0));
+        about("an hour, null for the proposal");
+        check(is(lta_hour_intuitive(case_bytes, c.length, NULL, 0, pair, 2, scratch, ROOM), LTA_PROPOSAL_SHORT, 0, 0, 0));
+        about("an hour, null for the scratch");
+        check(is(lta_hour_intuitive(case_bytes, c.length, proposal, p.length, pair, 2, NULL, 0), LTA_INTUITIVE_NO_ROOM, 0, 0, 0));
+        about("an hour, null for the pairs");
+        check(is(lta_hour_intuitive(case_bytes, c.length, proposal, p.length, NULL, 0, scratch, ROOM), 0, 0, 0, 0)
+              && scratch_is(k, ROOM, 0));
+    }
+}
+
+static struct {
+    struct exchange exchange;
+    struct file hour, proposal;
+    int64_t scratch[SCRATCH];
+    struct lta_carried answer;
+} call;
+
+static void call_intuitive(void)
+{
+    const struct exchange *e = &call.exchange;
+    call.answer = lta_intuitive(e->net, e->zones, e->price, e->prices, e->pair, e->bytes, call.scratch, SCRATCH);
+}
+
+static void call_hour(void)
+{
+    call.answer = lta_hour_intuitive(call.hour.bytes, call.hour.length, call.proposal.bytes, call.proposal.length, call.exchange.pair,
+                                     call.exchange.bytes, call.scratch, SCRATCH);
+}
+
+static void small_stack(void)
+{
+    struct hour h = sold_across();
+    call.exchange = idle(ZONES_MOST);
+    call.exchange.bytes = links_of(&h, call.exchange.pair);
+    for (size_t z = 0; z < ZONES_MOST; z++)
+        call.exchange.net[z] = z < 8 ? EXPORT_MOST : -EXPORT_MOST;
+    about("16 zones and 64 pairs on a stack of %d bytes", STACK_ENOUGH);
+    on_stack(STACK_ENOUGH, call_intuitive);
+    check(is(call.answer, 0, 0, 1, 8 * (int64_t)EXPORT_MOST));
+    call.hour = case_file(&h);
+    call.proposal = proposal_file(&h);
+    about("the largest hour on a stack of %d bytes", STACK_ENOUGH);
+    on_stack(STACK_ENOUGH, call_hour);
+    check(is(call.answer, 0, 0, 1, 256 * 100000));
+}
+
+int main(void)
+{
+    net_arena = arena(sizeof((struct exchange *)0)->net);
+    price_arena = arena(sizeof((struct exchange *)0)->price);
+    pair_arena = arena(PAIR_BYTES_MOST);
+    scratch_arena = arena(8 * ROOM);
+    case_arena = arena(sizeof((struct file *)0)->bytes);
+    proposal_arena = arena(sizeof((struct file *)0)->bytes);
+
+    group("layout of the struct", layout);
+    group("annex 5.1", annex);
+    group("which pairs count", counted_pairs);
+    group("what is carried", carried);
+    group("counts of zones", zone_counts);
+    group("net positions", positions);
+    group("prices", prices);
+    group("pairs", pairs);
+    group("scratches", scratches);
+    group("which cause and which place", causes);
+    group("hours", hours);
+    group("hours that are refused", refused_hours);
+    group("null with length 0", nulls);
+    group("a small stack", small_stack);
+    return closing();
+}
