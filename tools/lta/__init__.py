@@ -6,26 +6,32 @@
     answer.welfare, answer.gap, answer.totals     microcents, and None or empty without a report
     answer.prices                                 grains, one per zone
     print(lta.explain(case, proposal).words)
+    answer = lta.intuitive(case, proposal, [(0, 1), (1, 0)])    pairs of zones; without them the case's links
+    answer.intuitive, answer.total                True or False, and tenths; None where answer.number is not 0
+    lta.carried(net_exports, zone_prices, pairs)  the same of tenths, export positive, and grains
 
-Verdicts, totals and prices of an answer come from the archive alone. Explanations are computed beside it, are not
+Verdicts, totals, prices and a yes or no come from the archive alone. Explanations are computed beside it, are not
 proved, and say so; one that disagrees with the archive is not given.
 """
 
-from .archive import BuildError, Judgement, judge, judge_joined
+from .archive import BuildError, Carried, Judgement, carried, intuitive, judge, judge_joined
 from .causes import Disagreement, Explanation, explain
 from .hour import build, field_at, show
 from .rules import Sums, cut
 
 __all__ = [
     "BuildError",
+    "Carried",
     "Disagreement",
     "Explanation",
     "Judgement",
     "Sums",
     "build",
+    "carried",
     "cut",
     "explain",
     "field_at",
+    "intuitive",
     "judge",
     "judge_joined",
     "show",

@@ -1,5 +1,5 @@
-"""The proved archive, called from Python: the shared object that is linked from it, and what lta_judge answers.
-The one place from which a verdict or a total comes.
+"""The proved archive, called from Python: the shared object that is linked from it, and what its entries answer.
+The one place from which a verdict, a total or a yes comes.
 """
 
 from __future__ import annotations
@@ -57,6 +57,26 @@ class Judgement:
     def totals(self):
         """The totals by name; empty without a report."""
         return {name: getattr(self, name) for name in hour.TOTALS} if self.number in REPORTED else {}
+
+
+@dataclass(frozen=True)
+class Carried:
+    """What lta_intuitive and lta_hour_intuitive answer, the total in tenths. In a refusal it and the yes are None."""
+
+    number: int
+    index: int
+    intuitive: bool | None = None
+    total: int | None = None
+
+    @property
+    def answered(self):
+        return self.number == 0
+
+    @property
+    def text(self):
+        """What the number means, in words."""
+        words = {**rules.NUMBERS, **rules.INTUITIVE_NUMBERS, 0: "answered"}
+        return words.get(self.number, f"number {self.number}")
 
 
 # Building.
@@ -164,22 +184,44 @@ def made_shared():
 
 # Calling.
 
-_entry = None
+class CarriedStruct(ctypes.Structure):
+    """struct lta_carried."""
+
+    _fields_ = [
+        ("number", ctypes.c_uint32),
+        ("index", ctypes.c_uint32),
+        ("intuitive", ctypes.c_uint32),
+        ("total", ctypes.c_int64),
+    ]
 
 
-def entry():
-    """lta_judge, loaded once."""
-    global _entry
-    if _entry is None:
-        with made_shared() as shared:
-            try:
-                found = ctypes.CDLL(str(shared)).lta_judge
-            except (OSError, AttributeError) as fault:
-                raise BuildError(f"{shared}: it cannot be loaded: {one_line(str(fault))}") from None
-        found.restype = ctypes.c_uint64
-        found.argtypes = [ctypes.c_char_p, ctypes.c_size_t] * 3
-        _entry = found
-    return _entry
+_BYTES = [ctypes.c_char_p, ctypes.c_size_t]
+_AMOUNTS = [ctypes.POINTER(ctypes.c_int64), ctypes.c_size_t]
+# What each entry gives, and takes.
+ENTRIES = {
+    "lta_judge": (ctypes.c_uint64, _BYTES * 3),
+    "lta_intuitive": (CarriedStruct, _AMOUNTS * 2 + _BYTES + _AMOUNTS),
+    "lta_hour_intuitive": (CarriedStruct, _BYTES * 3 + _AMOUNTS),
+}
+
+_loaded = {}
+
+
+def entry(name="lta_judge"):
+    """An entry of the archive. The shared object is loaded once."""
+    if name not in _loaded:
+        library = _loaded.get("")
+        try:
+            if library is None:
+                with made_shared() as shared:
+                    library = ctypes.CDLL(str(shared))
+            found = getattr(library, name)
+        except (OSError, AttributeError) as fault:
+            path = shared if library is None else library._name
+            raise BuildError(f"{path}: it cannot be loaded: {one_line(str(fault))}") from None
+        found.restype, found.argtypes = ENTRIES[name]
+        _loaded.update({"": library, name: found})
+    return _loaded[name]
 
 
 def bytes_of(data):
@@ -208,3 +250,56 @@ def judge(case, proposal, room=rules.REPORT_ROOM):
 def judge_joined(joined):
     """The same of a joined file, the case and at once the proposal, cut as the desk cuts it."""
     return judge(*rules.cut(bytes_of(joined)))
+
+
+def amounts_of(numbers, name):
+    """Whole numbers as an array of signed 64 bits; one that has no room there is refused and not wrapped."""
+    numbers = list(numbers)
+    for number in numbers:
+        if not isinstance(number, int) or not -(2**63) <= number < 2**63:
+            raise ValueError(f"{name} {number!r} is no signed number of 64 bits")
+    return (ctypes.c_int64 * len(numbers))(*numbers)
+
+
+def pair_bytes(pairs):
+    """Ordered pairs of zones, two bytes each; bytes stay as they are."""
+    if isinstance(pairs, (bytes, bytearray, memoryview)):
+        return bytes(pairs)
+    made = bytearray()
+    for pair in pairs:
+        first, second = pair
+        for zone in (first, second):
+            if not isinstance(zone, int) or not 0 <= zone <= 255:
+                raise ValueError(f"zone {zone!r} of a pair is not from 0 to 255")
+        made += bytes((first, second))
+    return bytes(made)
+
+
+def answer_of(carried):
+    if carried.number:
+        return Carried(carried.number, carried.index)
+    return Carried(0, carried.index, carried.intuitive == 1, carried.total)
+
+
+def new_scratch():
+    return (ctypes.c_int64 * rules.INTUITIVE_SCRATCH)()
+
+
+def carried(net_exports, zone_prices, pairs):
+    """Has the archive answer whether net positions, in tenths and export positive, are intuitive at zone prices in
+    grains along these pairs.
+    """
+    net, prices = amounts_of(net_exports, "net position"), amounts_of(zone_prices, "zone price")
+    pairs, scratch = pair_bytes(pairs), new_scratch()
+    call = entry("lta_intuitive")
+    return answer_of(call(net, len(net), prices, len(prices), pairs, len(pairs), scratch, len(scratch)))
+
+
+def intuitive(case, proposal, pairs=None):
+    """Has the archive answer whether an hour, as two files' bytes, is intuitive along these pairs; without them along
+    the case's links.
+    """
+    case, proposal = bytes_of(case), bytes_of(proposal)
+    pairs, scratch = pair_bytes(hour.link_pairs(case) if pairs is None else pairs), new_scratch()
+    call = entry("lta_hour_intuitive")
+    return answer_of(call(case, len(case), proposal, len(proposal), pairs, len(pairs), scratch, len(scratch)))

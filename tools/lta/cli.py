@@ -29,6 +29,7 @@ Judges, explains, shows, builds and draws hours of the day-ahead coupling.
 
   lta judge [FILE...] [--csv | --json] [--pairs | --joined]
   lta explain FILE...
+  lta intuitive FILE... [--links | --pairs TEXT] [--json] [--joined]
   lta page FILE... [-o PAGE] [--force]
   lta show FILE... [--joined]
   lta field CASE [PROPOSAL] OFFSET
@@ -47,6 +48,10 @@ judge prints a table: file, verdict, index, welfare, gap, rent and owed in euros
 have every decimal. Without a FILE it reads a joined hour from standard input.
 explain says the verdict in words: the field, its offset in decimal and hex, its value and its limit; and of an hour
 whose files are in order its zones, branches and links, and the gap's parts, largest first.
+intuitive says whether an accepted hour's exports can all be carried to imports, each from a zone to one whose price is
+not lower, by annex 5.1 of Annex 16.18: yes or no, how much can be carried, and for a no the zones that are cut off.
+Flow goes along pairs of zones: the case's links, which --links says too, or those of --pairs, a text with two zones to
+a line, as 0 1, and # before a comment.
 page writes one page that a browser shows, for an hour or for all hours of a folder; without -o it is named after it.
 show prints the text of a case and a proposal, of a joined file, or of the files that a text gives. Building that text
 gives back the same bytes, however broken.
@@ -54,11 +59,13 @@ field says which field of the last file named stands at OFFSET, a number or hex 
 build writes the files asked for, - being standard output; without one it says the two sizes.
 Nothing that is there is written over without --force.
 
-Verdicts, totals and prices come from the proved archive alone; on first use, and after a change in crates/, it is
-proved and built, which takes some minutes. Explanations and pages are computed beside it and say so.
+Verdicts, totals, prices and yes or no come from the proved archive alone; on first use, and after a change in crates/,
+it is proved and built, which takes some minutes. Explanations, zones cut off and pages are computed beside it and say
+so.
 
 Status: 0 every hour is accepted, or as its text expects; 1 not so; 2 something could not be read, judged or written,
-and a line says what. page, show, field and build: 0 or 2.
+and a line says what. intuitive: 0 yes; 1 no, and where the archive refuses the hour or a pair, which is then said; 2.
+page, show, field and build: 0 or 2.
 """
 
 
@@ -172,6 +179,23 @@ def run_explain(options):
     return 0 if judgement.accepted else 1
 
 
+def run_intuitive(options):
+    from . import exchanges
+
+    source = one_hour(options.files, options.way)
+    if options.pairs == "-" and "-" in options.files:
+        raise Failure("-: standard input is named for the hour and for the pairs")
+    given = None
+    if options.pairs is not None:
+        name = "standard input" if options.pairs == "-" else options.pairs
+        given = exchanges.read_pairs(name, read(options.pairs))
+    read_hour = source.read()
+    pairs = exchanges.links(read_hour.case) if given is None else given
+    told = exchanges.ask(source.name, read_hour.case, read_hour.proposal, pairs)
+    put(exchanges.as_json(told) if options.json else exchanges.as_text(told))
+    return 0 if told.answer.intuitive else 1
+
+
 def run_page(options):
     from . import page
 
@@ -282,6 +306,11 @@ def parser():
     form.add_argument("--csv", dest="form", action="store_const", const="csv")
     form.add_argument("--json", dest="form", action="store_const", const="json")
     needing("explain", run_explain, ("pairs", "joined"))
+    intuitive = needing("intuitive", run_intuitive, ("joined",))
+    asked = intuitive.add_mutually_exclusive_group()
+    asked.add_argument("--links", action="store_true")
+    asked.add_argument("--pairs")
+    intuitive.add_argument("--json", action="store_true")
     page = needing("page", run_page, ("pairs", "joined"))
     page.add_argument("-o", dest="out")
     page.add_argument("--force", action="store_true")

@@ -575,6 +575,11 @@ def case_counts(case):
     return dict(zip((name for name, _ in HEADERS["case"]), layout.unpack_from(case)[1:]))
 
 
+def link_pairs(case):
+    """The zones that each whole link of a case leads from and to."""
+    return [(row[0], row[1]) for row in whole_records("case", case, case_counts(case))[0]["link"]]
+
+
 def whole_fields(file, data, counts):
     """Every whole field of a file in file order, each with its offset, its size and its name and value."""
     header = (("mark", "3s"),) + HEADERS[file]

@@ -10,6 +10,8 @@ WHOLE = 100_000  # stands for 1 in PTDFs and in the LTA share
 GRAINS_PER_CENT = 100_000
 MICROCENTS_PER_CENT = 1_000_000
 REPORT_ROOM = 176
+INTUITIVE_SCRATCH = 324
+INTUITIVE_PAIRS = 64
 VERSION = 1
 
 # Least and greatest of each field that has limits of its own; an order's zone and a link's zones are held to the count.
@@ -54,6 +56,14 @@ NUMBERS = {
     25: "zone price out of range",
     26: "gap above the tolerance",
     30: "report buffer under 176 bytes",
+}
+# The same of request S-3's.
+INTUITIVE_NUMBERS = {
+    81: "no zone, over 16, or lists of two lengths",
+    82: "net position out of range, or their sum is not zero",
+    83: "price of a zone out of range",
+    84: "pair with an unknown zone, equal zones, repeated or past the 64th",
+    85: "scratch under 324 numbers",
 }
 
 Branch = namedtuple("Branch", "ram ptdfs shadow")
