@@ -1,8 +1,10 @@
-//! Measures the proved judge against the second one, and the margin sheet's
-//! entry against plain C, on the same inputs; prints only.
+//! Measures the proved judge against the second one, the margin sheet's entry
+//! against plain C and S-3's against plain Rust, on the same inputs; prints only.
 
 #[path = "../../comparison/src/archive.rs"]
 mod archive;
+#[cfg(feature = "intuitive")]
+mod intuitive;
 #[cfg(feature = "sheet")]
 mod sheet;
 
@@ -272,4 +274,7 @@ fn main() {
 
     #[cfg(feature = "sheet")]
     sheet::sheets();
+
+    #[cfg(feature = "intuitive")]
+    intuitive::exchanges();
 }
