@@ -15,6 +15,10 @@ const LEAST_INPUTS: u64 = 50_000;
 const LEAST_HOURS: u64 = 10_000;
 const LEAST_TIMES: u64 = 100;
 const NUMBERS: [u32; 6] = [0, 81, 82, 83, 84, 85];
+/// Those of the judgement but 30, and the two that an accepted hour can have.
+const HOUR_NUMBERS: [usize; 23] = [
+    0, 1, 2, 3, 4, 5, 6, 7, 8, 9, 10, 11, 12, 13, 14, 21, 22, 23, 24, 25, 26, 84, 85,
+];
 
 /// The scratch that is enough, and numbers kept on either side of what is lent.
 const SCRATCH: usize = 324;
@@ -105,6 +109,7 @@ struct Exchanges<'a> {
     inputs: u64,
     hours: u64,
     numbers: [u64; 86],
+    hour_numbers: [u64; 86],
     met: [u64; MET.len()],
     second_wrong: [u64; IntuitiveBuild::WRONG.len()],
 }
@@ -152,9 +157,11 @@ impl Exchanges<'_> {
             self.fault(asked, pairs, room, || "an argument was written".into());
         }
 
-        if !of_an_hour {
-            self.numbers[ours.number as usize] += 1;
-        }
+        let numbers = match of_an_hour {
+            true => &mut self.hour_numbers,
+            false => &mut self.numbers,
+        };
+        numbers[ours.number as usize] += 1;
         let wrong: Vec<bool> = IntuitiveBuild::WRONG
             .iter()
             .map(|(build, _)| {
@@ -464,6 +471,7 @@ pub fn exchanges(run: &mut Run, rng: &mut Rng) {
         inputs: 0,
         hours: 0,
         numbers: [0; 86],
+        hour_numbers: [0; 86],
         met: Default::default(),
         second_wrong: Default::default(),
     };
@@ -478,6 +486,7 @@ pub fn exchanges(run: &mut Run, rng: &mut Rng) {
         inputs,
         hours,
         numbers,
+        hour_numbers,
         met,
         second_wrong,
     } = all;
@@ -491,6 +500,11 @@ pub fn exchanges(run: &mut Run, rng: &mut Rng) {
             times >= LEAST_TIMES,
             format!("{times}"),
         );
+    }
+    run.section("intuitive hours, numbers of lta_hour_intuitive, times met");
+    for number in HOUR_NUMBERS {
+        let times = hour_numbers[number];
+        run.check(format!("{number}"), times > 0, format!("{times}"));
     }
     run.section("intuitive hours, met, times");
     for (name, times) in MET.iter().zip(met) {
