@@ -249,9 +249,9 @@ impl Exchange {
         let mut place: Vec<usize> = (0..zones).collect();
         shuffle(rng, &mut place);
         let mut made = self.clone();
-        for zone in 0..zones {
-            made.net[place[zone]] = self.net[zone];
-            made.prices[place[zone]] = self.prices[zone];
+        for (zone, &at) in place.iter().enumerate() {
+            made.net[at] = self.net[zone];
+            made.prices[at] = self.prices[zone];
         }
         let renamed = |zone: u8| place[usize::from(zone)] as u8;
         for pair in &mut made.pairs {

@@ -575,7 +575,7 @@ fn small_ones(all: &mut Exchanges) {
             .collect();
         for prices in 0..27 {
             for (one, other) in (-2..=2).flat_map(|one| (-2..=2).map(move |other| (one, other))) {
-                if (one + other as i64).abs() > 2 {
+                if i64::abs(one + other) > 2 {
                     continue;
                 }
                 all.feed_exchange(&Exchange {

@@ -186,14 +186,14 @@ fn carried(
     if build == IntuitiveBuild::SumBeforeRanges && unbalanced {
         return Err((82, 0));
     }
-    let positions_ok = |z: &usize| NET_EXPORT.contains(&net[*z]);
+    let position_ok = |z: &usize| NET_EXPORT.contains(&net[*z]);
     let price_ok = |z: &usize| ZONE_PRICE.contains(&prices[*z]);
     if build == IntuitiveBuild::ZoneByZone {
-        if let Some(z) = (0..zones).find(|z| !positions_ok(z) || !price_ok(z)) {
-            return Err((if positions_ok(&z) { 83 } else { 82 }, z));
+        if let Some(z) = (0..zones).find(|z| !position_ok(z) || !price_ok(z)) {
+            return Err((if position_ok(&z) { 83 } else { 82 }, z));
         }
     }
-    if let Some(z) = (0..zones).find(|z| !positions_ok(z)) {
+    if let Some(z) = (0..zones).find(|z| !position_ok(z)) {
         return Err((82, z));
     }
     if unbalanced {
@@ -311,23 +311,22 @@ impl Graph {
         let nodes = zones + 2;
         // Along a pair nothing limits but what there is to be carried.
         let all = self.exports();
-        let mut left = vec![vec![0i128; nodes]; nodes];
-        let mut capacity = left.clone();
-        for z in 0..zones {
-            capacity[source][z] = self.net[z].max(0);
-            capacity[z][sink] = (-self.net[z]).max(0);
-            for (to, room) in capacity[z][..zones].iter_mut().enumerate() {
+        let mut capacity = vec![vec![0i128; nodes]; nodes];
+        for (z, row) in capacity[..zones].iter_mut().enumerate() {
+            for (to, room) in row[..zones].iter_mut().enumerate() {
                 if self.leads[z] >> to & 1 == 1 {
                     *room = all;
                 }
             }
+            row[sink] = (-self.net[z]).max(0);
         }
+        for (room, net) in capacity[source].iter_mut().zip(&self.net) {
+            *room = (*net).max(0);
+        }
+        let mut left = capacity.clone();
         let mut lies = vec![0i128; nodes];
         let mut height = vec![0usize; nodes];
         height[source] = nodes;
-        for (row, room) in left.iter_mut().zip(&capacity) {
-            row.copy_from_slice(room);
-        }
         for z in 0..zones {
             let amount = std::mem::take(&mut left[source][z]);
             left[z][source] += amount;
