@@ -7,6 +7,8 @@ use crate::rng::Rng;
 pub const MOST_ZONES: usize = 16;
 pub const MOST_PAIRS: usize = 64;
 pub const MOST_EXPORT: i64 = 51_200_000;
+/// Numbers of scratch that are enough.
+pub const SCRATCH: usize = 324;
 pub const LOWEST: i64 = -50_000 * 100_000;
 pub const HIGHEST: i64 = 400_000 * 100_000;
 
@@ -19,6 +21,11 @@ pub struct Exchange {
     pub pairs: Vec<(u8, u8)>,
     /// Whether all can be carried, where the making says so.
     pub known: Option<bool>,
+}
+
+/// Pairs as the entries take them.
+pub fn bytes(pairs: &[(u8, u8)]) -> Vec<u8> {
+    pairs.iter().flat_map(|pair| [pair.0, pair.1]).collect()
 }
 
 /// Annex 5.1's five zones, A to E, with its prices or with those of A and B
@@ -218,8 +225,7 @@ pub fn chain(rng: &mut Rng, zones: usize) -> Exchange {
         known: Some(true),
     };
     if rng.one_in(2) {
-        // A pair turned is no way forward, unless all prices are equal and
-        // it would still have to be walked the wrong way.
+        // A pair turned leaves no way to the last zone, at equal prices too.
         let at = rng.below(made.pairs.len());
         let (from, to) = made.pairs[at];
         made.pairs[at] = (to, from);

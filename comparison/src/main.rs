@@ -20,6 +20,8 @@ mod intuitive;
 mod make;
 mod offsets;
 mod places;
+#[cfg(feature = "intuitive")]
+mod planted;
 mod rng;
 mod run;
 #[cfg(feature = "sheet")]
