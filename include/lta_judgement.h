@@ -326,10 +326,12 @@ struct lta_carried {
  * that export.
  *
  * What holds of an answer:
- *   [carried]  Some flows within the exports and imports carry the total, and none carry more.
+ *   [largest]  Some flows within the exports and imports carry the total, and none carry more, not in fractions of any denominator either.
  *   [yes]      If intuitive is 1, some such flows carry every export: the total is the sum of all exports.
  *   [no]       If intuitive is 0, there is a set of zones that no counted pair leaves and whose exports exceed its imports; the total is
  *              less than the sum of all exports.
+ *   [yes_or_no]  intuitive is 1 or 0. A yes and a no exclude each other, so that the answer depends on the input alone.
+ * Of a refusal [refused]: intuitive and total are 0.
  *
  * The numbers of `scratch` afterwards [scratch]: the first LTA_INTUITIVE_SCRATCH are zero, and all past them as they were. In a refusal
  * every number is as it was.
@@ -342,7 +344,7 @@ struct lta_carried lta_intuitive(const int64_t *net_exports, size_t net_count,
 /* The same of an hour. It is judged first, as lta_judge does with room for the report. If it is not accepted, LTA_GAP_ABOVE_TOLERANCE
  * too, the answer has the judgement's number and index, with intuitive 0 and total 0, and every number of `scratch` is as it was. Else the
  * answer and the scratch are those of lta_intuitive for its net positions, turned to export positive, and its zone prices [outcome]
- * [carried] [yes] [no] [scratch]. Of 81 to 85 only LTA_INTUITIVE_PAIR and LTA_INTUITIVE_NO_ROOM can occur then.
+ * [yes] [no] [yes_or_no] [largest] [scratch] [refused]. Of 81 to 85 only LTA_INTUITIVE_PAIR and LTA_INTUITIVE_NO_ROOM can occur then.
  *
  *   case_bytes, case_len       a case, as lta_judge takes it
  *   proposal, proposal_len     a proposal for it
