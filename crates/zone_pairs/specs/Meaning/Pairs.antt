@@ -1,5 +1,5 @@
 -- REQUEST S-3: ordered pairs of zones lent as bytes, two to a pair, which of them row 84 refuses, and the network that they make of an hour. Assumes nothing.
-use mathlib.Core.Bool.{Bool, _||_}
+use mathlib.Core.Bool.{Bool, _&&_, _||_}
 use mathlib.Core.List.{List}
 use Prim.Native.Nat.{ℕ, _+_, _*_, _/_, _%_}
 use lib.Dec.{eqb, leb}
@@ -9,7 +9,6 @@ use lib.Signed.{leZ}
 use Rattle.integers.specs.Difference.{up, dn}
 use Rattle.rows.specs.Meaning.Rows.{anyBelow}
 use Rattle.net_positions.specs.Meaning.Positions.{positionAt}
-use Rattle.zone_set.specs.Pairs.{samePair}
 use Rattle.transports.specs.Meaning.Network.{Network}
 
 -- a last byte alone is a pair too
@@ -25,7 +24,7 @@ secondZone bytes k = getD bytes (2 * k + 1) 16
 
 -- an earlier pair has the same zones
 unfoldable pub repeated : List ℕ → ℕ → Bool
-repeated bytes k = anyBelow k (samePair (firstZone bytes) (secondZone bytes) (firstZone bytes k) (secondZone bytes k))
+repeated bytes k = anyBelow k (λ j. eqb (firstZone bytes j) (firstZone bytes k) && eqb (secondZone bytes j) (secondZone bytes k))
 
 -- ROW 84: past the 64th, an unknown zone, equal zones, or an earlier pair again
 unfoldable pub badPair : ℕ → List ℕ → ℕ → Bool
