@@ -24,6 +24,7 @@ pub record Sized (net prices : List ℤ) (bytes : List ℕ) : Type 0 where
   pub even : length bytes ≡ 2 * pairCount bytes
   pub pairs : pairCount bytes ≤ 64
   pub placed : Placed (networkOf net prices bytes)
+  pub new : (j k : ℕ) → j < k → k < pairCount bytes → firstZone bytes j ≡ firstZone bytes k → secondZone bytes j ≡ secondZone bytes k → ⊥
   pub exports-le : (z : ℕ) → z < length net → up (getD net z (pos 0)) ≤ 51200000
   pub imports-le : (z : ℕ) → z < length net → dn (getD net z (pos 0)) ≤ 51200000
 

@@ -16,6 +16,7 @@ use Rattle.transports.specs.Meaning.Network.{Network, Placed, Transport, Carrie
 use Rattle.transports.specs.Steps.Saturated.{Saturated, largest-of, yes-of, no-of}
 use Rattle.net_positions.specs.Meaning.Positions.{positionAt}
 use Rattle.zone_pairs.specs.Meaning.Pairs.{networkOf}
+use Rattle.zone_pairs.specs.Steps.Table.{Distinct}
 use Rattle.flow_board.specs.Board.{amountAt, boardOf}
 use Rattle.flow_board.specs.Cleared.{Cleared}
 use Rattle.augmenting_path.specs.Lacking.{State}
@@ -34,6 +35,16 @@ total-le c b total st = omega (arith, st .sum, sum-le (c .zones) (b .sent) (c .e
 module _ (net prices : List ℤ) (bytes : List ℕ) (z : Sized net prices bytes) where
   abbrev c : Network
   c = networkOf net prices bytes
+
+  -- its pairs can stand in a table
+  pub distinct : Distinct bytes
+  distinct = record {
+    even = z .even;
+    pairs = z .pairs;
+    first-in = λ k h. omega (arith, z .placed .from-in k h, z .zones);
+    second-in = λ k h. omega (arith, z .placed .to-in k h, z .zones);
+    new = z .new;
+  }
 
   pub exports-few : allExports c ≤ 819200000
   exports-few = omega (arith, sum-bound (length net) 51200000 (λ y. up (positionAt net y)) (z .exports-le), mul-le-mul-right 51200000 (z .zones))

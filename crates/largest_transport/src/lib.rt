@@ -20,6 +20,7 @@ use flow_board::clear;
 use flow_board::import_left;
 use residual_search::least;
 use residual_search::search;
+use zone_pairs::pair_table;
 
 // Whether every export is carried to imports, and the largest total that is, in tenths.
 pub struct LargestTransport {
@@ -35,10 +36,11 @@ fn fill(net: &[i64], prices: &[i64], pairs: &[u8], s: &mut [i64]) -> u64
     ensures filled { λ r. ⌜ Filled (networkOf (now (net .entry)) (now (prices .entry)) (now (pairs .entry))) (boardOf (now (s .exit))) r ⌝ }
     ensures rest { λ r. ⌜ Rest (now (s .entry)) (now (s .exit)) ⌝ }
 {
+    let table = pair_table(pairs);
     let mut marks = [0u64; MARKS];
     let mut total = 0;
     loop {
-        let t = search(net, prices, pairs, s, &mut marks);
+        let t = search(net, prices, pairs, &table, s, &mut marks);
         if net.len() <= t {
             return total;
         }

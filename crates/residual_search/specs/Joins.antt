@@ -14,11 +14,12 @@ use Rattle.transports.specs.Meaning.Network.{Network, Carries}
 use Rattle.transports.specs.Steps.Saturated.{Saturated}
 use Rattle.net_positions.specs.Meaning.Positions.{positionAt}
 use Rattle.zone_pairs.specs.Meaning.Pairs.{pairCount, firstZone, secondZone, networkOf, priceAt}
+use Rattle.zone_pairs.specs.Steps.Table.{pairIn, Tabled}
 use Rattle.flow_board.specs.Board.{amountAt, boardOf}
 use Rattle.augmenting_path.specs.Links.{Link}
 use Rattle.augmenting_path.specs.Path.{trailOf, Sized}
 use Rattle.residual_search.specs.Listing.{Marked, few, fewer}
-use Rattle.residual_search.specs.Search.{DoneAt, Searching, Scanning, Found, search-start, saturated, of-scan, scan-start, scan-end, pair-skipped, pair-reaches, pair-found, link-on, done-on, link-back, done-back}
+use Rattle.residual_search.specs.Search.{DoneTo, Searching, Scanning, Found, search-start, saturated, of-scan, scan-start, scan-end, zone-skipped, pair-reaches, pair-found, link-on, link-back}
 use Rattle.residual_search.specs.Marks.{orderOf, countOf, markedBy, marked-wide, marked-count, marked-trail, marked-last, marked-order, Rooted}
 
 -- by the lists
@@ -26,13 +27,13 @@ pub record SearchAt (net prices : List ℤ) (bytes : List ℕ) (s : List ℤ) (m
   pub wide : length marks ≡ 68
   pub search : Searching (networkOf net prices bytes) (boardOf s) (trailOf marks) (orderOf marks) (countOf marks) h
 
-pub record ScanAt (net prices : List ℤ) (bytes : List ℕ) (s : List ℤ) (marks : List ℕ) (h u k : ℕ) : Type 0 where
+pub record ScanAt (net prices : List ℤ) (bytes : List ℕ) (s : List ℤ) (marks : List ℕ) (h u v : ℕ) : Type 0 where
   pub wide : length marks ≡ 68
-  pub scan : Scanning (networkOf net prices bytes) (boardOf s) (trailOf marks) (orderOf marks) (countOf marks) h u k
+  pub scan : Scanning (networkOf net prices bytes) (boardOf s) (trailOf marks) (orderOf marks) (countOf marks) h u v
 
-pub record SomeScan (net prices : List ℤ) (bytes : List ℕ) (s : List ℤ) (marks : List ℕ) (u k : ℕ) : Type 0 where
+pub record SomeScan (net prices : List ℤ) (bytes : List ℕ) (s : List ℤ) (marks : List ℕ) (u v : ℕ) : Type 0 where
   pub place : ℕ
-  pub at : ScanAt net prices bytes s marks place u k
+  pub at : ScanAt net prices bytes s marks place u v
 
 -- the zone reached last has import left
 pub record FoundAt (net prices : List ℤ) (bytes : List ℕ) (s : List ℤ) (marks : List ℕ) : Type 0 where
@@ -41,55 +42,55 @@ pub record FoundAt (net prices : List ℤ) (bytes : List ℕ) (s : List ℤ) (ma
   pub few : countOf marks ≤ 16
   pub found : Found (networkOf net prices bytes) (boardOf s) (trailOf marks) (orderOf marks (countOf marks - 1))
 
--- AFTER ONE PAIR: a zone with import left was reached, or none that is reached has
-pub record Joined (net prices : List ℤ) (bytes : List ℕ) (s : List ℤ) (marks marks' : List ℕ) (u k : ℕ) (r : Bool) : Type 0 where
-  pub next : r ≡ false → (h : ℕ) → ScanAt net prices bytes s marks h u k → ScanAt net prices bytes s marks' h u (k + 1)
+-- AFTER ONE ZONE: it is reached and has import left, or none that is reached has
+pub record Joined (net prices : List ℤ) (bytes : List ℕ) (s : List ℤ) (marks marks' : List ℕ) (u w : ℕ) (r : Bool) : Type 0 where
+  pub next : r ≡ false → (h : ℕ) → ScanAt net prices bytes s marks h u w → ScanAt net prices bytes s marks' h u (w + 1)
   pub found : r ≡ true → FoundAt net prices bytes s marks'
 
 clash : {A : Type 0} → true ≡ false → A
 clash e = let z : _≡_ {A = ℕ} 0 1 = cc in absurd (omega arith)
 
-module _ (net prices : List ℤ) (bytes : List ℕ) (s : List ℤ) (marks : List ℕ) (u k : ℕ) where
+module _ (net prices : List ℤ) (bytes : List ℕ) (s : List ℤ) (marks : List ℕ) (u w : ℕ) where
   abbrev c : Network
   c = networkOf net prices bytes
 
   -- nothing new
-  pub joined-skip : ((h : ℕ) → ScanAt net prices bytes s marks h u k → DoneAt c (boardOf s) (trailOf marks) u k) → Joined net prices bytes s marks marks u k false
+  pub joined-skip : DoneTo c (boardOf s) (trailOf marks) u w → Joined net prices bytes s marks marks u w false
   joined-skip d = record {
-    next = λ e h w. record { wide = w .wide; scan = pair-skipped c (boardOf s) (trailOf marks) (orderOf marks) (countOf marks) h u k (w .scan) (d h w) };
+    next = λ e h o. record { wide = o .wide; scan = zone-skipped c (boardOf s) (trailOf marks) (orderOf marks) (countOf marks) h u w (o .scan) d };
     found = λ e. clash (sym e);
   }
 
-  -- zone z is reached
-  module _ (few16 : length net ≤ 16) (kin : k < pairCount bytes) (z v : ℕ) (zin : z < length net) (new : getD marks (4 * z) 0 ≡ 0) (some : 0 < v) (marks' : List ℕ) (is : marks' ≡ markedBy marks z v (countOf marks) k) (r : Bool) (left : r ≡ ltb 0 (dn (positionAt net z) - amountAt s (80 + z))) where
-    module _ (h : ℕ) (w : ScanAt net prices bytes s marks h u k) where
+  -- zone w is reached by pair k
+  module _ (few16 : length net ≤ 16) (v k : ℕ) (kin : k < pairCount bytes) (win : w < length net) (new : getD marks (4 * w) 0 ≡ 0) (some : 0 < v) (marks' : List ℕ) (is : marks' ≡ markedBy marks w v (countOf marks) k) (r : Bool) (left : r ≡ ltb 0 (dn (positionAt net w) - amountAt s (80 + w))) where
+    module _ (h : ℕ) (o : ScanAt net prices bytes s marks h u w) where
       low : countOf marks < 16
-      low = omega (arith, fewer (w .scan .search .listing) z zin new)
+      low = omega (arith, fewer (o .scan .search .listing) w win new)
 
-      mk : Marked (trailOf marks) (trailOf (markedBy marks z v (countOf marks) k)) z v (countOf marks) k
-      mk = marked-trail marks z v (countOf marks) k (w .wide) (omega arith) low
+      mk : Marked (trailOf marks) (trailOf (markedBy marks w v (countOf marks) k)) w v (countOf marks) k
+      mk = marked-trail marks w v (countOf marks) k (o .wide) (omega arith) low
 
       abbrev M : List ℕ
-      M = markedBy marks z v (countOf marks) k
+      M = markedBy marks w v (countOf marks) k
 
-      last : orderOf M (countOf marks) ≡ z
-      last = marked-last marks z v (countOf marks) k (w .wide) (omega arith) low
+      last : orderOf M (countOf marks) ≡ w
+      last = marked-last marks w v (countOf marks) k (o .wide) (omega arith) low
 
       same : (i : ℕ) → i < countOf marks → orderOf M i ≡ orderOf marks i
-      same = marked-order marks z v (countOf marks) k (w .wide) (omega arith) low
+      same = marked-order marks w v (countOf marks) k (o .wide) (omega arith) low
 
       count : countOf M ≡ countOf marks + 1
-      count = marked-count marks z v (countOf marks) k (w .wide) (omega arith) low
+      count = marked-count marks w v (countOf marks) k (o .wide) (omega arith) low
 
       wide : length M ≡ 68
-      wide = marked-wide marks z v (countOf marks) k (w .wide) (omega arith) low
+      wide = marked-wide marks w v (countOf marks) k (o .wide) (omega arith) low
 
-      module _ (own : (total : ℕ) → ((j : ℕ) → j < pairCount bytes → amountAt s j ≤ total) → Link c (boardOf s) total (trailOf M) z) (done : DoneAt c (boardOf s) (trailOf M) u k) where
-        next-scan : r ≡ false → ScanAt net prices bytes s M h u (k + 1)
+      module _ (own : (total : ℕ) → ((j : ℕ) → j < pairCount bytes → amountAt s j ≤ total) → Link c (boardOf s) total (trailOf M) w) where
+        next-scan : r ≡ false → ScanAt net prices bytes s M h u (w + 1)
         next-scan e = record {
           wide = wide;
-          scan = rw count (pair-reaches c (boardOf s) (trailOf marks) (orderOf marks) (countOf marks) h u k (w .scan) (trailOf M) (orderOf M) z v mk new some zin kin last same own
-              (omega (arith, ltb-false 0 (dn (positionAt net z) - amountAt s (80 + z)) (sym left ∙ e))) done);
+          scan = rw count (pair-reaches c (boardOf s) (trailOf marks) (orderOf marks) (countOf marks) h u w (o .scan) (trailOf M) (orderOf M) w v k refl mk new some win kin last same own
+              (omega (arith, ltb-false 0 (dn (positionAt net w) - amountAt s (80 + w)) (sym left ∙ e))));
         }
 
         found-zone : r ≡ true → FoundAt net prices bytes s M
@@ -98,39 +99,68 @@ module _ (net prices : List ℤ) (bytes : List ℕ) (s : List ℤ) (marks : List
           some = omega (arith, count);
           few = omega (arith, count, low);
           found = subst (λ (t : ℕ). Found c (boardOf s) (trailOf M) t) (sym (ap (λ (n : ℕ). orderOf M (n - 1)) count ∙ ap (orderOf M) back ∙ last))
-              (pair-found c (boardOf s) (trailOf marks) (orderOf marks) (countOf marks) h u k (w .scan) (trailOf M) (orderOf M) z v mk new some zin kin last same own
-              (omega (arith, ltb-true 0 (dn (positionAt net z) - amountAt s (80 + z)) (sym left ∙ e))));
+              (pair-found c (boardOf s) (trailOf marks) (orderOf marks) (countOf marks) h u w (o .scan) (trailOf M) (orderOf M) w v k refl mk new some win kin last same own
+              (omega (arith, ltb-true 0 (dn (positionAt net w) - amountAt s (80 + w)) (sym left ∙ e))));
         }
           where
             back : (countOf marks + 1) - 1 ≡ countOf marks
             back = omega arith
 
-    pub joined-on : SomeScan net prices bytes s marks u k → firstZone bytes k ≡ u → secondZone bytes k ≡ z → v ≡ getD marks (4 * u) 0 → leZ (priceAt prices (firstZone bytes k)) (priceAt prices (secondZone bytes k)) ≡ true
-        → Joined net prices bytes s marks marks' u k r
-    joined-on o f g l t =
-        rw is (record { next = λ e h w. next-scan h w (own h w) (done h w) e; found = λ e. found-zone (o .place) (o .at) (own (o .place) (o .at)) (done (o .place) (o .at)) e })
-      where
-        own : (h : ℕ) (w : ScanAt net prices bytes s marks h u k) (total : ℕ) → ((j : ℕ) → j < pairCount bytes → amountAt s j ≤ total) → Link c (boardOf s) total (trailOf (M h w)) z
-        own h w = link-on c (boardOf s) (trailOf marks) (orderOf marks) (countOf marks) h u k (w .scan) (trailOf (M h w)) (orderOf (M h w)) z v (mk h w) new some zin kin (last h w) (same h w) f g l t
+    joined : SomeScan net prices bytes s marks u w → ((h : ℕ) (o : ScanAt net prices bytes s marks h u w) (total : ℕ) → ((j : ℕ) → j < pairCount bytes → amountAt s j ≤ total) → Link c (boardOf s) total (trailOf (M h o)) w)
+        → Joined net prices bytes s marks marks' u w r
+    joined x own = rw is (record { next = λ e h o. next-scan h o (own h o) e; found = λ e. found-zone (x .place) (x .at) (own (x .place) (x .at)) e })
 
-        done : (h : ℕ) (w : ScanAt net prices bytes s marks h u k) → DoneAt c (boardOf s) (trailOf (M h w)) u k
-        done h w = done-on c (boardOf s) (trailOf marks) (orderOf marks) (countOf marks) h u k (w .scan) (trailOf (M h w)) (orderOf (M h w)) z v (mk h w) new some zin kin (last h w) (same h w) f g
+    pub joined-on : SomeScan net prices bytes s marks u w → firstZone bytes k ≡ u → secondZone bytes k ≡ w → v ≡ getD marks (4 * u) 0 → leZ (priceAt prices (firstZone bytes k)) (priceAt prices (secondZone bytes k)) ≡ true
+        → Joined net prices bytes s marks marks' u w r
+    joined-on x f g l t = joined x (λ h o. link-on c (boardOf s) (trailOf marks) (orderOf marks) (countOf marks) h u w (o .scan) (trailOf (M h o)) (orderOf (M h o)) w v k refl (mk h o) new some win kin (last h o) (same h o) f g l t)
 
-    pub joined-back : SomeScan net prices bytes s marks u k → secondZone bytes k ≡ u → firstZone bytes k ≡ z → v ≤ getD marks (4 * u) 0 → v ≤ amountAt s k → Joined net prices bytes s marks marks' u k r
-    joined-back o f g l t =
-        rw is (record { next = λ e h w. next-scan h w (own h w) (done h w) e; found = λ e. found-zone (o .place) (o .at) (own (o .place) (o .at)) (done (o .place) (o .at)) e })
-      where
-        own : (h : ℕ) (w : ScanAt net prices bytes s marks h u k) (total : ℕ) → ((j : ℕ) → j < pairCount bytes → amountAt s j ≤ total) → Link c (boardOf s) total (trailOf (M h w)) z
-        own h w = link-back c (boardOf s) (trailOf marks) (orderOf marks) (countOf marks) h u k (w .scan) (trailOf (M h w)) (orderOf (M h w)) z v (mk h w) new some zin kin (last h w) (same h w) f g l t
+    pub joined-back : SomeScan net prices bytes s marks u w → secondZone bytes k ≡ u → firstZone bytes k ≡ w → v ≤ getD marks (4 * u) 0 → v ≤ amountAt s k → Joined net prices bytes s marks marks' u w r
+    joined-back x f g l t = joined x (λ h o. link-back c (boardOf s) (trailOf marks) (orderOf marks) (countOf marks) h u w (o .scan) (trailOf (M h o)) (orderOf (M h o)) w v k refl (mk h o) new some win kin (last h o) (same h o) f g l t)
 
-        done : (h : ℕ) (w : ScanAt net prices bytes s marks h u k) → DoneAt c (boardOf s) (trailOf (M h w)) u k
-        done h w = done-back c (boardOf s) (trailOf marks) (orderOf marks) (countOf marks) h u k (w .scan) (trailOf (M h w)) (orderOf (M h w)) z v (mk h w) new some zin kin (last h w) (same h w) f g
+  -- the zone from which the search goes on
+  pub scan-zone : (h : ℕ) → ScanAt net prices bytes s marks h u w → (u < length net) × (0 < getD marks (4 * u) 0)
+  scan-zone h o = let x = of-scan c (boardOf s) (trailOf marks) (orderOf marks) (countOf marks) h u w (o .scan) in (x .0, x .1 .0)
 
-  -- the zone whose pairs are gone over
-  pub scan-zone : (h : ℕ) → ScanAt net prices bytes s marks h u k → (u < length net) × (0 < getD marks (4 * u) 0)
-  scan-zone h w = let o = of-scan c (boardOf s) (trailOf marks) (orderOf marks) (countOf marks) h u k (w .scan) in (o .0, o .1 .0)
+-- the pair from u to w that counts, or that none does
+pub record PairOn (prices : List ℤ) (bytes : List ℕ) (u w r : ℕ) : Type 0 where
+  pub found : r < pairCount bytes → (firstZone bytes r ≡ u) × ((secondZone bytes r ≡ w) × (leZ (priceAt prices (firstZone bytes r)) (priceAt prices (secondZone bytes r)) ≡ true))
+  pub none : pairCount bytes ≤ r → (j : ℕ) → j < pairCount bytes → firstZone bytes j ≡ u → secondZone bytes j ≡ w → leZ (priceAt prices (firstZone bytes j)) (priceAt prices (secondZone bytes j)) ≡ true → ⊥
 
--- AFTER ALL PAIRS OF A ZONE
+module _ (prices : List ℤ) (bytes table : List ℕ) (t : Tabled bytes (pairCount bytes) table) (few64 : pairCount bytes ≤ 64) (u w : ℕ) (u16 : u < 16) (w16 : w < 16) where
+  -- a pair in the table is the pair of its zones
+  pub in-table : pairIn table u w < pairCount bytes → (firstZone bytes (pairIn table u w) ≡ u) × (secondZone bytes (pairIn table u w) ≡ w)
+  in-table h = t .sound u w u16 w16 (omega (arith, h, few64)) .1
+
+  pub not-in-table : pairCount bytes ≤ pairIn table u w → (j : ℕ) → j < pairCount bytes → firstZone bytes j ≡ u → secondZone bytes j ≡ w → ⊥
+  not-in-table h j l f g = omega (arith, h, l, (λ i. pairIn table (sym f i) (sym g i)) ∙ t .complete j l)
+
+  -- the only pair of its zones
+  only-one : (j : ℕ) → j < pairCount bytes → firstZone bytes j ≡ u → secondZone bytes j ≡ w → pairIn table u w ≡ j
+  only-one j l f g = (λ i. pairIn table (sym f i) (sym g i)) ∙ t .complete j l
+
+  abbrev k : ℕ
+  k = pairIn table u w
+
+  pub on-found : k < pairCount bytes → leZ (priceAt prices u) (priceAt prices w) ≡ true → PairOn prices bytes u w k
+  on-found h e = record {
+    found = λ l. let z = in-table h in (z .0, (z .1, (λ i. leZ (priceAt prices (z .0 i)) (priceAt prices (z .1 i))) ∙ e));
+    none = λ l. absurd (omega (arith, h));
+  }
+
+  pub on-not-counted : leZ (priceAt prices u) (priceAt prices w) ≡ false → PairOn prices bytes u w (pairCount bytes)
+  on-not-counted e = record {
+    found = λ l. absurd (omega arith);
+    none = λ l j p f g t. clash (sym t ∙ (λ i. leZ (priceAt prices (f i)) (priceAt prices (g i))) ∙ e);
+  }
+
+  pub on-missing : pairCount bytes ≤ k → PairOn prices bytes u w (pairCount bytes)
+  on-missing h = record { found = λ l. absurd (omega arith); none = λ l j p f g t. not-in-table h j p f g }
+
+  -- nothing flows from zone u to w
+  pub none-back : (s : List ℤ) → k < pairCount bytes → amountAt s k ≤ 0 → (j : ℕ) → j < pairCount bytes → firstZone bytes j ≡ u → secondZone bytes j ≡ w → 0 < amountAt s j → ⊥
+  none-back s h e j l f g p = omega (arith, e, p, ap (amountAt s) (only-one j l f g))
+
+-- AFTER ALL ZONES
 pub record Scanned (net prices : List ℤ) (bytes : List ℕ) (s : List ℤ) (marks marks' : List ℕ) (h : ℕ) (r : Bool) : Type 0 where
   pub next : r ≡ false → SearchAt net prices bytes s marks' (h + 1)
   pub found : r ≡ true → FoundAt net prices bytes s marks'
@@ -138,8 +168,8 @@ pub record Scanned (net prices : List ℤ) (bytes : List ℕ) (s : List ℤ) (ma
 pub scan-at-start : (net prices : List ℤ) (bytes : List ℕ) (s : List ℤ) (marks : List ℕ) (h u : ℕ) → SearchAt net prices bytes s marks h → h < countOf marks → u ≡ orderOf marks h → ScanAt net prices bytes s marks h u 0
 scan-at-start net prices bytes s marks h u w l e = record { wide = w .wide; scan = scan-start (networkOf net prices bytes) (boardOf s) (trailOf marks) (orderOf marks) (countOf marks) h u (w .search) l (sym e) }
 
-pub scan-at-end : (net prices : List ℤ) (bytes : List ℕ) (s : List ℤ) (marks : List ℕ) (h u k : ℕ) → ScanAt net prices bytes s marks h u k → k ≡ pairCount bytes → SearchAt net prices bytes s marks (h + 1)
-scan-at-end net prices bytes s marks h u k w e = record { wide = w .wide; search = scan-end (networkOf net prices bytes) (boardOf s) (trailOf marks) (orderOf marks) (countOf marks) h u k (w .scan) e }
+pub scan-at-end : (net prices : List ℤ) (bytes : List ℕ) (s : List ℤ) (marks : List ℕ) (h u v : ℕ) → Sized net prices bytes → ScanAt net prices bytes s marks h u v → v ≡ length net → SearchAt net prices bytes s marks (h + 1)
+scan-at-end net prices bytes s marks h u v z w e = record { wide = w .wide; search = scan-end (networkOf net prices bytes) (boardOf s) (trailOf marks) (orderOf marks) (countOf marks) h (z .placed) u v (w .scan) e }
 
 -- AS THE SEARCH BEGINS
 one-way : (x : ℤ) → 0 < up x → dn x ≡ 0

@@ -21,6 +21,11 @@ pub record DoneAt (c : Network) (b : Transport) (m : Trail) (y j : ℕ) : Type 0
   pub on : c .from j ≡ y → c .counted j ≡ true → 0 < m .lab (c .to j)
   pub back : c .to j ≡ y → 0 < b .flow j → 0 < m .lab (c .from j)
 
+-- what leads on from zone u to zone v
+pub record DoneTo (c : Network) (b : Transport) (m : Trail) (u v : ℕ) : Type 0 where
+  pub on : (j : ℕ) → j < c .pairs → c .from j ≡ u → c .to j ≡ v → c .counted j ≡ true → 0 < m .lab v
+  pub back : (j : ℕ) → j < c .pairs → c .to j ≡ u → c .from j ≡ v → 0 < b .flow j → 0 < m .lab v
+
 -- the first h of the zones reached are done, and none that is reached has import left
 pub record Searching (c : Network) (b : Transport) (m : Trail) (q : ℕ → ℕ) (e h : ℕ) : Type 0 where
   pub listing : Listing (c .zones) m q e
@@ -29,12 +34,12 @@ pub record Searching (c : Network) (b : Transport) (m : Trail) (q : ℕ → ℕ)
   pub idle : (y : ℕ) → y < c .zones → 0 < m .lab y → c .imports y ≤ b .got y
   pub done : (i : ℕ) → i < h → (j : ℕ) → j < c .pairs → DoneAt c b m (q i) j
 
--- and the first k pairs of zone u, which is at h in the order
-pub record Scanning (c : Network) (b : Transport) (m : Trail) (q : ℕ → ℕ) (e h u k : ℕ) : Type 0 where
+-- and from zone u, which is at h in the order, what leads to the first w zones
+pub record Scanning (c : Network) (b : Transport) (m : Trail) (q : ℕ → ℕ) (e h u w : ℕ) : Type 0 where
   pub search : Searching c b m q e h
   pub here : h < e
   pub is : q h ≡ u
-  pub part : (j : ℕ) → j < k → DoneAt c b m u j
+  pub part : (v : ℕ) → v < w → DoneTo c b m u v
 
 -- a zone that is reached and has import left
 pub record Found (c : Network) (b : Transport) (m : Trail) (t : ℕ) : Type 0 where
@@ -48,8 +53,8 @@ module _ (c : Network) (b : Transport) (m : Trail) (q : ℕ → ℕ) (e h : ℕ)
   pub scan-start : (u : ℕ) → Searching c b m q e h → h < e → q h ≡ u → Scanning c b m q e h u 0
   scan-start u s l w = record { search = s; here = l; is = w; part = λ j p. absurd (omega arith) }
 
-  pub scan-end : (u k : ℕ) → Scanning c b m q e h u k → k ≡ c .pairs → Searching c b m q e (h + 1)
-  scan-end u k s w = record {
+  pub scan-end : Placed c → (u w : ℕ) → Scanning c b m q e h u w → w ≡ c .zones → Searching c b m q e (h + 1)
+  scan-end ok u w s all = record {
     listing = s .search .listing;
     links = s .search .links;
     roots = s .search .roots;
@@ -57,11 +62,17 @@ module _ (c : Network) (b : Transport) (m : Trail) (q : ℕ → ℕ) (e h : ℕ)
     done = λ i p j l. by i p j l (ℕ-discrete h i);
   }
     where
+      here : (j : ℕ) → j < c .pairs → DoneAt c b m u j
+      here j l = record {
+        on = λ f t. s .part (c .to j) (omega (arith, ok .to-in j l, all)) .on j l f refl t;
+        back = λ f t. s .part (c .from j) (omega (arith, ok .from-in j l, all)) .back j l f refl t;
+      }
+
       by : (i : ℕ) → i < h + 1 → (j : ℕ) → j < c .pairs → Dec (h ≡ i) → DoneAt c b m (q i) j
-      by i p j l (yes x) = let g : u ≡ q i = sym (s .is) ∙ ap q x in rw g at (s .part j (omega (arith, w)))
+      by i p j l (yes x) = let g : u ≡ q i = sym (s .is) ∙ ap q x in rw g at here j l
       by i p j l (no x) = s .search .done i (omega arith) j l
 
-module _ (c : Network) (b : Transport) (m : Trail) (q : ℕ → ℕ) (e h u k : ℕ) (s : Scanning c b m q e h u k) where
+module _ (c : Network) (b : Transport) (m : Trail) (q : ℕ → ℕ) (e h u w : ℕ) (s : Scanning c b m q e h u w) where
   -- zone u is reached, and its depth is below the count
   pub of-scan : (u < c .zones) × ((0 < m .lab u) × (m .dep u < e))
   of-scan =
@@ -70,22 +81,25 @@ module _ (c : Network) (b : Transport) (m : Trail) (q : ℕ → ℕ) (e h u k : 
         (omega (arith, ap (m .lab) (s .is), l .reached h (s .here)), omega (arith, ap (m .dep) (s .is), l .shallow h (s .here), s .here)),
       )
 
-  -- a pair that leads nowhere new
-  pub pair-skipped : DoneAt c b m u k → Scanning c b m q e h u (k + 1)
-  pair-skipped d = record { search = s .search; here = s .here; is = s .is; part = λ j p. by j p (ℕ-discrete k j) }
+  -- zone w is reached already, or nothing leads there
+  pub zone-skipped : DoneTo c b m u w → Scanning c b m q e h u (w + 1)
+  zone-skipped d = record { search = s .search; here = s .here; is = s .is; part = λ v p. by v p (ℕ-discrete w v) }
     where
-      by : (j : ℕ) → j < k + 1 → Dec (k ≡ j) → DoneAt c b m u j
-      by j p (yes x) = rw x at d
-      by j p (no x) = s .part j (omega arith)
+      by : (v : ℕ) → v < w + 1 → Dec (w ≡ v) → DoneTo c b m u v
+      by v p (yes x) = rw x at d
+      by v p (no x) = s .part v (omega arith)
 
-  -- a pair that reaches zone z
-  module _ (m' : Trail) (q' : ℕ → ℕ) (z v : ℕ) (mk : Marked m m' z v e k) (new : m .lab z ≡ 0) (some : 0 < v) (zin : z < c .zones) (kin : k < c .pairs) (last : q' e ≡ z) (same : (i : ℕ) → i < e → q' i ≡ q i) where
+  -- pair k reaches zone z, which is zone w
+  module _ (m' : Trail) (q' : ℕ → ℕ) (z v k : ℕ) (at-w : z ≡ w) (mk : Marked m m' z v e k) (new : m .lab z ≡ 0) (some : 0 < v) (zin : z < c .zones) (kin : k < c .pairs) (last : q' e ≡ z) (same : (i : ℕ) → i < e → q' i ≡ q i) where
     -- what was reached is not z, and stays
     stays : (y : ℕ) → 0 < m .lab y → y ≡ z → ⊥
     stays y p w = omega (arith, ap (m .lab) w)
 
     more : (y : ℕ) → 0 < m .lab y → 0 < m' .lab y
     more y p = omega (arith, mk .lab-rest y (stays y p))
+
+    to-stays : (y x : ℕ) → DoneTo c b m y x → DoneTo c b m' y x
+    to-stays y x d = record { on = λ j l f g t. more x (d .on j l f g t); back = λ j l f g t. more x (d .back j l f g t) }
 
     done-stays : (y j : ℕ) → DoneAt c b m y j → DoneAt c b m' y j
     done-stays y j d = record { on = λ w t. more (c .to j) (d .on w t); back = λ w t. more (c .from j) (d .back w t) }
@@ -129,8 +143,8 @@ module _ (c : Network) (b : Transport) (m : Trail) (q : ℕ → ℕ) (e h u k : 
       pub pair-found : b .got z < c .imports z → Found c b m' z
       pair-found left = record { inside = zin; reached = omega (arith, mk .lab); left = left; links = all-links }
 
-      pub pair-reaches : c .imports z ≤ b .got z → DoneAt c b m' u k → Scanning c b m' q' (e + 1) h u (k + 1)
-      pair-reaches none d = record {
+      pub pair-reaches : c .imports z ≤ b .got z → Scanning c b m' q' (e + 1) h u (w + 1)
+      pair-reaches none = record {
         search = record {
           listing = listing-mark (c .zones) m m' q q' e z v e k (s .search .listing) mk new some zin (omega arith) last same;
           links = all-links;
@@ -140,16 +154,19 @@ module _ (c : Network) (b : Transport) (m : Trail) (q : ℕ → ℕ) (e h u k : 
         };
         here = omega (arith, s .here);
         is = same h (s .here) ∙ s .is;
-        part = λ j p. by-part j p (ℕ-discrete k j);
+        part = λ x p. by-part x p (ℕ-discrete z x);
       }
         where
           by-idle : (y : ℕ) → y < c .zones → 0 < m' .lab y → Dec (y ≡ z) → c .imports y ≤ b .got y
           by-idle y p r (yes w) = rw w none
           by-idle y p r (no w) = s .search .idle y p (omega (arith, mk .lab-rest y w))
 
-          by-part : (j : ℕ) → j < k + 1 → Dec (k ≡ j) → DoneAt c b m' u j
-          by-part j p (yes x) = rw x at d
-          by-part j p (no x) = done-stays u j (s .part j (omega arith))
+          now : 0 < m' .lab z
+          now = omega (arith, mk .lab)
+
+          by-part : (x : ℕ) → x < w + 1 → Dec (z ≡ x) → DoneTo c b m' u x
+          by-part x p (yes g) = let d : DoneTo c b m' u z = record { on = λ j l f y t. now; back = λ j l f y t. now } in rw g at d
+          by-part x p (no g) = to-stays u x (s .part x (omega (arith, p, at-w)))
 
     -- along the pair
     pub link-on : c .from k ≡ u → c .to k ≡ z → v ≡ m .lab u → c .counted k ≡ true → (total : ℕ) → Low c b total → Link c b total m' z
@@ -168,9 +185,6 @@ module _ (c : Network) (b : Transport) (m : Trail) (q : ℕ → ℕ) (e h u k : 
           back = λ x g. absurd (g (ap (c .to) (mk .by) ∙ w));
         }
 
-    pub done-on : c .from k ≡ u → c .to k ≡ z → DoneAt c b m' u k
-    done-on f w = record { on = λ x t. omega (arith, mk .lab, ap (m' .lab) w); back = λ x t. more (c .from k) (omega (arith, ap (m .lab) f, of-scan .1 .0)) }
-
     -- back along the pair
     pub link-back : c .to k ≡ u → c .from k ≡ z → v ≤ m .lab u → v ≤ b .flow k → (total : ℕ) → Low c b total → Link c b total m' z
     link-back f w l t total low =
@@ -187,9 +201,6 @@ module _ (c : Network) (b : Transport) (m : Trail) (q : ℕ → ℕ) (e h u k : 
             enough = omega (arith, mk .lab);
           });
         }
-
-    pub done-back : c .to k ≡ u → c .from k ≡ z → DoneAt c b m' u k
-    done-back f w = record { on = λ x t. more (c .to k) (omega (arith, ap (m .lab) f, of-scan .1 .0)); back = λ x t. omega (arith, mk .lab, ap (m' .lab) w) }
 
 -- AS THE SEARCH BEGINS: the zones with export left, none of which imports
 pub search-start : (c : Network) (b : Transport) (m : Trail) (q : ℕ → ℕ) (e : ℕ) → Listing (c .zones) m q e → ((y : ℕ) → y < c .zones → m .lab y ≡ c .exports y - b .sent y) → ((y : ℕ) → y < c .zones → 0 < m .lab y → m .dep y ≡ 0)

@@ -9,10 +9,11 @@ ghost use lib.IntN.{pos};
 ghost use Rattle.integers.specs.Difference.{dn};
 ghost use Rattle.net_positions.specs.Meaning.Positions.{positionAt};
 ghost use Rattle.zone_pairs.specs.Meaning.Pairs.{pairCount};
+ghost use Rattle.zone_pairs.specs.Steps.Table.{Tabled};
 ghost use Rattle.flow_board.specs.Board.{amountAt};
 ghost use Rattle.augmenting_path.specs.Path.{Sized};
 ghost use Rattle.residual_search.specs.Marks.{orderOf, countOf, markedBy, Rooted};
-ghost use Rattle.residual_search.specs.Joins.{SearchAt, SomeScan, Joined, Scanned, FoundAt, Searched};
+ghost use Rattle.residual_search.specs.Joins.{PairOn, SearchAt, SomeScan, Joined, Scanned, Searched};
 use augmenting_path::COUNT;
 use augmenting_path::DEPTH;
 use augmenting_path::MARK;
@@ -23,8 +24,9 @@ use flow_board::amount;
 use flow_board::counts;
 use flow_board::export_left;
 use flow_board::import_left;
+use zone_pairs::TABLE;
+use zone_pairs::pair_at;
 use zone_pairs::pair_count;
-use zone_pairs::zone_at;
 
 pub fn least(a: u64, b: u64) -> u64
     ensures { λ r. ⌜ (r ≤ a) × ((r ≤ b) × (0 < a → 0 < b → 0 < r)) ⌝ }
@@ -87,65 +89,83 @@ fn reach(net: &[i64], s: &[i64], marks: &mut [u64; MARKS], z: usize, v: u64, k: 
     0 < import_left(net, s, z)
 }
 
-// One pair from zone u: along it where it counts, or back along it where it carries something. Whether a zone with import left is reached.
+// The pair from zone u to zone w that counts, or the number of pairs.
+fn pair_on(prices: &[i64], pairs: &[u8], table: &[u8; TABLE], u: usize, w: usize) -> usize
+    requires { ⌜ (u < length (now prices)) × ((w < length (now prices)) × (length (now prices) ≤ 16)) ⌝ }
+    requires { ⌜ (pairCount (now pairs) ≤ 64) × Tabled (now pairs) (pairCount (now pairs)) (now table) ⌝ }
+    ensures { λ r. ⌜ PairOn (now (prices .entry)) (now (pairs .entry)) u w r ⌝ }
+{
+    let count = pair_count(pairs);
+    let k = pair_at(table, u, w);
+    if count <= k {
+        return count;
+    }
+    if counts(prices, u, w) {
+        return k;
+    }
+    count
+}
+
+// Zone w from zone u: along a pair that counts, or back along one that carries something. Whether it is reached and has import left.
 fn join(
     net: &[i64],
     prices: &[i64],
     pairs: &[u8],
+    table: &[u8; TABLE],
     s: &[i64],
     marks: &mut [u64; MARKS],
     u: usize,
-    k: usize,
+    w: usize,
 ) -> bool
     requires { ⌜ Sized (now net) (now prices) (now pairs) ⌝ }
-    requires { ⌜ (k < pairCount (now pairs)) × (96 ≤ length (now s)) ⌝ }
-    requires { ⌜ SomeScan (now net) (now prices) (now pairs) (now s) (now marks) u k ⌝ }
-    ensures { λ r. ⌜ Joined (now (net .entry)) (now (prices .entry)) (now (pairs .entry)) (now (s .entry)) (now (marks .entry)) (now (marks .exit)) u k r ⌝ }
+    requires { ⌜ Tabled (now pairs) (pairCount (now pairs)) (now table) ⌝ }
+    requires { ⌜ (w < length (now net)) × (96 ≤ length (now s)) ⌝ }
+    requires { ⌜ SomeScan (now net) (now prices) (now pairs) (now s) (now marks) u w ⌝ }
+    ensures { λ r. ⌜ Joined (now (net .entry)) (now (prices .entry)) (now (pairs .entry)) (now (s .entry)) (now (marks .entry)) (now (marks .exit)) u w r ⌝ }
 {
-    let first = zone_at(pairs, 2 * k);
-    let second = zone_at(pairs, 2 * k + 1);
-    if first == u {
-        if marks[MARK * second] == 0 {
-            if counts(prices, first, second) {
-                let v = marks[MARK * first];
-                return reach(net, s, marks, second, v, k);
-            }
-        }
+    if marks[MARK * w] != 0 {
         return false;
     }
-    if second == u {
-        if marks[MARK * first] == 0 {
-            let v = least(marks[MARK * second], amount(s, k));
-            if 0 < v {
-                return reach(net, s, marks, first, v, k);
-            }
-        }
+    let count = pair_count(pairs);
+    let on = pair_on(prices, pairs, table, u, w);
+    if on < count {
+        let v = marks[MARK * u];
+        return reach(net, s, marks, w, v, on);
+    }
+    let back = pair_at(table, w, u);
+    if count <= back {
+        return false;
+    }
+    let x = least(marks[MARK * u], amount(s, back));
+    if 0 < x {
+        return reach(net, s, marks, w, x, back);
     }
     false
 }
 
-// All pairs from the zone at h in the order.
+// All zones from the zone at h in the order.
 fn scan(
     net: &[i64],
     prices: &[i64],
     pairs: &[u8],
+    table: &[u8; TABLE],
     s: &[i64],
     marks: &mut [u64; MARKS],
     h: usize,
 ) -> bool
     requires { ⌜ Sized (now net) (now prices) (now pairs) ⌝ }
+    requires { ⌜ Tabled (now pairs) (pairCount (now pairs)) (now table) ⌝ }
     requires { ⌜ (h < countOf (now marks)) × (96 ≤ length (now s)) ⌝ }
     requires { ⌜ SearchAt (now net) (now prices) (now pairs) (now s) (now marks) h ⌝ }
     ensures { λ r. ⌜ Scanned (now (net .entry)) (now (prices .entry)) (now (pairs .entry)) (now (s .entry)) (now (marks .entry)) (now (marks .exit)) h r ⌝ }
 {
     let u = marks[MARK * h + ORDER] as usize;
-    let count = pair_count(pairs);
-    let mut k = 0;
-    while k < count {
-        if join(net, prices, pairs, s, marks, u, k) {
+    let mut w = 0;
+    while w < net.len() {
+        if join(net, prices, pairs, table, s, marks, u, w) {
             return true;
         }
-        k += 1;
+        w += 1;
     }
     false
 }
@@ -164,10 +184,12 @@ pub fn search(
     net: &[i64],
     prices: &[i64],
     pairs: &[u8],
+    table: &[u8; TABLE],
     s: &[i64],
     marks: &mut [u64; MARKS],
 ) -> usize
     requires { ⌜ Sized (now net) (now prices) (now pairs) ⌝ }
+    requires { ⌜ Tabled (now pairs) (pairCount (now pairs)) (now table) ⌝ }
     requires { ⌜ 96 ≤ length (now s) ⌝ }
     requires { ⌜ length (now marks) ≡ 68 ⌝ }
     ensures { λ r. ⌜ Searched (now (net .entry)) (now (prices .entry)) (now (pairs .entry)) (now (s .entry)) (now (marks .exit)) r ⌝ }
@@ -176,7 +198,7 @@ pub fn search(
     roots(net, s, marks);
     let mut h = 0;
     while h < marks[COUNT] as usize {
-        if scan(net, prices, pairs, s, marks, h) {
+        if scan(net, prices, pairs, table, s, marks, h) {
             return last_reached(marks);
         }
         h += 1;

@@ -5,6 +5,7 @@ ghost use lib.ListN.{length, getD};
 ghost use Rattle.rows.specs.Meaning.Rows.{firstBelow};
 ghost use Rattle.rows.specs.Promised.RowLaws.{placeOf};
 ghost use Rattle.zone_set.specs.Pairs.{Seen};
+ghost use Rattle.zone_pairs.specs.Steps.Table.{Distinct, pairIn, Tabled};
 ghost use Rattle.zone_pairs.specs.Steps.Tests.{Good};
 ghost use Rattle.zone_pairs.specs.Meaning.Pairs.{pairCount, firstZone, secondZone, badPair};
 use rows::Place;
@@ -102,4 +103,37 @@ pub fn first_bad_pair(pairs: &[u8], zones: usize) -> Place
         k += 1;
     }
     Place::Nowhere
+}
+
+// For two zones, at 16 times the first and the second, the pair that leads from the first to the second; 64 where there is none.
+pub const TABLE: usize = 256;
+
+pub fn pair_table(pairs: &[u8]) -> [u8; TABLE]
+    requires { ⌜ Distinct (now pairs) ⌝ }
+    ensures { λ r. ⌜ Tabled (now (pairs .entry)) (pairCount (now (pairs .entry))) r ⌝ }
+{
+    let mut table = [64u8; TABLE];
+    let count = pair_count(pairs);
+    let mut k = 0;
+    while k < count {
+        let first = zone_at(pairs, 2 * k);
+        let second = zone_at(pairs, 2 * k + 1);
+        table[16 * first + second] = k as u8;
+        k += 1;
+    }
+    table
+}
+
+fn wide(x: u8) -> usize
+    ensures { λ r. ⌜ r ≡ x ⌝ }
+{
+    x as usize
+}
+
+// The pair that a table has for two zones.
+pub fn pair_at(table: &[u8; TABLE], a: usize, b: usize) -> usize
+    requires { ⌜ (a < 16) × (b < 16) ⌝ }
+    ensures { λ r. ⌜ r ≡ pairIn (now (table .entry)) a b ⌝ }
+{
+    wide(table[16 * a + b])
 }

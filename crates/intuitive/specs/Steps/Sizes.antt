@@ -96,6 +96,7 @@ module _ (net prices : List ℤ) (pairs : List ℕ) (n room : ℕ) (passed : int
     even = pairs-even;
     pairs = pairs-few;
     placed = placed;
+    new = λ j k h l. pair-good k l .new j h;
     exports-le = λ z h. position-in z h .0;
     imports-le = λ z h. position-in z h .1;
   }

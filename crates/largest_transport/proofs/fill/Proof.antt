@@ -13,22 +13,25 @@ use Rattle.zone_pairs.specs.Meaning.Pairs.{networkOf}
 use Rattle.flow_board.specs.Board.{boardOf, Rest, rest-refl, rest-trans}
 use Rattle.augmenting_path.specs.Lacking.{State}
 use Rattle.augmenting_path.specs.Path.{trailOf, Augment}
-use Rattle.largest_transport.specs.Filled.{total-le, exports-few, augment-of, filled}
+use Rattle.largest_transport.specs.Filled.{total-le, exports-few, distinct, augment-of, filled}
 use Rattle.largest_transport.proofs.fill.Statement.{statement}
 use Rattle.largest_transport.proofs.fill.Tie as tie
 
 abbrev Inv-loop : tie.InvT-loop
-Inv-loop net prices pairs s₀ marks₀ total₀ s marks total = State (networkOf net prices pairs) (boardOf s) total × (Rest s₀ s × (length marks ≡ 68))
+Inv-loop net prices pairs s₀ table marks₀ total₀ s marks total = State (networkOf net prices pairs) (boardOf s) total × (Rest s₀ s × (length marks ≡ 68))
 
 abbrev μ-loop : tie.MeasureT-loop
-μ-loop net prices pairs s₀ marks₀ total₀ s marks total = allExports (networkOf net prices pairs) - total
+μ-loop net prices pairs s₀ table marks₀ total₀ s marks total = allExports (networkOf net prices pairs) - total
+
+pair-table-requires : tie.Need-pair-table-requires Inv-loop μ-loop
+pair-table-requires c κs = let t = c .before in distinct (now (t .args .net)) (now (t .args .prices)) (now (t .args .pairs)) (t .pre .0)
 
 loop-holds : tie.Need-loop-holds Inv-loop μ-loop
-loop-holds c = (c .before .pre .1 .1, (rest-refl (now (c .before .args .s)), refl))
+loop-holds c = (c .before .before .pre .1 .1, (rest-refl (now (c .before .before .args .s)), refl))
 
 module _ (h : tie.At-loop Inv-loop μ-loop) where
   abbrev st : tie.Start Inv-loop μ-loop
-  st = h .before .before
+  st = h .before .before .before
 
   abbrev net : List ℤ
   net = now (st .args .net)
@@ -43,19 +46,19 @@ module _ (h : tie.At-loop Inv-loop μ-loop) where
   room = omega (arith, h .loop .inv .1 .0 .len, st .pre .1 .0)
 
 search-requires : tie.Need-search-requires Inv-loop μ-loop
-search-requires c κs = let h = c .before .before in (st h .pre .0, (room h, h .loop .inv .1 .1))
+search-requires c κs = let h = c .before .before .before in (st h .pre .0, (h .before .pair-table .ensures, (room h, h .loop .inv .1 .1)))
 
 same-length : tie.Need-same-length Inv-loop μ-loop
-same-length c = c .before .before .before .before .loop .inv .1 .0 .len
+same-length c = c .before .before .before .before .before .loop .inv .1 .0 .len
 
 returns : tie.Need-returns Inv-loop μ-loop
 returns c =
     let r = c .before in
-    let h = r .before .before .before in
-    (filled (net h) (prices h) (bytes h) (st h .pre .0) (h .loop .s) (h .loop .total) (room h) (h .loop .inv .0) (r .search .last .1 .1 .1 .1 .0) (r .search .result) (r .search .ensures .0) (c .if1 .taken), h .loop .inv .1 .0)
+    let h = r .before .before .before .before in
+    (filled (net h) (prices h) (bytes h) (st h .pre .0) (h .loop .s) (h .loop .total) (room h) (h .loop .inv .0) (r .search .last .1 .1 .1 .1 .1 .0) (r .search .result) (r .search .ensures .0) (c .if1 .taken), h .loop .inv .1 .0)
 
 low : (c : tie.Else1 Inv-loop μ-loop) → c .before .search .result < 16
-low c = omega (arith, c .if1 .left, st (c .before .before .before .before) .pre .0 .zones)
+low c = omega (arith, c .if1 .left, st (c .before .before .before .before .before) .pre .0 .zones)
 
 mul-least : tie.Need-mul-least Inv-loop μ-loop
 mul-least c = omega (arith, low c)
@@ -69,7 +72,7 @@ array-read-least c = omega (arith, low c)
 import-left-requires : tie.Need-import-left-requires Inv-loop μ-loop
 import-left-requires c κs =
     let r = c .before .before in
-    let h = r .before .before .before in
+    let h = r .before .before .before .before in
     (c .before .if1 .left, (st h .pre .0 .zones, (room h, st h .pre .0 .imports-le (r .search .result) (c .before .if1 .left))))
 
 least-requires : tie.Need-least-requires Inv-loop μ-loop
@@ -84,10 +87,10 @@ module _ (c : tie.After-least Inv-loop μ-loop) where
   r = e .before
 
   abbrev h : tie.At-loop Inv-loop μ-loop
-  h = r .before .before .before
+  h = r .before .before .before .before
 
   abbrev marks : List ℕ
-  marks = r .search .last .1 .1 .1 .1 .0
+  marks = r .search .last .1 .1 .1 .1 .1 .0
 
   bringing : Augment (net h) (prices h) (h .loop .total) (bytes h) (h .loop .s) (trailOf marks) (c .least .result) (r .search .result)
   bringing =
@@ -127,6 +130,7 @@ fill-spec =
     (tie.spec
     Inv-loop
     μ-loop
+    pair-table-requires
     loop-holds
     search-requires
     same-length

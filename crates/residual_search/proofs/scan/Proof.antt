@@ -1,4 +1,4 @@
--- `residual_search::scan` meets its contract. The loop's invariant: the pairs before k are gone over. Assumes nothing.
+-- `residual_search::scan` meets its contract. The loop's invariant: the zones before w are gone over. Assumes nothing.
 use mathlib.Core.Path.{_≡_, refl, sym, ap, _∙_}
 use mathlib.Core.Bool.{true, false}
 use mathlib.Core.List.{List}
@@ -14,16 +14,16 @@ use Rattle.residual_search.proofs.scan.Statement.{statement}
 use Rattle.residual_search.proofs.scan.Tie as tie
 
 abbrev Inv-loop : tie.InvT-loop
-Inv-loop net prices pairs s marks₀ h u count k₀ marks k = (k ≤ count) × ScanAt net prices pairs s marks h u k
+Inv-loop net prices pairs table s marks₀ h u w₀ marks w = (w ≤ length net) × ScanAt net prices pairs s marks h u w
 
 abbrev μ-loop : tie.MeasureT-loop
-μ-loop net prices pairs s marks₀ h u count k₀ marks k = count - k
+μ-loop net prices pairs table s marks₀ h u w₀ marks w = length net - w
 
 clash : {A : Type 0} → true ≡ false → A
 clash e = let z : _≡_ {A = ℕ} 0 1 = cc in absurd (omega arith)
 
 h-low : (t : tie.Start Inv-loop μ-loop) → t .args .h < 16
-h-low t = omega (arith, few (t .pre .1 .1 .search .listing), t .pre .1 .0 .0, t .pre .0 .zones)
+h-low t = omega (arith, few (t .pre .1 .1 .1 .search .listing), t .pre .1 .1 .0 .0, t .pre .0 .zones)
 
 mul-u : tie.Need-mul-u Inv-loop μ-loop
 mul-u c = omega (arith, h-low (c .before))
@@ -37,26 +37,22 @@ mul-u-2 c = omega (arith, h-low (c .before))
 element-copy-out-u : tie.Need-element-copy-out-u Inv-loop μ-loop
 element-copy-out-u c = omega (arith, h-low (c .before))
 
-pair-count-requires : tie.Need-pair-count-requires Inv-loop μ-loop
-pair-count-requires c κs = search needs
-
 loop-holds : tie.Need-loop-holds Inv-loop μ-loop
 loop-holds c =
-    let t = c .before .before .before in
-    (omega arith, scan-at-start (now (t .args .net)) (now (t .args .prices)) (now (t .args .pairs)) (now (t .args .s)) (now (t .args .marks)) (t .args .h) _ (t .pre .1 .1) (t .pre .1 .0 .0) refl)
+    let t = c .before .before in
+    (omega arith, scan-at-start (now (t .args .net)) (now (t .args .prices)) (now (t .args .pairs)) (now (t .args .s)) (now (t .args .marks)) (t .args .h) _ (t .pre .1 .1 .1) (t .pre .1 .1 .0 .0) refl)
 
 join-requires : tie.Need-join-requires Inv-loop μ-loop
 join-requires c κs =
     let l = c .before .before in
-    let p = l .before in
-    let t = p .before .before .before in
-    (t .pre .0, ((omega (arith, c .before .loop-test .taken, p .pair-count .ensures), t .pre .1 .0 .1), record { place = t .args .h; at = l .loop .inv .1 }))
+    let t = l .before .before .before in
+    (t .pre .0, (t .pre .1 .0, ((c .before .loop-test .taken, t .pre .1 .1 .0 .1), record { place = t .args .h; at = l .loop .inv .1 })))
 
 returns : tie.Need-returns Inv-loop μ-loop
 returns c = record { next = λ e. clash e; found = λ e. c .before .join .ensures .found (c .if1 .taken) }
 
-add-k : tie.Need-add-k Inv-loop μ-loop
-add-k c = omega arith
+add-w : tie.Need-add-w Inv-loop μ-loop
+add-w c = omega arith
 
 loop-less : tie.Need-loop-less Inv-loop μ-loop
 loop-less c = omega arith
@@ -69,10 +65,10 @@ loop-again c =
 returns-2 : tie.Need-returns-2 Inv-loop μ-loop
 returns-2 c =
     let l = c .before in
-    let t = l .before .before .before .before in
+    let t = l .before .before .before in
     record {
-      next = λ e. scan-at-end (now (t .args .net)) (now (t .args .prices)) (now (t .args .pairs)) (now (t .args .s)) (l .loop .marks) (t .args .h) _ (l .loop .k) (l .loop .inv .1)
-          (omega (arith, c .loop-test .left, l .loop .inv .0, l .before .pair-count .ensures));
+      next = λ e. scan-at-end (now (t .args .net)) (now (t .args .prices)) (now (t .args .pairs)) (now (t .args .s)) (l .loop .marks) (t .args .h) _ (l .loop .w) (t .pre .0) (l .loop .inv .1)
+          (omega (arith, c .loop-test .left, l .loop .inv .0));
       found = λ e. clash (sym e);
     }
 
@@ -86,11 +82,10 @@ scan-spec =
     add-u
     mul-u-2
     element-copy-out-u
-    pair-count-requires
     loop-holds
     join-requires
     returns
-    add-k
+    add-w
     loop-less
     loop-again
     returns-2)

@@ -12,13 +12,13 @@ use Rattle.residual_search.proofs.search.Statement.{statement}
 use Rattle.residual_search.proofs.search.Tie as tie
 
 abbrev Inv-loop : tie.InvT-loop
-Inv-loop net prices pairs s marks₀ h₀ marks h = (h ≤ 16) × SearchAt net prices pairs s marks h
+Inv-loop net prices pairs table s marks₀ h₀ marks h = (h ≤ 16) × SearchAt net prices pairs s marks h
 
 abbrev μ-loop : tie.MeasureT-loop
-μ-loop net prices pairs s marks₀ h₀ marks h = 16 - h
+μ-loop net prices pairs table s marks₀ h₀ marks h = 16 - h
 
 roots-requires : tie.Need-roots-requires Inv-loop μ-loop
-roots-requires c κs = let t = c .before .before in ((t .pre .0 .zones, t .pre .1 .0), t .pre .1 .1)
+roots-requires c κs = let t = c .before .before in ((t .pre .0 .zones, t .pre .1 .1 .0), t .pre .1 .1 .1)
 
 loop-holds : tie.Need-loop-holds Inv-loop μ-loop
 loop-holds c =
@@ -35,7 +35,7 @@ scan-requires : tie.Need-scan-requires Inv-loop μ-loop
 scan-requires c κs =
     let l = c .before .before .before in
     let t = start l in
-    (t .pre .0, ((c .before .if1 .taken, t .pre .1 .0), l .loop .inv .1))
+    (t .pre .0, (t .pre .1 .0, ((c .before .if1 .taken, t .pre .1 .1 .0), l .loop .inv .1)))
 
 last-reached-requires : tie.Need-last-reached-requires Inv-loop μ-loop
 last-reached-requires c κs = let f = c .before .before .scan .ensures .found (c .before .if2 .taken) in (f .some, f .few)

@@ -45,7 +45,7 @@ passes : (c : tie.Else1 Inv-loop μ-loop) → Good 16 (now (c .before .before .b
 passes c =
     let t = c .before .before .before .before .before .before .before in
     let g = good (t .args .zones) (now (t .args .pairs)) (c .before .before .before .before .loop .k) (not-bad c) in
-    record { few = g .few; first-in = omega (arith, g .first-in, t .pre); second-in = omega (arith, g .second-in, t .pre) }
+    record { few = g .few; first-in = omega (arith, g .first-in, t .pre); second-in = omega (arith, g .second-in, t .pre); new = g .new }
 
 see-pair-requires : tie.Need-see-pair-requires Inv-loop μ-loop
 see-pair-requires c κs = (passes (c .before), c .before .before .before .before .before .loop .inv .1 .1)

@@ -1,14 +1,15 @@
 -- Row 84's test of a pair, one cause after the other, and what a pair that passes has. Assumes nothing.
 use mathlib.Core.Path.{_≡_, refl, sym, ap, _∙_}
-use mathlib.Core.Bool.{Bool, true, false, _||_}
+use mathlib.Core.Bool.{Bool, true, false, not, _&&_, _||_}
 use mathlib.Core.List.{List, [], _∷_}
 use Prim.Native.Nat.{ℕ, zero, suc, _+_, _*_, _/_, _%_, _≤_, _<_}
 use native.Mathlib.Omega.{arith}
 use borrow.Author.Tests.{le-leb, lt-leb, eq-eqb, ne-eqb, leb-false}
-use lib.Dec.{eqb, leb}
+use lib.Dec.{T, eqb, leb, T-not}
 use lib.ListN.{length, getD}
-use Rattle.integers.specs.Ranges.{nor-left, nor-right, is-false, not-is}
-use Rattle.zone_set.specs.Pairs.{holds, Seen}
+use Rattle.integers.specs.Ranges.{nor-left, nor-right, is-true, is-false, not-is}
+use Rattle.rows.specs.Promised.RowLaws.{no-place}
+use Rattle.zone_set.specs.Pairs.{holds, Seen, samePair}
 use Rattle.zone_pairs.specs.Meaning.Pairs.{pairCount, firstZone, secondZone, repeated, badPair}
 
 -- what stands past the last does not matter below it
@@ -51,15 +52,25 @@ pub record Good (zones : ℕ) (bytes : List ℕ) (k : ℕ) : Type 0 where
   pub few : k < 64
   pub first-in : firstZone bytes k < zones
   pub second-in : secondZone bytes k < zones
+  pub new : (j : ℕ) → j < k → firstZone bytes j ≡ firstZone bytes k → secondZone bytes j ≡ secondZone bytes k → ⊥
+
+-- an earlier pair with the same zones would be found
+new-by : (bytes : List ℕ) (k : ℕ) → T (not (repeated bytes k)) → (j : ℕ) → j < k → firstZone bytes j ≡ firstZone bytes k → secondZone bytes j ≡ secondZone bytes k → ⊥
+unfolding repeated
+new-by bytes k t j h f g =
+    T-not (samePair (firstZone bytes) (secondZone bytes) (firstZone bytes k) (secondZone bytes k) j) (no-place k (samePair (firstZone bytes) (secondZone bytes) (firstZone bytes k) (secondZone bytes k)) t j h)
+    (is-true (λ i. eq-eqb (firstZone bytes j) (firstZone bytes k) f i && eq-eqb (secondZone bytes j) (secondZone bytes k) g i))
 
 pub good : (zones : ℕ) (bytes : List ℕ) (k : ℕ) → badPair zones bytes k ≡ false → Good zones bytes k
 unfolding badPair
-good zones bytes k e =
-    let p = is-false e in
+good zones bytes k w =
+    let p = is-false w in
     let q = nor-right (leb 64 k) _ p in
     let r = nor-right (leb zones (firstZone bytes k)) _ q in
+    let e = nor-right (leb zones (secondZone bytes k)) _ r in
     record {
       few = leb-false 64 k (not-is _ (nor-left (leb 64 k) _ p));
       first-in = leb-false zones (firstZone bytes k) (not-is _ (nor-left (leb zones (firstZone bytes k)) _ q));
       second-in = leb-false zones (secondZone bytes k) (not-is _ (nor-left (leb zones (secondZone bytes k)) _ r));
+      new = new-by bytes k (nor-right (eqb (firstZone bytes k) (secondZone bytes k)) _ e);
     }
