@@ -5,7 +5,7 @@
 --   units: PTDFs and weights are hundred-thousandths, so (65), (67), (70), (74) and (91) stand multiplied by 100,000, and (59) is in microcents;
 --   fractions: all variables are whole numbers over one common positive denominator, all multipliers whole cents or grains;
 --   orders: a side and an unsigned quantity for the signed Q^i, and for x_i the accepted volume |Q^i| x_i, so x_i is `accepted i` over den times quantity;
---   capacities: of links, each an ordered pair of zones that occurs once, and zero for a pair without a link;
+--   capacities: of links, each an ordered pair of zones that occurs once, and zero for a pair without a link; contracted volumes (S-4) do not enter;
 --   no link: section 3.3 takes an empty LTA domain for none; by rule 9 it holds the zero exchange, so α₂ is free also where there is no link;
 --   misprints: two, both before the appendix; a note says where each would fall. (62) is an empty line.
 use mathlib.Core.Path.{_≡_}

@@ -65,7 +65,9 @@ pub record AnnexDemand3 (s t : List ℕ) (report : List ℕ) : Type 0 where
   pub is-complementary : reportedGap report ≡ pos 0 → Complementary (caseOf s) (is-feasible .solution) (multipliersOf (caseOf s) (pricesOf s t))
   -- (82): at these prices no import and export that the network allows earns more than rent and gap together
   pub is-network-best : (x : Solution) → Network (caseOf s) x → congestionRent (caseOf s) x (reportedPrice report) ≤ℤ (pos (x .den) *ℤ (reportedRent report +ℤ reportedGap report))
-  -- (81): its two sides, and their order up to the gap
+  -- (81): its left side is the rent, its right side that of the capacities; their order up to the gap. Owed, on the contracted volumes, is at most the right
+  -- side (S-4), and is that where each contracted volume is its link's capacity
   pub rent-is : congestionRent (caseOf s) (is-feasible .solution) (reportedPrice report) ≡ reportedRent report
-  pub liabilities-is : liabilities (caseOf s) (reportedPrice report) ≡ reportedOwed report
+  pub owed-within : reportedOwed report ≤ℤ liabilities (caseOf s) (reportedPrice report)
+  pub owed-all : ((l : ℕ) → l < (caseOf s) .links → (caseOf s) .contracted l ≡ (caseOf s) .capacity l) → reportedOwed report ≡ liabilities (caseOf s) (reportedPrice report)
   pub is-covered : (liabilities (caseOf s) (reportedPrice report) -ℤ reportedGap report) ≤ℤ congestionRent (caseOf s) (is-feasible .solution) (reportedPrice report)

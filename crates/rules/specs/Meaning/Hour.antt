@@ -11,7 +11,7 @@ use lib.Signed.{_≤ℤ_, ltZ}
 use Rattle.integers.specs.Order.{larger, positive}
 use Rattle.integers.specs.Sums.{sumTo, only}
 use Rattle.measures.specs.Meaning.Limits.{partsInOne}
-use Rattle.rules.specs.Meaning.Layout.{zonesIn, branchesIn, linksIn, ordersIn, toleranceIn, ramIn, ptdfIn, fromIn, toIn, capacityIn, zoneIn, sideIn, quantityIn, priceIn, shareIn, systemIn, volumeIn, flowIn, shadowIn}
+use Rattle.rules.specs.Meaning.Layout.{zonesIn, branchesIn, linksIn, ordersIn, toleranceIn, ramIn, ptdfIn, fromIn, toIn, capacityIn, contractedIn, zoneIn, sideIn, quantityIn, priceIn, shareIn, systemIn, volumeIn, flowIn, shadowIn}
 
 pub record Case : Type 0 where
   pub zones : ℕ
@@ -26,6 +26,8 @@ pub record Case : Type 0 where
   pub from : ℕ → ℕ
   pub to : ℕ → ℕ
   pub capacity : ℕ → ℕ
+  -- of the capacity, what was bought (S-4)
+  pub contracted : ℕ → ℕ
   pub zone : ℕ → ℕ
   -- 0 buys, 1 sells
   pub side : ℕ → ℕ
@@ -56,6 +58,7 @@ caseOf s = record {
   from = fromIn s;
   to = toIn s;
   capacity = capacityIn s;
+  contracted = contractedIn s;
   zone = zoneIn s;
   side = sideIn s;
   quantity = quantityIn s;
@@ -174,19 +177,27 @@ branchValue c d m = c .ram m *ℤ pos (d .shadow m)
 unfoldable pub branchTotal : Case → Prices → ℤ
 branchTotal c d = pos partsInOne *ℤ sumTo (c .branches) (λ m. branchValue c d m)
 
--- (81), right side: owed = sum over links of capacity times (price at "to" minus price at "from"), where positive, else zero
+-- (81), right side: link total = sum over links of capacity times (price at "to" minus price at "from"), where positive, else zero
 unfoldable pub spread : Case → Prices → ℕ → ℤ
 spread c d l = zonePrice c d (c .to l) -ℤ zonePrice c d (c .from l)
 
+unfoldable pub linkValue : Case → Prices → ℕ → ℤ
+linkValue c d l = pos (c .capacity l) *ℤ positive (spread c d l)
+
+unfoldable pub linkTotal : Case → Prices → ℤ
+linkTotal c d = sumTo (c .links) (λ l. linkValue c d l)
+
+-- owed = the same sum over contracted volumes (S-4: owed uses contracted volumes)
 unfoldable pub linkOwed : Case → Prices → ℕ → ℤ
-linkOwed c d l = pos (c .capacity l) *ℤ positive (spread c d l)
+linkOwed c d l = pos (c .contracted l) *ℤ positive (spread c d l)
 
 unfoldable pub owed : Case → Prices → ℤ
 owed c d = sumTo (c .links) (λ l. linkOwed c d l)
 
--- RULE 10: bound = all order surpluses plus the larger of branch total and owed. No import and export that the network allows earns more at these prices, (82).
+-- RULE 10: bound = all order surpluses plus the larger of branch total and link total (S-4: the larger-of in the bound keeps using capacities). No import and
+-- export that the network allows earns more at these prices, (82).
 unfoldable pub networkBound : Case → Prices → ℤ
-networkBound c d = larger (branchTotal c d) (owed c d)
+networkBound c d = larger (branchTotal c d) (linkTotal c d)
 
 unfoldable pub bound : Case → Prices → ℤ
 bound c d = surplus c d +ℤ networkBound c d

@@ -27,7 +27,7 @@ Accurate s report = (q : Plan) → Clearing (caseOf s) q → welfare (caseOf s) 
 abbrev pub GapWithin : List ℕ → List ℕ → Type 0
 GapWithin s report = (pos 0 ≤ℤ reportedGap report) × (reportedGap report ≤ℤ microcentsOf (pos ((caseOf s) .tolerance)))
 
--- THE COVERAGE RULE: rent >= owed - gap
+-- THE COVERAGE RULE: rent >= owed - gap. S-4: it speaks of the new owed, on the contracted volumes; the accuracy rule is unchanged
 abbrev pub Covered : List ℕ → Type 0
 Covered report = (reportedOwed report -ℤ reportedGap report) ≤ℤ reportedRent report
 

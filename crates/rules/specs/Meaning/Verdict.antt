@@ -1,4 +1,4 @@
--- The verdict table of document 01, as request S-2 amends it: a row for each cause, in the table's own order, and the judgement's outcome.
+-- The verdict table of document 01, as requests S-2 and S-4 amend it: a row for each cause, in the table's own order, and the judgement's outcome.
 -- Every test has a value on any bytes; its value counts only where the rows before it passed. Assumes nothing.
 use mathlib.Core.Path.{_≡_}
 use mathlib.Core.Bool.{Bool, not, _&&_, _||_}
@@ -46,11 +46,12 @@ branchFault c m (suc z) = outside limits.ptdf (c .ptdf m z)
 unfoldable pub repeated : Case → ℕ → Bool
 repeated c l = anyBelow l (λ k. eqb (c .from k) (c .from l) && eqb (c .to k) (c .to l))
 
--- link l: from (unknown zone, repeated pair), to (unknown zone, equal zones), capacity
+-- link l: from (unknown zone, repeated pair), to (unknown zone, equal zones), capacity, contracted volume (S-4: exceeds capacity)
 unfoldable pub linkFault : Case → ℕ → ℕ → Bool
 linkFault c l zero = unknown (c .zones) (c .from l) || repeated c l
 linkFault c l (suc zero) = unknown (c .zones) (c .to l) || eqb (c .from l) (c .to l)
-linkFault c l (suc (suc n)) = outside limits.capacity (pos (c .capacity l))
+linkFault c l (suc (suc zero)) = outside limits.capacity (pos (c .capacity l))
+linkFault c l (suc (suc (suc n))) = over (c .capacity l) (c .contracted l)
 
 -- a row of an order book, with n zones: zone, side, quantity, price
 unfoldable pub rowFault : ℕ → ℕ → ℕ → ℕ → ℤ → ℕ → Bool
@@ -75,7 +76,7 @@ smallBuffer room = once 30 (under reportRoom room)
 unfoldable pub roomRows : ℕ → List Row
 roomRows room = smallBuffer room ∷ []
 
--- 1: case shorter than 14 bytes. 2: mark is not LTC. 3: case version is not 1
+-- 1: case shorter than 14 bytes. 2: mark is not LTC. 3: case version is neither 1 nor 2 (S-4)
 abbrev pub shortCase : List ℕ → Row
 shortCase s = once 1 (under caseHeader (length s))
 
@@ -83,7 +84,7 @@ abbrev pub wrongCaseMark : List ℕ → Row
 wrongCaseMark s = once 2 (notMark 76 84 67 s)
 
 abbrev pub wrongCaseVersion : List ℕ → Row
-wrongCaseVersion s = once 3 (differ (caseVersion s) 1)
+wrongCaseVersion s = once 3 (differ (caseVersion s) 1 && differ (caseVersion s) 2)
 
 -- 4: header field outside its range: its offset
 abbrev pub zoneCount : Case → Row
@@ -105,7 +106,8 @@ toleranceField c = field 4 10 (outside limits.tolerance (pos (c .tolerance)))
 abbrev pub wrongCaseLength : List ℕ → Row
 wrongCaseLength s = once 5 (differ (length s) (caseLength s))
 
--- 6: branch field out of range. 7: link: unknown zone, equal zones, capacity, repeated pair. 8: order field out of range. The first such field's offset (S-2)
+-- 6: branch field out of range. 7: link: unknown zone, equal zones, capacity, repeated pair, contracted volume (S-4). 8: order field out of
+-- range. The first such field's offset (S-2)
 abbrev pub branchField : List ℕ → Case → Row
 branchField s c = eachField 6 (c .branches) (1 + c .zones) (branchFault c) (branchFieldAt s)
 

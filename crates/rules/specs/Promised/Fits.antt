@@ -1,5 +1,5 @@
 -- Every total, every zone price, and every sum on the way to one in file order, fits signed 64 bits. Each stage names what the rows before it leave.
--- Sizes: welfare and rent within 2.048e18, surpluses 2.304e18, branch total 3.2e18, owed 2.88e17, so bound within 5.504e18 and gap 7.552e18, below 9.22e18.
+-- Sizes: welfare and rent within 2.048e18, surpluses 2.304e18, branch total 3.2e18, link total and owed 2.88e17, so bound within 5.504e18 and gap 7.552e18, below 9.22e18.
 -- The rent is bounded order by order: zone by zone it would be 3.3e19. Assumes nothing.
 use mathlib.Core.Path.{_≡_, refl, ap}
 use mathlib.Core.Bool.{Bool, true, false}
@@ -12,6 +12,7 @@ use lib.IntN.{ℤ, pos, _+ℤ_, _-ℤ_, _*ℤ_}
 use mir.Syntax.{w64}
 use mir.Val.{SFits}
 use Rattle.integers.specs.Difference.{at, _⊗_, le-by, le-fact}
+use Rattle.integers.specs.Order.{positive}
 use Rattle.integers.specs.Ranges.{minus, Within}
 use Rattle.integers.specs.Sums.{sumTo, only}
 use Rattle.integers.specs.Size.{Near, near-le, near-pos, near-add, near-neg, near-sub, near-mul, near-sum, near-fits, near-within, near-gathered, apart, near-larger, near-positive, near-only, near-unsigned, near-32}
@@ -19,7 +20,7 @@ use Rattle.integers.specs.Machine.{SumsFit, small-sums}
 use Rattle.measures.specs.Meaning.Limits as limits
 use Rattle.measures.specs.Meaning.Limits.{partsInOne}
 use Rattle.rules.specs.Meaning.Layout.{u32At, i32At, systemIn}
-use Rattle.rules.specs.Meaning.Hour.{Case, Plan, Prices, caseOf, planOf, pricesOf, signed, buys, above, orderNet, net, inflow, outflow, ltaPart, fbPart, linkUse, linkRoom, branchPrice, zonePrice, orderWelfare, welfare, surplusOf, orderSurplus, surplus, branchValue, branchTotal, spread, linkOwed, owed, networkBound, bound, gap, rent}
+use Rattle.rules.specs.Meaning.Hour.{Case, Plan, Prices, caseOf, planOf, pricesOf, signed, buys, above, orderNet, net, inflow, outflow, ltaPart, fbPart, linkUse, linkRoom, branchPrice, zonePrice, orderWelfare, welfare, surplusOf, orderSurplus, surplus, branchValue, branchTotal, spread, linkValue, linkTotal, linkOwed, owed, networkBound, bound, gap, rent}
 use Rattle.rules.specs.Meaning.Clearing.{Clearing}
 use Rattle.rules.specs.Meaning.Verdict.{outcome}
 use Rattle.rules.specs.Meaning.Report.{reports}
@@ -166,21 +167,41 @@ module _ (c : Case) (cs : CaseSound c) where
       unfolding surplus
       surpluses-near = near-le (omega (arith, cs .orders-in)) (near-sum (c .orders) 4500000000000000 _ surplus-term-near)
 
-      owed-term-near : (l : ℕ) → l < c .links → Near 4500000000000000 (linkOwed c d l)
-      unfolding linkOwed spread
-      owed-term-near l h = near-mul (near-unsigned (c .capacity l) 100000 (cs .capacity-in l h))
-          (near-positive 45000000000 _ (apart-prices _ _ (prices (c .to l) (cs .placed .to-in l h)) (prices (c .from l) (cs .placed .from-in l h))))
+      -- a volume of each link at its positive spread: capacities for the link total, contracted volumes for what is owed (S-4)
+      module _ (f : ℕ → ℕ) (volumes : (l : ℕ) → l < c .links → f l ≤ 100000) where
+        link-term-near : (l : ℕ) → l < c .links → Near 4500000000000000 (pos (f l) *ℤ positive (spread c d l))
+        unfolding spread
+        link-term-near l h = near-mul (near-unsigned (f l) 100000 (volumes l h))
+            (near-positive 45000000000 _ (apart-prices _ _ (prices (c .to l) (cs .placed .to-in l h)) (prices (c .from l) (cs .placed .from-in l h))))
+
+        at-spreads-sums : SumsFit (λ l. pos (f l) *ℤ positive (spread c d l)) (c .links)
+        at-spreads-sums = small-sums _ 4500000000000000 (c .links) link-term-near (omega (arith, cs .links-in))
+
+        at-spreads-near : Near 288000000000000000 (sumTo (c .links) (λ l. pos (f l) *ℤ positive (spread c d l)))
+        at-spreads-near = near-le (omega (arith, cs .links-in)) (near-sum (c .links) 4500000000000000 _ link-term-near)
+
+      contracted-most : (l : ℕ) → l < c .links → c .contracted l ≤ 100000
+      contracted-most l h = omega (arith, cs .contracted-in l h, cs .capacity-in l h)
+
+      pub linkTotal-sums : SumsFit (λ l. linkValue c d l) (c .links)
+      unfolding linkValue
+      linkTotal-sums = at-spreads-sums (c .capacity) (cs .capacity-in)
+
+      pub linkTotal-near : Near 288000000000000000 (linkTotal c d)
+      unfolding linkTotal linkValue
+      linkTotal-near = at-spreads-near (c .capacity) (cs .capacity-in)
 
       pub owed-sums : SumsFit (λ l. linkOwed c d l) (c .links)
-      owed-sums = small-sums _ 4500000000000000 (c .links) owed-term-near (omega (arith, cs .links-in))
+      unfolding linkOwed
+      owed-sums = at-spreads-sums (c .contracted) contracted-most
 
       pub owed-near : Near 288000000000000000 (owed c d)
-      unfolding owed
-      owed-near = near-le (omega (arith, cs .links-in)) (near-sum (c .links) 4500000000000000 _ owed-term-near)
+      unfolding owed linkOwed
+      owed-near = at-spreads-near (c .contracted) contracted-most
 
       pub bound-near : Near 5504000000000000000 (bound c d)
       unfolding bound networkBound
-      bound-near = near-add surpluses-near (near-larger 3200000000000000000 (branchTotal c d) (owed c d) branchTotal-near (near-le (omega arith) owed-near))
+      bound-near = near-add surpluses-near (near-larger 3200000000000000000 (branchTotal c d) (linkTotal c d) branchTotal-near (near-le (omega arith) linkTotal-near))
 
       module _ (p : Plan) (volumes : (i : ℕ) → i < c .orders → p .volume i ≤ c .quantity i) where
         pub gap-near : Near 7552000000000000000 (gap c p d)
@@ -201,6 +222,7 @@ pub record Fit (c : Case) (p : Plan) (d : Prices) : Type 0 where
   -- on the way to the bound
   pub surplus-fits : SFits w64 (surplus c d)
   pub branchTotal-fits : SFits w64 (branchTotal c d)
+  pub linkTotal-fits : SFits w64 (linkTotal c d)
   pub zonePrice-fits : (z : ℕ) → z < c .zones → SFits w64 (zonePrice c d z)
 
 -- every system price that a proposal can hold
@@ -225,6 +247,7 @@ fit c cs p d one system ps cl =
       owed-fits = near-fits w64 (omega arith) (owed-near c cs d system shadows prices);
       surplus-fits = near-fits w64 (omega arith) (surpluses-near c cs d system shadows prices);
       branchTotal-fits = near-fits w64 (omega arith) (branchTotal-near c cs d system shadows);
+      linkTotal-fits = near-fits w64 (omega arith) (linkTotal-near c cs d system shadows prices);
       zonePrice-fits = λ z h. near-fits w64 (omega arith) (near-zone-price _ (prices z h));
     }
 

@@ -9,7 +9,7 @@ use Rattle.integers.specs.Difference.{up, dn, at, _⊕_, _⊖_, _⊗_, le-by, e
 use Rattle.integers.specs.Order.{le-trans, le-antisym, diff-nonneg, add-nonneg, times-nonneg, larger-left, larger-right}
 use Rattle.integers.specs.Sums.{sumTo, sum-sub, sum-scale-l, sum-nonneg, one-le-sum}
 use Rattle.measures.specs.Meaning.Limits.{partsInOne}
-use Rattle.rules.specs.Meaning.Hour.{Case, Plan, Prices, buys, orderNet, linkUse, linkRoom, branchUse, branchRoom, zonePrice, orderWelfare, welfare, surplusOf, orderSurplus, surplus, branchValue, branchTotal, spread, linkOwed, owed, networkBound, bound, rent}
+use Rattle.rules.specs.Meaning.Hour.{Case, Plan, Prices, buys, orderNet, linkUse, linkRoom, branchUse, branchRoom, zonePrice, orderWelfare, welfare, surplusOf, orderSurplus, surplus, branchValue, branchTotal, spread, linkValue, linkTotal, networkBound, bound, rent}
 use Rattle.rules.specs.Meaning.Clearing.{Clearing}
 use Rattle.rules.specs.Steps.Duality.{Placed, order-le, link-le, rest, by-orders, rent-is, rent-split, over-links, over-branches, branches-are, in-cents}
 
@@ -22,12 +22,12 @@ branchShort c d p m = pos (partsInOne * p .den - p .share) *ℤ (branchValue c d
 
 -- in hundred-thousandths
 unfoldable pub linkShort : Case → Prices → Plan → ℕ → ℤ
-linkShort c d p l = pos (p .share) *ℤ (linkOwed c d l)
+linkShort c d p l = pos (p .share) *ℤ (linkValue c d l)
     -ℤ pos partsInOne *ℤ (pos (p .flow l) *ℤ (spread c d l))
 
 -- what is left since each total is at most the larger
 unfoldable pub slack : Case → Prices → Plan → ℤ
-slack c d p = pos (partsInOne * p .den - p .share) *ℤ (networkBound c d -ℤ branchTotal c d) +ℤ pos (p .share) *ℤ (networkBound c d -ℤ owed c d)
+slack c d p = pos (partsInOne * p .den - p .share) *ℤ (networkBound c d -ℤ branchTotal c d) +ℤ pos (p .share) *ℤ (networkBound c d -ℤ linkTotal c d)
 
 -- the last step, in plain variables
 sums-up : (s w r x y g o m os bs ls : ℤ) (e a k : ℕ) → k + a ≡ partsInOne * e → r ≡ x +ℤ y
@@ -64,12 +64,12 @@ module _ (c : Case) (ok : Placed c) (d : Prices) (p : Plan) (cl : Clearing c p) 
       rw (branches-are c ok d p cl, ← sum-scale-l (c .branches) (λ m. branchValue c d m) (pos (partsInOne * p .den - p .share)))
       (sum-sub (c .branches) _ _)
 
-  links-sum : sumTo (c .links) (λ l. linkShort c d p l) ≡ pos (p .share) *ℤ owed c d -ℤ pos partsInOne *ℤ over-links c ok d p cl
-  unfolding linkShort owed over-links
+  links-sum : sumTo (c .links) (λ l. linkShort c d p l) ≡ pos (p .share) *ℤ linkTotal c d -ℤ pos partsInOne *ℤ over-links c ok d p cl
+  unfolding linkShort linkTotal over-links
   links-sum =
       rw (
         ← sum-scale-l (c .links) (λ l. pos (p .flow l) *ℤ (spread c d l)) (pos partsInOne),
-        ← sum-scale-l (c .links) (λ l. linkOwed c d l) (pos (p .share)),
+        ← sum-scale-l (c .links) (λ l. linkValue c d l) (pos (p .share)),
       )
       (sum-sub (c .links) _ _)
 
@@ -77,7 +77,7 @@ module _ (c : Case) (ok : Placed c) (d : Prices) (p : Plan) (cl : Clearing c p) 
   pub gap-is : pos partsInOne *ℤ (pos (p .den) *ℤ bound c d -ℤ welfare c p)
       ≡ pos partsInOne *ℤ (sumTo (c .orders) (λ i. orderShort c d p i) +ℤ sumTo (c .branches) (λ m. branchShort c d p m)) +ℤ sumTo (c .links) (λ l. linkShort c d p l) +ℤ slack c d p
   unfolding bound slack branchTotal in-cents
-  gap-is = sums-up (surplus c d) (welfare c p) (rent c p d) (over-branches c ok d p cl) (over-links c ok d p cl) (in-cents c ok d p cl) (owed c d) (networkBound c d)
+  gap-is = sums-up (surplus c d) (welfare c p) (rent c p d) (over-branches c ok d p cl) (over-links c ok d p cl) (in-cents c ok d p cl) (linkTotal c d) (networkBound c d)
       (sumTo (c .orders) (λ i. orderShort c d p i)) (sumTo (c .branches) (λ m. branchShort c d p m)) (sumTo (c .links) (λ l. linkShort c d p l))
       (p .den) (p .share) (partsInOne * p .den - p .share) (omega (arith, cl .share-in)) (rent-split c ok d p cl) orders-sum branches-sum links-sum
 
@@ -87,7 +87,7 @@ module _ (c : Case) (ok : Placed c) (d : Prices) (p : Plan) (cl : Clearing c p) 
   order-short i h = diff-nonneg (order-le (buys c i) (p .volume i) (c .quantity i) (p .den) (c .price i) (zonePrice c d (c .zone i)) (cl .volume-in i h))
 
   pub link-short : (l : ℕ) → l < c .links → pos 0 ≤ℤ linkShort c d p l
-  unfolding linkShort linkOwed linkUse linkRoom
+  unfolding linkShort linkValue linkUse linkRoom
   link-short l h = diff-nonneg (link-le (p .flow l) (c .capacity l) (p .share) (spread c d l) (cl .link l h))
 
   pub branch-short : (m : ℕ) → m < c .branches → pos 0 ≤ℤ branchShort c d p m
@@ -100,8 +100,8 @@ module _ (c : Case) (ok : Placed c) (d : Prices) (p : Plan) (cl : Clearing c p) 
   pub slack-short : pos 0 ≤ℤ slack c d p
   unfolding slack networkBound
   slack-short = add-nonneg
-      (times-nonneg (partsInOne * p .den - p .share) (diff-nonneg (larger-left (branchTotal c d) (owed c d))))
-      (times-nonneg (p .share) (diff-nonneg (larger-right (branchTotal c d) (owed c d))))
+      (times-nonneg (partsInOne * p .den - p .share) (diff-nonneg (larger-left (branchTotal c d) (linkTotal c d))))
+      (times-nonneg (p .share) (diff-nonneg (larger-right (branchTotal c d) (linkTotal c d))))
 
   -- so at a gap of zero no link falls short
   pub link-exact : pos (p .den) *ℤ bound c d ≡ welfare c p → (l : ℕ) → l < c .links → linkShort c d p l ≡ pos 0

@@ -9,9 +9,9 @@ use lib.IntN.{ℤ, pos, _+ℤ_, _-ℤ_, _*ℤ_}
 use lib.Signed.{_≤ℤ_}
 use Rattle.integers.specs.Difference.{up, dn, at, _⊕_, _⊖_, _⊗_, le-by, le-fact, eq-fact}
 use Rattle.measures.specs.Meaning.Limits.{microcentsOf}
-use Rattle.rules.specs.Meaning.Hour.{Plan, caseOf, planOf, pricesOf, welfare, owed, bound, gap, rent}
+use Rattle.rules.specs.Meaning.Hour.{Plan, Prices, caseOf, planOf, pricesOf, welfare, linkTotal, owed, bound, gap, rent}
 use Rattle.rules.specs.Meaning.Clearing.{Clearing}
-use Rattle.rules.specs.Meaning.Verdict.{outcome}
+use Rattle.rules.specs.Meaning.Verdict.{outcome, Readable}
 use Rattle.rules.specs.Meaning.Report.{reports, bufferAfter}
 use Rattle.rules.specs.Meaning.Promise.{Allowed, Accurate, GapWithin, Covered, Best, CoveredInFull}
 use Rattle.rules.specs.Steps.Duality
@@ -48,11 +48,23 @@ gap-range s t room a = (
   within-tolerance s t room (a .answer),
 )
 
--- the rent covers what is owed, up to the gap
+-- the rent covers the link total, that of the capacities, up to the gap
+pub links-covered : (s t : List ℕ) (room : ℕ) → Accepted s t room
+    → (linkTotal (caseOf s) (pricesOf s t) -ℤ gap (caseOf s) (planOf s t) (pricesOf s t)) ≤ℤ rent (caseOf s) (planOf s t) (pricesOf s t)
+unfolding planOf
+links-covered s t room a = Duality.links-covered (caseOf s) ((case-sound s ((accepted-sound s t room a) .readable)) .placed) (pricesOf s t) (planOf s t) (allowed s t room a) refl
+
+-- of a readable case no more is owed, on the contracted volumes, than the link total (S-4)
+pub owed-within : (s : List ℕ) → Readable s → (d : Prices) → owed (caseOf s) d ≤ℤ linkTotal (caseOf s) d
+owed-within s r d = Duality.owed-le (caseOf s) ((case-sound s r) .contracted-in) d
+
+-- so the rent covers what is owed, up to the gap
 pub coverage : (s t : List ℕ) (room : ℕ) → Accepted s t room
     → (owed (caseOf s) (pricesOf s t) -ℤ gap (caseOf s) (planOf s t) (pricesOf s t)) ≤ℤ rent (caseOf s) (planOf s t) (pricesOf s t)
 unfolding planOf
-coverage s t room a = Duality.coverage (caseOf s) ((case-sound s ((accepted-sound s t room a) .readable)) .placed) (pricesOf s t) (planOf s t) (allowed s t room a) refl
+coverage s t room a =
+    let ok = case-sound s ((accepted-sound s t room a) .readable) in
+    Duality.coverage (caseOf s) (ok .placed) (ok .contracted-in) (pricesOf s t) (planOf s t) (allowed s t room a) refl
 
 -- at a gap of zero the proposal's welfare is the highest of all clearings
 pub best-at-zero-gap : (s t : List ℕ) (room : ℕ) → Accepted s t room → gap (caseOf s) (planOf s t) (pricesOf s t) ≡ pos 0

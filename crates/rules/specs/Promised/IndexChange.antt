@@ -17,7 +17,7 @@ use Rattle.rows.specs.Meaning.Rows.{Row, verdict, firstBelow, anyBelow, rowElse
 use Rattle.rules.specs.Meaning.Verdict.{over, unknown, badRow, branchFault, repeated, linkFault, rowFault, orderFault, roomRows, caseRows, proposalRows, clearingRows, table, outcome, branchField, shadowAbove}
 use Rattle.rows.specs.Promised.RowLaws.{before, behind}
 
--- THE TABLE BEFORE: rows 6, 7, 8 and 14 named the branch, the link and the order
+-- THE TABLE BEFORE, with S-4's contracted volumes among what a link is refused for: rows 6, 7, 8 and 14 named the branch, the link and the order
 unfoldable pub badBranch : Case → ℕ → Bool
 badBranch c m = outside limits.margin (c .ram m) || anyBelow (c .zones) (λ z. outside limits.ptdf (c .ptdf m z))
 
@@ -26,6 +26,7 @@ badLink c l = unknown (c .zones) (c .from l)
     || unknown (c .zones) (c .to l)
     || eqb (c .from l) (c .to l)
     || outside limits.capacity (pos (c .capacity l))
+    || over (c .capacity l) (c .contracted l)
     || repeated c l
 
 unfoldable pub badOrder : Case → ℕ → Bool
@@ -109,20 +110,22 @@ branch-fails : (c : Case) (m : ℕ) → anyBelow (1 + c .zones) (branchFault c m
 unfolding branchFault badBranch
 branch-fails c m = ap (λ (n : ℕ). anyBelow n (branchFault c m)) (one-more (c .zones)) ∙ first-apart (c .zones) (branchFault c m)
 
-link-tests : (a b e q r : Bool) → ((a || r) || (b || e)) || q ≡ a || b || e || q || r
-link-tests true b e q r = refl
-link-tests false true e q true = refl
-link-tests false true e q false = refl
-link-tests false false true q true = refl
-link-tests false false true q false = refl
-link-tests false false false true true = refl
-link-tests false false false true false = refl
-link-tests false false false false true = refl
-link-tests false false false false false = refl
+link-tests : (a b e q v r : Bool) → (((a || r) || (b || e)) || q) || v ≡ a || b || e || q || v || r
+link-tests true b e q v r = refl
+link-tests false true e q v true = refl
+link-tests false true e q v false = refl
+link-tests false false true q v true = refl
+link-tests false false true q v false = refl
+link-tests false false false true v true = refl
+link-tests false false false true v false = refl
+link-tests false false false false true true = refl
+link-tests false false false false true false = refl
+link-tests false false false false false true = refl
+link-tests false false false false false false = refl
 
 link-fails : (c : Case) (l : ℕ) → anyBelow linkFields (linkFault c l) ≡ badLink c l
 unfolding anyBelow linkFault badLink
-link-fails c l = link-tests (unknown (c .zones) (c .from l)) (unknown (c .zones) (c .to l)) (eqb (c .from l) (c .to l)) (outside limits.capacity (pos (c .capacity l))) (repeated c l)
+link-fails c l = link-tests (unknown (c .zones) (c .from l)) (unknown (c .zones) (c .to l)) (eqb (c .from l) (c .to l)) (outside limits.capacity (pos (c .capacity l))) (over (c .capacity l) (c .contracted l)) (repeated c l)
 
 order-fails : (c : Case) (i : ℕ) → anyBelow orderFields (orderFault c i) ≡ badOrder c i
 unfolding anyBelow orderFault rowFault badOrder

@@ -1,6 +1,6 @@
 -- READABLE IN PLAIN FACTS, both ways: a case is readable if and only if its lengths, ranges and links are these, and a proposal passes 9 to 14 for it if and
 -- only if its are. A link's reverse pair is free: nothing here forbids it. Assumes nothing.
-use mathlib.Core.Path.{_≡_}
+use mathlib.Core.Path.{_≡_, refl}
 use mathlib.Core.Logic.{_≢_}
 use mathlib.Core.Bool.{Bool, true, false, not, _&&_}
 use mathlib.Core.List.{List}
@@ -10,20 +10,21 @@ use native.Mathlib.Omega.{arith}
 use lib.ListN.{length}
 use lib.Dec.{T, eqb, leb, ltb, eqb→eq, eqb-refl, leb→le, ltb→lt, nltb→le, T-not, not-T}
 use lib.IntN.{pos}
-use Rattle.integers.specs.Ranges.{Within, inside, nat-within, nat-inside, nor-right, nor-both, and-both, and-left, and-right, is-false}
+use Rattle.integers.specs.Ranges.{Within, inside, nat-within, nat-inside, nor-right, nor-both, and-both, and-left, and-right, is-true, is-false}
 use Rattle.measures.specs.Meaning.Limits as limits
-use Rattle.rules.specs.Meaning.Layout.{u8At, caseVersion, zonesIn, branchesIn, linksIn, ordersIn, toleranceIn, ramIn, ptdfIn, fromIn, toIn, capacityIn, zoneIn, sideIn, quantityIn, priceIn, caseLength, proposalVersion, shareIn, shadowIn, proposalLength, linkFields, orderFields}
+use Rattle.rules.specs.Meaning.Layout.{u8At, caseVersion, zonesIn, branchesIn, linksIn, ordersIn, toleranceIn, ramIn, ptdfIn, fromIn, toIn, capacityIn, contractedIn, zoneIn, sideIn, quantityIn, priceIn, caseLength, proposalVersion, shareIn, shadowIn, proposalLength, linkFields, orderFields}
 use Rattle.rules.specs.Meaning.Hour.{caseOf, planOf, pricesOf}
 use Rattle.rows.specs.Meaning.Rows.{anyBelow, Pass}
 use Rattle.rows.specs.Promised.RowLaws.{any-none, no-place, rowNumbered, number-passes, Comes, past, none-left}
-use Rattle.rules.specs.Meaning.Verdict.{unknown, notMark, branchFault, repeated, linkFault, rowFault, orderFault, caseRows, proposalRows, Readable, caseRefusal, proposalRefusal}
+use Rattle.rules.specs.Meaning.Verdict.{differ, unknown, notMark, branchFault, repeated, linkFault, rowFault, orderFault, caseRows, proposalRows, Readable, caseRefusal, proposalRefusal}
 use Rattle.rules.specs.Steps.Passed.{not-not, case-sound, case-length, case-pairs, proposal-sound, proposal-length}
 
 pub record CaseFacts (s : List ℕ) : Type 0 where
   pub header-there : 14 ≤ length s
   -- LTC
   pub mark-is : (u8At s 0 ≡ 76) × ((u8At s 1 ≡ 84) × (u8At s 2 ≡ 67))
-  pub version-is : caseVersion s ≡ 1
+  -- 1 or 2 (S-4)
+  pub version-in : (1 ≤ caseVersion s) × (caseVersion s ≤ 2)
   pub zones-in : (1 ≤ zonesIn s) × (zonesIn s ≤ 16)
   pub branches-in : branchesIn s ≤ 64
   pub links-in : linksIn s ≤ 64
@@ -36,6 +37,7 @@ pub record CaseFacts (s : List ℕ) : Type 0 where
   pub to-in : (l : ℕ) → l < linksIn s → toIn s l < zonesIn s
   pub zones-differ : (l : ℕ) → l < linksIn s → fromIn s l ≢ toIn s l
   pub capacity-in : (l : ℕ) → l < linksIn s → capacityIn s l ≤ 100000
+  pub contracted-in : (l : ℕ) → l < linksIn s → contractedIn s l ≤ capacityIn s l
   pub pair-once : (k l : ℕ) → k < l → l < linksIn s → fromIn s k ≡ fromIn s l → toIn s k ≢ toIn s l
   pub zone-in : (i : ℕ) → i < ordersIn s → zoneIn s i < zonesIn s
   pub side-in : (i : ℕ) → i < ordersIn s → sideIn s i ≤ 1
@@ -86,6 +88,21 @@ mark-passes a b e s h = yes-not-not (eqb (u8At s 0) a && eqb (u8At s 1) b && eqb
     (and-both (eqb (u8At s 0) a && eqb (u8At s 1) b) (eqb (u8At s 2) e)
     (and-both (eqb (u8At s 0) a) (eqb (u8At s 1) b) (eq-eqb (u8At s 0) a (h .0)) (eq-eqb (u8At s 1) b (h .1 .0))) (eq-eqb (u8At s 2) e (h .1 .1)))
 
+-- a case version (S-4)
+one-or-two : (v : ℕ) → T (not (differ v 1 && differ v 2)) → (1 ≤ v) × (v ≤ 2)
+one-or-two v t = by (eqb v 1) (eqb v 2) refl refl t
+  where
+    by : (a b : Bool) → eqb v 1 ≡ a → eqb v 2 ≡ b → T (not (not a && not b)) → (1 ≤ v) × (v ≤ 2)
+    by true b p q t = let e = eqb→eq v 1 (is-true p) in (omega (arith, e), omega (arith, e))
+    by false true p q t = let e = eqb→eq v 2 (is-true q) in (omega (arith, e), omega (arith, e))
+    by false false p q t = absurd t
+
+version-passes : (v : ℕ) → (1 ≤ v) × (v ≤ 2) → T (not (differ v 1 && differ v 2))
+version-passes zero h = absurd (omega (arith, h .0))
+version-passes (suc zero) h = tt
+version-passes (suc (suc zero)) h = tt
+version-passes (suc (suc (suc v))) h = absurd (omega (arith, h .1))
+
 -- A CASE
 pub case-facts : (s : List ℕ) → Readable s → CaseFacts s
 unfolding caseRefusal caseRows rowNumbered caseOf linkFault
@@ -94,7 +111,7 @@ case-facts s r =
     record {
       header-there = nltb→le (length s) 14 ((row 1) .pass 0 (omega arith));
       mark-is = marked 76 84 67 s ((row 2) .pass 0 (omega arith));
-      version-is = eqb→eq (caseVersion s) 1 (not-not (eqb (caseVersion s) 1) ((row 3) .pass 0 (omega arith)));
+      version-in = one-or-two (caseVersion s) ((row 3) .pass 0 (omega arith));
       zones-in = ok .zones-in;
       branches-in = ok .branches-in;
       links-in = ok .links-in;
@@ -107,6 +124,7 @@ case-facts s r =
       to-in = ok .placed .to-in;
       zones-differ = λ l h e. T-not (eqb (fromIn s l) (toIn s l)) (nor-right (unknown (zonesIn s) (toIn s l)) _ (no-place linkFields (linkFault (caseOf s) l) ((row 7) .pass l h) 1 (omega arith))) (eq-eqb (fromIn s l) (toIn s l) e);
       capacity-in = ok .capacity-in;
+      contracted-in = ok .contracted-in;
       pair-once = λ k l h i e f. differ k l h ((case-pairs s r) .once k l (omega (arith, h, i)) i e f);
       zone-in = ok .placed .zone-in;
       side-in = ok .side-in;
@@ -137,7 +155,8 @@ module _ (s : List ℕ) (f : CaseFacts s) where
       (eqb→eq (fromIn s i) (fromIn s l) (and-left (eqb (fromIn s i) (fromIn s l)) (eqb (toIn s i) (toIn s l)) t)) (eqb→eq (toIn s i) (toIn s l) (and-right (eqb (fromIn s i) (fromIn s l)) (eqb (toIn s i) (toIn s l)) t)))))
   link-passes l h (suc zero) k = nor-both (unknown (zonesIn s) (toIn s l)) (eqb (fromIn s l) (toIn s l)) (lt-nleb (zonesIn s) (toIn s l) (f .to-in l h))
       (not-T (eqb (fromIn s l) (toIn s l)) (λ t. f .zones-differ l h (eqb→eq (fromIn s l) (toIn s l) t)))
-  link-passes l h (suc (suc n)) k = nat-inside 0 100000 (capacityIn s l) (omega arith) (f .capacity-in l h)
+  link-passes l h (suc (suc zero)) k = nat-inside 0 100000 (capacityIn s l) (omega arith) (f .capacity-in l h)
+  link-passes l h (suc (suc (suc n))) k = le-nltb (capacityIn s l) (contractedIn s l) (f .contracted-in l h)
 
   order-passes : (i : ℕ) → i < ordersIn s → (n : ℕ) → n < orderFields → T (not (orderFault (caseOf s) i n))
   unfolding orderFault rowFault caseOf
@@ -153,7 +172,7 @@ module _ (s : List ℕ) (f : CaseFacts s) where
         let rows : Comes (caseRows s (caseOf s)) none =
         past (record { pass = λ k h. le-nltb (length s) 14 (f .header-there) })
         (past (record { pass = λ k h. mark-passes 76 84 67 s (f .mark-is) })
-        (past (record { pass = λ k h. yes-not-not (eqb (caseVersion s) 1) (eq-eqb (caseVersion s) 1 (f .version-is)) })
+        (past (record { pass = λ k h. version-passes (caseVersion s) (f .version-in) })
         (past (record { pass = λ k h. nat-inside 1 16 (zonesIn s) ((f .zones-in) .0) ((f .zones-in) .1) })
         (past (record { pass = λ k h. nat-inside 0 64 (branchesIn s) (omega arith) (f .branches-in) })
         (past (record { pass = λ k h. nat-inside 0 64 (linksIn s) (omega arith) (f .links-in) })

@@ -1,20 +1,20 @@
 -- What a refusal by 6, 7, 8 or 14 names (S-2): the offset at which a field of its part stands, within the file; that field is at fault, and no field of the
 -- part that stands before it in the file is. What each field's test is of stands at its offset. Assumes nothing.
 use mathlib.Core.Path.{_≡_, refl, sym, ap, _∙_, subst}
-use mathlib.Core.Bool.{Bool, true, false, not, _&&_, _||_}
+use mathlib.Core.Bool.{Bool, true, false, not, cond, _&&_, _||_}
 use mathlib.Core.List.{List, _∷_}
 use mathlib.Core.Option.{Option, none, some}
 use Prim.Native.Nat.{ℕ, zero, suc, _+_, _*_, _-_, _≤_, _<_}
 use native.Mathlib.Nat.{suc-mul}
 use native.Mathlib.Decide.{decLt}
 use native.Mathlib.Omega.{arith}
-use borrow.Author.Tests.{lt-leb}
-use lib.Dec.{T, eqb, eqb→eq, eqb-refl, T-not}
+use borrow.Author.Tests.{lt-leb, le-ltb}
+use lib.Dec.{T, eqb, eqb→eq, eqb-refl, ltb→lt, T-not}
 use lib.ListN.{length}
 use lib.IntN.{pos}
 use Rattle.integers.specs.Ranges.{outside, is-true, is-false, and-both, and-left, and-right, or-right}
 use Rattle.measures.specs.Meaning.Limits as limits
-use Rattle.rules.specs.Meaning.Layout.{zonesIn, branchesIn, linksIn, ordersIn, branchSize, branchAt, branchFieldAt, linkAt, linkFields, linkFieldAt, linkFieldSize, fromIn, toIn, orderAt, orderFields, orderFieldAt, orderFieldSize, shadowAt, caseLength, proposalLength, u8At, u32At, i32At, ramIn, ptdfIn, capacityIn, zoneIn, sideIn, quantityIn, priceIn}
+use Rattle.rules.specs.Meaning.Layout.{zonesIn, branchesIn, linksIn, ordersIn, branchSize, branchAt, branchFieldAt, linkAt, linkFields, linkFieldAt, linkFieldSize, contracts, contractedSize, caseVersion, fromIn, toIn, orderAt, orderFields, orderFieldAt, orderFieldSize, shadowAt, caseLength, proposalLength, u8At, u32At, i32At, ramIn, ptdfIn, capacityIn, contractedIn, zoneIn, sideIn, quantityIn, priceIn}
 use Rattle.rules.specs.Meaning.Hour.{caseOf, planOf, pricesOf}
 use Rattle.rows.specs.declared.Outcome.{Outcome}
 use Rattle.rows.specs.Meaning.Rows.{Row, verdict, anyBelow, placeElse, firstField, refusal}
@@ -124,7 +124,7 @@ abbrev pub branchPart : List ℕ → Part
 branchPart s = record { rows = branchesIn s; fields = 1 + zonesIn s; offset = branchFieldAt s; width = λ n. 4; fault = branchFault (caseOf s) }
 
 abbrev pub linkPart : List ℕ → Part
-linkPart s = record { rows = linksIn s; fields = linkFields; offset = linkFieldAt s; width = linkFieldSize; fault = linkFault (caseOf s) }
+linkPart s = record { rows = linksIn s; fields = linkFields; offset = linkFieldAt s; width = linkFieldSize (caseVersion s); fault = linkFault (caseOf s) }
 
 abbrev pub orderPart : List ℕ → Part
 orderPart s = record { rows = ordersIn s; fields = orderFields; offset = orderFieldAt s; width = orderFieldSize; fault = orderFault (caseOf s) }
@@ -151,15 +151,17 @@ module _ (s : List ℕ) where
   unfolding linkAt caseLength
   links-adjacent = record { some-field = omega arith; next-field = next; next-row = over; last-ends = omega arith }
     where
-      next : (l j : ℕ) → suc j < linkFields → linkFieldAt s l (suc j) ≡ linkFieldAt s l j + linkFieldSize j
+      next : (l j : ℕ) → suc j < linkFields → linkFieldAt s l (suc j) ≡ linkFieldAt s l j + linkFieldSize (caseVersion s) j
       next l zero h = refl
       next l (suc zero) h = omega arith
-      next l (suc (suc j)) h = absurd (omega arith)
+      next l (suc (suc zero)) h = omega arith
+      next l (suc (suc (suc j))) h = absurd (omega arith)
 
-      over : (l j : ℕ) → suc j ≡ linkFields → linkAt s (suc l) ≡ linkFieldAt s l j + linkFieldSize j
+      over : (l j : ℕ) → suc j ≡ linkFields → linkAt s (suc l) ≡ linkFieldAt s l j + linkFieldSize (caseVersion s) j
       over l zero h = absurd (omega arith)
       over l (suc zero) h = absurd (omega arith)
-      over l (suc (suc j)) h = omega arith
+      over l (suc (suc zero)) h = absurd (omega arith)
+      over l (suc (suc (suc j))) h = omega arith
 
   pub orders-adjacent : Adjacent (orderPart s) (caseLength s)
   unfolding orderAt caseLength
@@ -270,6 +272,23 @@ module _ (s : List ℕ) (l : ℕ) (rows-before : refusal (before 7 (caseRows s (
       first-passes i z = subst (λ (i : ℕ). T (not (linkFault (caseOf s) l i))) (sym z)
           (is-false (λ j. lt-leb (zonesIn s) (fromIn s l) known j || any-none l (λ k. eqb (fromIn s k) (fromIn s l) && eqb (toIn s k) (toIn s l)) (λ k h. no-earlier k h _ refl) j))
 
+-- S-4: A CONTRACTED VOLUME IS NAMED in a case of version 2 alone, where it has bytes of its own; with it the fields before it are all right
+contracted-apart : (s : List ℕ) (l : ℕ) (b : Bool) → contracts (caseVersion s) ≡ b → T (linkFault (caseOf s) l 3) → T b
+unfolding linkFault caseOf contractedIn
+contracted-apart s l true q t = tt
+contracted-apart s l false q t = absurd (T-not (over (capacityIn s l) (capacityIn s l)) (is-false (le-ltb (capacityIn s l) (capacityIn s l) (omega arith)))
+    (subst (λ (b : Bool). T (over (capacityIn s l) (cond b (u32At s (linkFieldAt s l 3)) (capacityIn s l)))) q t))
+
+pub contracted-named : (s : List ℕ) (l : ℕ) → T (linkFault (caseOf s) l 3) → (caseVersion s ≡ 2) × (capacityIn s l < u32At s (linkFieldAt s l 3))
+unfolding linkFault caseOf contractedIn contracts
+contracted-named s l t =
+    let v = contracted-apart s l (contracts (caseVersion s)) refl t in
+    (eqb→eq (caseVersion s) 2 v, ltb→lt (capacityIn s l) (u32At s (linkFieldAt s l 3)) (subst (λ (b : Bool). T (over (capacityIn s l) (cond b (u32At s (linkFieldAt s l 3)) (capacityIn s l)))) (true-is (contracts (caseVersion s)) v) t))
+  where
+    true-is : (b : Bool) → T b → b ≡ true
+    true-is true t = refl
+    true-is false t = absurd t
+
 -- WHAT EACH FIELD'S TEST IS OF: the value that stands at the field's own offset
 module _ (s : List ℕ) where
   pub margin-tested : (m : ℕ) → branchFault (caseOf s) m 0 ≡ outside limits.margin (i32At s (branchFieldAt s m 0))
@@ -291,6 +310,10 @@ module _ (s : List ℕ) where
   pub capacity-tested : (l : ℕ) → linkFault (caseOf s) l 2 ≡ outside limits.capacity (pos (u32At s (linkFieldAt s l 2)))
   unfolding linkFault caseOf capacityIn
   capacity-tested l = refl
+
+  pub contracted-tested : (l : ℕ) → caseVersion s ≡ 2 → linkFault (caseOf s) l 3 ≡ over (u32At s (linkFieldAt s l 2)) (u32At s (linkFieldAt s l 3))
+  unfolding linkFault caseOf capacityIn contractedIn contracts
+  contracted-tested l e = ap (λ (v : ℕ). over (u32At s (linkFieldAt s l 2)) (cond (eqb v 2) (u32At s (linkFieldAt s l 3)) (u32At s (linkFieldAt s l 2)))) e
 
   pub zone-tested : (i : ℕ) → orderFault (caseOf s) i 0 ≡ unknown (zonesIn s) (u8At s (orderFieldAt s i 0))
   unfolding orderFault rowFault caseOf zoneIn

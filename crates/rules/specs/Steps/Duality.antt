@@ -1,4 +1,4 @@
--- Weak duality of the clearing: no clearing's welfare passes the bound (accuracy), and the rent covers what is owed up to the gap (coverage). Assumes nothing.
+-- Weak duality of the clearing: no clearing's welfare passes the bound (accuracy), and the rent covers the link total, and so what is owed, up to the gap (coverage). Assumes nothing.
 use mathlib.Core.Path.{_≡_, sym, ap, _∙_}
 use mathlib.Core.Bool.{Bool, true, false}
 use Prim.Native.Nat.{ℕ, _+_, _*_, _-_, _≤_, _<_}
@@ -11,7 +11,7 @@ use Rattle.integers.specs.Difference.{up, dn, at, _⊕_, _⊖_, _⊗_, ⊝_, le
 use Rattle.integers.specs.Order.{positive, larger-left, larger-right, scaled}
 use Rattle.integers.specs.Sums.{sumTo, only, sum-ext, sum-le, sum-zero, sum-add, sum-sub, sum-scale, sum-scale-l, gather, sum-weights}
 use Rattle.measures.specs.Meaning.Limits.{partsInOne}
-use Rattle.rules.specs.Meaning.Hour.{Case, Plan, Prices, signed, buys, above, orderNet, net, inflow, outflow, ltaPart, fbPart, netSum, linkUse, linkRoom, branchUse, branchRoom, branchPrice, zonePrice, orderWelfare, welfare, surplusOf, orderSurplus, surplus, branchValue, branchTotal, spread, linkOwed, owed, networkBound, bound, gap, rent}
+use Rattle.rules.specs.Meaning.Hour.{Case, Plan, Prices, signed, buys, above, orderNet, net, inflow, outflow, ltaPart, fbPart, netSum, linkUse, linkRoom, branchUse, branchRoom, branchPrice, zonePrice, orderWelfare, welfare, surplusOf, orderSurplus, surplus, branchValue, branchTotal, spread, linkValue, linkTotal, linkOwed, owed, networkBound, bound, gap, rent}
 use Rattle.rules.specs.Meaning.Clearing.{Clearing}
 
 -- every zone that a link or an order names is a zone of the case
@@ -51,7 +51,7 @@ link-le f k a (pos n) h = le-by (at (pos partsInOne) ⊗ (at (pos f) ⊗ at (pos
 link-le f k a (negsuc n) h = le-by (at (pos partsInOne) ⊗ (at (pos f) ⊗ at (negsuc n))) (at (pos a) ⊗ (at (pos k) ⊗ at (positive (negsuc n))))
     (omega (arith, mul-le-mul-left (a * k) (le-fact (at (pos 0)) (at (positive (negsuc n))) (larger-left (pos 0) (negsuc n)))))
 
--- the last step: r is the rent, split in what the branches and the links bound; g is the branches' total in cents, o what is owed, m the larger
+-- the last step: r is the rent, split in what the branches and the links bound; g is the branches' total in cents, o the links', m the larger
 weighed : (r x y g o m : ℤ) (e a k : ℕ) → k + a ≡ partsInOne * e → r ≡ x +ℤ y
     → x ≤ℤ (pos k *ℤ g) → (pos partsInOne *ℤ y) ≤ℤ (pos a *ℤ o) → (pos partsInOne *ℤ g) ≤ℤ m → o ≤ℤ m → r ≤ℤ (pos e *ℤ m)
 weighed r x y g o m e a k hk hr hx hy hg ho =
@@ -123,8 +123,8 @@ module _ (c : Case) (ok : Placed c) (d : Prices) (p : Plan) (cl : Clearing c p) 
       ∙ sum-add (c .zones) (λ z. fbPart c p z *ℤ zonePrice c d z) (λ z. ltaPart c p z *ℤ zonePrice c d z)
       ∙ (cc (lta-weighed (zonePrice c d)))
 
-  pub links-le : (pos partsInOne *ℤ over-links) ≤ℤ (pos (p .share) *ℤ owed c d)
-  unfolding over-links owed linkOwed linkUse linkRoom
+  pub links-le : (pos partsInOne *ℤ over-links) ≤ℤ (pos (p .share) *ℤ linkTotal c d)
+  unfolding over-links linkTotal linkValue linkUse linkRoom
   links-le =
       rw (
         ← sum-scale-l (c .links) (λ l. pos (p .flow l) *ℤ (spread c d l)) (pos partsInOne),
@@ -174,8 +174,8 @@ module _ (c : Case) (ok : Placed c) (d : Prices) (p : Plan) (cl : Clearing c p) 
 
   pub rent-le : rent c p d ≤ℤ (pos (p .den) *ℤ networkBound c d)
   unfolding branchTotal in-cents networkBound
-  rent-le = weighed (rent c p d) over-branches over-links in-cents (owed c d) (networkBound c d) (p .den) (p .share) (partsInOne * p .den - p .share)
-      (omega (arith, cl .share-in)) rent-split branches-le links-le (larger-left (branchTotal c d) (owed c d)) (larger-right (branchTotal c d) (owed c d))
+  rent-le = weighed (rent c p d) over-branches over-links in-cents (linkTotal c d) (networkBound c d) (p .den) (p .share) (partsInOne * p .den - p .share)
+      (omega (arith, cl .share-in)) rent-split branches-le links-le (larger-left (branchTotal c d) (linkTotal c d)) (larger-right (branchTotal c d) (linkTotal c d))
 
   -- ACCURACY: no clearing's welfare is above the bound
   pub welfare-bound : welfare c p ≤ℤ (pos (p .den) *ℤ bound c d)
@@ -194,10 +194,10 @@ pub accuracy : (c : Case) → Placed c → (d : Prices) (q p : Plan) → Clearin
 unfolding gap
 accuracy c ok d q p cl = rw (eq-by (at (welfare c q) ⊕ (at (bound c d) ⊖ at (welfare c q))) (at (bound c d)) (omega arith)) (welfare-bound c ok d p cl)
 
--- COVERAGE: the rent of an accepted hour is at least what is owed, less the gap
-pub coverage : (c : Case) → Placed c → (d : Prices) (q : Plan) → Clearing c q → q .den ≡ 1 → (owed c d -ℤ gap c q d) ≤ℤ rent c q d
+-- COVERAGE: the rent of a clearing over denominator 1 is at least the link total, less the gap
+pub links-covered : (c : Case) → Placed c → (d : Prices) (q : Plan) → Clearing c q → q .den ≡ 1 → (linkTotal c d -ℤ gap c q d) ≤ℤ rent c q d
 unfolding gap bound networkBound
-coverage c ok d q cl one = le-by (at oo ⊖ (at ss ⊕ at mm ⊖ at ww)) (at rr)
+links-covered c ok d q cl one = le-by (at oo ⊖ (at ss ⊕ at mm ⊖ at ww)) (at rr)
     (omega (
       arith,
       le-fact (at ww ⊖ at rr) (at (pos (q .den)) ⊗ at ss) (welfare-le c ok d q cl),
@@ -210,7 +210,7 @@ coverage c ok d q cl one = le-by (at oo ⊖ (at ss ⊕ at mm ⊖ at ww)) (at rr)
     ss = surplus c d
 
     oo : ℤ
-    oo = owed c d
+    oo = linkTotal c d
 
     mm : ℤ
     mm = networkBound c d
@@ -220,3 +220,18 @@ coverage c ok d q cl one = le-by (at oo ⊖ (at ss ⊕ at mm ⊖ at ww)) (at rr)
 
     rr : ℤ
     rr = rent c q d
+
+-- and so at least what is owed, where no contracted volume is above its capacity (S-4)
+pub owed-le : (c : Case) → ((l : ℕ) → l < c .links → c .contracted l ≤ c .capacity l) → (d : Prices) → owed c d ≤ℤ linkTotal c d
+unfolding owed linkOwed linkTotal linkValue
+owed-le c within d = sum-le (c .links) _ _ (λ l h. part-le (c .contracted l) (c .capacity l) (c .capacity l - c .contracted l) (positive (spread c d l)) (omega (arith, within l h)) (larger-left (pos 0) (spread c d l)))
+  where
+    part-le : (v k e : ℕ) (t : ℤ) → k ≡ v + e → pos 0 ≤ℤ t → (pos v *ℤ t) ≤ℤ (pos k *ℤ t)
+    part-le v k e t h n = le-by (at (pos v) ⊗ at t) (at (pos k) ⊗ at t)
+        (omega (arith, le-fact (at (pos e) ⊗ at (pos 0)) (at (pos e) ⊗ at t) (scaled e n), ap (λ (j : ℕ). j * up t) h, ap (λ (j : ℕ). j * dn t) h))
+
+pub coverage : (c : Case) → Placed c → ((l : ℕ) → l < c .links → c .contracted l ≤ c .capacity l) → (d : Prices) (q : Plan) → Clearing c q → q .den ≡ 1 → (owed c d -ℤ gap c q d) ≤ℤ rent c q d
+coverage c ok within d q cl one = less (owed c d) (linkTotal c d) (gap c q d) (rent c q d) (owed-le c within d) (links-covered c ok d q cl one)
+  where
+    less : (o k g r : ℤ) → o ≤ℤ k → (k -ℤ g) ≤ℤ r → (o -ℤ g) ≤ℤ r
+    less o k g r h i = le-by (at o ⊖ at g) (at r) (omega (arith, le-fact (at o) (at k) h, le-fact (at k ⊖ at g) (at r) i))

@@ -34,6 +34,7 @@ pub record CaseSound (c : Case) : Type 0 where
   pub ptdf-in : (m z : ℕ) → m < c .branches → z < c .zones → Within limits.ptdf (c .ptdf m z)
   pub placed : Placed c
   pub capacity-in : (l : ℕ) → l < c .links → c .capacity l ≤ 100000
+  pub contracted-in : (l : ℕ) → l < c .links → c .contracted l ≤ c .capacity l
   pub side-in : (i : ℕ) → i < c .orders → c .side i ≤ 1
   pub quantity-in : (i : ℕ) → i < c .orders → c .quantity i ≤ 100000
   pub quantity-within : (i : ℕ) → i < c .orders → Within limits.quantity (pos (c .quantity i))
@@ -97,6 +98,7 @@ module _ (s : List ℕ) (c : Case) (passed : refusal (caseRows s c) ≡ none) wh
       zone-in = λ i h. nleb→lt (c .zones) (c .zone i) (order-ok i 0 h (omega arith));
     };
     capacity-in = λ l h. (nat-within 0 100000 (c .capacity l) (link-ok l 2 h (omega arith))) .1;
+    contracted-in = λ l h. nltb→le (c .capacity l) (c .contracted l) (link-ok l 3 h (omega arith));
     side-in = λ i h. nltb→le 1 (c .side i) (order-ok i 1 h (omega arith));
     quantity-in = λ i h. (nat-within 1 100000 (c .quantity i) (order-ok i 2 h (omega arith))) .1;
     quantity-within = λ i h. within limits.quantity (pos (c .quantity i)) (order-ok i 2 h (omega arith));

@@ -1,10 +1,11 @@
 -- A readable case and an accepted hour in the Annex's own terms: the case's clearings are the solutions of (60) to (72); none of them does better than
--- reported welfare and gap together; the proposal is one; its prices are those of (73) to (80), and its rent and what is owed are the two sides of (81).
+-- reported welfare and gap together; the proposal is one; its prices are those of (73) to (80), its rent is the left side of (81), and what is owed is at
+-- most the right side (S-4), and covered with it.
 -- Assumes nothing.
 use mathlib.Core.Path.{_≡_, refl, sym, ap, subst, _∙_}
 use mathlib.Core.Bool.{Bool}
 use mathlib.Core.List.{List}
-use Prim.Native.Nat.{ℕ}
+use Prim.Native.Nat.{ℕ, _<_}
 use native.Mathlib.Omega.{arith}
 use lib.ListN.{length}
 use lib.Dec.{T}
@@ -13,7 +14,7 @@ use lib.Signed.{_≤ℤ_}
 use Rattle.integers.specs.Difference.{at, _⊖_, _⊗_, eq-by, eq-fact}
 use Rattle.integers.specs.Order.{scaled, positive, le-trans}
 use Rattle.integers.specs.Sums.{sum-ext}
-use Rattle.rules.specs.Meaning.Hour.{Case, Plan, caseOf, planOf, pricesOf, zonePrice, welfare, bound, gap}
+use Rattle.rules.specs.Meaning.Hour.{Case, Plan, Prices, caseOf, planOf, pricesOf, zonePrice, welfare, spread, linkValue, linkTotal, linkOwed, owed, bound, gap}
 use Rattle.rules.specs.Meaning.Clearing.{Clearing}
 use Rattle.rules.specs.Meaning.Annex.{Solution, Feasible, PairsOnce, Connected, everyPair, capacityLTA, congestionRent, liabilities}
 use Rattle.rules.specs.Meaning.AnnexPromise.{IsClearing, IsFeasible, AnnexDemand3, multipliersOf}
@@ -22,7 +23,7 @@ use Rattle.rules.specs.Meaning.Report.{Reported, reports, bufferAfter, r
 use Rattle.rules.specs.Steps.Duality.{Placed}
 use Rattle.rules.specs.Steps.Passed.{case-sound, case-pairs, sound}
 use Rattle.rules.specs.Promised.Reported.{reported}
-use Rattle.rules.specs.Promised.Guarantee.{Accepted, Demand3, demand-3}
+use Rattle.rules.specs.Promised.Guarantee.{Accepted, Demand3, demand-3, links-covered, owed-within}
 use Rattle.rules.specs.Promised.Annex.CommercialFlows.{every-pair-connected}
 use Rattle.rules.specs.Promised.Annex.Extended as extended
 use Rattle.rules.specs.Promised.Annex.AnnexPrices as prices
@@ -37,6 +38,11 @@ clearing-solves s r p cl line q = extended.complete (caseOf s) ((case-sound s r)
 -- a bound over a denominator, where what is bounded and the denominator are known by other names
 same-bound : (b : ℤ) {v w : ℤ} {d e : ℕ} → w ≡ v → e ≡ d → w ≤ℤ (pos e *ℤ b) → v ≤ℤ (pos d *ℤ b)
 same-bound b p q h = rw (← p, ← q) h
+
+-- where each contracted volume is its link's capacity, what is owed is the link total
+all-contracted : (c : Case) (d : Prices) → ((l : ℕ) → l < c .links → c .contracted l ≡ c .capacity l) → owed c d ≡ linkTotal c d
+unfolding owed linkOwed linkTotal linkValue
+all-contracted c d e = sum-ext (c .links) _ _ (λ l h. ap (λ (n : ℕ). pos n *ℤ positive (spread c d l)) (e l h))
 
 pub annex-demand-3 : (s t buffer : List ℕ) → Accepted s t (length buffer) → AnnexDemand3 s t (bufferAfter s t buffer)
 unfolding reports multipliersOf planOf gap congestionRent liabilities
@@ -54,8 +60,9 @@ annex-demand-3 s t buffer a = record {
       (prices.network-le c ok x nw (pricesOf s t)))
       (scaled (x .den) (prices.rent-earns c ok (pricesOf s t) (planOf s t) (demand .is-allowed) refl)));
   rent-is = rent-here;
-  liabilities-is = owed-here;
-  is-covered = rw (rent-here, owed-here) (demand .is-covered);
+  owed-within = rw (r .owed-at, right-side) (owed-within s readable (pricesOf s t));
+  owed-all = λ e. r .owed-at ∙ all-contracted c (pricesOf s t) e ∙ sym right-side;
+  is-covered = rw (rent-here, right-side, r .gap-at, r .rent-at) (links-covered s t (length buffer) a);
 }
   where
     no-gap : (w b : ℤ) → b -ℤ w ≡ pos 0 → pos 1 *ℤ b ≡ w
@@ -91,8 +98,7 @@ annex-demand-3 s t buffer a = record {
     rent-here : congestionRent c (proposal .solution) (reportedPrice (bufferAfter s t buffer)) ≡ reportedRent (bufferAfter s t buffer)
     rent-here = sum-ext (c .zones) _ _ (λ l h. ap (λ (z : ℤ). proposal .solution .netpos l *ℤ z) (r .price-at l h)) ∙ prices.rent-is c (planOf s t) (proposal .solution) (proposal .agree) (pricesOf s t) ∙ sym (r .rent-at)
 
-    owed-here : liabilities c (reportedPrice (bufferAfter s t buffer)) ≡ reportedOwed (bufferAfter s t buffer)
-    owed-here =
+    right-side : liabilities c (reportedPrice (bufferAfter s t buffer)) ≡ linkTotal c (pricesOf s t)
+    right-side =
         sum-ext (c .zones) _ _ (λ l h. sum-ext (c .zones) _ _ (λ k g. spreads (capacityLTA c l k) (r .price-at k g) (r .price-at l h)))
         ∙ prices.liabilities-are c ok (pricesOf s t)
-        ∙ sym (r .owed-at)

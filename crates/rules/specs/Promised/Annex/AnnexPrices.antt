@@ -12,7 +12,7 @@ use Rattle.integers.specs.Difference.{up, dn, at, _⊕_, _⊖_, _⊗_, le-by, e
 use Rattle.integers.specs.Order.{positive, cond-ind, diff-nonneg, mul-nonneg, larger-left, larger-right, le-trans, le-antisym}
 use Rattle.integers.specs.Sums.{sumTo, only, sum-ext, sum-le, sum-zero, sum-add, sum-sub, sum-scale, sum-scale-l, sum-swap, sum-only, only-both, only-swap, sum-weights}
 use Rattle.measures.specs.Meaning.Limits.{partsInOne}
-use Rattle.rules.specs.Meaning.Hour.{Case, Plan, Prices, zonePrice, branchPrice, welfare, surplus, branchValue, branchTotal, spread, linkOwed, owed, networkBound, bound, gap, rent}
+use Rattle.rules.specs.Meaning.Hour.{Case, Plan, Prices, zonePrice, branchPrice, welfare, surplus, branchValue, branchTotal, spread, linkValue, linkTotal, networkBound, bound, gap, rent}
 use Rattle.rules.specs.Meaning.Clearing.{Clearing}
 use Rattle.rules.specs.Meaning.Annex.{Solution, Network, Feasible, PairsOnce, AlongLines, Route, here, onward, Connected, Multipliers, PriceConditions, Complementary, joins, byPair, capacityLTA, netFlow, congestionRent, marginValue, capacityValue, liabilities}
 use Rattle.rules.specs.Meaning.AnnexPromise.{Same, Agree, multipliersOf}
@@ -76,7 +76,7 @@ pub rent-is : (c : Case) (p : Plan) (x : Solution) → Agree c p x → (d : Pric
 unfolding congestionRent rent
 rent-is c p x same d = sum-ext (c .zones) _ _ (λ l h. ap (λ (z : ℤ). z *ℤ zonePrice c d l) (sym (same .net-is l h)))
 
--- right side: rule 9's owed, over the links, is the Annex's sum over ordered pairs
+-- right side: the link total, over the links, is the Annex's sum over ordered pairs
 pairs-weighed : (c : Case) → Placed c → (f : ℕ → ℤ) (w : ℕ → ℕ → ℤ)
     → sumTo (c .zones) (λ l. sumTo (c .zones) (λ k. byPair c f l k *ℤ w l k)) ≡ sumTo (c .links) (λ j. f j *ℤ w (c .from j) (c .to j))
 unfolding byPair joins
@@ -92,14 +92,14 @@ pairs-weighed c ok f w =
     n : ℕ
     n = c .zones
 
-pub liabilities-are : (c : Case) → Placed c → (d : Prices) → liabilities c (zonePrice c d) ≡ owed c d
-unfolding liabilities capacityLTA owed linkOwed spread
+pub liabilities-are : (c : Case) → Placed c → (d : Prices) → liabilities c (zonePrice c d) ≡ linkTotal c d
+unfolding liabilities capacityLTA linkTotal linkValue spread
 liabilities-are c ok d = pairs-weighed c ok (λ j. pos (c .capacity j)) (λ l k. positive (zonePrice c d k -ℤ zonePrice c d l))
 
 -- (77): at a gap of zero no link with a flow has a negative spread
 pub complementary : (c : Case) (ok : Placed c) (o : PairsOnce c) (d : Prices) (p : Plan) (cl : Clearing c p) (x : Solution) → Same c p x → Feasible c x
     → pos (p .den) *ℤ bound c d ≡ welfare c p → Complementary c x (multipliersOf c d)
-unfolding multipliersOf linkShort linkOwed spread
+unfolding multipliersOf linkShort linkValue spread
 complementary c ok o d p cl x same fe no-gap = record {
   w-is = λ l k hl hk. extended.by-link c (λ l k. pos 0 <ℤ x .flowLTA l k → zonePrice c d k -ℤ zonePrice c d l ≡ positive (zonePrice c d k -ℤ zonePrice c d l)) l k
       (λ j h used. not-negative (zonePrice c d (c .to j) -ℤ zonePrice c d (c .from j)) (p .share) (c .capacity j) (p .flow j) (above (p .flow j) (rw (same .flow j h) used)) (link-exact c ok d p cl no-gap j h))
@@ -192,9 +192,9 @@ module _ (c : Case) {line : ℕ → ℕ → Bool} (x : Solution) (nw : Network c
 pub network-le : (c : Case) → Placed c → (x : Solution) → Network c x → (d : Prices) → congestionRent c x (zonePrice c d) ≤ℤ (pos (x .den) *ℤ networkBound c d)
 unfolding multipliersOf marginValue capacityValue liabilities networkBound branchTotal branchValue
 network-le c ok x nw d =
-    weighed (congestionRent c x (zonePrice c d)) (marginValue c y) (owed c d) (networkBound c d) (x .alpha1) (x .alpha2) (x .den)
+    weighed (congestionRent c x (zonePrice c d)) (marginValue c y) (linkTotal c d) (networkBound c d) (x .alpha1) (x .alpha2) (x .den)
     (rw (← liabilities-are c ok d) (weak-duality c x nw (record { elsewhere = λ l k hl hk t. absurd t }) y (priced-of c (λ l k. true) d)))
-    (larger-left (branchTotal c d) (owed c d)) (larger-right (branchTotal c d) (owed c d)) (nw .alpha-in .0) (nw .alpha-in .1) (nw .alpha-sum)
+    (larger-left (branchTotal c d) (linkTotal c d)) (larger-right (branchTotal c d) (linkTotal c d)) (nw .alpha-in .0) (nw .alpha-in .1) (nw .alpha-sum)
   where
     y : Multipliers
     y = multipliersOf c d

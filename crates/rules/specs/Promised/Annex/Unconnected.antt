@@ -30,6 +30,7 @@ twoZones = record {
   from = λ j. 0;
   to = λ j. 0;
   capacity = λ j. 0;
+  contracted = λ j. 0;
   zone = λ i. i;
   side = λ i. 1 - i;
   quantity = λ i. 1;
