@@ -16,8 +16,8 @@ use borrow.Author.Needs.{needs}
 use Rattle.valuation.proofs.totals.Statement.{statement}
 use Rattle.valuation.proofs.totals.Tie as tie
 
-owed-requires : tie.Need-owed-requires
-owed-requires c κs = search needs
+link-totals-requires : tie.Need-link-totals-requires
+link-totals-requires c κs = search needs
 
 larger-requires : tie.Need-larger-requires
 larger-requires c κs = search needs
@@ -31,38 +31,46 @@ cs a = case-sound _ (a .pre .0 .opened .readable)
 shadows : (a : tie.Start) → (m : ℕ) → m < (caseOf (now (a .args .«case»))) .branches → (pricesOf (now (a .args .«case»)) (now (a .args .proposal))) .shadow m ≤ 1000000
 shadows a = (proposal-sound _ _ (a .pre .0 .passed)) .shadow-in
 
--- the bound and the gap as the machine adds them
-bound-of : (c : tie.After-surpluses) → c .surpluses .result .0 +ℤ c .before .larger .result .0 ≡ bound (caseOf (now (c .before .before .before .before .before .args .«case»))) (pricesOf (now (c .before .before .before .before .before .args .«case»)) (now (c .before .before .before .before .before .args .proposal)))
-unfolding bound networkBound
-bound-of c = λ j. c .surpluses .ensures j +ℤ (c .before .larger .ensures ∙ (λ i. larger (c .before .before .before .before .before .pre .1 .1 .1 .1 .0 i) (c .before .before .owed .ensures i))) j
+abbrev links : tie.After-larger → tie.After-link-totals
+links c = c .before .before .before
 
-gap-of : (c : tie.After-plus) → c .plus .result .0 -ℤ c .before .before .before .before .before .before .args .total-welfare .0 ≡ gap (caseOf (now (c .before .before .before .before .before .before .args .«case»))) (planOf (now (c .before .before .before .before .before .before .args .«case»)) (now (c .before .before .before .before .before .before .args .proposal))) (pricesOf (now (c .before .before .before .before .before .before .args .«case»)) (now (c .before .before .before .before .before .before .args .proposal)))
+abbrev start : tie.After-larger → tie.Start
+start c = links c .before .before .before
+
+-- the bound and the gap as the machine adds them
+bound-of : (c : tie.After-surpluses) → let a = start (c .before) in c .surpluses .result .0 +ℤ c .before .larger .result .0 ≡ bound (caseOf (now (a .args .«case»))) (pricesOf (now (a .args .«case»)) (now (a .args .proposal)))
+unfolding bound networkBound
+bound-of c = λ j. c .surpluses .ensures j +ℤ (c .before .larger .ensures ∙ (λ i. larger (start (c .before) .pre .1 .1 .1 .1 .0 i) (links (c .before) .link-totals .ensures .0 i))) j
+
+gap-of : (c : tie.After-plus) → let a = start (c .before .before) in
+    c .plus .result .0 -ℤ a .args .total-welfare .0 ≡ gap (caseOf (now (a .args .«case»))) (planOf (now (a .args .«case»)) (now (a .args .proposal))) (pricesOf (now (a .args .«case»)) (now (a .args .proposal)))
 unfolding gap
-gap-of c = λ j. (c .plus .ensures ∙ bound-of (c .before)) j -ℤ c .before .before .before .before .before .before .pre .1 .1 .1 .1 .1 .0 j
+gap-of c = λ j. (c .plus .ensures ∙ bound-of (c .before)) j -ℤ start (c .before .before) .pre .1 .1 .1 .1 .1 .0 j
 
 plus-requires : tie.Need-plus-requires
-plus-requires c κs = sfits-by w64 (bound-of c) (near-fits w64 (omega arith) (bound-near _ (cs (c .before .before .before .before .before)) _ (system-near _ _) (shadows (c .before .before .before .before .before)) (c .before .before .before .before .before .pre .1 .1 .1 .0 .within)))
+plus-requires c κs = let a = start (c .before) in sfits-by w64 (bound-of c) (near-fits w64 (omega arith) (bound-near _ (cs a) _ (system-near _ _) (shadows a) (a .pre .1 .1 .1 .0 .within)))
 
 minus-requires : tie.Need-minus-requires
-minus-requires c κs = sfits-by w64 (gap-of c) (near-fits w64 (omega arith) (gap-near _ (cs (c .before .before .before .before .before .before)) _ (system-near _ _) (shadows (c .before .before .before .before .before .before)) (c .before .before .before .before .before .before .pre .1 .1 .1 .0 .within) _ (c .before .before .before .before .before .before .pre .1 .0 .within)))
+minus-requires c κs = let a = start (c .before .before) in sfits-by w64 (gap-of c) (near-fits w64 (omega arith) (gap-near _ (cs a) _ (system-near _ _) (shadows a) (a .pre .1 .1 .1 .0 .within) _ (a .pre .1 .0 .within)))
 
 returns : tie.Need-returns
 unfolding totalsOf
 returns c =
-    let a = c .before .before .before .before .before .before .before in
+    let l = c .before .before .before in
+    let a = start l in
     λ j. record {
       welfare = a .pre .1 .1 .1 .1 .1 .0 j;
       bound = (c .before .plus .ensures ∙ bound-of (c .before .before)) j;
       gap = (c .minus .ensures ∙ gap-of (c .before)) j;
       rent = a .pre .1 .1 .1 .1 .1 .1 j;
-      owed = c .before .before .before .before .owed .ensures j;
+      owed = links l .link-totals .ensures .1 j;
     }
 
 pub totals-spec : {M : Type 1} → statement M
 totals-spec =
     tie.close
     (tie.spec
-    owed-requires
+    link-totals-requires
     larger-requires
     surpluses-requires
     plus-requires
