@@ -10,5 +10,7 @@ pub mod PlainFacts
 pub mod RefusedField
 pub mod FieldByField
 pub mod IndexChange
+-- the two case versions
+pub mod Versions
 -- in the terms of Annex 14.29
 pub mod Annex

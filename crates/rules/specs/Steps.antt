@@ -2,3 +2,4 @@
 pub mod LayoutLaws
 pub mod Duality
 pub mod Passed
+pub mod SameTables

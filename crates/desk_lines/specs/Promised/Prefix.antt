@@ -1,4 +1,4 @@
--- A long input is judged by its start. No legal hour has more than 9,870 + 2,573 = 12,443 bytes, so an input that has more is refused, and by the
+-- A long input is judged by its start. No legal hour has more than 10,126 + 2,573 = 12,699 bytes, so an input that has more is refused, and by the
 -- same number and index as any part of it from the start that has more. Assumes nothing.
 use mathlib.Core.Path.{_≡_, refl, sym, ap, _∙_}
 use mathlib.Core.Bool.{Bool, not, _&&_}
@@ -14,7 +14,7 @@ use lib.Dec.{eqb}
 use lib.IntN.{pos}
 use Rattle.integers.specs.Ranges.{outside}
 use Rattle.measures.specs.Meaning.Limits as limits
-use Rattle.rules.specs.Meaning.Layout.{u8At, u16At, u32At, caseVersion, zonesIn, branchesIn, linksIn, ordersIn, toleranceIn, branchSize, caseLength, proposalVersion, proposalLength, zoneCounts, branchCounts, linkCounts, orderCounts}
+use Rattle.rules.specs.Meaning.Layout.{u8At, u16At, u32At, caseVersion, zonesIn, branchesIn, linksIn, ordersIn, toleranceIn, branchSize, linkSize, caseLength, proposalVersion, proposalLength, zoneCounts, branchCounts, linkCounts, orderCounts}
 use Rattle.rules.specs.Meaning.Hour.{caseOf}
 use Rattle.rows.specs.declared.Outcome.{Outcome}
 use Rattle.rows.specs.Meaning.Rows.{Row, refusal, answer, once, field}
@@ -36,7 +36,7 @@ rowsBy : Bool → Bool → ℕ → ℕ → ℕ → ℕ → ℕ → ℕ → List 
 rowsBy short mark version zones branches links orders tolerance =
     once 1 short
     ∷ once 2 mark
-    ∷ once 3 (differ version 1)
+    ∷ once 3 (differ version 1 && differ version 2)
     ∷ field 4 5 (outside zoneCounts (pos zones))
     ∷ field 4 6 (outside branchCounts (pos branches))
     ∷ field 4 7 (outside linkCounts (pos links))
@@ -70,8 +70,8 @@ module _ (s r : List ℕ) (h : SameHeader s r) where
       (same-u32 10 (omega arith) i))
 
   same-length : caseLength s ≡ caseLength r
-  unfolding caseLength branchSize zonesIn branchesIn linksIn ordersIn
-  same-length = λ i. 14 + same-u8 6 (omega arith) i * (4 + 4 * same-u8 5 (omega arith) i) + same-u8 7 (omega arith) i * 6 + same-u16 8 (omega arith) i * 10
+  unfolding caseLength branchSize caseVersion zonesIn branchesIn linksIn ordersIn
+  same-length = λ i. 14 + same-u8 6 (omega arith) i * (4 + 4 * same-u8 5 (omega arith) i) + same-u8 7 (omega arith) i * linkSize (same-u16 3 (omega arith) i) + same-u16 8 (omega arith) i * 10
 
 -- WHERE THE CASE ENDS, by its header
 refused-text : (s : List ℕ) (o : Outcome) → headerRefusal s ≡ some o → deskText s ≡ verdictLine o
@@ -86,7 +86,7 @@ unfolding deskText casePart proposalPart
 good-text s end e = ap (λ (k : ℕ). hourText (take k s) (drop k s)) e
 
 -- AN INPUT LONGER THAN n, and its first n bytes
-module _ (n : ℕ) (input : List ℕ) (more : 12443 < n) (longer : n < length input) where
+module _ (n : ℕ) (input : List ℕ) (more : 12699 < n) (longer : n < length input) where
   start-length : length (take n input) ≡ n
   start-length = length-take-le n input (omega arith)
 
@@ -97,7 +97,7 @@ module _ (n : ℕ) (input : List ℕ) (more : 12443 < n) (longer : n < length in
     abbrev end : ℕ
     end = caseLength input
 
-    end-in : (14 ≤ end) × (end ≤ 9870)
+    end-in : (14 ≤ end) × (end ≤ 10126)
     unfolding caseLength
     end-in = (omega arith, case-at-most input good)
 
@@ -160,6 +160,6 @@ module _ (n : ℕ) (input : List ℕ) (more : 12443 < n) (longer : n < length in
       by (some o) e = refused-text (take n input) o (same-refusal (take n input) input same-start ∙ e) ∙ sym (refused-text input o e)
       by none e = when-good e
 
--- THE DESK MAY STOP KEEPING BYTES after the first n, for any n above 12,443
-pub start-enough : (n : ℕ) (input : List ℕ) → 12443 < n → deskText (take n input) ≡ deskText input
+-- THE DESK MAY STOP KEEPING BYTES after the first n, for any n above 12,699
+pub start-enough : (n : ℕ) (input : List ℕ) → 12699 < n → deskText (take n input) ≡ deskText input
 start-enough n input h = elim (decLt n (length input)) [ yes l ↦ when-longer n input h l | no g ↦ ap deskText (take-all n input (omega arith)) ]

@@ -12,7 +12,7 @@ use mir.Syntax.{w64}
 use mir.Val.{SFits}
 use Rattle.decimal.specs.Meaning.Ascii.{ascii}
 use Rattle.decimal.specs.Promised.Sizes.{count-at-most, amount-at-most}
-use Rattle.rules.specs.Meaning.Layout.{branchesIn, branchSize, caseLength, proposalLength, reportRoom}
+use Rattle.rules.specs.Meaning.Layout.{branchesIn, linksIn, branchSize, caseLength, proposalLength, reportRoom}
 use Rattle.rules.specs.Meaning.Hour.{caseOf, planOf, pricesOf, zonePrice}
 use Rattle.rows.specs.declared.Outcome.{Outcome}
 use Rattle.rows.specs.Meaning.Rows.{Row, verdict, firstBelow, firstField, rowElse, refusal, answer}
@@ -23,16 +23,16 @@ use Rattle.rules.specs.Meaning.Report.{Totals, totalsOf, reports}
 use Rattle.rules.specs.Steps.Passed.{sound, case-sound}
 use Rattle.rules.specs.Promised.Fits.{fits}
 use Rattle.case_header.specs.Answer.{countsOf}
-use Rattle.case_header.specs.Opened.{Limited, branches-bound}
+use Rattle.case_header.specs.Opened.{Limited, branches-bound, links-bound}
 use Rattle.desk_lines.specs.Meaning.Cut.{casePart, proposalPart}
 use Rattle.desk_lines.specs.Steps.Header.{headerRows, laterRows, outcome-by-header, counted}
 use Rattle.desk_lines.specs.Meaning.Lines.{verdictLine, totalLine, totalLines, priceLine, priceLines, hourLines, linesOf, hourText, deskText}
 use Rattle.desk_lines.specs.Meaning.Printed.{deskRoom}
 
--- AN OUTCOME's number has at most three digits, and its index at most four: an offset in a file is below 10,000 (S-2)
+-- AN OUTCOME's number has at most three digits, and its index at most five: an offset in a file (S-2) is below 100,000, in a case of version 2 (S-4) perhaps above 10,000
 pub record Short (o : Outcome) : Type 0 where
   pub number-in : o .number < 1000
-  pub index-in : o .index < 10000
+  pub index-in : o .index < 100000
 
 -- each of these rows refuses with such an outcome
 unfoldable ShortRows : List Row → Type 0
@@ -49,26 +49,26 @@ short-refusal (r ∷ rs) h o e = by (firstBelow (r .places) (r .fails)) refl (sh
     by none q ih e = ih e
 
 -- a row tested once has a fixed index, a row tested at places has the place, and a row tested at fields an offset
-fixed : (n i : ℕ) → T (ltb n 1000) → T (ltb i 10000) → (k : ℕ) → k < 1 → Short (verdict n i)
-fixed n i h l k m = record { number-in = ltb→lt n 1000 h; index-in = ltb→lt i 10000 l }
+fixed : (n i : ℕ) → T (ltb n 1000) → T (ltb i 100000) → (k : ℕ) → k < 1 → Short (verdict n i)
+fixed n i h l k m = record { number-in = ltb→lt n 1000 h; index-in = ltb→lt i 100000 l }
 
 placed : (n places : ℕ) → T (ltb n 1000) → places ≤ 512 → (k : ℕ) → k < places → Short (verdict n k)
 placed n places h l k m = record { number-in = ltb→lt n 1000 h; index-in = omega arith }
 
-at-offset : (n places : ℕ) (offset : ℕ → ℕ) → T (ltb n 1000) → ((k : ℕ) → k < places → offset k < 10000) → (k : ℕ) → k < places → Short (verdict n (offset k))
+at-offset : (n places : ℕ) (offset : ℕ → ℕ) → T (ltb n 1000) → ((k : ℕ) → k < places → offset k < 100000) → (k : ℕ) → k < places → Short (verdict n (offset k))
 at-offset n places offset h l k m = record { number-in = ltb→lt n 1000 h; index-in = l k m }
 
 -- a field within a file of so few bytes
 module _ (s : List ℕ) (n : Limited (countsOf s)) where
-  case-bytes : caseLength s < 10000
+  case-bytes : caseLength s < 100000
   unfolding caseLength branchSize
-  case-bytes = omega (arith, branches-bound (countsOf s) n (branchesIn s) (omega arith), n .links-in, n .orders-in)
+  case-bytes = omega (arith, branches-bound (countsOf s) n (branchesIn s) (omega arith), links-bound (countsOf s) n (linksIn s) (omega arith), n .orders-in)
 
-  proposal-bytes : proposalLength s < 10000
+  proposal-bytes : proposalLength s < 100000
   unfolding proposalLength
   proposal-bytes = omega (arith, n .branches-in, n .links-in, n .orders-in)
 
-in-file : (part : Part) {size : ℕ} → Adjacent part size → size < 10000 → (i : ℕ) → i < part .rows → part .offset i (firstField (part .fields) (part .fault i)) < 10000
+in-file : (part : Part) {size : ℕ} → Adjacent part size → size < 100000 → (i : ℕ) → i < part .rows → part .offset i (firstField (part .fields) (part .fault i)) < 100000
 in-file part a h i l = omega (arith, field-inside part a i (firstField (part .fields) (part .fault i)) l (field-below (part .fields) (part .fault i) (a .some-field)))
 
 header-short : (s : List ℕ) → ShortRows (headerRows s)
@@ -141,9 +141,9 @@ short s t = rw (outcome-by-header s t) (by (headerRefusal s) refl)
     by none e = short-answer (refusal (laterRows s t)) (short-refusal (laterRows s t) (later-short s t (counted s e)))
 
 -- THE LINES
-verdict-room : (o : Outcome) → Short o → length (verdictLine o) ≤ 17
+verdict-room : (o : Outcome) → Short o → length (verdictLine o) ≤ 18
 unfolding verdictLine
-verdict-room o h = simp length-append (omega (arith, count-at-most 2 (o .number) (h .number-in), count-at-most 3 (o .index) (h .index-in)))
+verdict-room o h = simp length-append (omega (arith, count-at-most 2 (o .number) (h .number-in), count-at-most 4 (o .index) (h .index-in)))
 
 total-room : (name : List ℕ) (x : ℤ) → SFits w64 x → length (totalLine name x) ≤ length name + 22
 unfolding totalLine

@@ -5,14 +5,14 @@ use mathlib.Core.Option.{Option, none}
 use Prim.Native.Nat.{ℕ, _+_, _*_, _≤_}
 use native.Mathlib.Nat.{mul-le-mul}
 use native.Mathlib.Omega.{arith}
-use Rattle.rules.specs.Meaning.Layout.{branchSize, caseLength, proposalLength, zonesIn, branchesIn, reportRoom}
+use Rattle.rules.specs.Meaning.Layout.{branchSize, caseLength, proposalLength, zonesIn, branchesIn, linksIn, reportRoom}
 use Rattle.rules.specs.Meaning.Hour.{caseOf, planOf, pricesOf}
 use Rattle.rows.specs.declared.Outcome.{Outcome}
 use Rattle.rows.specs.Meaning.Rows.{Row, refusal, answer}
 use Rattle.rows.specs.Promised.RowLaws.{field-passes, else-refusal, refusal-append}
 use Rattle.rules.specs.Meaning.Verdict.{roomRows, caseRows, proposalRows, clearingRows, table, outcome, headerRefusal, caseHeaderRows, caseBodyRows}
 use Rattle.case_header.specs.Answer.{countsOf}
-use Rattle.case_header.specs.Opened.{Limited, limited}
+use Rattle.case_header.specs.Opened.{Limited, limited, links-bound}
 
 -- the rows before 5, and those from 5 on
 abbrev pub headerRows : List ℕ → List Row
@@ -32,13 +32,13 @@ module _ (s : List ℕ) (good : headerRefusal s ≡ none) where
   counted = limited (record { passed = good; counts = refl })
 
   -- the largest case and the largest proposal
-  pub case-at-most : caseLength s ≤ 9870
+  pub case-at-most : caseLength s ≤ 10126
   unfolding caseLength branchSize
   case-at-most =
       let c = counted in
       let size : 4 + 4 * zonesIn s ≤ 68 = omega (arith, c .zones-in) in
       let branches : branchesIn s * (4 + 4 * zonesIn s) ≤ 64 * 68 = mul-le-mul (c .branches-in) size in
-      omega (arith, c .links-in, c .orders-in)
+      omega (arith, branches, links-bound (countsOf s) c (linksIn s) (omega arith), c .orders-in)
 
   pub proposal-at-most : proposalLength s ≤ 2573
   unfolding proposalLength

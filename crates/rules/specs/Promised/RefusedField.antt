@@ -14,7 +14,7 @@ use lib.ListN.{length}
 use lib.IntN.{pos}
 use Rattle.integers.specs.Ranges.{outside, is-true, is-false, and-both, and-left, and-right, or-right}
 use Rattle.measures.specs.Meaning.Limits as limits
-use Rattle.rules.specs.Meaning.Layout.{zonesIn, branchesIn, linksIn, ordersIn, branchSize, branchAt, branchFieldAt, linkAt, linkFields, linkFieldAt, linkFieldSize, contracts, contractedSize, caseVersion, fromIn, toIn, orderAt, orderFields, orderFieldAt, orderFieldSize, shadowAt, caseLength, proposalLength, u8At, u32At, i32At, ramIn, ptdfIn, capacityIn, contractedIn, zoneIn, sideIn, quantityIn, priceIn}
+use Rattle.rules.specs.Meaning.Layout.{zonesIn, branchesIn, linksIn, ordersIn, branchSize, branchAt, branchFieldAt, linkAt, linkFields, linkFieldAt, linkFieldSize, contracts, caseVersion, fromIn, toIn, orderAt, orderFields, orderFieldAt, orderFieldSize, shadowAt, caseLength, proposalLength, u8At, u32At, i32At, ramIn, ptdfIn, capacityIn, contractedIn, zoneIn, sideIn, quantityIn, priceIn}
 use Rattle.rules.specs.Meaning.Hour.{caseOf, planOf, pricesOf}
 use Rattle.rows.specs.declared.Outcome.{Outcome}
 use Rattle.rows.specs.Meaning.Rows.{Row, verdict, anyBelow, placeElse, firstField, refusal}

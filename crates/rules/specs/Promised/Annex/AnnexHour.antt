@@ -19,7 +19,7 @@ use Rattle.rules.specs.Meaning.Clearing.{Clearing}
 use Rattle.rules.specs.Meaning.Annex.{Solution, Feasible, PairsOnce, Connected, everyPair, capacityLTA, congestionRent, liabilities}
 use Rattle.rules.specs.Meaning.AnnexPromise.{IsClearing, IsFeasible, AnnexDemand3, multipliersOf}
 use Rattle.rules.specs.Meaning.Verdict.{outcome, Readable}
-use Rattle.rules.specs.Meaning.Report.{Reported, reports, bufferAfter, reportedWelfare, reportedGap, reportedRent, reportedOwed, reportedPrice}
+use Rattle.rules.specs.Meaning.Report.{Reported, reports, bufferAfter, reportedWelfare, reportedGap, reportedRent, reportedPrice}
 use Rattle.rules.specs.Steps.Duality.{Placed}
 use Rattle.rules.specs.Steps.Passed.{case-sound, case-pairs, sound}
 use Rattle.rules.specs.Promised.Reported.{reported}
