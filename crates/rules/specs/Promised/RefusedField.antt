@@ -8,7 +8,7 @@ use Prim.Native.Nat.{ℕ, zero, suc, _+_, _*_, _-_, _≤_, _<_}
 use native.Mathlib.Nat.{suc-mul}
 use native.Mathlib.Decide.{decLt}
 use native.Mathlib.Omega.{arith}
-use borrow.Author.Tests.{lt-leb, le-ltb}
+use borrow.Author.Tests.{lt-leb, lt-ltb, le-ltb}
 use lib.Dec.{T, eqb, eqb→eq, eqb-refl, ltb→lt, T-not}
 use lib.ListN.{length}
 use lib.IntN.{pos}
@@ -271,6 +271,26 @@ module _ (s : List ℕ) (l : ℕ) (rows-before : refusal (before 7 (caseRows s (
       first-passes : (i : ℕ) → i ≡ 0 → T (not (linkFault (caseOf s) l i))
       first-passes i z = subst (λ (i : ℕ). T (not (linkFault (caseOf s) l i))) (sym z)
           (is-false (λ j. lt-leb (zonesIn s) (fromIn s l) known j || any-none l (λ k. eqb (fromIn s k) (fromIn s l) && eqb (toIn s k) (toIn s l)) (λ k h. no-earlier k h _ refl) j))
+
+  -- S-4'S OWN WORDS: a contracted volume that exceeds the capacity names its own field; a capacity out of range in the same link is named first
+  module _ (zones-good : (n : ℕ) → n < 2 → T (not (linkFault (caseOf s) l n))) where
+    pub capacity-named : T (outside limits.capacity (pos (capacityIn s l))) → caseRefusal s ≡ some (verdict 7 (linkAt s l + 2))
+    unfolding linkFault caseOf
+    capacity-named t = first-named 2 (record { place-in = omega arith; holds = t; none-before = zones-good })
+
+    pub contracted-volume-named : T (not (outside limits.capacity (pos (capacityIn s l)))) → caseVersion s ≡ 2 → capacityIn s l < u32At s (linkAt s l + 6) → caseRefusal s ≡ some (verdict 7 (linkAt s l + 6))
+    unfolding linkFault caseOf contractedIn contracts
+    contracted-volume-named good version h = first-named 3 (record {
+      place-in = omega arith;
+      holds = subst (λ (v : ℕ). T (over (capacityIn s l) (cond (eqb v 2) (u32At s (linkAt s l + 6)) (capacityIn s l)))) (sym version) (is-true (lt-ltb (capacityIn s l) (u32At s (linkAt s l + 6)) h));
+      none-before = three-good;
+    })
+      where
+        three-good : (n : ℕ) → n < 3 → T (not (linkFault (caseOf s) l n))
+        three-good zero k = zones-good 0 (omega arith)
+        three-good (suc zero) k = zones-good 1 (omega arith)
+        three-good (suc (suc zero)) k = good
+        three-good (suc (suc (suc n))) k = absurd (omega arith)
 
 -- S-4: A CONTRACTED VOLUME IS NAMED in a case of version 2 alone, where it has bytes of its own; with it the fields before it are all right
 contracted-apart : (s : List ℕ) (l : ℕ) (b : Bool) → contracts (caseVersion s) ≡ b → T (linkFault (caseOf s) l 3) → T b
