@@ -4,6 +4,7 @@ pub mod Hour
 pub mod Clearing
 pub mod Verdict
 pub mod Report
+pub mod Versions
 pub mod Promise
 pub mod Book
 pub mod Annex

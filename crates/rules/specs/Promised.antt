@@ -10,7 +10,8 @@ pub mod PlainFacts
 pub mod RefusedField
 pub mod FieldByField
 pub mod IndexChange
--- the two case versions
+-- S-4: contracted volumes, and the two case versions
+pub mod Contracted
 pub mod Versions
 -- in the terms of Annex 14.29
 pub mod Annex

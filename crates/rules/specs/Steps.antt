@@ -3,3 +3,4 @@ pub mod LayoutLaws
 pub mod Duality
 pub mod Passed
 pub mod SameTables
+pub mod Upgraded

@@ -221,14 +221,18 @@ links-covered c ok d q cl one = le-by (at oo ⊖ (at ss ⊕ at mm ⊖ at ww)) (a
     rr : ℤ
     rr = rent c q d
 
+-- a larger volume brings no less at a positive spread
+pub more-le : (v k : ℕ) (t : ℤ) → v ≤ k → (pos v *ℤ positive t) ≤ℤ (pos k *ℤ positive t)
+more-le v k t h = by (k - v) (positive t) (omega arith) (larger-left (pos 0) t)
+  where
+    by : (e : ℕ) (t : ℤ) → k ≡ v + e → pos 0 ≤ℤ t → (pos v *ℤ t) ≤ℤ (pos k *ℤ t)
+    by e t h n = le-by (at (pos v) ⊗ at t) (at (pos k) ⊗ at t)
+        (omega (arith, le-fact (at (pos e) ⊗ at (pos 0)) (at (pos e) ⊗ at t) (scaled e n), ap (λ (j : ℕ). j * up t) h, ap (λ (j : ℕ). j * dn t) h))
+
 -- and so at least what is owed, where no contracted volume is above its capacity (S-4)
 pub owed-le : (c : Case) → ((l : ℕ) → l < c .links → c .contracted l ≤ c .capacity l) → (d : Prices) → owed c d ≤ℤ linkTotal c d
 unfolding owed linkOwed linkTotal linkValue
-owed-le c within d = sum-le (c .links) _ _ (λ l h. part-le (c .contracted l) (c .capacity l) (c .capacity l - c .contracted l) (positive (spread c d l)) (omega (arith, within l h)) (larger-left (pos 0) (spread c d l)))
-  where
-    part-le : (v k e : ℕ) (t : ℤ) → k ≡ v + e → pos 0 ≤ℤ t → (pos v *ℤ t) ≤ℤ (pos k *ℤ t)
-    part-le v k e t h n = le-by (at (pos v) ⊗ at t) (at (pos k) ⊗ at t)
-        (omega (arith, le-fact (at (pos e) ⊗ at (pos 0)) (at (pos e) ⊗ at t) (scaled e n), ap (λ (j : ℕ). j * up t) h, ap (λ (j : ℕ). j * dn t) h))
+owed-le c within d = sum-le (c .links) _ _ (λ l h. more-le (c .contracted l) (c .capacity l) (spread c d l) (within l h))
 
 pub coverage : (c : Case) → Placed c → ((l : ℕ) → l < c .links → c .contracted l ≤ c .capacity l) → (d : Prices) (q : Plan) → Clearing c q → q .den ≡ 1 → (owed c d -ℤ gap c q d) ≤ℤ rent c q d
 coverage c ok within d q cl one = less (owed c d) (linkTotal c d) (gap c q d) (rent c q d) (owed-le c within d) (links-covered c ok d q cl one)
