@@ -14,11 +14,22 @@ pub struct Link {
     pub from: u8,
     pub to: u8,
     pub capacity: u32,
+    /// Written in version 2 alone.
+    pub contracted: u32,
+}
+
+/// S-4: a case of version 2 has a contracted volume in each link.
+#[derive(Clone, Copy, Debug, Default, PartialEq, Eq)]
+pub enum Version {
+    #[default]
+    One = 1,
+    Two = 2,
 }
 
 /// A case and a proposal for it.
 #[derive(Clone, Debug, Default)]
 pub struct Hour {
+    pub version: Version,
     pub zones: u8,
     pub tolerance: u32,
     pub branches: Vec<Branch>,
@@ -32,14 +43,21 @@ pub struct Hour {
 }
 
 impl Hour {
+    pub fn link_bytes(&self) -> usize {
+        match self.version {
+            Version::One => 6,
+            Version::Two => 10,
+        }
+    }
+
     pub fn case(&self) -> Vec<u8> {
         let mut out = Vec::with_capacity(
             14 + self.branches.len() * (4 + 4 * usize::from(self.zones))
-                + 6 * self.links.len()
+                + self.link_bytes() * self.links.len()
                 + 10 * self.orders.len(),
         );
         out.extend(b"LTC");
-        out.extend(1u16.to_le_bytes());
+        out.extend((self.version as u16).to_le_bytes());
         out.extend([
             self.zones,
             self.branches.len() as u8,
@@ -57,6 +75,9 @@ impl Hour {
         for link in &self.links {
             out.extend([link.from, link.to]);
             out.extend(link.capacity.to_le_bytes());
+            if self.version == Version::Two {
+                out.extend(link.contracted.to_le_bytes());
+            }
         }
         for order in &self.orders {
             out.extend([order.zone, order.side]);
@@ -89,6 +110,7 @@ pub fn three_zone_hour() -> Hour {
         price,
     };
     Hour {
+        version: Version::One,
         zones: 3,
         tolerance: 0,
         branches: vec![
@@ -105,6 +127,7 @@ pub fn three_zone_hour() -> Hour {
             from: 0,
             to: 1,
             capacity: 4_000,
+            contracted: 4_000,
         }],
         orders: vec![
             order(0, SELLS, 4_000, 1_000),
@@ -121,9 +144,12 @@ pub fn three_zone_hour() -> Hour {
     }
 }
 
-/// Totals the paper names, in whole euros.
+/// Microcents.
+pub const EURO: i64 = 100_000_000;
+
+/// Totals the paper names, in microcents.
 #[derive(Clone, Copy, Debug, Default)]
-pub struct Euros {
+pub struct Totals {
     pub welfare: Option<i64>,
     pub bound: Option<i64>,
     pub gap: Option<i64>,
@@ -131,7 +157,7 @@ pub struct Euros {
     pub owed: Option<i64>,
 }
 
-impl Euros {
+impl Totals {
     /// In the order of the report.
     pub fn in_order(&self) -> [Option<i64>; 5] {
         [self.welfare, self.bound, self.gap, self.rent, self.owed]
@@ -145,23 +171,31 @@ pub struct Stored {
     pub proposal: Vec<u8>,
     pub number: u32,
     pub index: u32,
-    pub euros: Euros,
+    pub totals: Totals,
     /// Zone prices in grains, where the paper names them.
     pub prices: Vec<i64>,
 }
 
-/// P1 to P12 and the hours that are run only.
+/// S-4: the three-zone hour with 2,500 of its link's 4,000 contracted.
+pub fn contracted_hour() -> Hour {
+    let mut hour = three_zone_hour();
+    hour.version = Version::Two;
+    hour.links[0].contracted = 2_500;
+    hour
+}
+
+/// P1 to P12, the hours that are run only, and those of the requests.
 pub fn stored() -> Vec<Stored> {
     let mut list = Vec::new();
     let mut bytes = |name, case, proposal, number, index| {
-        let (euros, prices) = (Euros::default(), Vec::new());
+        let (totals, prices) = (Totals::default(), Vec::new());
         list.push(Stored {
             name,
             case,
             proposal,
             number,
             index,
-            euros,
+            totals,
             prices,
         });
     };
@@ -292,6 +326,12 @@ pub fn stored() -> Vec<Stored> {
             ..p1.clone()
         },
     );
+    hour("P1, 2,500 of 4,000 contracted", 0, 0, &contracted_hour());
+    let mut all = contracted_hour();
+    all.links[0].contracted = 4_000;
+    hour("P1, all contracted", 0, 0, &all);
+    all.links[0].contracted = 4_001;
+    hour("P1, 4,001 of 4,000 contracted", 7, 52, &all);
     bytes("empty input", vec![], vec![], 1, 0);
     let mut long = p1.proposal();
     long.push(0);
@@ -302,24 +342,29 @@ pub fn stored() -> Vec<Stored> {
 
     for stored in &mut list {
         match stored.name {
-            "P1" => {
-                stored.euros = Euros {
-                    welfare: Some(22_125),
-                    bound: Some(22_125),
+            "P1" | "P1, all contracted" | "P1, 2,500 of 4,000 contracted" => {
+                // 2,500 tenths at a spread of 43.75 euros.
+                let owed = match stored.name {
+                    "P1, 2,500 of 4,000 contracted" => 10_937 * EURO + EURO / 2,
+                    _ => 17_500 * EURO,
+                };
+                stored.totals = Totals {
+                    welfare: Some(22_125 * EURO),
+                    bound: Some(22_125 * EURO),
                     gap: Some(0),
-                    rent: Some(17_500),
-                    owed: Some(17_500),
+                    rent: Some(17_500 * EURO),
+                    owed: Some(owed),
                 };
                 stored.prices = vec![200_000_000, 637_500_000, 500_000_000];
             }
             "P2" => {
-                stored.euros.welfare = Some(19_500);
-                stored.euros.rent = Some(15_000);
-                stored.euros.owed = Some(0);
+                stored.totals.welfare = Some(19_500 * EURO);
+                stored.totals.rent = Some(15_000 * EURO);
+                stored.totals.owed = Some(0);
             }
             "P3" | "P3, tolerance 299,999" | "P4" => {
-                stored.euros.gap = Some(3_000);
-                stored.euros.owed = Some(18_000);
+                stored.totals.gap = Some(3_000 * EURO);
+                stored.totals.owed = Some(18_000 * EURO);
             }
             _ => {}
         }

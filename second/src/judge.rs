@@ -30,11 +30,24 @@ pub enum Build {
     LastFieldOfRow,
     ShadowPriceInCase,
     ShadowPriceJoined,
+    // S-4's: what is owed and bounded, how the two versions are read, and what
+    // of the contracted volumes is refused.
+    OwedByCapacity,
+    BoundByContracted,
+    LinkRuleByContracted,
+    VersionOneWide,
+    ContractedPastTheLink,
+    VersionTwoNarrow,
+    VersionThreeTaken,
+    ContractedEqualRefused,
+    ContractedToItsOwnLimit,
+    ContractedNamesCapacity,
+    ContractedBeforeCapacity,
 }
 
 impl Build {
     /// Every wrong build, with the name a table gives it.
-    pub const WRONG: [(Build, &'static str); 17] = [
+    pub const WRONG: [(Build, &'static str); 28] = [
         (Build::ExportPositive, "export counted positive"),
         (Build::CapacityWithoutShare, "capacity without the share"),
         (Build::BranchTotalAlone, "branch total alone"),
@@ -52,6 +65,20 @@ impl Build {
         (Build::LastFieldOfRow, "last field at fault of a row"),
         (Build::ShadowPriceInCase, "14: the branch in the case"),
         (Build::ShadowPriceJoined, "14: offset in the joined file"),
+        (Build::OwedByCapacity, "owed by capacity"),
+        (Build::BoundByContracted, "bound by contracted volumes"),
+        (Build::LinkRuleByContracted, "link rule by contracted"),
+        (Build::VersionOneWide, "version 1: contracted read"),
+        (Build::ContractedPastTheLink, "version 1: the bytes behind"),
+        (Build::VersionTwoNarrow, "version 2: links of six bytes"),
+        (Build::VersionThreeTaken, "version 3 taken"),
+        (Build::ContractedEqualRefused, "contracted, equal: refused"),
+        (Build::ContractedToItsOwnLimit, "contracted up to 100,000"),
+        (Build::ContractedNamesCapacity, "contracted: capacity named"),
+        (
+            Build::ContractedBeforeCapacity,
+            "contracted before capacity",
+        ),
     ];
 }
 
@@ -83,7 +110,7 @@ fn decide(
     if report.len() < LEAST_BUFFER {
         return Err(Verdict::new(30, 0));
     }
-    let case = Case::read(case)?; // verdicts 1 to 8
+    let case = Case::read_as(build, case)?; // verdicts 1 to 8
     let proposal = Proposal::read(proposal, &case)?; // verdicts 9 to 14
 
     // Verdict 21, and rule 1: import is positive.
@@ -113,7 +140,11 @@ fn decide(
     let mut lta = [0i128; MOST_ZONES];
     for l in 0..case.links {
         let (link, flow) = (case.link(l), i128::from(proposal.flow(l)));
-        if flow * ONE > link_share * i128::from(link.capacity) {
+        let most = match build {
+            Build::LinkRuleByContracted => link.contracted,
+            _ => link.capacity,
+        };
+        if flow * ONE > link_share * i128::from(most) {
             return Err(Verdict::new(23, l));
         }
         lta[usize::from(link.to)] += flow;
@@ -170,12 +201,13 @@ fn decide(
         surpluses += order.surplus(prices[usize::from(order.zone)]);
     }
 
-    // Rule 9.
+    // Rule 9, and S-4: what the links are worth by capacity, and what is owed of
+    // it to those who bought.
     let mut branch_total = 0;
     for b in 0..case.branches {
         branch_total += ONE * ram(b) * i128::from(proposal.shadow_price(b));
     }
-    let mut owed = 0;
+    let (mut link_total, mut owed) = (0, 0);
     for l in 0..case.links {
         let link = case.link(l);
         let spread = prices[usize::from(link.to)] - prices[usize::from(link.from)];
@@ -184,19 +216,23 @@ fn decide(
         } else {
             spread.max(0)
         };
-        owed += i128::from(link.capacity) * counted;
+        link_total += i128::from(link.capacity) * counted;
+        owed += i128::from(link.contracted) * counted;
     }
-    if build == Build::SpreadsNetted {
+    match build {
         // Netted down to nothing at most, which is the harder one to find.
-        owed = owed.max(0);
+        Build::SpreadsNetted => (link_total, owed) = (link_total.max(0), owed.max(0)),
+        Build::OwedByCapacity => owed = link_total,
+        Build::BoundByContracted => link_total = owed,
+        _ => {}
     }
 
-    // Rules 10 and 11.
+    // Rules 10 and 11: S-4 leaves the bound to the capacities.
     let bound = surpluses
         + match build {
             Build::BranchTotalAlone => branch_total,
-            Build::SmallerTotal => branch_total.min(owed),
-            _ => branch_total.max(owed),
+            Build::SmallerTotal => branch_total.min(link_total),
+            _ => branch_total.max(link_total),
         };
     let gap = bound - welfare;
     let rent: i128 = net

@@ -33,7 +33,7 @@ pub struct Verdict {
 
 impl Verdict {
     pub(crate) fn new(number: u32, index: usize) -> Verdict {
-        // A row's number or an offset in a case of at most 9,870 bytes.
+        // A row's number or an offset in a case of at most 10,126 bytes.
         Verdict {
             number,
             index: index as u32,

@@ -54,7 +54,9 @@ pub const REPORT_FIELD: usize = 8;
 
 pub const CASE_HEADER: usize = 14;
 pub const PROPOSAL_HEADER: usize = 13;
-pub const LINK_BYTES: usize = 6;
+/// S-4: a link of version 2 has its contracted volume behind its capacity.
+pub const VERSIONS: RangeInclusive<u16> = 1..=2;
+pub const LINK_BYTES: [usize; 2] = [6, 10];
 pub const ORDER_BYTES: usize = 10;
 
 /// Side of an order.

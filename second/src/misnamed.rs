@@ -8,13 +8,13 @@ use crate::Verdict;
 
 /// The verdict as the build gives it, for a right one on this case.
 pub fn misnamed(build: Build, verdict: Verdict, bytes: &[u8]) -> Verdict {
-    let Ok(case) = Case::header(bytes) else {
+    let Ok(case) = Case::header_as(build, bytes) else {
         return verdict;
     };
     // The part: where it begins, and the bytes of a row.
     let (start, row_bytes) = match verdict.number {
         6 => (case.branch_at(0), case.branch_bytes()),
-        7 => (case.link_at(0), LINK_BYTES),
+        7 => (case.link_at(0), case.link_bytes()),
         8 => (case.order_at(0), ORDER_BYTES),
         14 => (PROPOSAL_HEADER + 4 * (case.orders + case.links), 4),
         _ => return verdict,

@@ -1,6 +1,7 @@
 //! Reading of the two files, with verdicts 1 to 14.
 
 use crate::book::Row;
+use crate::judge::Build;
 use crate::limits::*;
 use crate::Verdict;
 use std::iter;
@@ -32,11 +33,15 @@ pub struct Link {
     pub from: u8,
     pub to: u8,
     pub capacity: u32,
+    /// S-4: what was bought of the capacity; in version 1 all of it.
+    pub contracted: u32,
 }
 
 /// A case: the counts of its header, and its rows read on demand.
 pub struct Case<'a> {
     bytes: &'a [u8],
+    build: Build,
+    version: u16,
     pub zones: usize,
     pub branches: usize,
     pub links: usize,
@@ -47,13 +52,23 @@ pub struct Case<'a> {
 impl<'a> Case<'a> {
     /// The header alone: verdicts 1 to 4.
     pub fn header(bytes: &'a [u8]) -> Result<Case<'a>, Verdict> {
+        Case::header_as(Build::Right, bytes)
+    }
+
+    /// The same as one of the builds reads it.
+    #[inline]
+    pub fn header_as(build: Build, bytes: &'a [u8]) -> Result<Case<'a>, Verdict> {
         if bytes.len() < CASE_HEADER {
             return Err(Verdict::new(1, 0));
         }
         if &bytes[0..3] != b"LTC" {
             return Err(Verdict::new(2, 0));
         }
-        if u16_at(bytes, 3) != 1 {
+        let version = match (build, u16_at(bytes, 3)) {
+            (Build::VersionThreeTaken, 3) => 2,
+            (_, version) => version,
+        };
+        if !VERSIONS.contains(&version) {
             return Err(Verdict::new(3, 0));
         }
         // Verdict 4 names the offset of the field.
@@ -74,6 +89,8 @@ impl<'a> Case<'a> {
         }
         Ok(Case {
             bytes,
+            build,
+            version,
             zones: bytes[5].into(),
             branches: bytes[6].into(),
             links: bytes[7].into(),
@@ -84,7 +101,13 @@ impl<'a> Case<'a> {
 
     /// The whole case: verdicts 1 to 8.
     pub fn read(bytes: &'a [u8]) -> Result<Case<'a>, Verdict> {
-        let case = Case::header(bytes)?;
+        Case::read_as(Build::Right, bytes)
+    }
+
+    /// The same as one of the builds reads it.
+    #[inline]
+    pub fn read_as(build: Build, bytes: &'a [u8]) -> Result<Case<'a>, Verdict> {
+        let case = Case::header_as(build, bytes)?;
         if bytes.len() != case.demanded() {
             return Err(Verdict::new(5, 0));
         }
@@ -111,17 +134,50 @@ impl<'a> Case<'a> {
     }
 
     /// Each link: from, which a repeated pair puts at fault too, to, which equal
-    /// zones do, and capacity.
+    /// zones do, capacity, and in version 2 contracted, which is within it.
     pub fn link_fields(&self) -> impl Iterator<Item = Field> + '_ {
         (0..self.links).flat_map(|l| {
             let (at, link) = (self.link_at(l), self.link(l));
             let known = |zone: u8| usize::from(zone) < self.zones;
-            [
-                (at, known(link.from) && self.same_pair_before(l).is_none()),
-                (at + 1, known(link.to) && link.to != link.from),
-                (at + 2, CAPACITY.contains(&link.capacity)),
-            ]
+            let capacity = (at + 2, CAPACITY.contains(&link.capacity));
+            let contracted = self
+                .has_contracted()
+                .then(|| self.contracted_field(at, &link));
+            let (third, fourth) = match self.build {
+                Build::ContractedBeforeCapacity => (contracted, Some(capacity)),
+                _ => (Some(capacity), contracted),
+            };
+            let from = (at, known(link.from) && self.same_pair_before(l).is_none());
+            let to = (at + 1, known(link.to) && link.to != link.from);
+            [Some(from), Some(to), third, fourth].into_iter().flatten()
         })
+    }
+
+    /// The contracted volume of a link of version 2, which stands here.
+    fn contracted_field(&self, at: usize, link: &Link) -> Field {
+        let within = match self.build {
+            Build::ContractedEqualRefused => link.contracted < link.capacity,
+            Build::ContractedToItsOwnLimit => CAPACITY.contains(&link.contracted),
+            _ => link.contracted <= link.capacity,
+        };
+        let named = match self.build {
+            Build::ContractedNamesCapacity => at + 2,
+            _ => at + 6,
+        };
+        (named, within)
+    }
+
+    /// Whether its links have a contracted volume of their own.
+    fn has_contracted(&self) -> bool {
+        match self.build {
+            Build::VersionOneWide => true,
+            Build::VersionTwoNarrow => false,
+            _ => self.version == 2,
+        }
+    }
+
+    pub fn link_bytes(&self) -> usize {
+        LINK_BYTES[usize::from(self.has_contracted())]
     }
 
     /// The first link before this one that has its ordered pair.
@@ -129,7 +185,7 @@ impl<'a> Case<'a> {
         let pair = |row: &[u8]| [row[0], row[1]];
         let this = pair(&self.bytes[self.link_at(l)..]);
         self.bytes[self.link_at(0)..self.link_at(l)]
-            .chunks_exact(LINK_BYTES)
+            .chunks_exact(self.link_bytes())
             .position(|earlier| pair(earlier) == this)
     }
 
@@ -156,7 +212,7 @@ impl<'a> Case<'a> {
     }
 
     pub fn link_at(&self, l: usize) -> usize {
-        self.branch_at(self.branches) + l * LINK_BYTES
+        self.branch_at(self.branches) + l * self.link_bytes()
     }
 
     pub fn order_at(&self, o: usize) -> usize {
@@ -181,12 +237,26 @@ impl<'a> Case<'a> {
 
     pub fn link(&self, l: usize) -> Link {
         let at = self.link_at(l);
-        let row = &self.bytes[at..at + LINK_BYTES];
+        let row = &self.bytes[at..at + self.link_bytes()];
+        let capacity = u32_at(row, 2);
+        let contracted = match self.has_contracted() {
+            true => u32_at(row, 6),
+            false if self.build == Build::ContractedPastTheLink => self.four_bytes_at(at + 6),
+            false => capacity,
+        };
         Link {
             from: row[0],
             to: row[1],
-            capacity: u32_at(row, 2),
+            capacity,
+            contracted,
         }
+    }
+
+    /// What stands at an offset that may be past the end.
+    fn four_bytes_at(&self, at: usize) -> u32 {
+        self.bytes
+            .get(at..at + 4)
+            .map_or(0, |field| u32_at(field, 0))
     }
 
     pub fn order(&self, o: usize) -> Row {

@@ -1,10 +1,8 @@
 //! The paper's stored hours, its wrong builds and its shams, value by value.
 
-use crate::hours::{stored, three_zone_hour, Hour, Stored};
+use crate::hours::{contracted_hour, stored, three_zone_hour, Hour, Stored, Version, EURO};
 use crate::limits::{LEAST_BUFFER, REPORT_FIELD, REPORT_HEADER, REPORT_TOTALS};
 use crate::*;
-
-const EURO: i64 = 100_000_000;
 
 fn field(report: &[u8], n: usize) -> i64 {
     let at = REPORT_HEADER + REPORT_FIELD * n;
@@ -44,9 +42,9 @@ fn stored_hours() {
             [b'L', b'T', b'R', 1, 0, hour.number as u8, zones, 0],
             "{name}"
         );
-        for (n, euros) in hour.euros.in_order().into_iter().enumerate() {
-            if let Some(euros) = euros {
-                assert_eq!(field(&report, n), euros * EURO, "{name}, total {n}");
+        for (n, total) in hour.totals.in_order().into_iter().enumerate() {
+            if let Some(total) = total {
+                assert_eq!(field(&report, n), total, "{name}, total {n}");
             }
         }
         for (z, price) in hour.prices.iter().enumerate() {
@@ -158,7 +156,8 @@ fn header_refusals() {
     for (at, value, number, index) in [
         (0, b'l', 2, 0),
         (2, 0, 2, 0),
-        (3, 2, 3, 0),
+        (3, 0, 3, 0),
+        (3, 3, 3, 0),
         (4, 1, 3, 0),
         (5, 0, 4, 5),
         (5, 17, 4, 5),
@@ -191,6 +190,7 @@ fn repeated_pair_is_sought_among_all_earlier_links() {
         from,
         to,
         capacity: 1,
+        contracted: 1,
     };
     hour.links = vec![link(0, 1), link(1, 0), link(2, 1), link(0, 1)];
     hour.flows = vec![0; 4];
@@ -234,9 +234,19 @@ fn told_apart(build: Build, hour: &Hour, right: (u32, u32), wrong: (u32, u32)) {
     assert_eq!(given, [right, wrong], "{build:?}");
 }
 
+/// A link that is contracted whole.
+fn link(from: u8, to: u8, capacity: u32) -> hours::Link {
+    hours::Link {
+        from,
+        to,
+        capacity,
+        contracted: capacity,
+    }
+}
+
 /// P1 with these links, none of which has a flow.
 fn with_links(links: &[(u8, u8, u32)]) -> Hour {
-    let link = |&(from, to, capacity): &(u8, u8, u32)| hours::Link { from, to, capacity };
+    let link = |&(from, to, capacity): &(u8, u8, u32)| link(from, to, capacity);
     Hour {
         links: links.iter().map(link).collect(),
         flows: vec![0; links.len()],
@@ -342,10 +352,230 @@ fn offset_cut_to_eight_bits() {
     assert_eq!(lines, b"verdict 8 5168\n");
 }
 
+// S-4. Offsets by hand: P1 of version 2 has its link at 46, the link's contracted
+// volume at 52, and its orders from 56 on.
+
+/// The right number, index, bound and owed, the totals in whole euros, and those
+/// of a wrong build; a refusal has none.
+fn told_apart_by_totals(build: Build, hour: &Hour, right: Outcome, wrong: Outcome) {
+    let given = [Build::Right, build].map(|build| {
+        let mut report = [0; LEAST_BUFFER];
+        let verdict = judge_as(build, &hour.case(), &hour.proposal(), &mut report);
+        let totals = [1, 4].map(|n| field(&report, n) as f64 / EURO as f64);
+        (verdict.number, verdict.index, totals[0], totals[1])
+    });
+    assert_eq!(given, [right, wrong], "{build:?}");
+}
+
+/// Number, index, bound and owed in euros.
+type Outcome = (u32, u32, f64, f64);
+
+#[test]
+fn owed_by_capacity() {
+    let hour = contracted_hour();
+    let right = (0, 0, 22_125.0, 10_937.5);
+    let wrong = (0, 0, 22_125.0, 17_500.0);
+    told_apart_by_totals(Build::OwedByCapacity, &hour, right, wrong);
+}
+
+#[test]
+fn bound_by_contracted_volumes() {
+    // P3 with nothing contracted: the bound still has the 18,000 euros that the
+    // link's capacity would earn, and P3's gap of 3,000 is seen.
+    let mut hour = contracted_hour();
+    let p3 = named("P3").proposal;
+    hour.share = 0;
+    hour.system_price = 2_000;
+    hour.volumes = vec![4_000, 500, 1_000, 0, 3_500];
+    hour.flows = vec![0];
+    hour.shadow_prices = vec![6_000, 0];
+    assert_eq!(hour.proposal(), p3);
+    hour.links[0].contracted = 0;
+    let (right, wrong) = ((26, 0, 22_500.0, 0.0), (0, 0, 19_500.0, 0.0));
+    told_apart_by_totals(Build::BoundByContracted, &hour, right, wrong);
+}
+
+#[test]
+fn flow_limited_to_what_is_contracted() {
+    told_apart(
+        Build::LinkRuleByContracted,
+        &contracted_hour(),
+        (0, 0),
+        (23, 0),
+    );
+}
+
+#[test]
+fn contracted_read_in_version_1() {
+    told_apart(Build::VersionOneWide, &three_zone_hour(), (0, 0), (5, 0));
+    // The first order's bytes 00 01 a0 0f as a volume: 262,144,256 tenths.
+    let right = (0, 0, 22_125.0, 17_500.0);
+    let wrong = (0, 0, 22_125.0, 262_144_256.0 * 4.375);
+    told_apart_by_totals(
+        Build::ContractedPastTheLink,
+        &three_zone_hour(),
+        right,
+        wrong,
+    );
+}
+
+#[test]
+fn version_2_read_with_links_of_six_bytes() {
+    told_apart(Build::VersionTwoNarrow, &contracted_hour(), (0, 0), (5, 0));
+    // Without a link the two layouts are one.
+    let mut hour = contracted_hour();
+    (hour.links, hour.flows, hour.share) = (vec![], vec![], 0);
+    hour.volumes = vec![0; 5];
+    told_apart(Build::VersionTwoNarrow, &hour, (26, 0), (26, 0));
+}
+
+#[test]
+fn another_version_taken() {
+    let hour = contracted_hour();
+    for version in [0u16, 3, 4, 256, 257, 258, 512, 513, 65_535] {
+        let mut case = hour.case();
+        case[3..5].copy_from_slice(&version.to_le_bytes());
+        let given = [Build::Right, Build::VersionThreeTaken]
+            .map(|build| judge_as(build, &case, &hour.proposal(), &mut [0; LEAST_BUFFER]).number);
+        assert_eq!(
+            given,
+            [3, if version == 3 { 0 } else { 3 }],
+            "version {version}"
+        );
+    }
+}
+
+#[test]
+fn contracted_equal_to_capacity_refused() {
+    let mut hour = contracted_hour();
+    hour.links[0].contracted = 4_000;
+    told_apart(Build::ContractedEqualRefused, &hour, (0, 0), (7, 52));
+    // Nothing is offered and nothing bought.
+    let mut hour = contracted_hour();
+    hour.links.push(link(1, 0, 0));
+    hour.flows.push(0);
+    told_apart(Build::ContractedEqualRefused, &hour, (0, 0), (7, 62));
+}
+
+#[test]
+fn contracted_above_capacity_named_by_its_own_field() {
+    let mut hour = contracted_hour();
+    hour.links[0].contracted = 4_001;
+    told_apart(Build::ContractedToItsOwnLimit, &hour, (7, 52), (0, 0));
+    told_apart(Build::ContractedNamesCapacity, &hour, (7, 52), (7, 48));
+    hour.links[0].contracted = u32::MAX;
+    told_apart(Build::ContractedNamesCapacity, &hour, (7, 52), (7, 48));
+    // In the second link, behind a good first one.
+    hour.links[0].contracted = 4_000;
+    hour.links.push(hours::Link {
+        contracted: 1,
+        ..link(1, 0, 0)
+    });
+    hour.flows.push(0);
+    told_apart(Build::RowForOffset, &hour, (7, 62), (7, 1));
+    told_apart(Build::OffsetInPart, &hour, (7, 62), (7, 16));
+}
+
+#[test]
+fn contracted_named_before_the_capacity() {
+    let mut hour = contracted_hour();
+    (hour.links[0].capacity, hour.links[0].contracted) = (100_001, 100_002);
+    told_apart(Build::ContractedBeforeCapacity, &hour, (7, 48), (7, 52));
+    told_apart(Build::LastFieldOfRow, &hour, (7, 48), (7, 52));
+    hour.links[0].to = 0;
+    told_apart(Build::LastFieldOfRow, &hour, (7, 47), (7, 52));
+    // Within a capacity that is out of range: nothing more is at fault.
+    hour.links[0].contracted = 100_001;
+    told_apart(Build::LastFieldOfRow, &hour, (7, 47), (7, 48));
+}
+
+#[test]
+fn version_1_is_version_2_with_all_contracted() {
+    for stored in stored() {
+        let Some(wide) = all_contracted(&stored.case) else {
+            continue;
+        };
+        let reports = [&stored.case, &wide].map(|case| {
+            let mut report = [0xA5; LEAST_BUFFER];
+            let verdict = judge(case, &stored.proposal, &mut report);
+            (verdict, report)
+        });
+        assert_eq!(reports[0], reports[1], "{}", stored.name);
+    }
+}
+
+/// A case of version 1 as one of version 2 with each link contracted whole.
+fn all_contracted(case: &[u8]) -> Option<Vec<u8>> {
+    if case.len() < 14 || case[3] != 1 {
+        return None;
+    }
+    let links_at = 14 + usize::from(case[6]) * (4 + 4 * usize::from(case[5]));
+    let orders_at = links_at + 6 * usize::from(case[7]);
+    let mut wide = case[..links_at].to_vec();
+    wide[3] = 2;
+    for link in case[links_at..orders_at].chunks_exact(6) {
+        wide.extend(link);
+        wide.extend(&link[2..]);
+    }
+    wide.extend(&case[orders_at..]);
+    Some(wide)
+}
+
+#[test]
+fn bytes_of_version_2() {
+    let case = contracted_hour().case();
+    assert_eq!(case.len(), 106);
+    assert_eq!(case[3..5], [2, 0]);
+    assert_eq!(case[46..56], [0, 1, 0xA0, 0x0F, 0, 0, 0xC4, 9, 0, 0]);
+    assert_eq!(case[56..62], [0, 1, 0xA0, 0x0F, 0, 0]);
+}
+
+#[test]
+fn desk_cuts_version_2_at_its_own_length() {
+    let hour = contracted_hour();
+    let input = [hour.case(), hour.proposal()].concat();
+    assert_eq!(desk_lines(&input[..105]), b"verdict 5 0\n");
+    assert_eq!(desk_lines(&input[..106]), b"verdict 9 0\n");
+    let lines = String::from_utf8(desk_lines(&input)).unwrap();
+    assert!(lines.starts_with("verdict 0 0\n"), "{lines}");
+    assert!(lines.contains("\nowed 10937.50000000\n"), "{lines}");
+    // Six bytes to a link under version 2: the case takes four of the proposal's.
+    let mut narrow = three_zone_hour().case();
+    narrow[3] = 2;
+    let joined = [narrow.clone(), hour.proposal()].concat();
+    assert_eq!(desk_lines(&joined), b"verdict 7 52\n");
+    let verdict = judge(&narrow, &hour.proposal(), &mut [0; LEAST_BUFFER]);
+    assert_eq!((verdict.number, verdict.index), (5, 0));
+}
+
+#[test]
+fn version_2_with_the_most_links() {
+    let mut hour = contracted_hour();
+    hour.zones = 16;
+    hour.branches = vec![
+        hours::Branch {
+            ram: 500_000,
+            ptdfs: vec![0; 16]
+        };
+        64
+    ];
+    hour.links = (0..64)
+        .map(|l| link(l / 4, (l / 4 + l % 4 + 1) % 16, 100_000))
+        .collect();
+    hour.orders = vec![hour.orders[0]; 512];
+    assert_eq!(hour.case().len(), 10_126);
+    hour.links[63].contracted = 100_001;
+    let verdict = judge(&hour.case(), &hour.proposal(), &mut [0; LEAST_BUFFER]);
+    assert_eq!((verdict.number, verdict.index), (7, 5_002));
+    hour.links[63].contracted = 0;
+    hour.orders[511].price = 400_001;
+    let verdict = judge(&hour.case(), &hour.proposal(), &mut [0; LEAST_BUFFER]);
+    assert_eq!((verdict.number, verdict.index), (8, 10_122));
+}
+
 /// Two zones with the spread of one link positive and of the other negative.
 fn two_way_hour() -> Stored {
     let p1 = three_zone_hour();
-    let link = |from, to, capacity| hours::Link { from, to, capacity };
     let hour = Hour {
         tolerance: 1_000_000_000,
         links: vec![link(0, 1, 4_000), link(1, 0, 1_000)],
