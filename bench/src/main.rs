@@ -8,7 +8,7 @@ mod intuitive;
 #[cfg(feature = "sheet")]
 mod sheet;
 
-use second_judge::hours::{three_zone_hour, Branch, Hour, Link};
+use second_judge::hours::{contracted_hour, three_zone_hour, Branch, Hour, Link, Version};
 #[cfg(feature = "desk")]
 use second_judge::limits::LEAST_OUTPUT;
 use second_judge::limits::{BUYS, LEAST_BUFFER, SELLS};
@@ -120,6 +120,7 @@ fn measure_judges(case: &[u8], proposal: &[u8], number: u32, index: u32) -> Time
 /// An hour of these counts that is accepted, with no field left at zero.
 fn sized(zones: usize, branches: usize, links: usize, orders: usize) -> Hour {
     Hour {
+        version: Version::One,
         zones: zones as u8,
         tolerance: 1_000_000_000,
         branches: (0..branches)
@@ -136,6 +137,7 @@ fn sized(zones: usize, branches: usize, links: usize, orders: usize) -> Hour {
                 from: from as u8,
                 to: to as u8,
                 capacity: 1_000,
+                contracted: 600,
             })
             .collect(),
         orders: (0..orders)
@@ -192,9 +194,26 @@ fn main() {
         );
     }
 
-    heading("refusals of the largest");
+    heading("judgement, case version 2");
     let [zones, branches, links, orders] = CLASSES[5].1;
     let largest = sized(zones, branches, links, orders);
+    let two = |hour: Hour| Hour {
+        version: Version::Two,
+        ..hour
+    };
+    print(
+        "P1, 2,500 of 4,000 contracted",
+        &of(&contracted_hour(), 0, 0),
+    );
+    print("the largest", &of(&two(largest.clone()), 0, 0));
+    let mut contracted = two(largest.clone());
+    contracted.links[63].contracted = 1_001;
+    print(
+        "at the last link's contracted (7)",
+        &of(&contracted, 7, LINKS_AT + 63 * 10 + 6),
+    );
+
+    heading("refusals of the largest");
     let header = Hour {
         tolerance: 1_000_000_001,
         ..largest.clone()
@@ -242,6 +261,12 @@ fn main() {
         print(
             &format!("{count} links"),
             &of(&sized(16, 0, count, 0), 0, 0),
+        );
+    }
+    for count in [8, 16, 32, 64] {
+        print(
+            &format!("{count} links of version 2"),
+            &of(&two(sized(16, 0, count, 0)), 0, 0),
         );
     }
 

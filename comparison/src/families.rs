@@ -51,16 +51,15 @@ pub fn good(rng: &mut Rng, shape: Shape) -> Hour {
 
 /// The hours the paper names, a check for each.
 pub fn paper_hours(run: &mut Run) {
-    const EURO: i64 = 100_000_000;
     run.of_paper = true;
     for hour in stored() {
         run.begin(hour.name);
         for lent in [LEAST_BUFFER, LEAST_BUFFER + 1, 256] {
             run.feed(&hour.case, &hour.proposal, lent);
             run.expect(hour.number, hour.index);
-            for (n, euros) in hour.euros.in_order().into_iter().enumerate() {
-                if let Some(euros) = euros {
-                    run.expect_total(n, euros * EURO);
+            for (n, total) in hour.totals.in_order().into_iter().enumerate() {
+                if let Some(total) = total {
+                    run.expect_total(n, total);
                 }
             }
             for (zone, &price) in hour.prices.iter().enumerate() {
@@ -313,7 +312,7 @@ fn bad_pairs(run: &mut Run, rng: &mut Rng) {
     }
     let links_at = 14 + hour.branches.len() * (4 + 4 * usize::from(hour.zones));
     feed_hour(run, rng, &hour);
-    run.expect(7, (links_at + 6 * due.0 + due.1) as u32);
+    run.expect(7, (links_at + hour.link_bytes() * due.0 + due.1) as u32);
 }
 
 /// A row, often the last one.
@@ -406,6 +405,7 @@ fn price_by_one_grain(run: &mut Run, rng: &mut Rng, zones: u8) {
         let mut ptdfs = vec![0; zones.into()];
         ptdfs[zone] = step;
         let hour = Hour {
+            version: version(rng),
             zones,
             branches: vec![Branch { ram: 0, ptdfs }],
             shadow_prices: vec![1],
@@ -436,6 +436,7 @@ fn gap_by_one_microcent(run: &mut Run, rng: &mut Rng, zones: u8) {
         let mut ptdfs = vec![0; zones.into()];
         ptdfs[zone] = ptdf as i32;
         let mut hour = Hour {
+            version: version(rng),
             zones,
             branches: vec![Branch { ram: 0, ptdfs }],
             orders: vec![Row {

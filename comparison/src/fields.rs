@@ -1,7 +1,7 @@
 //! The fields of an hour's two files: where each stands and what it may hold.
 
 use crate::make::most_flow;
-use second_judge::hours::Hour;
+use second_judge::hours::{Hour, Version};
 
 #[derive(Clone, Copy)]
 pub struct Field {
@@ -82,7 +82,7 @@ pub fn fields(hour: &Hour) -> Vec<Field> {
         at: 0,
     };
     case.mark(b"LTC", 2);
-    case.field(2, 1, 1, 3, 0);
+    case.field(2, 1, 2, 3, 0);
     case.field(1, 1, 16, 4, 5);
     case.field(1, 0, 64, 4, 6);
     case.field(1, 0, 64, 4, 7);
@@ -96,11 +96,16 @@ pub fn fields(hour: &Hour) -> Vec<Field> {
         }
     }
     let last_zone = i64::from(hour.zones) - 1;
-    for _ in &hour.links {
+    for link in &hour.links {
         // A known zone may still make the two equal or repeat a pair.
         case.field(1, 0, last_zone, 7, case.at).tied = true;
         case.field(1, 0, last_zone, 7, case.at).tied = true;
-        case.field(4, 0, 100_000, 7, case.at);
+        let capacity = case.field(4, 0, 100_000, 7, case.at);
+        if hour.version == Version::Two {
+            // A smaller one may be less than what is contracted.
+            capacity.tied = true;
+            case.field(4, 0, link.capacity.into(), 7, case.at);
+        }
     }
     for _ in &hour.orders {
         case.field(1, 0, last_zone, 8, case.at);

@@ -26,6 +26,7 @@ mod rng;
 mod run;
 #[cfg(feature = "sheet")]
 mod sheet;
+mod versions;
 
 use rng::Rng;
 use run::{Check, Run, MET};
@@ -72,6 +73,7 @@ fn main() -> ExitCode {
     families::null_pointers(&mut run);
     places::made(&mut run, &mut Rng::new(seed));
     offsets::offsets(&mut run, &mut Rng::new(seed));
+    versions::laws(&mut run, &mut Rng::new(seed));
     #[cfg(feature = "desk")]
     {
         desk::end(&mut run);
@@ -90,6 +92,7 @@ fn main() -> ExitCode {
         run.check(format!("{number}"), times > 0, format!("{times}"));
     }
     places::named(&mut run);
+    versions::counted(&mut run);
     run.section("met, times");
     for (name, times) in MET.iter().zip(run.met) {
         run.check(name.to_string(), times > 0, format!("{times}"));

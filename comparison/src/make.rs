@@ -1,4 +1,5 @@
-//! Makes hours: optimal ones, feasible ones, random ones and the widest ones.
+//! Makes hours: optimal ones, feasible ones, random ones and the widest ones, half
+//! of them of either case version.
 //!
 //! An optimal hour is made from its prices. Take shadow prices and a system
 //! price, hence zone prices; let every link with a positive spread be full and
@@ -8,7 +9,7 @@
 //! money only, the gap is zero.
 
 use crate::rng::Rng;
-use second_judge::hours::{Branch, Hour, Link};
+use second_judge::hours::{Branch, Hour, Link, Version};
 use second_judge::limits::{BUYS, SELLS};
 use second_judge::Row;
 
@@ -56,6 +57,28 @@ impl Shape {
             links: rng.below(most[2] + 1).min(zones * (zones - 1)),
             orders: rng.below(most[3] + 1),
         }
+    }
+}
+
+/// S-4: either version.
+pub fn version(rng: &mut Rng) -> Version {
+    rng.pick(&[Version::One, Version::Two])
+}
+
+/// A link of which nothing is contracted yet.
+fn link((from, to): (u8, u8), capacity: u32) -> Link {
+    Link {
+        from,
+        to,
+        capacity,
+        contracted: 0,
+    }
+}
+
+/// Contracts a part of each link's capacity, often all of it or none.
+fn contract(rng: &mut Rng, links: &mut [Link]) {
+    for link in links {
+        link.contracted = rng.between_or_end(0, link.capacity.into()) as u32;
     }
 }
 
@@ -180,11 +203,7 @@ fn try_optimal(rng: &mut Rng, shape: Shape, halvings: u32) -> Option<Hour> {
     let widest = rng.pick(&[10, 40, 300, 1_000]) >> halvings;
     let mut links: Vec<Link> = pairs(rng, shape.zones, shape.links)
         .into_iter()
-        .map(|(from, to)| Link {
-            from,
-            to,
-            capacity: 100 * rng.between_or_end(0, widest) as u32,
-        })
+        .map(|pair| link(pair, 100 * rng.between_or_end(0, widest) as u32))
         .collect();
     let share = match rng.below(4) {
         0 => 0,
@@ -235,10 +254,12 @@ fn try_optimal(rng: &mut Rng, shape: Shape, halvings: u32) -> Option<Hour> {
             link.capacity = rng.between(0, i64::from(link.capacity)) as u32;
         }
     }
+    contract(rng, &mut links);
 
     let largest = (rng.pick(&[10, 5_000, 20_000, 100_000]) >> halvings).max(1);
     let orders = priced_orders(rng, shape.orders, largest, &prices, &net)?;
     Some(Hour {
+        version: version(rng),
         zones: shape.zones as u8,
         tolerance: if rng.one_in(2) {
             0
@@ -429,12 +450,10 @@ pub fn random(rng: &mut Rng, shape: Shape) -> Hour {
     };
     hour.links = pairs(rng, zones, shape.links)
         .into_iter()
-        .map(|(from, to)| Link {
-            from,
-            to,
-            capacity: rng.between_or_end(0, ONE) as u32,
-        })
+        .map(|pair| link(pair, rng.between_or_end(0, ONE) as u32))
         .collect();
+    contract(rng, &mut hour.links);
+    hour.version = version(rng);
 
     // How many of the rules from 21 on are seen to.
     let seen_to = rng.below(7);
@@ -523,6 +542,7 @@ pub fn at_limits(rng: &mut Rng, shape: Shape) -> Hour {
     }
     for (link, flow) in hour.links.iter_mut().zip(&mut hour.flows) {
         link.capacity = rng.pick(&[0, 100_000]);
+        link.contracted = rng.pick(&[0, link.capacity]);
         *flow = rng.pick(&[0, most_flow(share, link.capacity) as u32]);
     }
     for shadow in &mut hour.shadow_prices {
@@ -591,11 +611,7 @@ pub fn widest() -> Vec<Widest> {
         (0..64u8)
             .map(|n| (n / 8, 8 + n % 8))
             .map(|(low, high)| if to_higher { (low, high) } else { (high, low) })
-            .map(|(from, to)| Link {
-                from,
-                to,
-                capacity: 100_000,
-            })
+            .map(|pair| link(pair, 100_000))
             .collect()
     };
     let one_zone = Hour {
@@ -629,10 +645,17 @@ pub fn widest() -> Vec<Widest> {
         system_price: LOWEST,
         ..Hour::default()
     };
-    let linked = |to_higher, share| Hour {
+    let linked = |to_higher, share, contracted: Option<u32>| Hour {
+        version: contracted.map_or(Version::One, |_| Version::Two),
         zones: 16,
         branches: split(16, -500_000),
-        links: across(to_higher),
+        links: across(to_higher)
+            .into_iter()
+            .map(|link| Link {
+                contracted: contracted.unwrap_or(0),
+                ..link
+            })
+            .collect(),
         flows: vec![0; 64],
         shadow_prices: vec![1_000_000; 64],
         system_price: LOWEST,
@@ -687,10 +710,35 @@ pub fn widest() -> Vec<Widest> {
         ),
         widest("rent", carried(1, 0), RENT, 256 * ALL),
         widest("rent, negative", carried(0, 1), RENT, -256 * ALL),
-        widest("owed", linked(true, 100_000), OWED, 64 * ALL),
+        widest("owed", linked(true, 100_000, None), OWED, 64 * ALL),
         widest(
             "owed, every spread negative",
-            linked(false, 100_000),
+            linked(false, 100_000, None),
+            OWED,
+            0,
+        ),
+        // S-4: all contracted, a tenth less in each link, nothing.
+        widest(
+            "owed, all contracted",
+            linked(true, 100_000, Some(100_000)),
+            OWED,
+            64 * ALL,
+        ),
+        widest(
+            "owed, a tenth of each not contracted",
+            linked(true, 100_000, Some(99_999)),
+            OWED,
+            64 * ALL / 100_000 * 99_999,
+        ),
+        widest(
+            "bound, nothing contracted",
+            linked(true, 100_000, Some(0)),
+            BOUND,
+            64 * ALL,
+        ),
+        widest(
+            "owed, nothing contracted",
+            linked(true, 100_000, Some(0)),
             OWED,
             0,
         ),

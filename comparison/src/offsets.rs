@@ -5,6 +5,7 @@ use crate::fields::{fields, Field};
 use crate::make::{random, Shape};
 use crate::rng::Rng;
 use crate::run::Run;
+use second_judge::hours::{Hour, Version};
 
 const INPUTS: u64 = 60_000;
 /// Each number, each cause and each row at an end of its part is met so often.
@@ -24,8 +25,11 @@ use Zones::*;
 /// The last field of a row, however many it has.
 const LAST: usize = usize::MAX;
 
+/// A link's field that version 2 alone has.
+const CONTRACTED: usize = 3;
+
 /// Name, number, the zones, the row's fields that are put outside their range, the field that is named.
-const CAUSES: [(&str, u32, Zones, &[usize], usize); 30] = [
+const CAUSES: [(&str, u32, Zones, &[usize], usize); 36] = [
     ("branch: margin", 6, Kept, &[0], 0),
     ("branch: first PTDF", 6, Kept, &[1], 1),
     ("branch: last PTDF", 6, Kept, &[LAST], LAST),
@@ -44,6 +48,24 @@ const CAUSES: [(&str, u32, Zones, &[usize], usize); 30] = [
     ("link: unknown to, capacity", 7, Kept, &[1, 2], 1),
     ("link: equal zones, capacity", 7, Equal, &[2], 1),
     ("link: repeated, capacity", 7, Repeated(1), &[2], 0),
+    ("link: contracted", 7, Kept, &[CONTRACTED], CONTRACTED),
+    (
+        "link: unknown from, contracted",
+        7,
+        Kept,
+        &[0, CONTRACTED],
+        0,
+    ),
+    ("link: unknown to, contracted", 7, Kept, &[1, CONTRACTED], 1),
+    ("link: equal zones, contracted", 7, Equal, &[CONTRACTED], 1),
+    ("link: capacity, contracted", 7, Kept, &[2, CONTRACTED], 2),
+    (
+        "link: repeated, contracted",
+        7,
+        Repeated(1),
+        &[CONTRACTED],
+        0,
+    ),
     ("order: zone", 8, Kept, &[0], 0),
     ("order: side", 8, Kept, &[1], 1),
     ("order: quantity", 8, Kept, &[2], 2),
@@ -87,7 +109,7 @@ pub fn offsets(run: &mut Run, rng: &mut Rng) {
         let (case, proposal, list) = (hour.case(), hour.proposal(), fields(&hour));
         for cause in 0..CAUSES.len() {
             let mut files = (case.clone(), proposal.clone());
-            plant(run, rng, cause, &mut files, &list, shape.zones, &mut named);
+            plant(run, rng, cause, &mut files, &list, &hour, &mut named);
         }
     }
     run.end();
@@ -119,10 +141,11 @@ fn plant(
     cause: usize,
     (case, proposal): &mut (Vec<u8>, Vec<u8>),
     list: &[Field],
-    zones: usize,
+    hour: &Hour,
     named: &mut Named,
 ) {
     let (name, number, change, outsiders, due) = CAUSES[cause];
+    let zones = usize::from(hour.zones);
     let part: Vec<Field> = list
         .iter()
         .filter(|f| f.number == number)
@@ -130,12 +153,15 @@ fn plant(
         .collect();
     let width = match number {
         6 => 1 + zones,
-        7 => 3,
-        8 => 4,
+        7 if hour.version == Version::One => 3,
+        7 | 8 => 4,
         _ => 1,
     };
     let (count, first) = (part.len() / width, least_row(change));
-    if count <= first {
+    let has_fields = outsiders
+        .iter()
+        .all(|&field| field < width || field == LAST);
+    if count <= first || !has_fields {
         return;
     }
     let row = match rng.below(3) {

@@ -3,7 +3,7 @@
 
 use crate::families::{enough, good, outside};
 use crate::fields::fields;
-use crate::make::{flow_based_parts, least_ram, most_flow, used, Shape};
+use crate::make::{flow_based_parts, least_ram, most_flow, used, version, Shape};
 use crate::offsets::{at_least, LEAST};
 use crate::rng::Rng;
 use crate::run::Run;
@@ -99,8 +99,10 @@ fn at_fault(rng: &mut Rng, number: u32, index: u32) -> (Vec<u8>, Vec<u8>) {
         }
         _ => {
             let (system_price, outwards) = rng.pick(&[(-50_000, -1), (400_000, 1)]);
+            let version = version(rng);
             let mut ptdf = |n| if also(rng, n) { outwards } else { 0 };
             hour = Hour {
+                version,
                 zones: 16,
                 branches: vec![Branch {
                     ram: 0,

@@ -36,7 +36,7 @@ const LARGE: i64 = 1_000_000_000_000_000_000;
 const MOST_OWED: i64 = 64 * 100_000 * 450_000 * 100_000;
 
 /// Things a good stream of inputs must come across, counted.
-pub const MET: [&str; 15] = [
+pub const MET: [&str; 20] = [
     "accepted with gap zero",
     "accepted, gap at the tolerance",
     "refused, gap a microcent over",
@@ -52,11 +52,20 @@ pub const MET: [&str; 15] = [
     "rent above 10^18",
     "rent below -10^18",
     "owed 288 * 10^15, its most",
+    "version 2: all contracted",
+    "version 2: nothing contracted",
+    "version 2: less owed",
+    "less owed, accepted at gap zero",
+    "less owed, links' total in bound",
 ];
 
 pub struct Run {
     pub checks: Vec<Check>,
     pub verdicts: [u64; 31],
+    /// Those on cases of version 2.
+    pub verdicts_on_two: [u64; 31],
+    /// Cases of version 1, of version 2, and of none.
+    pub versions: [u64; 3],
     pub second_wrong: [Found; Build::WRONG.len()],
     pub second_wrong_tried: u64,
     pub met: [u64; MET.len()],
@@ -81,6 +90,8 @@ impl Run {
         Run {
             checks: Vec::new(),
             verdicts: [0; 31],
+            verdicts_on_two: [0; 31],
+            versions: [0; 3],
             second_wrong: Default::default(),
             second_wrong_tried: 0,
             met: [0; MET.len()],
@@ -228,6 +239,14 @@ impl Run {
         }
 
         self.verdicts[self.verdict.number as usize] += 1;
+        match case.get(3..5) {
+            Some([1, 0]) => self.versions[0] += 1,
+            Some([2, 0]) => {
+                self.versions[1] += 1;
+                self.verdicts_on_two[self.verdict.number as usize] += 1;
+            }
+            _ => self.versions[2] += 1,
+        }
         for (times, place) in self.places.iter_mut().zip(PLACES) {
             *times += u64::from(place == (self.verdict.number, self.verdict.index));
         }
@@ -277,6 +296,22 @@ impl Run {
         let negative = |b: usize| (u32_at(case, 14 + b * (4 + 4 * zones)) as i32) < 0;
         let flow = |l: usize| u32_at(proposal, 13 + 4 * (orders + l));
         let accepted = number == 0;
+        let ram = |b: usize| i64::from(u32_at(case, 14 + b * (4 + 4 * zones)) as i32);
+        let shadow = |b: usize| i64::from(u32_at(proposal, 13 + 4 * (orders + links + b)));
+        let branch_total: i64 = (0..branches).map(|b| 100_000 * ram(b) * shadow(b)).sum();
+        let two = case[3] == 2;
+        let link_at = |l| 14 + branches * (4 + 4 * zones) + l * if two { 10 } else { 6 };
+        let capacity = |l: usize| i64::from(u32_at(case, link_at(l) + 2));
+        let contracted = |l: usize| i64::from(u32_at(case, link_at(l) + if two { 6 } else { 2 }));
+        let price = |zone: u8| self.total(5 + usize::from(zone));
+        let spread = |l: usize| price(case[link_at(l) + 1]) - price(case[link_at(l)]);
+        let link_total: i64 = (0..links).map(|l| capacity(l) * spread(l).max(0)).sum();
+        let less = two && owed < link_total;
+        let offered = two && (0..links).any(|l| capacity(l) > 0);
+        // The coverage rule, which holds by capacities too.
+        if rent < owed - gap || rent < link_total - gap {
+            self.fault(|| format!("rent {rent} does not cover {owed} or {link_total} less {gap}"));
+        }
         let met = [
             accepted && gap == 0,
             accepted && gap == tolerance && gap > 0,
@@ -293,6 +328,11 @@ impl Run {
             rent > LARGE,
             rent < -LARGE,
             owed == MOST_OWED,
+            accepted && offered && (0..links).all(|l| contracted(l) == capacity(l)),
+            accepted && offered && (0..links).all(|l| contracted(l) == 0),
+            accepted && less,
+            accepted && less && gap == 0,
+            accepted && less && link_total > branch_total,
         ];
         for (count, met) in self.met.iter_mut().zip(met) {
             *count += u64::from(met);

@@ -241,7 +241,7 @@ impl<'a> Case<'a> {
         let capacity = u32_at(row, 2);
         let contracted = match self.has_contracted() {
             true => u32_at(row, 6),
-            false if self.build == Build::ContractedPastTheLink => self.four_bytes_at(at + 6),
+            false if self.build == Build::ContractedPastTheLink => self.volume_at(at + 6),
             false => capacity,
         };
         Link {
@@ -252,11 +252,11 @@ impl<'a> Case<'a> {
         }
     }
 
-    /// What stands at an offset that may be past the end.
-    fn four_bytes_at(&self, at: usize) -> u32 {
+    /// What stands at an offset that may be past the end, as a volume in range.
+    fn volume_at(&self, at: usize) -> u32 {
         self.bytes
             .get(at..at + 4)
-            .map_or(0, |field| u32_at(field, 0))
+            .map_or(0, |field| u32_at(field, 0).min(*CAPACITY.end()))
     }
 
     pub fn order(&self, o: usize) -> Row {

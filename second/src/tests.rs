@@ -1,6 +1,6 @@
 //! The paper's stored hours, its wrong builds and its shams, value by value.
 
-use crate::hours::{contracted_hour, stored, three_zone_hour, Hour, Stored, Version, EURO};
+use crate::hours::{contracted_hour, stored, three_zone_hour, Hour, Stored, EURO};
 use crate::limits::{LEAST_BUFFER, REPORT_FIELD, REPORT_HEADER, REPORT_TOTALS};
 use crate::*;
 
@@ -408,9 +408,9 @@ fn flow_limited_to_what_is_contracted() {
 #[test]
 fn contracted_read_in_version_1() {
     told_apart(Build::VersionOneWide, &three_zone_hour(), (0, 0), (5, 0));
-    // The first order's bytes 00 01 a0 0f as a volume: 262,144,256 tenths.
+    // The first order's bytes 00 01 a0 0f as a volume: over 100,000 tenths.
     let right = (0, 0, 22_125.0, 17_500.0);
-    let wrong = (0, 0, 22_125.0, 262_144_256.0 * 4.375);
+    let wrong = (0, 0, 22_125.0, 100_000.0 * 4.375);
     told_apart_by_totals(
         Build::ContractedPastTheLink,
         &three_zone_hour(),
