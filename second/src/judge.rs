@@ -110,7 +110,11 @@ fn decide(
     if report.len() < LEAST_BUFFER {
         return Err(Verdict::new(30, 0));
     }
-    let case = Case::read_as(build, case)?; // verdicts 1 to 8
+    // Verdicts 1 to 8.
+    let case = match build {
+        Build::Right => Case::read(case)?,
+        _ => Case::read_as(build, case)?,
+    };
     let proposal = Proposal::read(proposal, &case)?; // verdicts 9 to 14
 
     // Verdict 21, and rule 1: import is positive.
@@ -216,8 +220,12 @@ fn decide(
         } else {
             spread.max(0)
         };
+        let contracted = match build {
+            Build::ContractedPastTheLink => case.volume_behind(l),
+            _ => link.contracted,
+        };
         link_total += i128::from(link.capacity) * counted;
-        owed += i128::from(link.contracted) * counted;
+        owed += i128::from(contracted) * counted;
     }
     match build {
         // Netted down to nothing at most, which is the harder one to find.

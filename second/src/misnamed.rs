@@ -36,7 +36,7 @@ pub fn misnamed(build: Build, verdict: Verdict, bytes: &[u8]) -> Verdict {
             case.branch_fields().find(further).map(offset)
         }
         (Build::LastFieldOfRow, 6) => case.branch_fields().filter(further).last().map(offset),
-        (Build::LastFieldOfRow, 7) => case.link_fields().filter(further).last().map(offset),
+        (Build::LastFieldOfRow, 7) => case.link_fields(build).filter(further).last().map(offset),
         (Build::LastFieldOfRow, 8) => case.order_fields().filter(further).last().map(offset),
         (Build::ShadowPriceInCase, 14) => Some(case.branch_at(row)),
         (Build::ShadowPriceJoined, 14) => Some(case.demanded() + at),

@@ -40,8 +40,8 @@ pub struct Link {
 /// A case: the counts of its header, and its rows read on demand.
 pub struct Case<'a> {
     bytes: &'a [u8],
-    build: Build,
-    version: u16,
+    /// Whether its links have a contracted volume of their own: in version 2.
+    contracted: bool,
     pub zones: usize,
     pub branches: usize,
     pub links: usize,
@@ -89,8 +89,11 @@ impl<'a> Case<'a> {
         }
         Ok(Case {
             bytes,
-            build,
-            version,
+            contracted: match build {
+                Build::VersionOneWide => true,
+                Build::VersionTwoNarrow => false,
+                _ => version == 2,
+            },
             zones: bytes[5].into(),
             branches: bytes[6].into(),
             links: bytes[7].into(),
@@ -100,6 +103,7 @@ impl<'a> Case<'a> {
     }
 
     /// The whole case: verdicts 1 to 8.
+    #[inline(never)] // within the judgement it would slow the sums down
     pub fn read(bytes: &'a [u8]) -> Result<Case<'a>, Verdict> {
         Case::read_as(Build::Right, bytes)
     }
@@ -112,7 +116,7 @@ impl<'a> Case<'a> {
             return Err(Verdict::new(5, 0));
         }
         each_allowed(6, case.branch_fields())?;
-        each_allowed(7, case.link_fields())?;
+        each_allowed(7, case.link_fields(build))?;
         each_allowed(8, case.order_fields())?;
         Ok(case)
     }
@@ -134,50 +138,30 @@ impl<'a> Case<'a> {
     }
 
     /// Each link: from, which a repeated pair puts at fault too, to, which equal
-    /// zones do, capacity, and in version 2 contracted, which is within it.
-    pub fn link_fields(&self) -> impl Iterator<Item = Field> + '_ {
-        (0..self.links).flat_map(|l| {
+    /// zones do, capacity, and contracted, which is within it: in version 1 always.
+    #[inline]
+    pub fn link_fields(&self, build: Build) -> impl Iterator<Item = Field> + '_ {
+        (0..self.links).flat_map(move |l| {
             let (at, link) = (self.link_at(l), self.link(l));
             let known = |zone: u8| usize::from(zone) < self.zones;
-            let capacity = (at + 2, CAPACITY.contains(&link.capacity));
-            let contracted = self
-                .has_contracted()
-                .then(|| self.contracted_field(at, &link));
-            let (third, fourth) = match self.build {
-                Build::ContractedBeforeCapacity => (contracted, Some(capacity)),
-                _ => (Some(capacity), contracted),
-            };
             let from = (at, known(link.from) && self.same_pair_before(l).is_none());
             let to = (at + 1, known(link.to) && link.to != link.from);
-            [Some(from), Some(to), third, fourth].into_iter().flatten()
+            let capacity = (at + 2, CAPACITY.contains(&link.capacity));
+            let within = match build {
+                Build::ContractedEqualRefused if self.contracted => link.contracted < link.capacity,
+                Build::ContractedToItsOwnLimit => CAPACITY.contains(&link.contracted),
+                _ => link.contracted <= link.capacity,
+            };
+            match build {
+                Build::ContractedNamesCapacity => [from, to, capacity, (at + 2, within)],
+                Build::ContractedBeforeCapacity => [from, to, (at + 6, within), capacity],
+                _ => [from, to, capacity, (at + 6, within)],
+            }
         })
     }
 
-    /// The contracted volume of a link of version 2, which stands here.
-    fn contracted_field(&self, at: usize, link: &Link) -> Field {
-        let within = match self.build {
-            Build::ContractedEqualRefused => link.contracted < link.capacity,
-            Build::ContractedToItsOwnLimit => CAPACITY.contains(&link.contracted),
-            _ => link.contracted <= link.capacity,
-        };
-        let named = match self.build {
-            Build::ContractedNamesCapacity => at + 2,
-            _ => at + 6,
-        };
-        (named, within)
-    }
-
-    /// Whether its links have a contracted volume of their own.
-    fn has_contracted(&self) -> bool {
-        match self.build {
-            Build::VersionOneWide => true,
-            Build::VersionTwoNarrow => false,
-            _ => self.version == 2,
-        }
-    }
-
     pub fn link_bytes(&self) -> usize {
-        LINK_BYTES[usize::from(self.has_contracted())]
+        LINK_BYTES[usize::from(self.contracted)]
     }
 
     /// The first link before this one that has its ordered pair.
@@ -239,24 +223,23 @@ impl<'a> Case<'a> {
         let at = self.link_at(l);
         let row = &self.bytes[at..at + self.link_bytes()];
         let capacity = u32_at(row, 2);
-        let contracted = match self.has_contracted() {
-            true => u32_at(row, 6),
-            false if self.build == Build::ContractedPastTheLink => self.volume_at(at + 6),
-            false => capacity,
-        };
         Link {
             from: row[0],
             to: row[1],
             capacity,
-            contracted,
+            contracted: match self.contracted {
+                true => u32_at(row, 6),
+                false => capacity,
+            },
         }
     }
 
-    /// What stands at an offset that may be past the end, as a volume in range.
-    fn volume_at(&self, at: usize) -> u32 {
-        self.bytes
-            .get(at..at + 4)
-            .map_or(0, |field| u32_at(field, 0).min(*CAPACITY.end()))
+    /// The four bytes behind a link's capacity as a volume in range, whatever they
+    /// are: what a wrong build takes for contracted.
+    pub fn volume_behind(&self, l: usize) -> u32 {
+        let at = self.link_at(l) + 6;
+        let field = self.bytes.get(at..at + 4);
+        field.map_or(0, |field| u32_at(field, 0).min(*CAPACITY.end()))
     }
 
     pub fn order(&self, o: usize) -> Row {
