@@ -73,6 +73,7 @@ fn main() -> ExitCode {
     families::null_pointers(&mut run);
     places::made(&mut run, &mut Rng::new(seed));
     offsets::offsets(&mut run, &mut Rng::new(seed));
+    versions::halves(&mut run);
     versions::laws(&mut run, &mut Rng::new(seed));
     #[cfg(feature = "desk")]
     {

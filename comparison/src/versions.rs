@@ -4,7 +4,7 @@
 use crate::families::{enough, good, outside};
 use crate::fields::{fields, Field};
 use crate::make::{at_limits, random, Shape, OWED};
-use crate::offsets::{at_least, LEAST};
+use crate::offsets::at_least;
 use crate::rng::Rng;
 use crate::run::Run;
 use second_judge::hours::{Hour, Version};
@@ -35,15 +35,18 @@ pub fn laws(run: &mut Run, rng: &mut Rng) {
     }
 }
 
-/// How the run's hours are shared between the versions, and what those of version 2 met.
-pub fn counted(run: &mut Run) {
-    run.section("hours fed, by case version");
+/// How the hours fed so far are shared between the versions.
+pub fn halves(run: &mut Run) {
+    run.section("made inputs, by case version");
     let [one, two, other] = run.versions;
-    // Half, but for the paper's own hours and those that are damaged in their version.
     let half = |share: u64| 45 * (one + two) <= 100 * share;
     run.check("version 1".into(), half(one), format!("{one}"));
     run.check("version 2".into(), half(two), format!("{two}"));
-    run.check("another".into(), other >= LEAST, format!("{other}"));
+    at_least(run, "another or none".into(), other);
+}
+
+/// What the cases of version 2 met.
+pub fn counted(run: &mut Run) {
     run.section("verdicts on cases of version 2, times met");
     for number in NUMBERS {
         let times = run.verdicts_on_two[number];
