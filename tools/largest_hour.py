@@ -1,7 +1,10 @@
 #!/usr/bin/env python3
 """Prints the stored hours of full size, 16 zones, 64 branches, 64 links and 512 orders, from how they are made.
 
-  largest_hour.py NAME        NAME is largest-varied, largest-welfare, largest-loss or largest-bound
+  largest_hour.py NAME        NAME is largest-varied, largest-contracted, largest-welfare, largest-welfare-contracted,
+                              largest-loss or largest-bound
+
+The two contracted ones are of case version 2 and have the greatest length of all.
 """
 
 import sys
@@ -11,13 +14,16 @@ ORDERS_PER_ZONE = ORDERS // ZONES
 LOW_ZONES, HIGH_ZONES = range(0, 8), range(8, 16)
 
 
-def hour_text(comment, tolerance, share, system, branches, links, orders):
-    """The text: a branch is (RAM, PTDFs, shadow), a link (from, to, capacity, flow), an order (line, volume)."""
+def hour_text(comment, tolerance, share, system, branches, links, orders, contracted=None):
+    """The text: a branch is (RAM, PTDFs, shadow), a link (from, to, capacity, flow), an order (line, volume). What is
+    contracted, a volume for each link, is there in a case of version 2.
+    """
+    version, behind = (1, [""] * len(links)) if contracted is None else (2, [f" {volume}" for volume in contracted])
     lines = [f"# {line}" for line in comment]
     lines.append("# Printed by tools/largest_hour.py, which says how it is made.")
-    lines.append(f"case version 1 zones {ZONES} tolerance {tolerance}")
+    lines.append(f"case version {version} zones {ZONES} tolerance {tolerance}")
     lines += [f"branch {ram} {' '.join(map(str, ptdfs))}" for ram, ptdfs, _ in branches]
-    lines += [f"link {source} {sink} {capacity}" for source, sink, capacity, _ in links]
+    lines += [f"link {source} {sink} {capacity}{last}" for (source, sink, capacity, _), last in zip(links, behind)]
     lines += [f"order {line}" for line, _ in orders]
     lines.append(f"proposal version 1 share {share} system {system}")
     lines += [f"volume {volume}" for _, volume in orders]
@@ -26,7 +32,7 @@ def hour_text(comment, tolerance, share, system, branches, links, orders):
     return "\n".join(lines) + "\n"
 
 
-def two_price_hour(comment, ram, low_side, high_side):
+def two_price_hour(comment, ram, low_side, high_side, contracted=None):
     """Zones 0 to 7 at -50,000 cents and 8 to 15 at 400,000, every order accepted whole at its zone's price.
 
     64 branches with PTDF 1,000 in the high zones and shadow price 703,125 make the spread of 450,000 cents.
@@ -37,7 +43,7 @@ def two_price_hour(comment, ram, low_side, high_side):
     links = [(low, high, 100000, 0) for low in LOW_ZONES for high in HIGH_ZONES]
     orders = [(f"{zone} {low_side} 100000 -50000", 100000) for zone in LOW_ZONES for _ in range(ORDERS_PER_ZONE)]
     orders += [(f"{zone} {high_side} 100000 400000", 100000) for zone in HIGH_ZONES for _ in range(ORDERS_PER_ZONE)]
-    return hour_text(comment, 0, 0, -50000, branches, links, orders)
+    return hour_text(comment, 0, 0, -50000, branches, links, orders, contracted)
 
 
 def largest_welfare():
@@ -47,6 +53,15 @@ def largest_welfare():
         "totals welfare 11520000000 bound 11520000000 gap 0 rent 11520000000 owed 2880000000",
     )
     return two_price_hour(comment, 256000, "sell", "buy")
+
+
+def largest_welfare_contracted():
+    comment = (
+        "largest-welfare of version 2 with all of each capacity contracted: the same totals.",
+        "expect 0 0",
+        "totals welfare 11520000000 bound 11520000000 gap 0 rent 11520000000 owed 2880000000",
+    )
+    return two_price_hour(comment, 256000, "sell", "buy", [100000] * LINKS)
 
 
 def largest_loss():
@@ -106,12 +121,14 @@ def euros(amount):
     return f"{amount // 1000}.{amount % 1000:03}"
 
 
-def largest_varied():
+def largest_varied(contracting=False):
     """LTA share one half. The flow-based part is chosen first and each RAM is twice the load it makes, so that
     every branch is full; each link is full where its spread is positive and empty elsewhere. With all orders right
     at the zone prices, rent is half of branch total plus half of owed, and the gap half of what lies between them.
 
     PTDFs are multiples of 500, shadow prices of 200, flow-based parts of 100 and capacities of 2: all halves are whole.
+
+    With contracted volumes it is the same hour, of version 2; what is owed then follows from them, and no more.
     """
     numbers, system = sequence(), 100000
     part = [100 * (numbers(41) - 20) for _ in range(ZONES)]
@@ -137,20 +154,33 @@ def largest_varied():
     orders = [(f"{zone} {sides[sign]} {quantity} {limit}", volume) for zone, sign, quantity, limit, volume in rows]
     welfare = sum(sign * volume * limit for _, sign, _, limit, volume in rows)
     branch_total = sum(ram * shadow for ram, _, shadow in branches)
-    owed = sum(capacity * max(0, price[sink] - price[source]) for source, sink, capacity, _ in links)
-    gap, rent = abs(branch_total - owed) // 2, (branch_total + owed) // 2
+    spreads = [max(0, price[sink] - price[source]) for source, sink, *_ in links]
+    capacities = [capacity for _, _, capacity, _ in links]
+    link_total = owed = sum(capacity * spread for capacity, spread in zip(capacities, spreads))
+    first, contracted = "An hour of full size with varied fields, every branch and link full, accepted at its tolerance.", None
+    if contracting:
+        first = "largest-varied of version 2, a part of each capacity contracted: owed alone is another."
+        contracted = [numbers(capacity + 1) for capacity in capacities]
+        owed = sum(volume * spread for volume, spread in zip(contracted, spreads))
+    gap, rent = abs(branch_total - link_total) // 2, (branch_total + link_total) // 2
     totals = {"welfare": welfare, "bound": welfare + gap, "gap": gap, "rent": rent, "owed": owed}
     comment = (
-        "An hour of full size with varied fields, every branch and link full, accepted at its tolerance.",
+        first,
         "expect 0 0",
         "totals " + " ".join(f"{name} {euros(amount)}" for name, amount in totals.items()),
     )
-    return hour_text(comment, -(-gap // 10), 50000, system, branches, links, orders)
+    return hour_text(comment, -(-gap // 10), 50000, system, branches, links, orders, contracted)
+
+
+def largest_contracted():
+    return largest_varied(contracting=True)
 
 
 HOURS = {
     "largest-varied": largest_varied,
+    "largest-contracted": largest_contracted,
     "largest-welfare": largest_welfare,
+    "largest-welfare-contracted": largest_welfare_contracted,
     "largest-loss": largest_loss,
     "largest-bound": largest_bound,
 }
