@@ -24,7 +24,8 @@
  *   - It is reentrant: nothing is kept between calls, so every entry may be called from several threads at once.
  *
  * Measures:
- *   tenth      0.1 MW, for one hour 0.1 MWh     margins, capacities, quantities, volumes, flows, net positions, what is carried
+ *   tenth      0.1 MW, for one hour 0.1 MWh     margins, capacities, contracted volumes, quantities, volumes, flows,
+ *                                               net positions, what is carried
  *   cent       0.01 euro per MWh                prices of orders, system price, shadow prices
  *   grain      1 / 100,000 cent per MWh         zone prices
  *   microcent  1 / 1,000,000 cent               money. One tenth at one grain is one microcent.
@@ -43,8 +44,8 @@ extern "C" {
 
 /* The version of this header and of what it declares. The first number rises where a program that was right may no longer be, the second
  * where something is added. LTA_VERSION_NUMBER is for comparing: 1.2.3 is 10203. */
-#define LTA_VERSION "1.1.0"
-#define LTA_VERSION_NUMBER 10100
+#define LTA_VERSION "2.0.0"
+#define LTA_VERSION_NUMBER 20000
 
 #define LTA_GRAINS_PER_CENT 100000
 #define LTA_GRAINS_PER_EURO 10000000
@@ -65,12 +66,13 @@ enum lta_number {
     LTA_ACCEPTED = 0,               /* none of these causes */
     LTA_CASE_SHORT = 1,             /* case shorter than 14 bytes */
     LTA_CASE_MARK = 2,              /* case does not begin with LTC */
-    LTA_CASE_VERSION = 3,           /* case version is not 1 */
+    LTA_CASE_VERSION = 3,           /* case version is neither 1 nor 2 */
     LTA_CASE_HEADER = 4,            /* header field outside its range; index: its offset, 5, 6, 7, 8 or 10 */
     LTA_CASE_LENGTH = 5,            /* case length is not what the header demands */
     LTA_CASE_BRANCH = 6,            /* branch field out of range; index: its offset; margin, then each PTDF */
     LTA_CASE_LINK = 7,              /* link field at fault; index: its offset; from zone (unknown, or the pair repeats an earlier
-                                     * link's), to zone (unknown, or equal to the from zone), capacity (out of range) */
+                                     * link's), to zone (unknown, or equal to the from zone), capacity (out of range), in version 2 contracted
+                                     * (above the capacity) */
     LTA_CASE_ORDER = 8,             /* order field out of range; index: its offset; zone, side, quantity, price */
     LTA_PROPOSAL_SHORT = 9,         /* proposal shorter than 13 bytes */
     LTA_PROPOSAL_MARK = 10,         /* proposal does not begin with LTP */
@@ -146,7 +148,7 @@ static inline int64_t lta_report_price(const uint8_t *report, size_t zone)
  *   [allowed]   The proposal is a clearing of the case.
  *   [accuracy]  No clearing of the case has a welfare above welfare + gap. [best] At gap 0 none has more than the proposal.
  *   [gap]       The gap is at least 0 and at most 1,000,000 * tolerance.
- *   [coverage]  The rent is at least owed - gap. [covered_in_full] At gap 0 it covers all that is owed.
+ *   [coverage]  The rent is at least owed - gap, owed being by contracted volumes. [covered_in_full] At gap 0 it covers all that is owed.
  *   [annex]     In the terms of Annex 14.29: the proposal solves (60) to (72), no solution has an objective (59) above welfare + gap, the
  *               zone prices are those of (73) to (79), rent and owed the two sides of (81), and at these prices no import and export that
  *               the network allows earns more than rent + gap (82).
@@ -163,16 +165,18 @@ static inline int64_t lta_report_price(const uint8_t *report, size_t zone)
  *    7  welfare = 100,000 * sum of volume * order price, buys counted positive and sells negative
  *    8  order surplus = quantity * (order price - zone price) for a buy, quantity * (zone price - order price) for a sell, with both
  *       prices in grains, and never below zero
- *    9  branch total = 100,000 * sum of margin * shadow price; owed = sum over links of capacity * (price at `to` - price at `from`),
- *       where positive, else zero
- *   10  bound = all order surpluses + the larger of branch total and owed
+ *    9  branch total = 100,000 * sum of margin * shadow price; link total = sum over links of capacity * (price at `to` - price at
+ *       `from`), where positive, else zero; owed = the same sum with the contracted volume in place of the capacity
+ *   10  bound = all order surpluses + the larger of branch total and link total
  *   11  gap = bound - welfare; rent = sum over zones of net position * zone price
  *
  * The case, little-endian, each field with its least and greatest value:
- *   header, 14 bytes   mark LTC; version, 16 bits, 1; zones, 8 bits, 1 to 16; branches, 8 bits, 0 to 64; links, 8 bits, 0 to 64;
+ *   header, 14 bytes   mark LTC; version, 16 bits, 1 or 2; zones, 8 bits, 1 to 16; branches, 8 bits, 0 to 64; links, 8 bits, 0 to 64;
  *                      orders, 16 bits, 0 to 512; tolerance in cents, 32 bits, 0 to 1,000,000,000
  *   each branch        margin, signed 32 bits, -500,000 to 500,000; a PTDF per zone, signed 32 bits each, -200,000 to 200,000
- *   each link          from zone, to zone, 8 bits each, not equal, each ordered pair once; capacity, 32 bits, 0 to 100,000
+ *   each link          from zone, to zone, 8 bits each, not equal, each ordered pair once; capacity, 32 bits, 0 to 100,000; in version 2
+ *                      then contracted, 32 bits, 0 to the capacity, so that a link has 10 bytes there and 6 in version 1. Version 1 is
+ *                      read with contracted equal to capacity.
  *   each order         zone, 8 bits; side, 8 bits, 0 buys, 1 sells; quantity, 32 bits, 1 to 100,000; price, signed 32 bits, -50,000 to
  *                      400,000
  * The proposal, little-endian:
@@ -364,7 +368,7 @@ static inline const char *lta_number_text(uint32_t number)
     case LTA_ACCEPTED: return "accepted";
     case LTA_CASE_SHORT: return "case shorter than 14 bytes";
     case LTA_CASE_MARK: return "case does not begin with LTC";
-    case LTA_CASE_VERSION: return "case version is not 1";
+    case LTA_CASE_VERSION: return "case version is neither 1 nor 2";
     case LTA_CASE_HEADER: return "header field outside its range";
     case LTA_CASE_LENGTH: return "case length is not what the header demands";
     case LTA_CASE_BRANCH: return "branch field out of range";

@@ -164,10 +164,28 @@ static void hours(void)
             "price 14 -500.0000000\n"
             "price 15 -500.0000000\n");
 
-    h = largest_hour(1000000);
+    for (uint16_t version = 1; version <= 2; version++) {
+        h = largest_hour(version, 1000000);
+        input = input_of(&h);
+        about("the largest hour of version %d", version);
+        printed(&input, largest_lines);
+    }
+    about("the longest hour fills its room");
+    check(input.length == sizeof input.bytes);
+
+    h = contracted_hour();
     input = input_of(&h);
-    about("the largest hour");
-    printed(&input, largest_lines);
+    about("P1 with 2,500 of 4,000 contracted");
+    printed(&input,
+            "verdict 0 0\n"
+            "welfare 22125.00000000\n"
+            "bound 22125.00000000\n"
+            "gap 0.00000000\n"
+            "rent 17500.00000000\n"
+            "owed 10937.50000000\n"
+            "price 0 20.0000000\n"
+            "price 1 63.7500000\n"
+            "price 2 50.0000000\n");
 }
 
 static void refused(void)
@@ -189,11 +207,28 @@ static void refused(void)
     put(&input, 37 + 102, 4, 1000001);
     about("the first shadow price: its offset is counted in the proposal");
     printed(&input, "verdict 14 37\n");
-    h = largest_hour(0);
+    h = largest_hour(1, 0);
     h.order[511].price = 400001;
     input = input_of(&h);
     about("the largest offset, of the last of 512 prices");
     printed(&input, "verdict 8 9866\n");
+    h = largest_hour(2, 0);
+    h.order[511].price = 400001;
+    input = input_of(&h);
+    about("the same of version 2, the largest offset of all");
+    printed(&input, "verdict 8 10122\n");
+    input = sample;
+    put(&input, 3, 2, 2);
+    about("version 2 with a link of six bytes: the case takes four of the proposal's, and an order's zone and side are contracted");
+    printed(&input, "verdict 7 52\n");
+    h = contracted_hour();
+    input = input_of(&h);
+    put(&input, 3, 2, 1);
+    about("version 1 with a link of ten bytes: what is contracted stands where the first order does");
+    printed(&input, "verdict 8 52\n");
+    put(&input, 3, 2, 3);
+    about("version 3: all is the case");
+    printed(&input, "verdict 3 0\n");
     input = sample;
     put(&input, 10, 4, 1000000001);
     about("a header that is not good: all is the case");
@@ -213,6 +248,20 @@ static void lengths(void)
             printed(&input, three_zone_lines);
         else
             printed(&input, n < 14 ? "verdict 1 0\n" : n < 102 ? "verdict 5 0\n" : n < 102 + 13 ? "verdict 9 0\n" : "verdict 12 0\n");
+    }
+}
+
+static void contracted_lengths(void)
+{
+    struct hour h = contracted_hour();
+    struct file input = input_of(&h);
+    size_t whole = input.length;
+    about("P1 of version 2 has 151 bytes");
+    check(whole == 151);
+    for (input.length = 0; input.length < whole; input.length++) {
+        size_t n = input.length;
+        about("input of version 2, of %zu bytes", n);
+        printed(&input, n < 14 ? "verdict 1 0\n" : n < 106 ? "verdict 5 0\n" : n < 106 + 13 ? "verdict 9 0\n" : "verdict 12 0\n");
     }
 }
 
@@ -252,7 +301,7 @@ static void call_lines(void) { call.answer = lta_desk_lines(call.input.bytes, ca
 
 static void small_stack(void)
 {
-    struct hour h = largest_hour(1000000);
+    struct hour h = largest_hour(2, 1000000);
     call.input = input_of(&h);
     about("the largest hour on a stack of %d bytes", STACK_ENOUGH);
     on_stack(STACK_ENOUGH, call_lines);
@@ -284,6 +333,7 @@ int main(int count, char **words)
     group("hours with a report", hours);
     group("hours without", refused);
     group("inputs of 0 to 200 bytes", lengths);
+    group("inputs of version 2, of 0 to 150 bytes", contracted_lengths);
     group("outputs", rooms);
     group("null with length 0", nulls);
     group("a small stack", small_stack);

@@ -9,12 +9,13 @@ enum { BUYS, SELLS };
 struct hour three_zone_hour(void)
 {
     return (struct hour){
+        .version = 1,
         .zones = 3,
         .tolerance = 0,
         .branches = 2,
         .branch = {{2500, {0, 75000, 50000}}, {15000, {-100000, 0, 0}}},
         .links = 1,
-        .link = {{0, 1, 4000}},
+        .link = {{0, 1, 4000, 4000}},
         .orders = 5,
         .order = {{0, SELLS, 4000, 1000}, {0, SELLS, 6000, 2000}, {1, BUYS, 1000, 7000}, {1, BUYS, 9000, 6000}, {2, BUYS, 10000, 5000}},
         .share = 87500,
@@ -23,6 +24,14 @@ struct hour three_zone_hour(void)
         .flow = {3500},
         .shadow = {5500, 250},
     };
+}
+
+struct hour contracted_hour(void)
+{
+    struct hour h = three_zone_hour();
+    h.version = 2;
+    h.link[0].contracted = 2500;
+    return h;
 }
 
 struct hour flow_based_hour(void)
@@ -46,11 +55,12 @@ struct hour unused_link_hour(void)
     return h;
 }
 
-struct hour one_zone_hour(void) { return (struct hour){.zones = 1, .system = 400000}; }
+struct hour one_zone_hour(void) { return (struct hour){.version = 1, .zones = 1, .system = 400000}; }
 
 struct hour negative_hour(void)
 {
     return (struct hour){
+        .version = 1,
         .zones = 1,
         .tolerance = 1,
         .orders = 2,
@@ -60,16 +70,16 @@ struct hour negative_hour(void)
     };
 }
 
-struct hour largest_hour(uint32_t shadow)
+struct hour largest_hour(uint16_t version, uint32_t shadow)
 {
-    struct hour h = {.zones = 16, .branches = 64, .links = 64, .orders = 512, .tolerance = 0, .share = 100000, .system = 0};
+    struct hour h = {.version = version, .zones = 16, .branches = 64, .links = 64, .orders = 512, .share = 100000};
     for (uint8_t m = 0; m < 64; m++) {
         h.branch[m].ram = 500000;
         h.shadow[m] = shadow;
     }
     /* each zone has links to the next four */
     for (uint8_t l = 0; l < 64; l++) {
-        h.link[l] = (struct link){l / 4, (uint8_t)((l / 4 + l % 4 + 1) % 16), 100000};
+        h.link[l] = (struct link){l / 4, (uint8_t)((l / 4 + l % 4 + 1) % 16), 100000, 50000};
         h.flow[l] = 100000;
     }
     for (uint16_t i = 0; i < 512; i++) {
@@ -93,17 +103,17 @@ static void append(struct file *f, size_t width, uint64_t number)
     f->length += width;
 }
 
-static void append_mark(struct file *f, const char *mark)
+static void append_mark(struct file *f, const char *mark, uint16_t version)
 {
     for (size_t k = 0; k < 3; k++)
         append(f, 1, (uint8_t)mark[k]);
-    append(f, 2, 1);
+    append(f, 2, version);
 }
 
 struct file case_file(const struct hour *h)
 {
     struct file f = {0};
-    append_mark(&f, "LTC");
+    append_mark(&f, "LTC", h->version);
     append(&f, 1, h->zones);
     append(&f, 1, h->branches);
     append(&f, 1, h->links);
@@ -118,6 +128,8 @@ struct file case_file(const struct hour *h)
         append(&f, 1, h->link[l].from);
         append(&f, 1, h->link[l].to);
         append(&f, 4, h->link[l].capacity);
+        if (h->version == 2)
+            append(&f, 4, h->link[l].contracted);
     }
     for (size_t i = 0; i < h->orders; i++) {
         append(&f, 1, h->order[i].zone);
@@ -131,7 +143,7 @@ struct file case_file(const struct hour *h)
 struct file proposal_file(const struct hour *h)
 {
     struct file f = {0};
-    append_mark(&f, "LTP");
+    append_mark(&f, "LTP", 1);
     append(&f, 4, h->share);
     append(&f, 4, (uint32_t)h->system);
     for (size_t i = 0; i < h->orders; i++)
@@ -146,7 +158,7 @@ struct file proposal_file(const struct hour *h)
 struct file report_file(uint8_t number, uint8_t zones, struct totals t)
 {
     struct file f = {0};
-    append_mark(&f, "LTR");
+    append_mark(&f, "LTR", 1);
     append(&f, 1, number);
     append(&f, 1, zones);
     append(&f, 1, 0);
@@ -173,6 +185,14 @@ struct totals three_zone_totals(void)
         .owed = euros(17500),
         .price = {cents(2000), cents(6375), cents(5000)},
     };
+}
+
+/* 2,500 tenths at a spread of 43.75 euros. */
+struct totals contracted_totals(void)
+{
+    struct totals t = three_zone_totals();
+    t.owed = euros(10937) + euros(1) / 2;
+    return t;
 }
 
 struct totals flow_based_totals(void)

@@ -9,9 +9,10 @@ struct branch {
     int32_t ram, ptdf[16];
 };
 
+/* What is contracted stands in a case of version 2 alone. */
 struct link {
     uint8_t from, to;
-    uint32_t capacity;
+    uint32_t capacity, contracted;
 };
 
 struct order {
@@ -21,6 +22,7 @@ struct order {
 };
 
 struct hour {
+    uint16_t version;
     uint8_t zones, branches, links;
     uint16_t orders;
     uint32_t tolerance;
@@ -38,18 +40,25 @@ struct hour flow_based_hour(void);
 struct hour unused_link_hour(void);
 struct hour one_zone_hour(void);
 
+/* P1 as a case of version 2, with 2,500 of its link's 4,000 contracted. */
+struct hour contracted_hour(void);
+
 /* A sell at 1 cent and a buy at 0 cents, both of a tenth, at a zone price of -1 cent: welfare -0.001 euros, bound 0.001, gap 0.002. The
  * tolerance is a cent. */
 struct hour negative_hour(void);
 
-/* The largest hour: as many of each as there may be, every order accepted and every link used in full. All net positions, LTA parts
- * and PTDFs are zero, and so are the zone prices. Every branch has the shadow price given. */
-struct hour largest_hour(uint32_t shadow);
+/* The largest hour of a version: as many of each as there may be, every order accepted, every link used in full and half contracted. All
+ * net positions, LTA parts and PTDFs are zero, and so are the zone prices. Every branch has the shadow price given. */
+struct hour largest_hour(uint16_t version, uint32_t shadow);
+
+/* The largest case, which is of version 2, and its proposal. */
+#define CASE_ROOM 10126
+#define PROPOSAL_ROOM 2573
 
 /* A file, or a part of one. The largest case and its proposal in one piece have as many bytes. */
 struct file {
     size_t length;
-    uint8_t bytes[9870 + 2573];
+    uint8_t bytes[CASE_ROOM + PROPOSAL_ROOM];
 };
 
 struct file case_file(const struct hour *h);
@@ -71,6 +80,7 @@ int64_t cents(int64_t price);
 
 /* What the paper gives of P1, P2, and P3 and P4. */
 struct totals three_zone_totals(void);
+struct totals contracted_totals(void);
 struct totals flow_based_totals(void);
 struct totals unused_link_totals(void);
 

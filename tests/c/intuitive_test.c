@@ -401,9 +401,9 @@ static void hour_is(const struct hour *h, size_t bytes, const uint8_t *pair, siz
 
 /* The largest hour with every sell in zones 0 to 7 and every buy in 8 to 15: at equal prices each link counts, and each zone has links to
  * the next four. */
-static struct hour sold_across(void)
+static struct hour sold_across(uint16_t version)
 {
-    struct hour h = largest_hour(0);
+    struct hour h = largest_hour(version, 0);
     for (uint16_t i = 0; i < 512; i++)
         h.order[i].zone = (uint8_t)(i % 8 + (i < 256 ? 0 : 8));
     return h;
@@ -442,11 +442,18 @@ static void hours(void)
     about("P1 with a scratch of 324 numbers");
     hour_is(&h, 2, (uint8_t[]){0, 1}, 324, part);
 
-    h = sold_across();
-    uint8_t pair[2 * LTA_INTUITIVE_PAIRS];
-    size_t bytes = links_of(&h, pair);
-    about("the largest hour, sold across");
-    hour_is(&h, bytes, pair, ROOM, (struct lta_carried){0, 0, 1, 256 * 100000});
+    for (uint16_t version = 1; version <= 2; version++) {
+        h = sold_across(version);
+        uint8_t pair[2 * LTA_INTUITIVE_PAIRS];
+        size_t bytes = links_of(&h, pair);
+        about("the largest hour of version %d, sold across", version);
+        hour_is(&h, bytes, pair, ROOM, (struct lta_carried){0, 0, 1, 256 * 100000});
+    }
+    h = contracted_hour();
+    about("P1 of version 2 with a pair to each buyer");
+    hour_is(&h, 4, (uint8_t[]){0, 1, 0, 2}, ROOM, all);
+    about("P1 of version 2 with its link");
+    hour_is(&h, 2, (uint8_t[]){0, 1}, ROOM, part);
     h = one_zone_hour();
     about("one zone and nothing else");
     hour_is(&h, 0, NULL, ROOM, (struct lta_carried){0, 0, 1, 0});
@@ -544,7 +551,7 @@ static void call_hour(void)
 
 static void small_stack(void)
 {
-    struct hour h = sold_across();
+    struct hour h = sold_across(2);
     call.exchange = idle(ZONES_MOST);
     call.exchange.bytes = links_of(&h, call.exchange.pair);
     for (size_t z = 0; z < ZONES_MOST; z++)

@@ -2,7 +2,7 @@
  * to 200 bytes, report buffers of several lengths, null pointers, and the largest hour. Every call is made with each argument at both
  * places between unreadable pages, case and proposal unwritable, and every byte of the report buffer is compared afterwards.
  *
- *     judge_test CASE PROPOSAL     the three-zone hour's files, which must be P1's bytes
+ *     judge_test CASE PROPOSAL CONTRACTED     the three-zone hour's files, which must be P1's bytes, and its case with 2,500 contracted
  */
 #include "harness.h"
 #include "hours.h"
@@ -16,7 +16,7 @@
 #define ROOM 200
 
 static struct arena case_arena, proposal_arena, report_arena;
-static const char *sample_case, *sample_proposal;
+static const char *sample_case, *sample_proposal, *sample_contracted;
 
 /* The verdict, and the report buffer's bytes, with the three arguments at each of their places. */
 static void judged(const struct file *c, const struct file *p, size_t room, uint32_t number, uint32_t index, const struct file *report)
@@ -129,7 +129,7 @@ static void paper(void)
     about("P11, one zone at 400,001 cents");
     refused(&h, LTA_ZONE_PRICE, 0);
 
-    h = (struct hour){.zones = 1, .branches = 1, .branch = {{-1, {0}}}, .shadow = {1000000}, .share = 100000};
+    h = (struct hour){.version = 1, .zones = 1, .branches = 1, .branch = {{-1, {0}}}, .shadow = {1000000}, .share = 100000};
     about("P12, margin -1 and share 100,000");
     reported(&h, LTA_ACCEPTED, (struct totals){0});
     h.share = 0;
@@ -174,8 +174,11 @@ static void one_field(void)
         {"case mark, second byte", CASE, 1, 1, 't', LTA_CASE_MARK, 0},
         {"case mark, third byte", CASE, 2, 1, 'K', LTA_CASE_MARK, 0},
         {"case version 0", CASE, 3, 2, 0, LTA_CASE_VERSION, 0},
-        {"case version 2", CASE, 3, 2, 2, LTA_CASE_VERSION, 0},
+        {"case version 3", CASE, 3, 2, 3, LTA_CASE_VERSION, 0},
         {"case version 257", CASE, 3, 2, 257, LTA_CASE_VERSION, 0},
+        {"case version 258", CASE, 3, 2, 258, LTA_CASE_VERSION, 0},
+        {"case version of all bits", CASE, 3, 2, -1, LTA_CASE_VERSION, 0},
+        {"case version 2 with a link of six bytes", CASE, 3, 2, 2, LTA_CASE_LENGTH, 0},
         {"no zones", CASE, 5, 1, 0, LTA_CASE_HEADER, 5},
         {"17 zones", CASE, 5, 1, 17, LTA_CASE_HEADER, 5},
         {"65 branches", CASE, 6, 1, 65, LTA_CASE_HEADER, 6},
@@ -228,14 +231,13 @@ static void one_field(void)
     }
 }
 
-/* One field at an offset of P1's case (0) or proposal (1), put one past either limit, where under 0 is all bits, and at its highest bit
- * alone: its own offset is named. Gives the offset of the next field. */
-static size_t field_damaged(int file, size_t offset, size_t width, int64_t least, int64_t greatest, uint32_t number)
+/* One field at an offset of an hour's case (0) or proposal (1), put one past either limit, where under 0 is all bits, and at its highest
+ * bit alone: its own offset is named. Gives the offset of the next field. */
+static size_t field_damaged(const struct hour *h, int file, size_t offset, size_t width, int64_t least, int64_t greatest, uint32_t number)
 {
     const int64_t values[] = {least - 1, greatest + 1, INT64_C(1) << (8 * width - 1)};
-    struct hour h = three_zone_hour();
     for (size_t k = 0; k < sizeof values / sizeof *values; k++) {
-        struct file files[2] = {case_file(&h), proposal_file(&h)};
+        struct file files[2] = {case_file(h), proposal_file(h)};
         put(&files[file], offset, width, (uint64_t)values[k]);
         about("%" PRId64 " at offset %zu of the %s", values[k], offset, file == 0 ? "case" : "proposal");
         refused_files(&files[0], &files[1], number, (uint32_t)offset);
@@ -244,33 +246,134 @@ static size_t field_damaged(int file, size_t offset, size_t width, int64_t least
 }
 
 /* Every field of the rows that can be at fault, in file order. */
-static void each_field(void)
+static void fields_damaged(const struct hour *h, size_t case_length)
 {
-    struct hour h = three_zone_hour();
     size_t at = 14;
-    for (size_t b = 0; b < h.branches; b++) {
-        at = field_damaged(0, at, 4, -500000, 500000, LTA_CASE_BRANCH);
-        for (size_t z = 0; z < h.zones; z++)
-            at = field_damaged(0, at, 4, -200000, 200000, LTA_CASE_BRANCH);
+    for (size_t b = 0; b < h->branches; b++) {
+        at = field_damaged(h, 0, at, 4, -500000, 500000, LTA_CASE_BRANCH);
+        for (size_t z = 0; z < h->zones; z++)
+            at = field_damaged(h, 0, at, 4, -200000, 200000, LTA_CASE_BRANCH);
     }
-    for (size_t l = 0; l < h.links; l++) {
-        at = field_damaged(0, at, 1, 0, h.zones - 1, LTA_CASE_LINK);
-        at = field_damaged(0, at, 1, 0, h.zones - 1, LTA_CASE_LINK);
-        at = field_damaged(0, at, 4, 0, 100000, LTA_CASE_LINK);
+    for (size_t l = 0; l < h->links; l++) {
+        at = field_damaged(h, 0, at, 1, 0, h->zones - 1, LTA_CASE_LINK);
+        at = field_damaged(h, 0, at, 1, 0, h->zones - 1, LTA_CASE_LINK);
+        at = field_damaged(h, 0, at, 4, 0, 100000, LTA_CASE_LINK);
+        if (h->version == 2)
+            at = field_damaged(h, 0, at, 4, 0, h->link[l].capacity, LTA_CASE_LINK);
     }
-    for (size_t i = 0; i < h.orders; i++) {
-        at = field_damaged(0, at, 1, 0, h.zones - 1, LTA_CASE_ORDER);
-        at = field_damaged(0, at, 1, 0, 1, LTA_CASE_ORDER);
-        at = field_damaged(0, at, 4, 1, 100000, LTA_CASE_ORDER);
-        at = field_damaged(0, at, 4, -50000, 400000, LTA_CASE_ORDER);
+    for (size_t i = 0; i < h->orders; i++) {
+        at = field_damaged(h, 0, at, 1, 0, h->zones - 1, LTA_CASE_ORDER);
+        at = field_damaged(h, 0, at, 1, 0, 1, LTA_CASE_ORDER);
+        at = field_damaged(h, 0, at, 4, 1, 100000, LTA_CASE_ORDER);
+        at = field_damaged(h, 0, at, 4, -50000, 400000, LTA_CASE_ORDER);
     }
     about("the walk ends with the case");
-    check(at == 102);
-    at = 13 + 4 * ((size_t)h.orders + h.links);
-    for (size_t b = 0; b < h.branches; b++)
-        at = field_damaged(1, at, 4, 0, 1000000, LTA_SHADOW_PRICE);
+    check(at == case_length);
+    at = 13 + 4 * ((size_t)h->orders + h->links);
+    for (size_t b = 0; b < h->branches; b++)
+        at = field_damaged(h, 1, at, 4, 0, 1000000, LTA_SHADOW_PRICE);
     about("the walk ends with the proposal");
     check(at == 45);
+}
+
+static void each_field(void)
+{
+    struct hour one = three_zone_hour(), two = contracted_hour();
+    fields_damaged(&one, 102);
+    fields_damaged(&two, 106);
+}
+
+/* Request S-4: owed is by contracted volumes, the bound by capacities. */
+static void contracted(void)
+{
+    struct hour h = contracted_hour();
+    about("P1 with 2,500 of 4,000 contracted");
+    reported(&h, LTA_ACCEPTED, contracted_totals());
+    h.link[0].contracted = 4000;
+    about("P1 of version 2 with all contracted: what version 1 says");
+    reported(&h, LTA_ACCEPTED, three_zone_totals());
+    h.link[0].contracted = 0;
+    struct totals t = three_zone_totals();
+    t.owed = 0;
+    about("P1 with nothing contracted, and a flow none the less");
+    reported(&h, LTA_ACCEPTED, t);
+
+    h = unused_link_hour();
+    h.version = 2;
+    t = unused_link_totals();
+    about("P3 of version 2 with all contracted");
+    reported(&h, LTA_GAP_ABOVE_TOLERANCE, t);
+    h.link[0].contracted = 0;
+    t.owed = 0;
+    about("P3 with nothing contracted: the gap of 3,000 euros is missed where the bound is by contracted volumes");
+    reported(&h, LTA_GAP_ABOVE_TOLERANCE, t);
+    h.tolerance = 300000;
+    h.link[0].contracted = 3000;
+    t.owed = euros(13500);
+    about("P4 with 3,000 of 4,000 contracted: the rent covers what is owed, and not what is offered");
+    reported(&h, LTA_ACCEPTED, t);
+
+    h = flow_based_hour();
+    h.version = 2;
+    about("P2 of version 2, which has no link");
+    reported(&h, LTA_ACCEPTED, flow_based_totals());
+}
+
+/* What is contracted is refused above its capacity, by the field's own offset, and after the fields before it. The links of P1 in version 2
+ * begin at 46, 56 and 66, what the first has contracted stands at 52. */
+static void contracted_refused(void)
+{
+    struct hour h = contracted_hour();
+    h.link[0].contracted = 4001;
+    about("contracted one above the capacity");
+    refused(&h, LTA_CASE_LINK, 52);
+    h.link[0].contracted = UINT32_MAX;
+    about("contracted of all bits");
+    refused(&h, LTA_CASE_LINK, 52);
+    h.link[0].capacity = 100001;
+    about("contracted and capacity: the capacity is named");
+    refused(&h, LTA_CASE_LINK, 48);
+    h.link[0].contracted = 100001;
+    about("a capacity above its limit, all of it contracted: the capacity is named");
+    refused(&h, LTA_CASE_LINK, 48);
+    h.link[0].to = 0;
+    about("equal zones and both: the second of the two is named");
+    refused(&h, LTA_CASE_LINK, 47);
+
+    h = contracted_hour();
+    h.links = 3;
+    h.link[1] = (struct link){1, 0, 0, 0};
+    h.link[2] = (struct link){0, 1, 4000, 4001};
+    about("a repeated pair and contracted: the later link's first byte is named");
+    refused(&h, LTA_CASE_LINK, 66);
+    h.link[1].contracted = 1;
+    about("contracted before a repeated pair: row by row");
+    refused(&h, LTA_CASE_LINK, 62);
+    h.links = 2;
+    h.link[1].contracted = 0;
+    about("nothing contracted of no capacity");
+    struct totals t = contracted_totals();
+    reported(&h, LTA_ACCEPTED, t);
+
+    h = contracted_hour();
+    h.order[4].price = 400001;
+    about("an order behind a link of ten bytes");
+    refused(&h, LTA_CASE_ORDER, 102);
+    h = contracted_hour();
+    h.shadow[1] = 1000001;
+    about("a shadow price: the proposal is laid out as before");
+    refused(&h, LTA_SHADOW_PRICE, 41);
+    h = contracted_hour();
+    struct file c = case_file(&h), p = proposal_file(&h);
+    put(&c, 3, 2, 1);
+    about("version 1 with a link of ten bytes");
+    refused_files(&c, &p, LTA_CASE_LENGTH, 0);
+    put(&c, 3, 2, 3);
+    about("version 3");
+    refused_files(&c, &p, LTA_CASE_VERSION, 0);
+    put(&c, 3, 2, 258);
+    about("version 258");
+    refused_files(&c, &p, LTA_CASE_VERSION, 0);
 }
 
 /* Rows with two faults, or the same fault in two rows: the first field in file order is named. P1's branches begin at 14 and 30, its
@@ -297,8 +400,8 @@ static void first_in_file_order(void)
     refused(&h, LTA_CASE_ORDER, 62);
 
     h.links = 3;
-    h.link[1] = (struct link){1, 0, 100001};
-    h.link[2] = (struct link){0, 1, 4000};
+    h.link[1] = (struct link){1, 0, 100001, 0};
+    h.link[2] = (struct link){0, 1, 4000, 0};
     about("a capacity before a repeated pair: row by row");
     refused(&h, LTA_CASE_LINK, 54);
     h.link[1].to = 1;
@@ -310,7 +413,7 @@ static void first_in_file_order(void)
     h.link[1].from = 3;
     about("equal zones that are unknown: the first of the two is named");
     refused(&h, LTA_CASE_LINK, 52);
-    h.link[1] = (struct link){1, 0, 4000};
+    h.link[1] = (struct link){1, 0, 4000, 0};
     h.link[2].capacity = 100001;
     about("a repeated pair and the capacity: the later link's first byte is named");
     refused(&h, LTA_CASE_LINK, 58);
@@ -336,7 +439,7 @@ static void causes(void)
     about("a repeated pair names the later link's first byte");
     refused(&h, LTA_CASE_LINK, 52);
 
-    h.link[1] = (struct link){1, 0, 4000};
+    h.link[1] = (struct link){1, 0, 4000, 0};
     h.flow[1] = 3501;
     about("the second link's flow; the reverse pair is another link");
     refused(&h, LTA_LINK_RULE, 1);
@@ -373,7 +476,7 @@ static void causes(void)
     refused(&h, LTA_BRANCH_RULE, 1);
 
     struct file c = case_file(&h), p = proposal_file(&h), none = {0};
-    put(&c, 3, 2, 2);
+    put(&c, 3, 2, 3);
     about("case version and no proposal: the version is named");
     refused_files(&c, &none, LTA_CASE_VERSION, 0);
     put(&p, 0, 1, 0);
@@ -400,6 +503,21 @@ static void case_lengths(void)
     for (c.length = 0; c.length <= 200; c.length++) {
         about("case of %zu bytes", c.length);
         if (c.length == 102)
+            judged(&c, &p, ROOM, LTA_ACCEPTED, 0, &report);
+        else
+            refused_files(&c, &p, c.length < 14 ? LTA_CASE_SHORT : LTA_CASE_LENGTH, 0);
+    }
+}
+
+static void contracted_case_lengths(void)
+{
+    struct hour h = contracted_hour();
+    struct file c = case_file(&h), p = proposal_file(&h), report = report_file(LTA_ACCEPTED, h.zones, contracted_totals());
+    about("the three-zone case of version 2 has 106 bytes");
+    check(c.length == 106);
+    for (c.length = 0; c.length <= 200; c.length++) {
+        about("case of version 2, of %zu bytes", c.length);
+        if (c.length == 106)
             judged(&c, &p, ROOM, LTA_ACCEPTED, 0, &report);
         else
             refused_files(&c, &p, c.length < 14 ? LTA_CASE_SHORT : LTA_CASE_LENGTH, 0);
@@ -470,7 +588,7 @@ static void nulls(void)
  * tenths have a welfare of 1.152e18 microcents. The 64 branches, at their greatest margin and shadow price, have a total of 3.2e18. */
 static void largest(void)
 {
-    struct hour h = largest_hour(0);
+    struct hour h = largest_hour(1, 0);
     struct totals t = {.welfare = 1152000000000000000, .bound = 1152000000000000000};
     about("the largest hour");
     reported(&h, LTA_ACCEPTED, t);
@@ -485,40 +603,40 @@ static void largest(void)
     c.length--;
     judged(&c, &p, ROOM, LTA_CASE_LENGTH, 0, &none);
 
-    h = largest_hour(1000000);
+    h = largest_hour(1, 1000000);
     t.bound += 3200000000000000000;
     t.gap = 3200000000000000000;
     about("the largest hour with the largest branch total");
     reported(&h, LTA_GAP_ABOVE_TOLERANCE, t);
 
-    h = largest_hour(0);
+    h = largest_hour(1, 0);
     h.order[511].price = 400001;
     about("the last of 512 orders out of range");
     refused(&h, LTA_CASE_ORDER, 9866);
-    h = largest_hour(0);
+    h = largest_hour(1, 0);
     h.volume[511]++;
     about("the last of 512 volumes too large");
     refused(&h, LTA_VOLUME, 511);
-    h = largest_hour(0);
+    h = largest_hour(1, 0);
     h.link[63] = h.link[0];
     about("the last of 64 links repeats the first");
     refused(&h, LTA_CASE_LINK, 4744);
-    h = largest_hour(0);
+    h = largest_hour(1, 0);
     h.flow[63]++;
     about("the last of 64 flows too large");
     refused(&h, LTA_LINK_RULE, 63);
-    h = largest_hour(0);
+    h = largest_hour(1, 0);
     h.branch[63].ptdf[15] = -200001;
     about("the last of 64 times 16 PTDFs out of range");
     refused(&h, LTA_CASE_BRANCH, 4362);
-    h = largest_hour(0);
+    h = largest_hour(1, 0);
     h.shadow[63] = 1000001;
     about("the last of 64 shadow prices too large");
     refused(&h, LTA_SHADOW_PRICE, 2569);
 
     /* The last zone's price is a cent above the others'. What a buy gains less by that a sell gains more. One branch of 500,000 at a
      * shadow price of 100,000 has 5e15, and four links of 100,000 lead to the zone. */
-    h = largest_hour(0);
+    h = largest_hour(1, 0);
     h.system = 399999;
     h.branch[63].ptdf[15] = 1;
     h.shadow[63] = 100000;
@@ -531,6 +649,51 @@ static void largest(void)
     h.shadow[63]++;
     about("the last of 16 prices a grain above the ceiling");
     refused(&h, LTA_ZONE_PRICE, 15);
+}
+
+/* The same of version 2, which is the longest of all cases. */
+static void largest_contracted(void)
+{
+    struct hour h = largest_hour(2, 0);
+    struct totals t = {.welfare = 1152000000000000000, .bound = 1152000000000000000};
+    about("the largest hour of version 2");
+    reported(&h, LTA_ACCEPTED, t);
+    struct file c = case_file(&h), p = proposal_file(&h), none = {0};
+    about("the largest case of version 2 has 10,126 bytes, its proposal 2,573");
+    check(c.length == CASE_ROOM && p.length == PROPOSAL_ROOM);
+    about("the largest case of version 2 without its last byte");
+    c.length--;
+    judged(&c, &p, ROOM, LTA_CASE_LENGTH, 0, &none);
+
+    h.link[63].contracted = 100001;
+    about("the last of 64 contracted volumes above its capacity");
+    refused(&h, LTA_CASE_LINK, 5002);
+    h = largest_hour(2, 0);
+    h.link[63] = h.link[0];
+    about("the last of 64 links of version 2 repeats the first");
+    refused(&h, LTA_CASE_LINK, 4996);
+    h = largest_hour(2, 0);
+    h.order[511].price = 400001;
+    about("the last of 512 orders out of range, behind 64 links of ten bytes");
+    refused(&h, LTA_CASE_ORDER, 10122);
+
+    /* As above: four links of 100,000 lead to the zone whose price is a cent above the others', and half of each is contracted. */
+    h = largest_hour(2, 0);
+    h.system = 399999;
+    h.branch[63].ptdf[15] = 1;
+    h.shadow[63] = 100000;
+    t = (struct totals){.welfare = 1152000000000000000, .bound = 1157000000000000000, .gap = 5000000000000000};
+    t.owed = 4 * 50000 * cents(1);
+    for (size_t z = 0; z < 16; z++)
+        t.price[z] = cents(z < 15 ? 399999 : 400000);
+    about("half of four links is contracted");
+    reported(&h, LTA_GAP_ABOVE_TOLERANCE, t);
+    h.shadow[63] = 100000;
+    h.branch[63].ram = 0;
+    t.bound = 1152000000000000000 + 4 * 100000 * cents(1);
+    t.gap = 4 * 100000 * cents(1);
+    about("the link total of all their capacity is the larger one in the bound");
+    reported(&h, LTA_GAP_ABOVE_TOLERANCE, t);
 }
 
 static struct {
@@ -547,12 +710,15 @@ static void call_judge(void)
 
 static void small_stack(void)
 {
-    struct hour h = largest_hour(1000000);
-    call.case_file = case_file(&h);
-    call.proposal = proposal_file(&h);
-    about("the largest hour on a stack of %d bytes", STACK_ENOUGH);
-    on_stack(STACK_ENOUGH, call_judge);
-    check(call.verdict == LTA_GAP_ABOVE_TOLERANCE);
+    for (uint16_t version = 1; version <= 2; version++) {
+        struct hour h = largest_hour(version, 1000000);
+        call.case_file = case_file(&h);
+        call.proposal = proposal_file(&h);
+        call.verdict = 0;
+        about("the largest hour of version %d on a stack of %d bytes", version, STACK_ENOUGH);
+        on_stack(STACK_ENOUGH, call_judge);
+        check(call.verdict == LTA_GAP_ABOVE_TOLERANCE);
+    }
 }
 
 static int64_t number_at(const struct file *f, size_t offset)
@@ -616,18 +782,23 @@ static void samples(void)
     check(same_file(sample_case, &c));
     about("the sample proposal is P1's");
     check(same_file(sample_proposal, &p));
+    h = contracted_hour();
+    c = case_file(&h);
+    about("the sample case of version 2 is P1's with 2,500 contracted");
+    check(same_file(sample_contracted, &c));
 }
 
 int main(int count, char **words)
 {
-    if (count != 3) {
-        fprintf(stderr, "usage: judge_test CASE PROPOSAL\n");
+    if (count != 4) {
+        fprintf(stderr, "usage: judge_test CASE PROPOSAL CONTRACTED\n");
         return 2;
     }
     sample_case = words[1];
     sample_proposal = words[2];
-    case_arena = arena(9870);
-    proposal_arena = arena(2573);
+    sample_contracted = words[3];
+    case_arena = arena(CASE_ROOM);
+    proposal_arena = arena(PROPOSAL_ROOM);
     report_arena = arena(300);
 
     group("guard pages", memory);
@@ -637,13 +808,17 @@ int main(int count, char **words)
     group("run only", run_only);
     group("one field damaged", one_field);
     group("each field of the rows damaged", each_field);
+    group("contracted volumes", contracted);
+    group("contracted volumes that are refused", contracted_refused);
     group("the first field in file order", first_in_file_order);
     group("which cause and which index", causes);
     group("cases of 0 to 200 bytes", case_lengths);
+    group("cases of version 2, of 0 to 200 bytes", contracted_case_lengths);
     group("proposals of 0 to 200 bytes", proposal_lengths);
     group("report buffers", rooms);
     group("null with length 0", nulls);
     group("the largest hours", largest);
+    group("the largest hours of version 2", largest_contracted);
     group("a small stack", small_stack);
     return closing();
 }
