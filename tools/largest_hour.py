@@ -157,15 +157,16 @@ def largest_varied(contracting=False):
     spreads = [max(0, price[sink] - price[source]) for source, sink, *_ in links]
     capacities = [capacity for _, _, capacity, _ in links]
     link_total = owed = sum(capacity * spread for capacity, spread in zip(capacities, spreads))
-    first, contracted = "An hour of full size with varied fields, every branch and link full, accepted at its tolerance.", None
+    contracted = None
+    what = "An hour of full size with varied fields, every branch and link full, accepted at its tolerance."
     if contracting:
-        first = "largest-varied of version 2, a part of each capacity contracted: owed alone is another."
+        what = "largest-varied of version 2, a part of each capacity contracted: owed alone is another."
         contracted = [numbers(capacity + 1) for capacity in capacities]
         owed = sum(volume * spread for volume, spread in zip(contracted, spreads))
     gap, rent = abs(branch_total - link_total) // 2, (branch_total + link_total) // 2
     totals = {"welfare": welfare, "bound": welfare + gap, "gap": gap, "rent": rent, "owed": owed}
     comment = (
-        first,
+        what,
         "expect 0 0",
         "totals " + " ".join(f"{name} {euros(amount)}" for name, amount in totals.items()),
     )

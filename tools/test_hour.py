@@ -39,7 +39,11 @@ P1_PROPOSAL = bytes.fromhex(
     "7c150000 fa000000"  # shadow prices 5,500 and 250
 )
 
+# The same of version 2 with 2,500 of the link's 4,000 contracted, behind its capacity.
+CONTRACTED_CASE = P1_CASE[:3] + b"\x02" + P1_CASE[4:52] + bytes.fromhex("c4090000") + P1_CASE[52:]
+
 P1_TEXT = hour.read_text(SAMPLES / "three-zone.txt")
+CONTRACTED_TEXT = hour.read_text(SAMPLES / "three-zone-contracted.txt")
 
 
 def stored_hours():
@@ -72,6 +76,74 @@ class ThreeZoneHour(unittest.TestCase):
 
     def test_stored_hour_is_the_bytes_by_hand(self):
         self.assertEqual(hour.build(stored_hours()["p01-three-zone-hour"]), (P1_CASE, P1_PROPOSAL))
+
+
+class ContractedHour(unittest.TestCase):
+    """Case version 2: each link has ten bytes, and every other version is laid out as version 1."""
+
+    def test_text_and_samples_give_the_bytes_by_hand(self):
+        self.assertEqual(len(CONTRACTED_CASE), 106)
+        self.assertEqual(hour.build(CONTRACTED_TEXT), (CONTRACTED_CASE, P1_PROPOSAL))
+        self.assertEqual((SAMPLES / "three-zone-contracted.case").read_bytes(), CONTRACTED_CASE)
+        self.assertEqual((SAMPLES / "three-zone-contracted.proposal").read_bytes(), P1_PROPOSAL)
+        self.assertEqual(hour.build(stored_hours()["contracted-below-capacity"]), (CONTRACTED_CASE, P1_PROPOSAL))
+
+    def test_shown_with_its_offsets(self):
+        text = hour.show(CONTRACTED_CASE, P1_PROPOSAL)
+        self.assertIn("\ncase version 2 zones 3 tolerance 0  # at 3 5 10; branches, links, orders at 6 7 8\n", text)
+        self.assertIn("\nlink 0 1 4000 2500  # at 46 47 48 52, link 0\n", text)
+        self.assertIn("\norder 0 sell  4000 1000  # at 56 57 58 62, order 0\n", text)
+        self.assertIn("\nflow 3500  # at 33, link 0: 0 1 4000 2500\n", text)
+
+    def test_demanded_lengths(self):
+        for version, length in ((0, 102), (1, 102), (2, 106), (3, 102), (258, 102)):
+            counts = {**hour.case_counts(P1_CASE), "version": version}
+            self.assertEqual(hour.demanded_length("case", counts), length)
+            self.assertEqual(hour.demanded_length("proposal", counts), 45)
+
+    def test_fields_at_their_offsets(self):
+        for offset, field in (
+            (48, "link 0, capacity 4000, bytes a0 0f 00 00 at 48"),
+            (52, "link 0, contracted 2500, bytes c4 09 00 00 at 52"),
+            (55, "link 0, contracted 2500, bytes c4 09 00 00 at 52"),
+            (56, "order 0, zone 0, bytes 00 at 56"),
+            (105, "order 4, price 5000, bytes 88 13 00 00 at 102"),
+        ):
+            self.assertIn(f"of the case: {field} ", hour.field_at(offset, CONTRACTED_CASE))
+        self.assertIn("link 0, flow 3500", hour.field_at(33, CONTRACTED_CASE, P1_PROPOSAL))
+        self.assertEqual(hour.link_pairs(CONTRACTED_CASE), [(0, 1)])
+
+    def test_every_cut_and_every_version_round_trips(self):
+        files = [CONTRACTED_CASE[:size] for size in range(len(CONTRACTED_CASE))]
+        for version in (0, 1, 3, 255, 256, 257, 258, 513, 65535):
+            case = CONTRACTED_CASE[:3] + struct.pack("<H", version) + CONTRACTED_CASE[5:]
+            files += [case, P1_CASE[:3] + struct.pack("<H", version) + P1_CASE[5:]]
+        for case in [*files, P1_CASE[:3] + b"\x02" + P1_CASE[4:]]:
+            self.assertEqual(hour.build(hour.show(case, P1_PROPOSAL)), (case, P1_PROPOSAL))
+
+    def test_damaged_hours_round_trip(self):
+        numbers = random.Random(4)
+        for _ in range(1000):
+            case = bytearray(CONTRACTED_CASE)
+            for _ in range(numbers.randrange(4)):
+                case[numbers.randrange(len(case))] = numbers.randrange(256)
+            case = bytes(case[: numbers.choice((len(case), numbers.randrange(len(case))))])
+            self.assertEqual(hour.build(hour.show(case)), (case, b""))
+
+    def test_links_take_what_their_version_has(self):
+        head = "case version {} zones 2 tolerance 0\nlink {}\n"
+        for version, values, message in (
+            (2, "0 1 5", "link takes 4 values (from zone, to zone, capacity, contracted), not 3"),
+            (1, "0 1 5 5", "link takes 3 values (from zone, to zone, capacity), not 4"),
+            (3, "0 1 5 5", "link takes 3 values (from zone, to zone, capacity), not 4"),
+            (2, "0 1 5 -1", "contracted -1 is not from 0 to 4294967295"),
+            (2, "0 1 5 4294967296", "contracted 4294967296 is not from 0 to 4294967295"),
+        ):
+            with self.assertRaises(hour.TextError) as caught:
+                hour.build(head.format(version, values))
+            self.assertEqual(str(caught.exception), f"line 2: {message}")
+        case, _ = hour.build(head.format(2, "0 1 5 4294967295"))
+        self.assertEqual(case[14:], bytes.fromhex("00 01 05000000 ffffffff"))
 
 
 class RoundTrip(unittest.TestCase):
@@ -655,7 +727,8 @@ class StoredHours(unittest.TestCase):
                 self.assertEqual(text, make())
                 case, proposal = hour.build(text)
                 self.assertEqual(case[5:10], bytes([16, 64, 64, 0, 2]))
-                self.assertEqual((len(case), len(proposal)), (14 + 64 * 68 + 64 * 6 + 512 * 10, 13 + 4 * 640))
+                link = 10 if "contracted" in name else 6
+                self.assertEqual((len(case), len(proposal)), (14 + 64 * 68 + 64 * link + 512 * 10, 13 + 4 * 640))
 
 
 def main():

@@ -67,10 +67,31 @@ def fault_lines(explanation, files, joined):
         yield f"  joined  {joined_words(files['case'])}"
 
 
-def totals_lines(judgement):
+def totals_lines(judgement, sums):
     yield from columns(
         ("total", "euros"), [(name, amounts.microcents(total)) for name, total in judgement.totals.items()]
     )
+    if has_contracted(sums):
+        yield f"  Owed is by contracted volumes; by capacities it is the bound's link total, {link_total(sums)}."
+
+
+def has_contracted(sums):
+    """Whether the links say what is contracted, as those of a case of version 2 do."""
+    return sums.version == hour.CONTRACTED_VERSION and bool(sums.links)
+
+
+def link_total_name(sums):
+    """In version 1, where all is contracted, it is what is owed."""
+    return "link total" if has_contracted(sums) else "owed"
+
+
+def link_total(sums):
+    return f"{amounts.microcents(sums.link_total)} euros"
+
+
+def contracted_of(link):
+    """What is contracted of a link, in MW."""
+    return f"{amounts.scaled(link.contracted, 1, 1)} of {amounts.scaled(link.capacity, 1, 1)}"
 
 
 def zone_lines(sums):
@@ -117,10 +138,12 @@ def branch_lines(sums):
 
 
 def link_lines(sums):
+    contracted = has_contracted(sums)
     rows = [
         (
             f"link {index}",
             f"{link.source} to {link.sink}",
+            *([contracted_of(link)] if contracted else []),
             amounts.scaled(use, 6, 1),
             amounts.scaled(room, 6, 1),
             use_of(use, room),
@@ -129,7 +152,8 @@ def link_lines(sums):
         )
         for index, (link, use, room, spread) in enumerate(zip(sums.links, sums.uses, sums.link_rooms, sums.spreads))
     ]
-    yield from columns(("link", "zones", "use, MW", "room, MW", "use", "spread, euros/MWh", ""), rows, left=2)
+    head = ("link", "zones", *["contracted, MW"] * contracted, "use, MW", "room, MW", "use", "spread, euros/MWh", "")
+    yield from columns(head, rows, left=2)
 
 
 def part_name(sums, kind, place):
@@ -150,8 +174,9 @@ def part_name(sums, kind, place):
             return f"link {place}: {amounts.mw(link.flow)} against a spread of {amounts.grains(spread)}"
         return f"link {place}: {free} free at a spread of {amounts.grains(spread)}"
     if kind == "branch total":
-        return f"branch total below owed, by the {amounts.per_cent(rules.WHOLE - sums.share)} that is flow-based"
-    return f"owed below branch total, by the LTA share of {amounts.per_cent(sums.share)}"
+        rest = amounts.per_cent(rules.WHOLE - sums.share)
+        return f"branch total below {link_total_name(sums)}, by the {rest} that is flow-based"
+    return f"{link_total_name(sums)} below branch total, by the LTA share of {amounts.per_cent(sums.share)}"
 
 
 def gap_parts(sums):
@@ -174,7 +199,7 @@ def titled(title, lines):
 
 def hour_lines(judgement, sums):
     if judgement.number in hour.REPORTED:
-        yield from titled("Totals", totals_lines(judgement))
+        yield from titled("Totals", totals_lines(judgement, sums))
     yield from titled(f"Zones, import positive; LTA share {amounts.per_cent(sums.share)}", zone_lines(sums))
     if sums.branches:
         yield from titled("Branches", branch_lines(sums))

@@ -56,7 +56,7 @@ class Explanation:
 
 def field_of(file, kind, index, position, counts, value, limit=""):
     """The field at a position of a record, named as people say it."""
-    fields = hour.record_fields(kind, counts["zones"])
+    fields = hour.record_fields(kind, counts)
     name, code = fields[position]
     if name == "PTDF":
         name = f"PTDF of zone {position - 1}"
@@ -133,17 +133,19 @@ def wrong_mark(number, file, data):
 
 def wrong_version(number, file, data):
     (version,) = struct.unpack_from("<H", data, 3)
-    if version == rules.VERSION:
+    due = rules.VERSIONS[file]
+    if version in due:
         return None
-    cause = f"the {file}'s version is {version:,}, not {rules.VERSION}"
-    return Explanation(number, 0, "", cause, (header_field(file, "version", f"{version:,}", str(rules.VERSION)),))
+    none_of = f"neither {' nor '.join(map(str, due))}" if len(due) > 1 else f"not {due[0]}"
+    field = header_field(file, "version", f"{version:,}", " or ".join(map(str, due)))
+    return Explanation(number, 0, "", f"the {file}'s version is {version:,}, {none_of}", (field,))
 
 
 def length_sum(file, counts):
     """How the demanded length comes about: '14 + 2 branches of 16 bytes + ..'."""
     terms = [str(hour.header_layout(file).size)]
     for kind, name in hour.RECORDS[file]:
-        size = hour.record_layout(kind, counts["zones"]).size
+        size = hour.record_layout(kind, counts).size
         noun = {"volume": "volume", "flow": "flow", "shadow": "shadow price"}.get(kind, kind)
         terms.append(f"{counted(counts[name], noun)} of {size}")
     return " + ".join(terms)
@@ -184,7 +186,7 @@ def wrong_header(counts):
 
 def limited(file, kind, index, position, counts, number):
     """The explanation of a field outside its own limits, None where it is within them: cause and field."""
-    name = hour.record_fields(kind, counts["zones"])[position][0]
+    name = hour.record_fields(kind, counts)[position][0]
     if not rules.outside(name, number):
         return None
     shown, limits = SHOWN[name], rules.LIMITS[name]
@@ -211,7 +213,7 @@ def known_zones(counts):
 
 
 def link_fault(index, rows, counts):
-    source, sink, capacity = rows[index]
+    source, sink, capacity = rows[index][:3]
 
     def at(position, value, limit):
         return field_of("case", "link", index, position, counts, value, limit)
@@ -230,7 +232,19 @@ def link_fault(index, rows, counts):
         return cause, (at(1, str(sink), known_zones(counts)),)
     if source == sink:
         return f"it leads from zone {source} to itself", (at(1, str(sink), "another zone than the from zone"),)
-    return limited("case", "link", index, 2, counts, capacity)
+    return limited("case", "link", index, 2, counts, capacity) or contracted_fault(index, rows[index], counts)
+
+
+def contracted_fault(index, row, counts):
+    """Request S-4: in a case of version 2 no more than the capacity is contracted."""
+    capacity, contracted = row[2], row[-1]
+    if contracted <= capacity:
+        return None
+    cause = f"contracted {amounts.mw(contracted)} is over the link's capacity of {amounts.mw(capacity)}, "
+    cause += f"by {amounts.mw(contracted - capacity)}"
+    limit = f"at most {amounts.mw(capacity)}"
+    field = field_of("case", "link", index, 3, counts, stored(contracted, amounts.mw(contracted)), limit)
+    return cause, (field, field_of("case", "link", index, 2, counts, stored(capacity, amounts.mw(capacity))))
 
 
 def order_fault(index, row, counts):

@@ -15,13 +15,15 @@ The text of an hour: one item per line; blank lines and what follows a # are pas
   branch RAM PTDF ...                      RAM in tenths of a MW; one PTDF per zone, 100000 is 1
   sheet FILE                               all branches, from a published margin sheet, in place of branch lines
   link FROM TO CAPACITY                    zones from 0; capacity in tenths of a MW
+  link FROM TO CAPACITY CONTRACTED         the same in a case of version 2; contracted in tenths of a MW
   order ZONE SIDE QUANTITY PRICE           buy or sell; tenths of a MWh; cents per MWh
   proposal version V share S system P      opens the proposal; LTA share, 100000 is 1; cents per MWh
   volume V                                 accepted volume in tenths of a MWh, one per order
   flow F                                   flow in tenths of a MW, one per link
   shadow S                                 shadow price in cents per MWh, one per branch
 
-The header counts the branches, links and orders of the text. A text without a proposal has one of no bytes.
+The header counts the branches, links and orders of the text. A text without a proposal has one of no bytes. In a case
+of version 1 all of a link's capacity is contracted. Links of every version but 2 are written and shown as version 1's.
 
 A margin sheet has a line per branch, its fields with commas between them: the margin in MW to one decimal, then one
 PTDF per zone to five. Sheets count export positive, so the PTDFs change sign. A sheet's FILE counts from the text's
@@ -48,7 +50,7 @@ tests/stored_hours holds each of these to both judges.
 
 UNITS = """\
 # An hour as text; ./lta help text explains the lines.
-# RAM, capacity, quantity, volume, flow: tenths of a MW. PTDF, LTA share: hundred-thousandths, 100000 is 1.
+# RAM, capacity, contracted, quantity, volume, flow: tenths of a MW. PTDF, LTA share: 100000 is 1.
 # Order price, system price, shadow price: cents per MWh. Tolerance: cents.
 # After "at": the offset in its file of each field of the line.
 """
@@ -72,7 +74,7 @@ RECORDS = {
 FILE_OF = {kind: file for file, kinds in RECORDS.items() for kind, _ in kinds}
 COUNTS = ("branches", "links", "orders")
 
-# Fields of a record; a branch goes on with one PTDF per zone.
+# Fields of a record; a branch goes on with one PTDF per zone, a link of a case of version 2 with what is contracted.
 FIELDS = {
     "branch": (("RAM", "i"),),
     "link": (("from zone", "B"), ("to zone", "B"), ("capacity", "I")),
@@ -81,6 +83,10 @@ FIELDS = {
     "flow": (("flow", "I"),),
     "shadow": (("shadow price", "I"),),
 }
+
+PTDF = (("PTDF", "i"),)
+CONTRACTED = (("contracted", "I"),)
+CONTRACTED_VERSION = 2
 
 # Records of a proposal: the record of the case that each belongs to.
 OWNERS = {"volume": "order", "flow": "link", "shadow": "branch"}
@@ -105,7 +111,7 @@ EUROS = re.compile("".join(rf" {name} (-?[0-9]+(?:\.[0-9]{{1,8}})?)" for name in
 MICROCENT_DECIMALS = 8
 REPORTED = (0, 26)
 HEX_BYTES_PER_LINE = 32
-LONGEST = 64 * 2**20  # bytes that are read of a file; a legal hour has at most 12,443
+LONGEST = 64 * 2**20  # bytes that are read of a file; a legal hour has at most 12,699
 CHUNK = 2**20
 MOST_QUOTED = 40  # characters of a wrong word that a message repeats
 
@@ -121,12 +127,17 @@ class OffsetError(ValueError):
     """An offset that is not one of the file."""
 
 
-def record_fields(kind, zones):
-    return FIELDS[kind] + (("PTDF", "i"),) * (zones if kind == "branch" else 0)
+def record_fields(kind, counts):
+    """The fields of a record, by the zones and the version of the case's header; without one there are no more."""
+    if kind == "branch":
+        return FIELDS[kind] + PTDF * counts.get("zones", 0)
+    if kind == "link" and counts.get("version") == CONTRACTED_VERSION:
+        return FIELDS[kind] + CONTRACTED
+    return FIELDS[kind]
 
 
-def record_layout(kind, zones):
-    return struct.Struct("<" + "".join(code for _, code in record_fields(kind, zones)))
+def record_layout(kind, counts):
+    return struct.Struct("<" + "".join(code for _, code in record_fields(kind, counts)))
 
 
 def header_layout(file):
@@ -140,14 +151,14 @@ def offsets_from(position, fields):
 
 
 def record_offset(kind, index, counts):
-    """Where the first field of a record stands in its file, by the counts of the case's header."""
-    file, zones = FILE_OF[kind], counts["zones"]
+    """Where the first field of a record stands in its file, by the case's header."""
+    file = FILE_OF[kind]
     position = header_layout(file).size
     for other, name in RECORDS[file]:
         if other == kind:
             break
-        position += counts[name] * record_layout(other, zones).size
-    return position + index * record_layout(kind, zones).size
+        position += counts[name] * record_layout(other, counts).size
+    return position + index * record_layout(kind, counts).size
 
 
 def demanded_length(file, counts):
@@ -271,8 +282,9 @@ class Hour:
         self.records = {kind: [] for kind in FIELDS}
         self.edits = []
 
-    def zones(self):
-        return self.headers["case"]["zones"] if "case" in self.headers else 0
+    def layout(self):
+        """What the case line says of the records: zones and version. A counts line changes no record."""
+        return self.headers.get("case", {})
 
     def take(self, line, words):
         keyword, *words = words
@@ -308,9 +320,9 @@ class Hour:
             raise ValueError(f"{kind} before the {file} line")
         if kind == "branch" and self.sheet is not None:
             raise ValueError(f"branch beside the sheet {short(self.sheet)}")
-        fields = record_fields(kind, self.zones())
+        fields = record_fields(kind, self.layout())
         if len(words) != len(fields):
-            wanted = ", ".join(name for name, _ in FIELDS[kind])
+            wanted = ", ".join(name for name, _ in fields if name != "PTDF")
             if kind == "branch":
                 wanted += f" and {len(fields) - 1} PTDFs"
             raise ValueError(f"{kind} takes {len(fields)} values ({wanted}), not {len(words)}")
@@ -326,7 +338,8 @@ class Hour:
             raise ValueError(f"sheet beside {'another sheet' if self.sheet is not None else 'branch lines'}")
         self.sheet = words[0]
         try:
-            self.records["branch"] = sheet_branches(read_bytes(os.path.join(self.folder, self.sheet)), self.zones())
+            sheet = read_bytes(os.path.join(self.folder, self.sheet))
+            self.records["branch"] = sheet_branches(sheet, self.layout()["zones"])
         except OSError as fault:
             raise ValueError(f"{short(self.sheet)}: {fault.strerror}") from None
         except ValueError as fault:
@@ -377,7 +390,7 @@ class Hour:
                 raise TextError(self.header_lines[file], message)
         out = bytearray(header_layout(file).pack(self.marks[file], *(header[name] for name, _ in HEADERS[file])))
         for kind, _ in RECORDS[file]:
-            layout = record_layout(kind, self.zones())
+            layout = record_layout(kind, self.layout())
             for row in self.records[kind]:
                 out += layout.pack(*row)
         return out
@@ -499,12 +512,12 @@ def show_short_header(file, data):
     yield from show_hex(file, data)
 
 
-def notes_of(kind, rows, position, zones, case_rows):
+def notes_of(kind, rows, position, counts, case_rows):
     """What each record is: its offsets, its index, and for a proposal the record of the case it belongs to."""
-    owner, size = OWNERS.get(kind), record_layout(kind, zones).size
+    owner, size = OWNERS.get(kind), record_layout(kind, counts).size
     notes = []
     for index in range(len(rows)):
-        offsets = offsets_from(position + index * size, record_fields(kind, zones))
+        offsets = offsets_from(position + index * size, record_fields(kind, counts))
         note = f"{show_offsets(offsets)}, {owner or kind} {index}"
         if owner and index < len(case_rows.get(owner, ())):
             words = show_row(owner, case_rows[owner][index])
@@ -517,7 +530,7 @@ def whole_records(file, data, counts):
     """The records of a file up to the first that is not whole, its name if there is one, and where the walk ends."""
     tables, missing, position = {}, None, header_layout(file).size
     for kind, name in RECORDS[file]:
-        layout = record_layout(kind, counts.get("zones", 0))
+        layout = record_layout(kind, counts)
         rows = tables[kind] = []
         while missing is None and len(rows) < counts.get(name, 0):
             if position + layout.size > len(data):
@@ -545,10 +558,10 @@ def show_file(file, data, counts, case_rows):
         case_rows.update(tables)
         if missing is not None:
             yield "counts " + " ".join(f"{name} {header[name]}" for name in COUNTS)
-    start, zones = layout.size, counts.get("zones", 0)
+    start = layout.size
     for kind, rows in tables.items():
-        yield from show_records(kind, rows, notes_of(kind, rows, start, zones, case_rows))
-        start += len(rows) * record_layout(kind, zones).size
+        yield from show_records(kind, rows, notes_of(kind, rows, start, counts, case_rows))
+        start += len(rows) * record_layout(kind, counts).size
     rest = data[position:]
     if missing is not None:
         yield f"# The {file} ends before the end of {missing}; bytes left: {len(rest)}."
@@ -589,12 +602,11 @@ def whole_fields(file, data, counts):
         if offset + field.size <= len(data):
             (content,) = field.unpack_from(data, offset)
             yield offset, field.size, f"{name} {show_mark(content) if name == 'mark' else content}"
-    zones = counts.get("zones", 0)
     for kind, rows in whole_records(file, data, counts)[0].items():
-        fields = record_fields(kind, zones)
+        fields = record_fields(kind, counts)
         for index, row in enumerate(rows):
             places = offsets_from(position, fields)
-            position += record_layout(kind, zones).size
+            position += record_layout(kind, counts).size
             for n, ((name, code), word) in enumerate(zip(fields, show_row(kind, row))):
                 name = f"PTDF of zone {n - 1}:" if name == "PTDF" else name
                 yield places[n], struct.calcsize("<" + code), f"{OWNERS.get(kind, kind)} {index}, {name} {word}"

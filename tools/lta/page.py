@@ -31,7 +31,8 @@ NOTES = {
     "Order curves": "Price in € per MWh over MWh: buys from the dearest down, sells from the cheapest up.",
     "Branches": "Load of the flow-based part against the margin's flow-based share; the tick is where the room ends. A binding "
     "branch is full and has a shadow price.",
-    "Links": "Flow against the LTA share of the capacity. A binding link is full, to a tenth of a MW, and has a positive spread.",
+    "Links": "Flow against the LTA share of the capacity. A binding link is full, to a tenth of a MW, and has a positive spread. "
+    "Contracted volumes, where the case has them, are what is owed for; they limit no flow.",
     "Prices through the hours": "In the table's order; an hour that is refused leaves a hole.",
 }
 
@@ -204,7 +205,9 @@ def total_card(name, amount, bar, note):
 
 def totals(judgement, sums):
     """Gap, rent and owed side by side on one scale."""
-    positive = amounts.counted(sum(spread > 0 for spread in sums.spreads), "link")
+    owed_note = f"{amounts.counted(sum(spread > 0 for spread in sums.spreads), 'link')} with a positive spread"
+    if account.has_contracted(sums):
+        owed_note += f"; by contracted volumes, the link total by capacities is {euros(sums.link_total)}"
     rows = (
         ("gap", judgement.gap, sums.tolerance, f"tolerance {euros(sums.tolerance)}"),
         (
@@ -213,7 +216,7 @@ def totals(judgement, sums):
             judgement.owed - judgement.gap,
             f"rent less owed {euros(judgement.rent - judgement.owed)}",
         ),
-        ("owed", judgement.owed, None, f"{positive} with a positive spread"),
+        ("owed", judgement.owed, None, owed_note),
     )
     largest, cards = max(abs(amount) for _, amount, _, _ in rows), ""
     for name, amount, mark, note in rows:
@@ -325,6 +328,8 @@ def link_cards(sums):
     cards = ""
     for index, (link, use, room, spread) in enumerate(zip(sums.links, sums.uses, sums.link_rooms, sums.spreads)):
         words = room_words("flow", use, room)
+        if account.has_contracted(sums):
+            words += f" · contracted {account.contracted_of(link)} MW"
         title = f"Link {index} " + element("span", f"zone {link.source} → zone {link.sink}", "unit")
         state = account.standing(use, room, spread > 0, rules.WHOLE)
         bar = drawing.bar(use, room, False, f"link {index}: {words}")

@@ -12,7 +12,7 @@ MICROCENTS_PER_CENT = 1_000_000
 REPORT_ROOM = 176
 INTUITIVE_SCRATCH = 324
 INTUITIVE_PAIRS = 64
-VERSION = 1
+VERSIONS = {"case": (1, 2), "proposal": (1,)}
 
 # Least and greatest of each field that has limits of its own; an order's zone and a link's zones are held to the count.
 LIMITS = {
@@ -37,7 +37,7 @@ NUMBERS = {
     0: "accepted",
     1: "case shorter than 14 bytes",
     2: "case does not begin with LTC",
-    3: "case version is not 1",
+    3: "case version is neither 1 nor 2",
     4: "header field outside its range",
     5: "case length is not what the header demands",
     6: "branch field out of range",
@@ -67,7 +67,7 @@ INTUITIVE_NUMBERS = {
 }
 
 Branch = namedtuple("Branch", "ram ptdfs shadow")
-Link = namedtuple("Link", "source sink capacity flow")
+Link = namedtuple("Link", "source sink capacity contracted flow")
 Order = namedtuple("Order", "zone buys quantity price volume")
 
 
@@ -79,7 +79,7 @@ def outside(name, number):
 def header_good(case):
     """Whether none of 1 to 4 holds of a case."""
     counts = hour.case_counts(case)
-    if not counts or case[:3] != hour.MARKS["case"] or counts["version"] != VERSION:
+    if not counts or case[:3] != hour.MARKS["case"] or counts["version"] not in VERSIONS["case"]:
         return False
     return not any(name in LIMITS and outside(name, number) for name, number in counts.items())
 
@@ -103,7 +103,9 @@ class Sums:
         _, _, self.share, self.system = hour.header_layout("proposal").unpack_from(proposal)
         self.zones, self.tolerance = counts["zones"], counts["tolerance"] * MICROCENTS_PER_CENT
         self.branches = [Branch(row[0], row[1:], shadow) for row, (shadow,) in zip(rows["branch"], plan["shadow"])]
-        self.links = [Link(*row, flow) for row, (flow,) in zip(rows["link"], plan["flow"])]
+        self.version = counts["version"]
+        # A row's last field is what is contracted; in version 1 that is the capacity.
+        self.links = [Link(*row[:3], row[-1], flow) for row, (flow,) in zip(rows["link"], plan["flow"])]
         self.orders = [
             Order(zone, side == 0, quantity, price, volume)
             for (zone, side, quantity, price), (volume,) in zip(rows["order"], plan["volume"])
@@ -146,8 +148,11 @@ class Sums:
         signed = [order.volume if order.buys else -order.volume for order in self.orders]
         self.welfare = GRAINS_PER_CENT * sum(volume * order.price for volume, order in zip(signed, self.orders))
         self.branch_total = GRAINS_PER_CENT * sum(branch.ram * branch.shadow for branch in self.branches)
-        self.owed = sum(link.capacity * max(0, spread) for link, spread in zip(self.links, self.spreads))
-        self.bound = sum(self.surpluses) + max(self.branch_total, self.owed)
+        # Request S-4: owed is by contracted volumes, what the bound takes by capacities.
+        earned = [max(0, spread) for spread in self.spreads]
+        self.link_total = sum(link.capacity * spread for link, spread in zip(self.links, earned))
+        self.owed = sum(link.contracted * spread for link, spread in zip(self.links, earned))
+        self.bound = sum(self.surpluses) + max(self.branch_total, self.link_total)
         self.gap = self.bound - self.welfare
         self.rent = sum(net * price for net, price in zip(self.net, self.prices))
 
@@ -162,7 +167,7 @@ class Sums:
             parts.append(("branch", place, WHOLE * (room - load) * branch.shadow))
         for place, (link, spread) in enumerate(zip(self.links, self.spreads)):
             parts.append(("link", place, self.share * link.capacity * max(0, spread) - WHOLE * link.flow * spread))
-        larger = max(self.branch_total, self.owed)
+        larger = max(self.branch_total, self.link_total)
         parts.append(("branch total", None, (WHOLE - self.share) * (larger - self.branch_total)))
-        parts.append(("owed", None, self.share * (larger - self.owed)))
+        parts.append(("link total", None, self.share * (larger - self.link_total)))
         return parts
