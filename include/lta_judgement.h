@@ -150,8 +150,8 @@ static inline int64_t lta_report_price(const uint8_t *report, size_t zone)
  *   [gap]       The gap is at least 0 and at most 1,000,000 * tolerance.
  *   [coverage]  The rent is at least owed - gap, owed being by contracted volumes. [covered_in_full] At gap 0 it covers all that is owed.
  *   [annex]     In the terms of Annex 14.29: the proposal solves (60) to (72), no solution has an objective (59) above welfare + gap, the
- *               zone prices are those of (73) to (79), rent and owed the two sides of (81), and at these prices no import and export that
- *               the network allows earns more than rent + gap (82).
+ *               zone prices are those of (73) to (79), rent and link total the two sides of (81), whose capacities are those offered, and
+ *               at these prices no import and export that the network allows earns more than rent + gap (82).
  * A clearing is any choice of volumes (each from zero to its order's quantity), flows (none negative) and LTA share (from 0 to 100,000)
  * that meets rules 3, 4 and 5; fractions are allowed, of any denominator.
  *
