@@ -113,7 +113,7 @@ sheetWritten zones sheet room = writtenBy (sheetRefusal zones sheet room) (sheet
 unfoldable pub sheetOutput : ℕ → List ℕ → List ℕ → List ℕ
 sheetOutput zones sheet out = outputAfter (sheetWritten zones sheet (length out)) out
 
--- WHAT IS READ BACK of an answer, put behind a header and before any bytes. A header of these zones and that many branches
+-- WHAT IS READ BACK of an answer, put behind a header and before any bytes. A header of these zones and that many branches, of either case version (S-4)
 pub record Header (zones branches : ℕ) (header : List ℕ) : Type 0 where
   pub size : length header ≡ caseHeader
   pub zones-in : zonesIn header ≡ zones
