@@ -1,0 +1,2 @@
+-- THE MEANING, to be read beside request S-5
+pub mod Value

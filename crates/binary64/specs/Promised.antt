@@ -1,0 +1,2 @@
+-- WHAT IS PROVED OF THE MEANING, for its reader
+pub mod Within

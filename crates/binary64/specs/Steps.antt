@@ -1,0 +1,7 @@
+-- THE PROOFS' MEANS
+pub mod Machine
+pub mod Cutting
+pub mod Half
+pub mod Whole
+pub mod Patterns
+pub mod Products

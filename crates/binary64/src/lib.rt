@@ -1,0 +1,102 @@
+// Values of a solver's dump (S-5): binary64 by its 64 bits, one product of two, and a product taken to a whole number.
+ghost use mathlib.Core.Path.{_≡_};
+ghost use mathlib.Core.Bool.{true, false};
+ghost use lib.IntN.{pos};
+ghost use Prim.Native.Nat.{_+_, _*_, _≤_};
+ghost use lib.Dec.{T};
+ghost use lib.ListN.{length};
+ghost use lib.Ieee as Ieee;
+ghost use lib.Ieee.{binary64};
+ghost use Rattle.binary64.specs.Meaning.Value.{bitsAt, finite, cut, nearest};
+ghost use Rattle.binary64.specs.Steps.Machine.{zero64, one64, times, wholeBelow, wholeUpTo};
+use fields::word_at;
+
+// A whole number of 32 bits, or none.
+pub enum WholeAnswer {
+    Held(u32),
+    Outside,
+}
+
+// 2 ^ 32, which parts 64 bits in two halves.
+const HALF: u64 = 4294967296;
+
+// What the exponent's field begins with where it is all ones.
+const NOT_FINITE: u64 = 0x7ff0_0000_0000_0000;
+
+const SIGN: u64 = 0x8000_0000_0000_0000;
+
+// Up to here every whole number and a half is a value of its own.
+const HALVES_END: f64 = 2251799813685248.0;
+
+// Past every number of 32 bits.
+const WORD_END: f64 = 4294967296.0;
+
+// The n-th value of a dump, eight bytes each.
+pub fn bits_at(dump: &[u8], n: usize) -> u64
+    requires { ⌜ 8 * n + 8 ≤ length (now dump) ⌝ }
+    ensures { λ r. ⌜ r ≡ bitsAt (now (dump .entry)) n ⌝ }
+{
+    let low = word_at(dump, 8 * n);
+    let high = word_at(dump, 8 * n + 4);
+    (low as u64) + HALF * (high as u64)
+}
+
+// Neither an infinity nor a NaN.
+pub fn is_finite(bits: u64) -> bool
+    ensures { λ r. ⌜ r ≡ finite bits ⌝ }
+{
+    bits % SIGN < NOT_FINITE
+}
+
+pub fn value(bits: u64) -> f64
+    requires { ⌜ finite bits ≡ true ⌝ }
+    ensures { λ r. ⌜ r ≡ Ieee.ofBits binary64 bits ⌝ }
+{
+    f64::from_bits(bits)
+}
+
+// A share of a whole: one product, cut to a whole number.
+pub fn part_of(share: f64, whole: u32) -> u32
+    requires { ⌜ T (Ieee.le zero64 share) ⌝ }
+    requires { ⌜ T (Ieee.le share one64) ⌝ }
+    requires { ⌜ whole ≤ 100000 ⌝ }
+    ensures { λ r. ⌜ (r ≡ cut (times share whole)) × (r ≤ whole) ⌝ }
+{
+    let p = share * (whole as f64);
+    std::num::truncating_f64_to_u64(p) as u32
+}
+
+// A product that is not negative, cut to a whole number.
+pub fn cut_to_word(p: f64) -> WholeAnswer
+    requires { ⌜ T (Ieee.le zero64 p) ⌝ }
+    ensures { λ r. ⌜ r ≡ wholeBelow p ⌝ }
+{
+    if p < WORD_END {
+        return WholeAnswer::Held(std::num::truncating_f64_to_u64(p) as u32);
+    }
+    WholeAnswer::Outside
+}
+
+// The nearest whole number, a half up.
+fn nearest_whole(p: f64) -> u64
+    requires { ⌜ T (Ieee.le zero64 p) ⌝ }
+    requires { ⌜ T (Ieee.le p (Ieee.fin false 1 (pos 51))) ⌝ }
+    ensures { λ r. ⌜ r ≡ nearest p ⌝ }
+{
+    let w = std::num::truncating_f64_to_u64(p);
+    if p >= (w as f64) + 0.5 { w + 1 } else { w }
+}
+
+// A product that is not negative, taken to the nearest whole number, if that is at most `most`.
+pub fn nearest_up_to(p: f64, most: u32) -> WholeAnswer
+    requires { ⌜ T (Ieee.le zero64 p) ⌝ }
+    ensures { λ r. ⌜ r ≡ wholeUpTo p most ⌝ }
+{
+    if p <= HALVES_END {
+        let n = nearest_whole(p);
+        if n <= (most as u64) {
+            return WholeAnswer::Held(n as u32);
+        }
+    }
+    WholeAnswer::Outside
+}

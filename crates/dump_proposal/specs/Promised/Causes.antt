@@ -1,0 +1,61 @@
+-- The table's numbers in the order asked, that a refusal is given for its cause and for no other and writes nothing, and that no cause asked earlier holds.
+-- Assumes nothing.
+use mathlib.Core.Path.{_≡_, refl, ap}
+use mathlib.Core.List.{List, [], _∷_}
+use mathlib.Core.Option.{Option, none, some}
+use Prim.Native.Nat.{ℕ, _<_}
+use native.Mathlib.Omega.{arith}
+use lib.ListN.{length, getD}
+use lib.Dec.{T}
+use Rattle.rows.specs.declared.Outcome.{Outcome}
+use Rattle.rows.specs.Meaning.Rows.{Row, verdict, answer, unnamed, at-offset, the-place, ask, Asks}
+use Rattle.rows.specs.Promised.RowLaws.{empty, Cause, answer-caused, Answered, answered, Soonest, soonest, lacks, zero-none}
+use Rattle.rules.specs.Meaning.Verdict.{caseRefusal}
+use Rattle.output.specs.Meaning.Output.{writtenBy, outputAfter}
+use Rattle.dump_proposal.specs.Meaning.Dump.{numberIn, dumpRows, dumpRefusal, dumpOutcome, proposalBytes, dumpWritten, dumpOutput}
+
+module _ (s d : List ℕ) (room : ℕ) where
+  abbrev rows : List Row
+  rows = dumpRows s d room
+
+  -- 56 to 60, in this order; 56 has the number by which the case is refused, 58 and 59 name the value
+  pub dump-order : Asks rows (ask 56 (at-offset (numberIn (caseRefusal s))) ∷ ask 57 unnamed ∷ ask 58 the-place ∷ ask 59 the-place ∷ ask 60 unnamed ∷ [])
+  unfolding dumpRows
+  dump-order = (refl, (λ k. refl, (refl, (λ k. refl, (refl, (λ k. refl, (refl, (λ k. refl, (refl, (λ k. refl, tt))))))))))
+
+  -- 0 if and only if every row passes at every place, else the first row that fails, at its first place
+  pub dump-answers : Answered rows (dumpOutcome s d room)
+  unfolding dumpOutcome dumpRefusal dumpRows lacks
+  dump-answers = answered rows tt
+
+  -- a refusal has a row of its number that fails at its place, and nothing asked before fails
+  pub dump-caused : 0 < (dumpOutcome s d room) .number → Cause rows (dumpOutcome s d room)
+  unfolding dumpOutcome dumpRefusal
+  dump-caused h = answer-caused rows h
+
+  -- a cause that holds, in row j at place k, is not asked before the outcome's
+  pub dump-first : (j k : ℕ) → k < (getD rows j empty) .places → T ((getD rows j empty) .fails k) → Soonest rows (dumpOutcome s d room) j k
+  unfolding dumpOutcome dumpRefusal
+  dump-first j k h f = soonest rows j k h f
+
+  -- the answer 0 has index 0, is given where no row fails, and writes the proposal
+  pub dump-none : (dumpOutcome s d room) .number ≡ 0 → dumpRefusal s d room ≡ none
+  unfolding dumpOutcome dumpRefusal dumpRows lacks
+  dump-none e = zero-none rows tt e
+
+  pub dump-answered : (dumpOutcome s d room) .number ≡ 0 → dumpOutcome s d room ≡ verdict 0 0
+  unfolding dumpOutcome
+  dump-answered e = ap answer (dump-none e)
+
+  pub dump-writes : (dumpOutcome s d room) .number ≡ 0 → dumpWritten s d room ≡ proposalBytes s d
+  unfolding dumpWritten
+  dump-writes e = ap (λ (o : Option Outcome). writtenBy o (proposalBytes s d)) (dump-none e)
+
+-- a refusal leaves every byte as it was
+pub dump-refused : (s d out : List ℕ) → 0 < (dumpOutcome s d (length out)) .number → (length (dumpWritten s d (length out)) ≡ 0) × (dumpOutput s d out ≡ out)
+unfolding dumpOutcome dumpWritten dumpOutput
+dump-refused s d out h = by (dumpRefusal s d (length out)) h
+  where
+    by : (o : Option Outcome) → 0 < (answer o) .number → (length (writtenBy o (proposalBytes s d)) ≡ 0) × (outputAfter (writtenBy o (proposalBytes s d)) out ≡ out)
+    by (some x) h = (refl, refl)
+    by none h = absurd (omega arith)

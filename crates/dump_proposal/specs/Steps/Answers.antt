@@ -1,0 +1,163 @@
+-- The table of a dump as the code asks it, row by row, and what the entry owes of an answer. Assumes nothing.
+use mathlib.Core.Path.{_≡_, refl, sym, ap, _∙_, subst}
+use mathlib.Core.Bool.{Bool, true, false, not}
+use mathlib.Core.List.{List, [], _++_, append-assoc}
+use mathlib.Core.Option.{Option, none, some}
+use Prim.Native.Nat.{ℕ, zero, suc, _+_, _*_, _≤_, _<_}
+use native.Mathlib.Omega.{arith}
+use borrow.Author.Tests.{lt-ltb, le-ltb, eq-eqb, ne-eqb}
+use lib.Dec.{T}
+use lib.ListN.{length, drop, length-append}
+use lib.Seq.{sets}
+use mir.Syntax.{w64}
+use mir.Val.{ofZ}
+use Rattle.integers.specs.Bytes.{bytesOf, sets-append}
+use Rattle.integers.specs.Ranges.{is-true, is-false}
+use Rattle.rows.specs.declared.Outcome.{Outcome}
+use Rattle.rows.specs.Meaning.Rows.{verdict, firstBelow, refusal, each}
+use Rattle.rows.specs.Promised.RowLaws.{first-is, first-some, first-none, not-below, row-found, row-clear, field-fails, field-passes}
+use Rattle.rules.specs.Meaning.Layout.{proposalLength}
+use Rattle.rules.specs.Meaning.Verdict.{caseRefusal}
+use Rattle.output.specs.declared.Written.{Written}
+use Rattle.output.specs.Steps.Met as output
+use Rattle.case_header.specs.declared.Counts.{Counts}
+use Rattle.case_header.specs.Opened.{Opened}
+use Rattle.binary64.specs.Meaning.Value.{bitsAt, finite}
+use Rattle.dump_values.specs.Meaning.Field.{kindOf, converted, fault}
+use Rattle.dump_proposal.specs.Meaning.Dump.{valueCount, dumpLength, refuses, numberIn, dumpRows, dumpRefusal, dumpOutcome, proposalMark, fieldsFrom, proposalBytes, dumpWritten, dumpOutput}
+use Rattle.dump_proposal.specs.Steps.Walks.{restOf, countOf, faultAfter, after-kind, fields-length, fields-split}
+
+-- THE COUNTS of a readable case are its own
+module _ {s : List ℕ} {k : Counts} (o : Opened s k) where
+  pub count-is : countOf k ≡ valueCount s
+  unfolding valueCount
+  count-is = ap countOf (o .counts)
+
+  pub length-of : 13 + 4 * restOf k ≡ proposalLength s
+  unfolding proposalLength
+  length-of = ap (λ (k : Counts). 13 + 4 * restOf k) (o .counts)
+
+-- 58 and 59 at a value
+abbrev pub notFiniteAt : List ℕ → ℕ → Bool
+notFiniteAt d n = not (finite (bitsAt d n))
+
+abbrev pub outOfFieldAt : List ℕ → List ℕ → ℕ → Bool
+outOfFieldAt s d n = fault (kindOf s n) (bitsAt d n)
+
+-- THE FIRST VALUE WITHOUT A FIELD: of the opening, or of those after it
+module _ (s d : List ℕ) (rest : ℕ) where
+  pub share-first : outOfFieldAt s d 0 ≡ true → firstBelow (2 + rest) (outOfFieldAt s d) ≡ some 0
+  share-first e = first-some (2 + rest) (outOfFieldAt s d) 0 (record { place-in = omega arith; holds = is-true e; none-before = λ i h. absurd (omega arith) })
+
+  pub price-first : outOfFieldAt s d 0 ≡ false → outOfFieldAt s d 1 ≡ true → firstBelow (2 + rest) (outOfFieldAt s d) ≡ some 1
+  price-first z e = first-some (2 + rest) (outOfFieldAt s d) 1 (record { place-in = omega arith; holds = is-true e; none-before = before })
+    where
+      before : (i : ℕ) → i < 1 → T (not (outOfFieldAt s d i))
+      before zero h = is-false z
+      before (suc i) h = absurd (omega arith)
+
+  module _ (z : outOfFieldAt s d 0 ≡ false) (o : outOfFieldAt s d 1 ≡ false) where
+    -- below some place, given those after the opening
+    clear : (m : ℕ) → ((i : ℕ) → i < m → T (not (faultAfter s d i))) → (i : ℕ) → i < 2 + m → T (not (outOfFieldAt s d i))
+    clear m h zero l = is-false z
+    clear m h (suc zero) l = is-false o
+    clear m h (suc (suc i)) l = unfold kindOf in subst (λ (n : ℕ). T (not (fault (kindOf s (suc (suc i))) (bitsAt d n)))) (two-more i) (h i (omega arith))
+      where
+        two-more : (i : ℕ) → 2 + i ≡ suc (suc i)
+        two-more i = omega arith
+
+    pub rest-first : {i : ℕ} → firstBelow rest (faultAfter s d) ≡ some i → firstBelow (2 + rest) (outOfFieldAt s d) ≡ some (2 + i)
+    rest-first {i} e =
+        let w = first-is rest (faultAfter s d) i e in
+        first-some (2 + rest) (outOfFieldAt s d) (2 + i) (record { place-in = omega (arith, w .place-in); holds = ap-kind (w .holds); none-before = clear i (w .none-before) })
+      where
+        ap-kind : T (faultAfter s d i) → T (outOfFieldAt s d (2 + i))
+        ap-kind t = subst (λ (k : _). T (fault k (bitsAt d (2 + i)))) (after-kind s i) t
+
+    pub none-first : firstBelow rest (faultAfter s d) ≡ none → firstBelow (2 + rest) (outOfFieldAt s d) ≡ none
+    none-first e = first-none (2 + rest) (outOfFieldAt s d) (clear rest (not-below rest (faultAfter s d) e))
+
+-- ROW BY ROW
+module _ (s d : List ℕ) (room : ℕ) where
+  -- the rows from the n-th on are left
+  abbrev pub From : ℕ → Type 0
+  From n = dumpRefusal s d room ≡ refusal (drop n (dumpRows s d room))
+
+  abbrev pub Refused : ℕ → ℕ → Type 0
+  Refused n k = dumpRefusal s d room ≡ some (verdict n k)
+
+  pub refused-56 : {o : Outcome} → caseRefusal s ≡ some o → Refused 56 (o .number)
+  unfolding dumpRefusal dumpRows
+  refused-56 {o} e = field-fails 56 (numberIn (caseRefusal s)) _ (ap refuses e) ∙ ap (λ (c : Option Outcome). some (verdict 56 (numberIn c))) e
+
+  pub past-56 : caseRefusal s ≡ none → From 1
+  unfolding dumpRefusal dumpRows
+  past-56 e = field-passes 56 (numberIn (caseRefusal s)) _ (ap refuses e)
+
+  pub refused-57 : From 1 → (length d ≡ dumpLength s → ⊥) → Refused 57 0
+  unfolding dumpRefusal dumpRows
+  refused-57 p h = p ∙ field-fails 57 0 _ (ap not (ne-eqb (length d) (dumpLength s) h))
+
+  pub past-57 : From 1 → length d ≡ dumpLength s → From 2
+  unfolding dumpRefusal dumpRows
+  past-57 p h = p ∙ field-passes 57 0 _ (ap not (eq-eqb (length d) (dumpLength s) h))
+
+  pub refused-58 : {n : ℕ} → From 2 → firstBelow (valueCount s) (notFiniteAt d) ≡ some n → Refused 58 n
+  unfolding dumpRefusal dumpRows
+  refused-58 {n} p e = p ∙ row-found (each 58 (valueCount s) (notFiniteAt d)) _ n e
+
+  pub past-58 : From 2 → firstBelow (valueCount s) (notFiniteAt d) ≡ none → From 3
+  unfolding dumpRefusal dumpRows
+  past-58 p e = p ∙ row-clear (each 58 (valueCount s) (notFiniteAt d)) _ e
+
+  pub refused-59 : {n : ℕ} → From 3 → firstBelow (valueCount s) (outOfFieldAt s d) ≡ some n → Refused 59 n
+  unfolding dumpRefusal dumpRows
+  refused-59 {n} p e = p ∙ row-found (each 59 (valueCount s) (outOfFieldAt s d)) _ n e
+
+  pub past-59 : From 3 → firstBelow (valueCount s) (outOfFieldAt s d) ≡ none → From 4
+  unfolding dumpRefusal dumpRows
+  past-59 p e = p ∙ row-clear (each 59 (valueCount s) (outOfFieldAt s d)) _ e
+
+  pub refused-60 : From 4 → room < proposalLength s → Refused 60 0
+  unfolding dumpRefusal dumpRows
+  refused-60 p h = p ∙ field-fails 60 0 _ (lt-ltb room (proposalLength s) h)
+
+  pub all-passed : From 4 → proposalLength s ≤ room → dumpRefusal s d room ≡ none
+  unfolding dumpRefusal dumpRows refusal
+  all-passed p h = p ∙ field-passes 60 0 [] (le-ltb room (proposalLength s) h)
+
+-- THE BYTES
+pub bytes-are : (s d : List ℕ) → length (proposalBytes s d) ≡ proposalLength s
+unfolding proposalBytes proposalLength valueCount
+bytes-are s d = omega (arith, length-append proposalMark (fieldsFrom s d 0 (valueCount s)), fields-length s d 0 (valueCount s))
+
+-- mark and opening, and then the rest
+pub whole-run : (s d l : List ℕ) {x y : ℕ} (rest : ℕ) → 2 + rest ≡ valueCount s
+    → x ≡ ofZ w64 (converted (kindOf s 0) (bitsAt d 0)) → y ≡ ofZ w64 (converted (kindOf s 1) (bitsAt d 1))
+    → sets (sets l 0 (proposalMark ++ (bytesOf 4 x ++ bytesOf 4 y))) 13 (fieldsFrom s d 2 rest) ≡ sets l 0 (proposalBytes s d)
+unfolding proposalBytes
+whole-run s d l {x} {y} rest e p q =
+    let opening : proposalMark ++ (bytesOf 4 x ++ bytesOf 4 y) ≡ proposalMark ++ fieldsFrom s d 0 2 = (λ i. proposalMark ++ (bytesOf 4 (p i) ++ bytesOf 4 (q i))) ∙ (unfold fieldsFrom in refl) in
+    let size : 0 + length (proposalMark ++ fieldsFrom s d 0 2) ≡ 13 = omega (arith, length-append proposalMark (fieldsFrom s d 0 2), fields-length s d 0 2) in
+    (λ i. sets (sets l 0 (opening i)) 13 (fieldsFrom s d 2 rest))
+    ∙ ap (λ (k : ℕ). sets (sets l 0 (proposalMark ++ fieldsFrom s d 0 2)) k (fieldsFrom s d 2 rest)) (sym size)
+    ∙ sets-append l 0 (proposalMark ++ fieldsFrom s d 0 2) (fieldsFrom s d 2 rest)
+    ∙ ap (sets l 0) (append-assoc proposalMark (fieldsFrom s d 0 2) (fieldsFrom s d 2 rest) ∙ ap (λ (b : List ℕ). proposalMark ++ b) (fields-split s d 2 rest ∙ ap (fieldsFrom s d 0) e))
+
+-- WHAT IS OWED: number and index, length, every byte
+abbrev pub Met : List ℕ → List ℕ → List ℕ → Written → List ℕ → Type 0
+Met s d out r after =
+    (verdict (r .number) (r .index) ≡ dumpOutcome s d (length out))
+    × ((r .length ≡ length (dumpWritten s d (length out)))
+    × (after ≡ dumpOutput s d out))
+
+pub met-refusal : (s d out : List ℕ) {n k : ℕ} {r : Written} → dumpRefusal s d (length out) ≡ some (verdict n k) → r ≡ record { number = n; index = k; length = 0 } → Met s d out r out
+unfolding dumpOutcome dumpWritten dumpOutput
+met-refusal s d out e q = output.met-refusal (proposalBytes s d) out e q
+
+pub met-answer : (s d out : List ℕ) {after : List ℕ} {m : ℕ} → dumpRefusal s d (length out) ≡ none → proposalLength s ≤ length out → m ≡ proposalLength s
+    → after ≡ sets out 0 (proposalBytes s d) → Met s d out (record { number = 0; index = 0; length = m }) after
+unfolding dumpOutcome dumpWritten dumpOutput
+met-answer s d out e h q b =
+    let l = bytes-are s d in
+    output.met-answer (proposalBytes s d) out e (omega (arith, l)) (q ∙ sym l) b

@@ -1,0 +1,5 @@
+-- THE PROOFS' MEANS
+pub mod Fields
+pub mod Agree
+pub mod Taken
+pub mod Places

@@ -1,0 +1,55 @@
+-- The kind of a value by its place, and by the case's counts. Assumes nothing.
+use mathlib.Core.Path.{_≡_, sym, ap, _∙_, subst}
+use mathlib.Core.Bool.{Bool, cond}
+use mathlib.Core.List.{List}
+use Prim.Native.Nat.{ℕ, _+_, _≤_, _<_}
+use native.Mathlib.Omega.{arith}
+use borrow.Author.Tests.{lt-ltb, le-ltb}
+use lib.Dec.{ltb}
+use Rattle.rules.specs.Meaning.Layout.{ordersIn, linksIn, quantityIn}
+use Rattle.rules.specs.Meaning.Hour.{caseOf}
+use Rattle.rules.specs.Steps.Passed.{case-sound}
+use Rattle.case_header.specs.declared.Counts.{Counts}
+use Rattle.case_header.specs.Opened.{Opened}
+use Rattle.dump_values.specs.Meaning.Field.{Kind, share-of, flow, shadow-price, afterOpening}
+
+-- BY THE CASE'S OWN NUMBERS
+module _ (s : List ℕ) (i : ℕ) where
+  abbrev past : Kind
+  past = cond (ltb i (ordersIn s + linksIn s)) flow shadow-price
+
+  pub order-kind : i < ordersIn s → afterOpening s i ≡ share-of (quantityIn s i)
+  unfolding afterOpening
+  order-kind h = ap (λ (b : Bool). cond b (share-of (quantityIn s i)) past) (lt-ltb i (ordersIn s) h)
+
+  past-orders : ordersIn s ≤ i → afterOpening s i ≡ past
+  unfolding afterOpening
+  past-orders h = ap (λ (b : Bool). cond b (share-of (quantityIn s i)) past) (le-ltb i (ordersIn s) h)
+
+  pub flow-kind : ordersIn s ≤ i → i < ordersIn s + linksIn s → afterOpening s i ≡ flow
+  flow-kind h l = past-orders h ∙ ap (λ (b : Bool). cond b flow shadow-price) (lt-ltb i (ordersIn s + linksIn s) l)
+
+  pub shadow-kind : ordersIn s ≤ i → ordersIn s + linksIn s ≤ i → afterOpening s i ≡ shadow-price
+  shadow-kind h l = past-orders h ∙ ap (λ (b : Bool). cond b flow shadow-price) (le-ltb i (ordersIn s + linksIn s) l)
+
+-- AND BY THE COUNTS of a readable case
+module _ {s : List ℕ} {k : Counts} (o : Opened s k) where
+  orders-are : k .orders ≡ ordersIn s
+  orders-are = ap (λ (k : Counts). k .orders) (o .counts)
+
+  links-are : k .links ≡ linksIn s
+  links-are = ap (λ (k : Counts). k .links) (o .counts)
+
+  module _ (i : ℕ) where
+    pub quantity-most : i < k .orders → quantityIn s i ≤ 100000
+    unfolding caseOf
+    quantity-most h = (case-sound s (o .readable)) .quantity-in i (subst (λ (n : ℕ). i < n) orders-are h)
+
+    pub order-place : i < k .orders → share-of (quantityIn s i) ≡ afterOpening s i
+    order-place h = sym (order-kind s i (omega (arith, orders-are)))
+
+    pub flow-place : k .orders ≤ i → i < k .orders + k .links → flow ≡ afterOpening s i
+    flow-place h l = sym (flow-kind s i (omega (arith, orders-are)) (omega (arith, orders-are, links-are)))
+
+    pub shadow-place : k .orders ≤ i → k .orders + k .links ≤ i → shadow-price ≡ afterOpening s i
+    shadow-place h l = sym (shadow-kind s i (omega (arith, orders-are)) (omega (arith, orders-are, links-are)))
