@@ -4,7 +4,7 @@
  * whether the proposal is accepted, or else the first cause for which it is refused. lta_book_surplus values an order book that lies in
  * memory. lta_desk_lines gives a judgement as text. lta_sheet_branches turns a published margin sheet into the branches of a case.
  * lta_hour_intuitive answers whether an accepted hour's exchanges can all go from a lower or equal price to a higher one, and lta_intuitive
- * answers it of net positions and zone prices.
+ * answers it of net positions and zone prices. lta_dump_proposal turns a solver's dump into a proposal for a case.
  *
  * Each promise below is part of a contract in crates/host, and the archive is built only if every function in it is proved to meet its
  * contract. A word in brackets, as [outcome], is the name of the clause that says it.
@@ -20,7 +20,7 @@
  *   - It returns.
  *   - It reads nothing but its arguments. The answer, and what is written, depend on nothing else.
  *   - It writes nothing but what is said below of `report`, `out` and `scratch`. The case, the proposal, the input, the orders, the prices,
- *     the sheet, the net positions and the pairs stay as they were, and no file is read or written.
+ *     the sheet, the net positions, the pairs and the dump stay as they were, and no file is read or written.
  *   - It is reentrant: nothing is kept between calls, so every entry may be called from several threads at once.
  *
  * Measures:
@@ -30,7 +30,7 @@
  *   grain      1 / 100,000 cent per MWh         zone prices
  *   microcent  1 / 1,000,000 cent               money. One tenth at one grain is one microcent.
  *   100,000 stands for 1 in PTDFs and in the LTA share. The tolerance is in cents of money. A margin sheet is text, in MW and in PTDFs
- *   as they are published.
+ *   as they are published. A dump is in shares of 1, MW and euros per MWh, as the solver has them.
  */
 #ifndef LTA_JUDGEMENT_H
 #define LTA_JUDGEMENT_H
@@ -44,8 +44,8 @@ extern "C" {
 
 /* The version of this header and of what it declares. The first number rises where a program that was right may no longer be, the second
  * where something is added. LTA_VERSION_NUMBER is for comparing: 1.2.3 is 10203. */
-#define LTA_VERSION "2.0.0"
-#define LTA_VERSION_NUMBER 20000
+#define LTA_VERSION "2.1.0"
+#define LTA_VERSION_NUMBER 20100
 
 #define LTA_GRAINS_PER_CENT 100000
 #define LTA_GRAINS_PER_EURO 10000000
@@ -222,7 +222,7 @@ struct lta_surplus {
 struct lta_surplus lta_book_surplus(const struct lta_order *orders, size_t order_count,
                                     const int64_t *zone_prices, size_t price_count);
 
-/* WRITTEN INTO AN OUTPUT. What lta_desk_lines and lta_sheet_branches answer. */
+/* WRITTEN INTO AN OUTPUT. What lta_desk_lines, lta_sheet_branches and lta_dump_proposal answer. */
 struct lta_written {
     uint32_t number; /* 0, or that of the refusal */
     uint64_t index;
@@ -360,6 +360,59 @@ struct lta_carried lta_hour_intuitive(const uint8_t *case_bytes, size_t case_len
                                       const uint8_t *pairs, size_t pairs_len,
                                       int64_t *scratch, size_t scratch_count);
 
+/* THE SOLVER'S DUMP. The numbers of lta_dump_proposal, in the order in which they are asked, each of the whole dump before the next. 56
+ * names the number by which the case is refused; 58 and 59 name the first such value, counted in values from 0, so that it stands 8 * index
+ * bytes into the dump; the index of the others is 0. No number is returned for another cause than its own. */
+enum lta_dump_number {
+    LTA_DUMP_CASE = 56,             /* the case is refused by one of 1 to 8; index: that number */
+    LTA_DUMP_LENGTH = 57,           /* dump_len is not LTA_DUMP_SIZE of the case's orders, links and branches */
+    LTA_DUMP_NOT_FINITE = 58,       /* a value is infinite or no number; index: the value */
+    LTA_DUMP_RANGE = 59,            /* a share is outside 0 to 1, a flow or a shadow price is negative, or a result is infinite or outside
+                                     * its field's range; index: the value */
+    LTA_DUMP_NO_ROOM = 60           /* out_len is under LTA_PROPOSAL_SIZE of the case's orders, links and branches */
+};
+
+#define LTA_DUMP_SIZE(orders, links, branches) (8 * (2 + (orders) + (links) + (branches))) /* bytes of a dump for a case */
+#define LTA_PROPOSAL_SIZE(orders, links, branches) (13 + 4 * ((orders) + (links) + (branches))) /* bytes of a proposal for a case */
+#define LTA_PROPOSAL_ROOM 2573      /* room that is enough for every proposal: 512 orders, 64 links and 64 branches */
+
+/* Writes a proposal for a case from what the solver dumped, and answers with number 0, index 0 and its length in bytes [outcome]; or it
+ * refuses, with length 0.
+ *
+ *   case_bytes, case_len       a case, as lta_judge takes it, of either version
+ *   dump, dump_len             the dump, as laid out below
+ *   out, out_len               room for the proposal, at least LTA_PROPOSAL_SIZE(orders, links, branches) bytes
+ *
+ * The dump is LTA_DUMP_SIZE(orders, links, branches) bytes: values of 64 bits, IEEE 754 binary64, little-endian, nothing before, between
+ * or after them. In file order, with what is written of each, `*` being one binary64 product: the exact one, rounded once to the nearest,
+ * ties to even, and infinite where that is past the largest binary64.
+ *
+ *   place                value                         written                                         range of what is written
+ *   0                    LTA share, 0 to 1             value * 100,000, cut                            0 to 100,000
+ *   1                    system price, euros per MWh   value * 100, to the nearest, in cents per MWh   signed 32 bits
+ *   2 on, one per order  share accepted, 0 to 1        value * quantity, cut, in tenths                0 to the quantity
+ *   then one per link    flow in MW, not negative      value * 10, cut, in tenths                      unsigned 32 bits
+ *   then one per branch  shadow price, euros per MWh,  value * 100, to the nearest, in cents per MWh   0 to 1,000,000
+ *                        not negative
+ *
+ * Cut is the greatest whole number that is not above the product. To the nearest is the whole number nearest to the rounded product,
+ * halves away from zero: 0.285 euros are 28 cents, since the product is 28.499999999999996, and -0.125 euros are -13. Minus zero is zero,
+ * and is neither negative nor outside 0 to 1; any other finite value with its sign set is negative, however small. Nothing is rebalanced:
+ * what is written of a value depends on it, of a share of an order on its quantity too, and on nothing else.
+ *
+ * The bytes of `out` afterwards [proposal]: if the number is 0, the first `length` bytes are the proposal, that is mark LTP, version 1, the
+ * LTA share, the system price, the volumes, the flows and the shadow prices, laid out as lta_judge takes them, and all past them are as
+ * they were. In a refusal every byte is as it was.
+ *
+ * What holds of an answer:
+ *   [volumes]    Each volume written differs from the exact product of its share and its quantity by less than one tenth, and is never
+ *                above the quantity.
+ *   [read_back]  lta_judge reads the proposal for this case: none of its numbers 9 to 14 has a cause.
+ */
+struct lta_written lta_dump_proposal(const uint8_t *case_bytes, size_t case_len,
+                                     const uint8_t *dump, size_t dump_len,
+                                     uint8_t *out, size_t out_len);
+
 /* What a number that an entry returns means, in a few words, and "unknown number" for any other. As the readers of a report it is C in this
  * header: tested, and not proved. */
 static inline const char *lta_number_text(uint32_t number)
@@ -394,6 +447,11 @@ static inline const char *lta_number_text(uint32_t number)
     case LTA_SHEET_RANGE: return "number on the sheet out of range";
     case LTA_SHEET_LINES: return "sheet of over 64 lines";
     case LTA_SHEET_NO_ROOM: return "output too short for the branches";
+    case LTA_DUMP_CASE: return "case refused by 1 to 8";
+    case LTA_DUMP_LENGTH: return "dump length is wrong for this case";
+    case LTA_DUMP_NOT_FINITE: return "value of the dump is not finite";
+    case LTA_DUMP_RANGE: return "value of the dump, or its result, out of range";
+    case LTA_DUMP_NO_ROOM: return "output too short for the proposal";
     case LTA_INTUITIVE_ZONES: return "no zone, over 16, or lists of two lengths";
     case LTA_INTUITIVE_POSITION: return "net position out of range, or their sum is not zero";
     case LTA_INTUITIVE_PRICE: return "price of a zone out of range";
