@@ -8,6 +8,7 @@
 
 mod book;
 mod desk;
+mod dump;
 pub mod hours;
 mod intuitive;
 mod judge;
@@ -18,6 +19,7 @@ mod sheet;
 
 pub use book::{book_surplus, BookAnswer, Row};
 pub use desk::{desk_lines, desk_output};
+pub use dump::{dump_proposal, dump_proposal_as, DumpBuild};
 pub use intuitive::{
     hour_intuitive, hour_intuitive_as, intuitive, intuitive_as, CarriedAnswer, IntuitiveBuild,
 };
