@@ -2,7 +2,7 @@
 
 #[cfg(feature = "intuitive")]
 use second_judge::CarriedAnswer;
-#[cfg(any(feature = "desk", feature = "sheet"))]
+#[cfg(any(feature = "desk", feature = "dump", feature = "sheet"))]
 use second_judge::OutputAnswer;
 #[cfg(feature = "book")]
 use second_judge::{BookAnswer, Row};
@@ -33,6 +33,16 @@ extern "C" {
         sheet: *const u8,
         sheet_len: usize,
         zones: usize,
+        out: *mut u8,
+        out_len: usize,
+    ) -> Written;
+
+    #[cfg(feature = "dump")]
+    fn lta_dump_proposal(
+        case_bytes: *const u8,
+        case_len: usize,
+        dump: *const u8,
+        dump_len: usize,
         out: *mut u8,
         out_len: usize,
     ) -> Written;
@@ -95,7 +105,7 @@ struct Surplus {
 }
 
 /// struct lta_written.
-#[cfg(any(feature = "desk", feature = "sheet"))]
+#[cfg(any(feature = "desk", feature = "dump", feature = "sheet"))]
 #[repr(C)]
 pub struct Written {
     number: u32,
@@ -103,7 +113,7 @@ pub struct Written {
     length: u64,
 }
 
-#[cfg(any(feature = "desk", feature = "sheet"))]
+#[cfg(any(feature = "desk", feature = "dump", feature = "sheet"))]
 impl From<Written> for OutputAnswer {
     fn from(written: Written) -> OutputAnswer {
         OutputAnswer {
@@ -225,7 +235,7 @@ pub fn sheet_branches(sheet: &[u8], zones: usize, out: &mut [u8], null: bool) ->
 }
 
 /// Where a list begins; `null` gives a null pointer for an empty one.
-#[cfg(feature = "intuitive")]
+#[cfg(any(feature = "dump", feature = "intuitive"))]
 fn start<T>(list: &[T], null: bool) -> *const T {
     match list {
         [] if null => std::ptr::null(),
@@ -233,12 +243,30 @@ fn start<T>(list: &[T], null: bool) -> *const T {
     }
 }
 
-#[cfg(feature = "intuitive")]
+#[cfg(any(feature = "dump", feature = "intuitive"))]
 fn start_mut<T>(list: &mut [T], null: bool) -> *mut T {
     match list {
         [] if null => std::ptr::null_mut(),
         _ => list.as_mut_ptr(),
     }
+}
+
+/// The proposal of a dump, written to `out`; `null` gives a null pointer for
+/// each empty slice.
+#[cfg(feature = "dump")]
+pub fn dump_proposal(case: &[u8], dump: &[u8], out: &mut [u8], null: bool) -> OutputAnswer {
+    // Safe: each pointer comes with the length of its own slice.
+    unsafe {
+        lta_dump_proposal(
+            start(case, null),
+            case.len(),
+            start(dump, null),
+            dump.len(),
+            start_mut(out, null),
+            out.len(),
+        )
+    }
+    .into()
 }
 
 /// Whether net positions are intuitive at these prices; `null` gives a null

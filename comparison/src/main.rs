@@ -11,6 +11,8 @@ mod archive;
 mod book;
 #[cfg(feature = "desk")]
 mod desk;
+#[cfg(feature = "dump")]
+mod dump;
 #[cfg(feature = "intuitive")]
 mod exchange;
 mod families;
@@ -86,6 +88,8 @@ fn main() -> ExitCode {
     sheet::sheets(&mut run, &mut Rng::new(seed));
     #[cfg(feature = "intuitive")]
     intuitive::exchanges(&mut run, &mut Rng::new(seed));
+    #[cfg(feature = "dump")]
+    dump::dumps(&mut run, &mut Rng::new(seed));
 
     run.section("verdicts, times met");
     for number in NUMBERS {
@@ -115,6 +119,7 @@ fn main() -> ExitCode {
         ("desk", cfg!(feature = "desk")),
         ("sheet", cfg!(feature = "sheet")),
         ("intuitive", cfg!(feature = "intuitive")),
+        ("dump", cfg!(feature = "dump")),
     ] {
         if !built {
             println!("NOT COMPARED: the {name} entry (built without the feature {name})");

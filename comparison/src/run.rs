@@ -157,6 +157,7 @@ impl Run {
     #[cfg(any(
         feature = "book",
         feature = "desk",
+        feature = "dump",
         feature = "intuitive",
         feature = "sheet"
     ))]
