@@ -1,12 +1,14 @@
 #!/usr/bin/env python3
-"""Prints the stored hours of full size, 16 zones, 64 branches, 64 links and 512 orders, from how they are made.
+"""Prints the stored hours of full size, 16 zones, 64 branches, 64 links and 512 orders, from how they are made, and the
+stored dumps of such hours.
 
   largest_hour.py NAME        NAME is largest-varied, largest-contracted, largest-welfare, largest-welfare-contracted,
-                              largest-loss or largest-bound
+                              largest-loss or largest-bound; of a dump refused-60-largest or largest-less-an-order
 
 The two contracted ones are of case version 2 and have the greatest length of all.
 """
 
+import math
 import sys
 
 ZONES, BRANCHES, LINKS, ORDERS = 16, 64, 64, 512
@@ -177,6 +179,57 @@ def largest_contracted():
     return largest_varied(contracting=True)
 
 
+def accepted_share(volume, quantity):
+    """A share whose product with the quantity, rounded once and cut, is the volume: the nearest, or the next above it."""
+    share = volume / quantity
+    return share if int(share * quantity) == volume else math.nextafter(share, 2)
+
+
+def dump_text(comment, text):
+    """The text of a dump that gives the proposal of an hour's text, for its case."""
+    rows = [line.split() for line in text.split("\n") if line and not line.startswith("#")]
+    quantities = iter(int(words[3]) for words in rows if words[0] == "order")
+    lines = [f"# {line}" for line in comment]
+    lines.append("# Printed by tools/largest_hour.py, which says how it is made.")
+    for kind, *words in rows:
+        if kind == "proposal":
+            lines.append(f"dump share {int(words[3]) / 100000} system {int(words[5]) / 100}")
+        elif kind == "volume":
+            lines.append(f"accepted {accepted_share(int(words[0]), next(quantities))}")
+        elif kind in ("flow", "shadow"):
+            lines.append(f"{kind} {int(words[0]) / {'flow': 10, 'shadow': 100}[kind]}")
+        else:
+            lines.append(" ".join([kind, *words]))
+    return "\n".join(lines) + "\n"
+
+
+def refused_60_largest():
+    comment = (
+        "The dump of largest-varied: its proposal has 2,573 bytes, and the output that it is run with one less.",
+        "expect 60 0 0",
+    )
+    return dump_text(comment, largest_varied())
+
+
+def largest_less_an_order():
+    """The last order that is not accepted is left out: it is out of the money, and nothing is changed by that."""
+    comment = (
+        "The dump of largest-varied without one order, so that there is room for its proposal.",
+        "expect 0 0 2569 judged 0",
+    )
+    lines = largest_varied().split("\n")
+    orders = [at for at, line in enumerate(lines) if line.startswith("order ")]
+    volumes = [at for at, line in enumerate(lines) if line.startswith("volume ")]
+    last = max(n for n, at in enumerate(volumes) if lines[at] == "volume 0")
+    left_out = (orders[last], volumes[last])
+    return dump_text(comment, "\n".join(line for at, line in enumerate(lines) if at not in left_out))
+
+
+DUMPS = {
+    "refused-60-largest": refused_60_largest,
+    "largest-less-an-order": largest_less_an_order,
+}
+
 HOURS = {
     "largest-varied": largest_varied,
     "largest-contracted": largest_contracted,
@@ -188,10 +241,11 @@ HOURS = {
 
 
 def main(arguments):
-    if len(arguments) != 1 or arguments[0] not in HOURS:
+    makers = {**HOURS, **DUMPS}
+    if len(arguments) != 1 or arguments[0] not in makers:
         sys.stderr.write(__doc__)
         return 2
-    sys.stdout.write(HOURS[arguments[0]]())
+    sys.stdout.write(makers[arguments[0]]())
     return 0
 
 

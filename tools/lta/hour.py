@@ -272,6 +272,8 @@ def sheet_branches(sheet, zones):
 class Hour:
     """An hour as its text says it, taken line by line. A sheet's file counts from the folder."""
 
+    FILES = tuple(HEADERS)
+
     def __init__(self, folder):
         self.folder = folder
         self.sheet = None
@@ -363,8 +365,8 @@ class Hour:
 
     def take_edit(self, line, edit, words):
         file, *words = words or [""]
-        if file not in HEADERS:
-            raise ValueError(f"{edit} takes case or proposal first, not {short(file)!r}")
+        if file not in self.FILES:
+            raise ValueError(f"{edit} takes {' or '.join(self.FILES)} first, not {short(file)!r}")
         wanted = {"cut": 1, "byte": 2}.get(edit, len(words))
         if len(words) != wanted:
             raise ValueError(f"{edit} {file} takes {wanted} values, not {len(words)}")
@@ -396,7 +398,7 @@ class Hour:
         return out
 
     def files(self):
-        out = {file: self.file_bytes(file) for file in HEADERS}
+        out = {file: self.file_bytes(file) for file in self.FILES}
         for line, edit, file, values in self.edits:
             data = out[file]
             if edit == "append":
@@ -407,12 +409,12 @@ class Hour:
                 del data[len(data) - values[0] :]
             else:
                 data[values[0]] = values[1]
-        return bytes(out["case"]), bytes(out["proposal"])
+        return tuple(bytes(out[file]) for file in self.FILES)
 
 
-def build(text, folder=""):
-    """The case and the proposal of a text. The files that it names count from the folder."""
-    hour = Hour(folder)
+def build(text, folder="", taker=Hour):
+    """The case and the proposal of a text, or what else its taker gives. The files that it names count from the folder."""
+    hour = taker(folder)
     for line, content in enumerate(text.split("\n"), 1):
         words = content.split("#", 1)[0].split()
         if words:

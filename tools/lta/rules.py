@@ -12,6 +12,7 @@ MICROCENTS_PER_CENT = 1_000_000
 REPORT_ROOM = 176
 INTUITIVE_SCRATCH = 324
 INTUITIVE_PAIRS = 64
+PROPOSAL_ROOM = 2573  # room that is enough for every proposal
 VERSIONS = {"case": (1, 2), "proposal": (1,)}
 
 # Least and greatest of each field that has limits of its own; an order's zone and a link's zones are held to the count.
@@ -64,6 +65,15 @@ INTUITIVE_NUMBERS = {
     83: "price of a zone out of range",
     84: "pair with an unknown zone, equal zones, repeated or past the 64th",
     85: "scratch under 324 numbers",
+}
+
+# The same of request S-5's.
+DUMP_NUMBERS = {
+    56: "case refused by 1 to 8",
+    57: "dump length is wrong for this case",
+    58: "value of the dump is not finite",
+    59: "value of the dump, or its result, out of range",
+    60: "output too short for the proposal",
 }
 
 Branch = namedtuple("Branch", "ram ptdfs shadow")
