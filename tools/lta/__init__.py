@@ -9,12 +9,14 @@
     answer = lta.intuitive(case, proposal, [(0, 1), (1, 0)])    pairs of zones; without them the case's links
     answer.intuitive, answer.total                True or False, and tenths; None where answer.number is not 0
     lta.carried(net_exports, zone_prices, pairs)  the same of tenths, export positive, and grains
+    answer = lta.dump_proposal(case, dump)        a case's and a solver's dump's bytes
+    answer.number, answer.index, answer.proposal  the proposal's bytes; None where answer.number is not 0
 
-Verdicts, totals, prices and a yes or no come from the archive alone. Explanations are computed beside it, are not
+Verdicts, totals, prices, a yes or no and proposals come from the archive alone. Explanations are computed beside it, are not
 proved, and say so; one that disagrees with the archive is not given.
 """
 
-from .archive import BuildError, Carried, Judgement, carried, intuitive, judge, judge_joined
+from .archive import BuildError, Carried, Dumped, Judgement, carried, dump_proposal, intuitive, judge, judge_joined
 from .causes import Disagreement, Explanation, explain
 from .hour import build, field_at, show
 from .rules import Sums, cut
@@ -23,12 +25,14 @@ __all__ = [
     "BuildError",
     "Carried",
     "Disagreement",
+    "Dumped",
     "Explanation",
     "Judgement",
     "Sums",
     "build",
     "carried",
     "cut",
+    "dump_proposal",
     "explain",
     "field_at",
     "intuitive",

@@ -79,6 +79,24 @@ class Carried:
         return words.get(self.number, f"number {self.number}")
 
 
+@dataclass(frozen=True)
+class Dumped:
+    """What lta_dump_proposal answers, and the proposal that it wrote; in a refusal that is None."""
+
+    number: int
+    index: int
+    proposal: bytes | None = None
+
+    @property
+    def written(self):
+        return self.number == 0
+
+    @property
+    def text(self):
+        """What the number means, in words."""
+        return {**rules.DUMP_NUMBERS, 0: "written"}.get(self.number, f"number {self.number}")
+
+
 # Building.
 
 NOT_LINKED = "the shared object cannot be linked"
@@ -195,6 +213,12 @@ class CarriedStruct(ctypes.Structure):
     ]
 
 
+class WrittenStruct(ctypes.Structure):
+    """struct lta_written."""
+
+    _fields_ = [("number", ctypes.c_uint32), ("index", ctypes.c_uint64), ("length", ctypes.c_uint64)]
+
+
 _BYTES = [ctypes.c_char_p, ctypes.c_size_t]
 _AMOUNTS = [ctypes.POINTER(ctypes.c_int64), ctypes.c_size_t]
 # What each entry gives, and takes.
@@ -202,6 +226,7 @@ ENTRIES = {
     "lta_judge": (ctypes.c_uint64, _BYTES * 3),
     "lta_intuitive": (CarriedStruct, _AMOUNTS * 2 + _BYTES + _AMOUNTS),
     "lta_hour_intuitive": (CarriedStruct, _BYTES * 3 + _AMOUNTS),
+    "lta_dump_proposal": (WrittenStruct, _BYTES * 3),
 }
 
 _loaded = {}
@@ -303,3 +328,17 @@ def intuitive(case, proposal, pairs=None):
     pairs, scratch = pair_bytes(hour.link_pairs(case) if pairs is None else pairs), new_scratch()
     call = entry("lta_hour_intuitive")
     return answer_of(call(case, len(case), proposal, len(proposal), pairs, len(pairs), scratch, len(scratch)))
+
+
+def dump_proposal(case, dump, room=rules.PROPOSAL_ROOM):
+    """Has the archive write the proposal that a solver's dump gives for a case, both as bytes, with an output of the
+    room's bytes.
+    """
+    case, dump = bytes_of(case), bytes_of(dump)
+    if room < 0:
+        raise ValueError(f"the output's room is {room} bytes")
+    out = ctypes.create_string_buffer(max(room, 1))
+    written = entry("lta_dump_proposal")(case, len(case), dump, len(dump), out, room)
+    if written.number:
+        return Dumped(written.number, written.index)
+    return Dumped(0, written.index, out.raw[: written.length])

@@ -10,6 +10,7 @@ from . import account, archive, hour, judging
 from .causes import Disagreement, explain
 from .inputs import (
     CASE,
+    DUMP,
     JOINED,
     PROPOSAL,
     TEXT,
@@ -30,10 +31,11 @@ Judges, explains, shows, builds and draws hours of the day-ahead coupling.
   lta judge [FILE...] [--csv | --json] [--pairs | --joined]
   lta explain FILE...
   lta intuitive FILE... [--links | --pairs TEXT] [--json] [--joined]
+  lta dump CASE DUMP [-o PROPOSAL] [--force]
   lta page FILE... [-o PAGE] [--force]
   lta show FILE... [--joined]
   lta field CASE [PROPOSAL] OFFSET
-  lta build TEXT [--case FILE] [--proposal FILE] [--joined FILE] [--force]
+  lta build TEXT [--case FILE] [--proposal FILE] [--joined FILE] [--dump FILE] [--force]
   lta help [text]
 
 A FILE is one of these:
@@ -52,6 +54,8 @@ intuitive says whether an accepted hour's exports can all be carried to imports,
 not lower, by annex 5.1 of Annex 16.18: yes or no, how much can be carried, and for a no the zones that are cut off.
 Flow goes along pairs of zones: the case's links, which --links says too, or those of --pairs, a text with two zones to
 a line, as 0 1, and # before a comment.
+dump writes the proposal that a solver's dump gives for a case; without -o it says how long it would be. A text of a dump
+stands for both files, and show of a case and an X.dump, or of such a text, says what each value becomes.
 page writes one page that a browser shows, for an hour or for all hours of a folder; without -o it is named after it.
 show prints the text of a case and a proposal, of a joined file, or of the files that a text gives. Building that text
 gives back the same bytes, however broken.
@@ -59,14 +63,19 @@ field says which field of the last file named stands at OFFSET, a number or hex 
 build writes the files asked for, - being standard output; without one it says the two sizes.
 Nothing that is there is written over without --force.
 
-Verdicts, totals, prices and yes or no come from the proved archive alone; on first use, and after a change in crates/,
-it is proved and built, which takes some minutes. Explanations, zones cut off and pages are computed beside it and say
-so.
+Verdicts, totals, prices, yes or no and proposals come from the proved archive alone; on first use, and after a change
+in crates/, it is proved and built, which takes some minutes. Explanations, zones cut off and pages are computed beside
+it and say so.
 
 Status: 0 every hour is accepted, or as its text expects; 1 not so; 2 something could not be read, judged or written,
 and a line says what. intuitive: 0 yes; 1 no, and where the archive refuses the hour or a pair, which is then said; 2.
+dump: 0 written; 1 where the archive refuses the case or the dump, which is then said; 2.
 page, show, field and build: 0 or 2.
 """
+
+
+# What build can write.
+BUILT = ("case", "proposal", "joined", "dump")
 
 
 class Failure(Exception):
@@ -196,6 +205,42 @@ def run_intuitive(options):
     return 0 if told.answer.intuitive else 1
 
 
+def case_and_dump(files):
+    """The bytes of a case and a dump, two files or one text."""
+    from . import dumping
+
+    takes = "dump takes a case and a dump, or the text of a dump"
+    if len(files) > 2:
+        raise Failure(f"{files[2]}: {takes}")
+    if files.count("-") > 1:
+        raise Failure("-: standard input is named for the case and for the dump")
+    if len(files) == 2:
+        return read(files[0]), read(files[1])
+    data = read(files[0])
+    if not dumping.is_text(data):
+        raise InputError(files[0], takes)
+    return dumping.text_dump(files[0], data)
+
+
+def run_dump(options):
+    from . import dumping
+
+    case, dump = case_and_dump(options.files)
+    if options.out is not None:
+        refuse_if_there([options.out], options.force)
+    told = dumping.ask(case, dump)
+    if not told.answer.written:
+        put(f"not written; {told.words}\n")
+        return 1
+    if options.out is None:
+        put(f"proposal {len(told.answer.proposal)} bytes\n")
+        return 0
+    write(options.out, told.answer.proposal, options.force)
+    if options.out != "-":
+        put(f"wrote {printable(options.out)}\n")
+    return 0
+
+
 def run_page(options):
     from . import page
 
@@ -223,24 +268,33 @@ def page_name(files, sources):
 
 def refuse_to_show(files, way):
     """Files whose names say that they are not what show would take them for."""
-    takes = "show takes a case and a proposal, one joined file, or one text"
+    takes = "show takes a case and a proposal or a dump, one joined file, or one text"
     if len(files) > 2:
         raise Failure(f"{files[2]}: {takes}")
-    if way is None and kind_of(files[0]) == PROPOSAL:
-        raise InputError(files[0], "a proposal is shown after its case")
+    if way is None and kind_of(files[0]) in (PROPOSAL, DUMP):
+        raise InputError(files[0], f"a {kind_of(files[0])} is shown after its case")
     if len(files) == 2:
-        for path, kinds in zip(files, ((CASE, None), (PROPOSAL, None))):
+        for path, kinds in zip(files, ((CASE, None), (PROPOSAL, DUMP, None))):
             if path != "-" and kind_of(path) not in kinds:
                 raise InputError(path, takes)
 
 
 def run_show(options):
+    from . import dumping
+
     refuse_to_show(options.files, options.way)
     if options.way is None and kind_of(options.files[0]) == TEXT:
-        built = text_hour(options.files[0], read(options.files[0]))
+        data = read(options.files[0])
+        if dumping.is_text(data):
+            put(dumping.ask(*dumping.text_dump(options.files[0], data)).shown)
+            return 0
+        built = text_hour(options.files[0], data)
         put(hour.show(built.case, built.proposal))
         return 0
     first = read(options.files[0])
+    if len(options.files) == 2 and kind_of(options.files[1]) == DUMP:
+        put(dumping.ask(first, read(options.files[1])).shown)
+        return 0
     if len(options.files) == 2:
         put(hour.show(first, read(options.files[1])))
         return 0
@@ -264,19 +318,31 @@ def run_field(options):
 
 
 def run_build(options):
-    built = text_hour(options.text, read(options.text))
-    wanted = ((options.case, built.case), (options.proposal, built.proposal), (options.joined, built.joined))
-    wanted = [(path, data) for path, data in wanted if path is not None]
-    refuse_if_there([path for path, _ in wanted], options.force)
-    for path, data in wanted:
-        write(path, data, options.force)
-    if not wanted:
-        put(f"case {len(built.case)} bytes, proposal {len(built.proposal)} bytes\n")
+    from . import dumping
+
+    data = read(options.text)
+    if dumping.is_text(data):
+        made = dict(zip(("case", "dump"), dumping.text_dump(options.text, data)))
+    else:
+        built = text_hour(options.text, data)
+        made = {"case": built.case, "proposal": built.proposal, "joined": built.joined}
+    asked = {name: getattr(options, name) for name in BUILT if getattr(options, name) is not None}
+    for name in asked:
+        if name not in made:
+            raise InputError(options.text, f"the text has no {'proposal' if name == 'joined' else name}")
+    refuse_if_there(list(asked.values()), options.force)
+    for name, path in asked.items():
+        write(path, made[name], options.force)
+    if not asked:
+        made.pop("joined", None)
+        put(", ".join(f"{name} {len(file)} bytes" for name, file in made.items()) + "\n")
     return 0
 
 
 def run_help(options):
-    put(hour.TEXT_HELP if options.topic == "text" else HELP)
+    from . import dump
+
+    put(f"{hour.TEXT_HELP}\n{dump.TEXT_HELP}" if options.topic == "text" else HELP)
     return 0
 
 
@@ -311,15 +377,15 @@ def parser():
     asked.add_argument("--links", action="store_true")
     asked.add_argument("--pairs")
     intuitive.add_argument("--json", action="store_true")
-    page = needing("page", run_page, ("pairs", "joined"))
-    page.add_argument("-o", dest="out")
-    page.add_argument("--force", action="store_true")
+    for made in (needing("dump", run_dump), needing("page", run_page, ("pairs", "joined"))):
+        made.add_argument("-o", dest="out")
+        made.add_argument("--force", action="store_true")
     needing("show", run_show, ("joined",))
     needing("field", run_field)
     build = command("build", run_build)
     build.add_argument("text", nargs="?")
     build.set_defaults(needed="text")
-    for name in ("case", "proposal", "joined"):
+    for name in BUILT:
         build.add_argument(f"--{name}")
     build.add_argument("--force", action="store_true")
     command("help", run_help).add_argument("topic", nargs="?", choices=("text",))

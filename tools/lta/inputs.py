@@ -9,8 +9,8 @@ from dataclasses import dataclass
 
 from . import hour, rules
 
-JOINED, TEXT, CASE, PROPOSAL, UNREAD = "joined", "text", "case", "proposal", "unread"
-SUFFIXES = {".txt": TEXT, ".case": CASE, ".proposal": PROPOSAL, ".bin": JOINED, ".joined": JOINED}
+JOINED, TEXT, CASE, PROPOSAL, DUMP, UNREAD = "joined", "text", "case", "proposal", "dump", "unread"
+SUFFIXES = {".txt": TEXT, ".case": CASE, ".proposal": PROPOSAL, ".bin": JOINED, ".joined": JOINED, ".dump": DUMP}
 
 
 class InputError(Exception):
@@ -193,6 +193,8 @@ class Named:
         word, kind = self.words[at], kind_of(self.words[at])
         if kind in (TEXT, JOINED):
             return Input(word, kind, (word,))
+        if kind == DUMP:
+            return lonely(word, "a solver's dump, of which lta dump makes a proposal")
         proposal, _ = self.proposal_of(at)
         if kind == CASE or (proposal is not None and mark_of(proposal) == hour.MARKS["proposal"]):
             return self.pair(at)
