@@ -1,10 +1,11 @@
 #!/usr/bin/env python3
-"""Tests of the formats, that is lta.hour and the commands over it, of build_hours.py and of the stored hours.
-The last line counts what passed and failed.
+"""Tests of the formats, that is lta.hour and lta.dump and the commands over them, of build_hours.py, build_dumps.py and
+of the stored hours and dumps. The last line counts what passed and failed.
 """
 
 import contextlib
 import io
+import math
 import pathlib
 import random
 import re
@@ -13,9 +14,10 @@ import sys
 import tempfile
 import unittest
 
+import build_dumps
 import build_hours
 import largest_hour
-from lta import cli, hour
+from lta import cli, dump, hour
 
 ROOT = pathlib.Path(__file__).resolve().parent.parent
 SAMPLES = ROOT / "samples"
@@ -644,7 +646,7 @@ class CommandLine(unittest.TestCase):
 
     def test_help_and_usage(self):
         self.assertEqual(run_tool(cli.main, "help"), (0, cli.HELP, ""))
-        self.assertEqual(run_tool(cli.main, "help", "text"), (0, hour.TEXT_HELP, ""))
+        self.assertEqual(run_tool(cli.main, "help", "text"), (0, f"{hour.TEXT_HELP}\n{dump.TEXT_HELP}", ""))
         self.assertEqual(run_tool(cli.main)[0], 2)
         self.assertEqual(run_tool(build_hours.main)[0], 2)
         self.assertEqual(run_tool(largest_hour.main, "smallest")[0], 2)
@@ -729,6 +731,201 @@ class StoredHours(unittest.TestCase):
                 self.assertEqual(case[5:10], bytes([16, 64, 64, 0, 2]))
                 link = 10 if "contracted" in name else 6
                 self.assertEqual((len(case), len(proposal)), (14 + 64 * 68 + 64 * link + 512 * 10, 13 + 4 * 640))
+
+
+P1_DUMP = struct.pack("<10d", 0.875, 22.5, 1.0, 1375 / 6000, 1.0, 0.0, 0.4375, 350.0, 55.0, 2.5)
+CASE_LINES = "case version 1 zones 1 tolerance 0\n"
+
+
+class DumpText(unittest.TestCase):
+    """A solver's dump between text and bytes, both ways, whatever its bits."""
+
+    def assert_round_trip(self, case, data):
+        text = dump.show(case, data)
+        self.assertEqual(dump.build(text), (case, data), text)
+
+    def test_the_sample_is_the_bytes_by_hand(self):
+        self.assertEqual((SAMPLES / "three-zone.dump").read_bytes(), P1_DUMP)
+        stored = build_dumps.stored_dumps()
+        self.assertEqual(dump.build(stored["three-zone-hour"]), (P1_CASE, P1_DUMP))
+        self.assertEqual(dump.build(stored["three-zone-contracted"]), (CONTRACTED_CASE, P1_DUMP))
+
+    def test_every_pattern_is_given_back_by_its_word(self):
+        numbers = random.Random(5)
+        patterns = [0, 1, 2**52 - 1, 2**52, 2**63, 2**64 - 1, 2**63 + 1]
+        patterns += [exponent << 52 | rest for exponent in range(0, 4096) for rest in (0, 1, 2**51, 2**52 - 1)]
+        patterns += [numbers.getrandbits(64) for _ in range(20_000)]
+        for bits in patterns:
+            self.assertEqual(dump.bits_of_word(dump.word_of(bits), "value"), bits)
+        words = [dump.word_of(bits) for bits in (0, 2**63, 1, 0x7FF0 << 48, 0xFFF0 << 48, 0x7FF8 << 48)]
+        self.assertEqual(words, ["0.0", "-0.0", "5e-324", "inf", "-inf", "nan"])
+        self.assertEqual(dump.word_of(0xFFF0_0000_0000_0001), "bits:fff0000000000001")
+
+    def test_words_of_every_form(self):
+        for word, value in (
+            ("0.1", 0.1),
+            ("-1e-300", -1e-300),
+            ("1E3", 1000.0),
+            ("7", 7.0),
+            ("0x1.cp-1", 0.875),
+            ("-0X1P+3", -8.0),
+            ("0x1.999999999999ap-4", 0.1),
+            ("bits:3fb999999999999a", 0.1),
+            ("1e-400", 0.0),
+            ("inf", math.inf),
+        ):
+            self.assertEqual(dump.bits_of_word(word, "value"), dump.bits_of(value))
+        no_values = (".5", "5.", "+1", "1e", "infinity", "NaN", "0x1", "bits:1", "bits:3fb999999999999", "1_0", "1,5")
+        for word in ("", "\u0661", *no_values):
+            with self.subTest(word), self.assertRaisesRegex(ValueError, "is not a decimal, inf, -inf, nan, nor bits: "):
+                dump.bits_of_word(word, "flow")
+        for word in ("1e309", "-1e309", "0x1p+1024", "9" * 400):
+            with self.subTest(word), self.assertRaisesRegex(ValueError, "past the largest binary64; inf says infinite"):
+                dump.bits_of_word(word, "flow")
+
+    def test_refused_lines(self):
+        for text, message in (
+            ("dump share 1 system", "line 2: dump takes share and a value, system and a value"),
+            ("dump system 1 share 1", "line 2: dump takes share and a value, system and a value"),
+            ("dump share 1 system 1\ndump share 1 system 1", "line 3: a second dump line"),
+            ("flow 1", "line 2: flow before the dump line"),
+            ("dump share 1 system 1\nflow 1 2", "line 3: flow takes 1 value, not 2"),
+            ("dump share 1 system x", "line 2: system 'x' is not a decimal, .*"),
+            ("volume 1", "line 2: volume in the text of a dump"),
+            ("proposal version 1 share 0 system 0", "line 2: proposal in the text of a dump"),
+            ("cut proposal 1", "line 2: cut takes case or dump first, not 'proposal'"),
+            ("cut dump 1", "line 2: cut 1 does not fit the dump of 0 bytes"),
+        ):
+            with self.subTest(text), self.assertRaisesRegex(hour.TextError, rf"\A{message}\Z"):
+                dump.build(CASE_LINES + text)
+        with self.assertRaisesRegex(hour.TextError, "line 2: cut takes case or proposal first, not 'dump'"):
+            hour.build(CASE_LINES + "cut dump 1")
+
+    def test_every_cut_and_what_follows(self):
+        for size in range(len(P1_DUMP)):
+            self.assert_round_trip(P1_CASE, P1_DUMP[:size])
+        for size in (1, 7, 8, 9, 80, 500):
+            self.assert_round_trip(P1_CASE, P1_DUMP + b"\xff" * size)
+        for size in range(len(P1_CASE)):
+            self.assert_round_trip(P1_CASE[:size], P1_DUMP)
+
+    def test_bits_of_any_kind(self):
+        numbers = random.Random(9)
+        for turn in range(600):
+            case = bytearray((P1_CASE, CONTRACTED_CASE)[turn % 2])
+            for _ in range(numbers.randrange(3)):
+                case[numbers.randrange(len(case))] = numbers.randrange(256)
+            self.assert_round_trip(bytes(case), numbers.randbytes(numbers.choice((80, 80, 16, numbers.randrange(200)))))
+
+    def test_a_text_of_a_dump_is_told_by_its_line(self):
+        self.assertTrue(dump.is_text(CASE_LINES + "  dump share 0 system 0 # x\n"))
+        self.assertFalse(dump.is_text(P1_TEXT + "# dump share 0 system 0\n"))
+
+
+class DumpValues(unittest.TestCase):
+    """What becomes of a value, by hand."""
+
+    def assert_becomes(self, kind, word, number, quantity=None):
+        self.assertEqual(dump.become(kind, dump.bits_of_word(word, kind), quantity), (number, 0, ""))
+
+    def assert_refused(self, kind, word, number, fault, quantity=None):
+        self.assertEqual(dump.become(kind, dump.bits_of_word(word, kind), quantity), (None, number, fault))
+
+    def test_cut(self):
+        for word, quantity, number in (("0.1", 30, 3), ("0.3", 10, 3), ("0.29", 100, 28)):
+            self.assert_becomes("accepted", word, number, quantity)
+        self.assert_becomes("accepted", "0.9999999999999999", 99_999, 100_000)
+        self.assert_becomes("share", "0.1", 10_000)
+        self.assert_becomes("flow", "0.1", 1)
+        self.assert_becomes("flow", "-0.0", 0)
+
+    def test_prices(self):
+        for word, number in (("0.285", 28), ("1.005", 100), ("0.145", 14), ("0.045", 5), ("0.125", 13), ("0.375", 38)):
+            self.assert_becomes("shadow", word, number)
+            self.assert_becomes("system", word, number)
+            self.assert_becomes("system", f"-{word}", -number)
+        self.assert_becomes("system", "-1e-300", 0)
+
+    def test_refusals(self):
+        self.assert_refused("flow", "-1e-300", 59, "-1e-300 is negative")
+        self.assert_refused("share", "1.0000000000000002", 59, "1.0000000000000002 is over 1")
+        self.assert_refused("accepted", "2", 59, "2.0 is over 1", 10)
+        self.assert_refused("flow", "429496729.6", 59, "429496729.6 is 4,294,967,296 tenths, over 4,294,967,295")
+        self.assert_refused("flow", "1e300", 59, "1e+300 is 1e+301 tenths, over 4,294,967,295")
+        self.assert_refused("shadow", "10000.01", 59, "10000.01 is 1,000,001 cents, over 1,000,000")
+        self.assert_refused("system", "-21474836.49", 59, "-21474836.49 is -2,147,483,649 cents, under -2,147,483,648")
+        self.assert_refused("system", "1.7976931348623157e+308", 59, "1.7976931348623157e+308 times 100 is infinite")
+        self.assert_refused("system", "-inf", 58, "-inf is not finite")
+        self.assert_refused("flow", "bits:fff0000000000001", 58, "bits:fff0000000000001 is not finite")
+
+
+class StoredDumps(unittest.TestCase):
+    """The stored dumps name what they are, and together hold every number. tests/stored_dumps has them read."""
+
+    def test_each_opens_with_a_comment(self):
+        for name, text in build_dumps.stored_dumps().items():
+            with self.subTest(name):
+                self.assertRegex(text, r"\A# (?!expect|becomes)\S")
+                due = dump.expected(text)
+                self.assertEqual(due.becomes is None, due.number > 0 or name.startswith("largest"))
+
+    def test_a_refusal_is_named_after_its_number(self):
+        for name, text in build_dumps.stored_dumps().items():
+            due = dump.expected(text)
+            with self.subTest(name):
+                self.assertEqual(due.number > 0, name.startswith(("refused-", "order-")))
+                if due.number:
+                    self.assertEqual(int(name.split("-")[1]), due.number)
+                if name.startswith("refused-56-by-"):
+                    self.assertEqual(int(name.removeprefix("refused-56-by-")), due.index)
+
+    def test_every_number_is_expected_somewhere(self):
+        expected = [dump.expected(text) for text in build_dumps.stored_dumps().values()]
+        self.assertEqual({due.number for due in expected}, {0, *range(56, 61)})
+        self.assertEqual({due.index for due in expected if due.number == 56}, set(range(1, 9)))
+
+    def test_largest_dumps_are_as_made(self):
+        for name, make in largest_hour.DUMPS.items():
+            with self.subTest(name):
+                self.assertEqual(build_dumps.stored_dumps()[name], make())
+
+    def test_expectations_that_are_refused(self):
+        for text, message in (
+            ("# x", "no expect line"),
+            ("# expect 0 0", "line 1: '# expect 0 0' is no expect line"),
+            ("# expect 57 0 0\n# expect 57 0 0", "line 2: a second expect line"),
+            ("# expect 0 0 13", "judged stands where .*"),
+            ("# expect 57 0 0 judged 0", "judged stands where .*"),
+            ("# expect 57 0 0\n# becomes share 0 system 0", "judged stands where .*"),
+            ("# becomes share 0", "line 1: '# becomes share 0' is no becomes line"),
+        ):
+            with self.subTest(text), self.assertRaisesRegex(ValueError, rf"\A{message}\Z"):
+                dump.expected(text)
+
+    def test_written_and_checked(self):
+        with tempfile.TemporaryDirectory() as folder:
+            status, out, _ = run_tool(build_dumps.main, folder)
+            self.assertEqual((status, out.count("\n")), (0, 2))
+            self.assertEqual(run_tool(build_dumps.main, "--check", folder), (0, "", ""))
+            given = (pathlib.Path(folder) / "stdin").read_bytes()
+            lines = (pathlib.Path(folder) / "stdout").read_text().splitlines()
+            for text, line in zip(build_dumps.stored_dumps().values(), lines, strict=True):
+                sizes = struct.unpack_from("<II", given)
+                files = given[8 : 8 + sizes[0]], given[8 + sizes[0] : 8 + sum(sizes)]
+                self.assertEqual((files, line), (dump.build(text), dump.expected(text).line))
+                given = given[8 + sum(sizes) :]
+            self.assertEqual(given, b"")
+            for name in ("stdin", "stdout"):
+                path = pathlib.Path(folder) / name
+                data = path.read_bytes()
+                path.write_bytes(data[:-1])
+                said = run_tool(build_dumps.main, "--check", folder)
+                self.assertEqual(said, (1, "", f"build_dumps.py: {name} differs from the stored dumps\n"))
+                path.unlink()
+                said = run_tool(build_dumps.main, "--check", folder)
+                self.assertEqual(said, (1, "", f"build_dumps.py: {name} is missing\n"))
+                path.write_bytes(data)
+        self.assertEqual(run_tool(build_dumps.main)[0], 2)
 
 
 def main():

@@ -22,7 +22,8 @@ The text of a solver's dump: the lines of its case, as above, and then
   shadow S                                 shadow price in euros per MWh, one per branch
 
 A value is a binary64: a decimal as 0.875 or -1e-300, which is taken to the nearest; a hexadecimal one as 0x1.cp-1; inf,
--inf or nan; or any pattern as bits: and sixteen hex digits. cut, append and byte take dump in place of proposal.
+-inf or nan; or any pattern as bits: and sixteen hex digits. cut, append and byte take dump in place of proposal; for a
+dump of no bytes the text has append dump, with nothing behind it.
 
 A stored dump, dumps/NAME.txt, opens with what it protects and says in comments what the request says of it:
 
@@ -150,8 +151,9 @@ class Dump(hour.Hour):
 
 
 def is_text(text):
-    """Whether a text is a dump's: it has a dump line."""
-    return any(line.split("#", 1)[0].split()[:1] == ["dump"] for line in text.split("\n"))
+    """Whether a text is a dump's: it has a dump line, or one that changes the dump's bytes."""
+    lines = (line.split("#", 1)[0].split() for line in text.split("\n"))
+    return any(words[:1] == ["dump"] or (words[:1] and words[1:2] == ["dump"]) for words in lines)
 
 
 def build(text, folder=""):
@@ -306,9 +308,8 @@ def show_dump(case, dump, known):
     rows = hour.whole_records("case", case, counts)[0]
     shown = readings(case, dump)
     if len(shown) < len(OPENING):
-        if dump:
-            yield f"# The dump ends after {len(dump)} bytes, before the end of its second value."
-        yield from hour.show_hex("dump", dump)
+        yield f"# The dump ends after {len(dump)} bytes, before the end of its second value."
+        yield from hour.show_hex("dump", dump) if dump else ["append dump"]
         return
     opening = " ".join(f"{one.kind} {word_of(one.bits)}" for one in shown[:2])
     notes = "".join(f", value {one.place}{outcome(one, known, ' ')}" for one in shown[:2])

@@ -7,7 +7,7 @@ import stat
 import sys
 from dataclasses import dataclass
 
-from . import hour, rules
+from . import dump, hour, rules
 
 JOINED, TEXT, CASE, PROPOSAL, DUMP, UNREAD = "joined", "text", "case", "proposal", "dump", "unread"
 SUFFIXES = {".txt": TEXT, ".case": CASE, ".proposal": PROPOSAL, ".bin": JOINED, ".joined": JOINED, ".dump": DUMP}
@@ -91,6 +91,8 @@ def text_hour(path, data):
     """A text's hour. One without any line that expects something expects nothing."""
     try:
         text = data.decode()
+        if dump.is_text(text):
+            raise ValueError("the text of a solver's dump, of which lta dump makes a proposal")
         case, proposal = hour.build(text, os.path.dirname(path))
         lines = (hour.EXPECTATION.match(line) for line in text.split("\n"))
         expected = hour.expected(text) if any(lines) else None
