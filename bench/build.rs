@@ -1,4 +1,4 @@
-//! Has the archive linked as the comparison does, and the plain C parser built.
+//! Has the archive linked as the comparison does, and the plain C built.
 
 #[path = "../comparison/build.rs"]
 mod archive;
@@ -6,25 +6,35 @@ mod archive;
 use std::path::PathBuf;
 use std::process::Command;
 
-const PLAIN_C: &str = "src/plain_sheet.c";
+/// Plain C by the feature that compares with it.
+const PLAIN_C: [(&str, &str); 2] = [
+    ("CARGO_FEATURE_DUMP", "plain_dump"),
+    ("CARGO_FEATURE_SHEET", "plain_sheet"),
+];
 const HEADER: &str = "../include/lta_judgement.h";
 
 fn main() {
     archive::main();
     println!("cargo:rerun-if-changed=../comparison/build.rs");
-    println!("cargo:rerun-if-changed={PLAIN_C}");
     println!("cargo:rerun-if-changed={HEADER}");
-    if std::env::var_os("CARGO_FEATURE_SHEET").is_none() {
-        return;
+    for (feature, name) in PLAIN_C {
+        println!("cargo:rerun-if-changed=src/{name}.c");
+        if std::env::var_os(feature).is_some() {
+            built(name);
+        }
     }
+}
+
+fn built(name: &str) {
     let out = PathBuf::from(std::env::var("OUT_DIR").expect("set by cargo"));
-    let built = out.join("plain_sheet.o");
+    let built = out.join(format!("{name}.o"));
+    let source = format!("src/{name}.c");
     let status = Command::new("gcc")
         .args("-std=c99 -O2 -Wall -Wextra -Werror -I../include -c".split(' '))
-        .args([PLAIN_C, "-o"])
+        .args([&source, "-o"])
         .arg(&built)
         .status()
         .expect("gcc is on the path");
-    assert!(status.success(), "{PLAIN_C} is not built");
+    assert!(status.success(), "{source} is not built");
     println!("cargo:rustc-link-arg-bins={}", built.display());
 }

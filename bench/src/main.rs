@@ -1,8 +1,11 @@
-//! Measures the proved judge against the second one, the margin sheet's entry
-//! against plain C and S-3's against plain Rust, on the same inputs; prints only.
+//! Measures the proved judge against the second one, the margin sheet's and the
+//! dump's entry against plain C and S-3's against plain Rust, on the same inputs;
+//! prints only.
 
 #[path = "../../comparison/src/archive.rs"]
 mod archive;
+#[cfg(feature = "dump")]
+mod dump;
 #[cfg(feature = "intuitive")]
 mod intuitive;
 #[cfg(feature = "sheet")]
@@ -302,4 +305,7 @@ fn main() {
 
     #[cfg(feature = "intuitive")]
     intuitive::exchanges();
+
+    #[cfg(feature = "dump")]
+    dump::dumps();
 }
