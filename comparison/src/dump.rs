@@ -130,7 +130,7 @@ fn within_one_tenth(bits: u64, quantity: u32, volume: u32) -> bool {
     let (exponent, fraction) = ((bits & INFINITE) >> 52, bits & FRACTION);
     let (whole, places) = match exponent {
         0 => (fraction, 1_074),
-        _ => (fraction | FRACTION + 1, 1_075 - exponent),
+        _ => (fraction | (FRACTION + 1), 1_075 - exponent),
     };
     if places > 100 {
         // Below 2^-47 of a tenth, whatever the quantity.
@@ -572,7 +572,7 @@ fn refused(rng: &mut Rng, kind: Kind) -> f64 {
             f64::from_bits(1),
             f64::MAX,
         ]),
-        _ => f64::from_bits(rng.next() & !INFINITE | SIGN | rng.next() % 0x7FF << 52),
+        _ => f64::from_bits(rng.next() & !INFINITE | SIGN | (rng.next() % 0x7FF) << 52),
     };
     match kind.written(value) {
         None => value,

@@ -246,7 +246,7 @@ impl Value {
         let (whole, power) = match exponent {
             0x7FF => return None,
             0 => (fraction, -1_074),
-            _ => (fraction | FRACTION + 1, exponent as i32 - 1_075),
+            _ => (fraction | (FRACTION + 1), exponent as i32 - 1_075),
         };
         Some(Value {
             negative: bits & SIGN != 0,
