@@ -1,5 +1,6 @@
 // The entries that the coupling host, a C program, calls, and only they. include/lta_judgement.h says in words what the contracts say here.
 pub mod book;
+pub mod dump;
 pub mod hour;
 pub mod intuitive_hours;
 pub mod sheet;
