@@ -3,6 +3,4 @@ pub mod Ends
 pub mod Header
 pub mod Judged
 pub mod Refused
-pub mod Numbers
-pub mod Read
 pub mod Answers

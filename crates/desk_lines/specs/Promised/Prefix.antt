@@ -24,7 +24,8 @@ use Rattle.desk_lines.specs.Meaning.Cut.{good, caseEnd, casePart, propos
 use Rattle.desk_lines.specs.Steps.Ends.{end-refused, end-good}
 use Rattle.desk_lines.specs.Steps.Header.{case-at-most, proposal-at-most}
 use Rattle.desk_lines.specs.Steps.Refused.{header-refused, long, too-long}
-use Rattle.desk_lines.specs.Meaning.Lines.{verdictLine, hourText, deskText}
+use Rattle.hour_lines.specs.Meaning.Lines.{verdictLine}
+use Rattle.desk_lines.specs.Meaning.Lines.{hourText, deskText}
 
 -- TWO FILES WITH THE SAME HEADER
 record SameHeader (s r : List ℕ) : Type 0 where

@@ -1,4 +1,4 @@
--- `desk_lines::put_zone` meets its contract: name and zone, price and newline stand one after another, each where the one before ends. Assumes nothing.
+-- `hour_lines::put_zone` meets its contract: name and zone, price and newline stand one after another, each where the one before ends. Assumes nothing.
 use mathlib.Core.Path.{ap}
 use native.Mathlib.Omega.{arith}
 use lib.ListN.{length, length-append}
@@ -6,10 +6,10 @@ use lib.IntN.{ℤ}
 use Rattle.decimal.specs.Meaning.Text.{amountText}
 use Rattle.decimal.specs.Steps.Put.{Put, put-as, put-length, put-then}
 use Rattle.rules.specs.Meaning.Report.{reportedPrice}
-use Rattle.desk_lines.specs.Meaning.Lines.{priceLine}
+use Rattle.hour_lines.specs.Meaning.Lines.{priceLine}
 use borrow.Author.Needs.{needs}
-use Rattle.desk_lines.proofs.put_zone.Statement.{statement}
-use Rattle.desk_lines.proofs.put_zone.Tie as tie
+use Rattle.hour_lines.proofs.put_zone.Statement.{statement}
+use Rattle.hour_lines.proofs.put_zone.Tie as tie
 
 module _ (c : tie.After-put-price) where
   abbrev named : tie.After-put-named

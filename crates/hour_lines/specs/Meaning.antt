@@ -1,0 +1,2 @@
+-- THE MEANING, to be read beside document 01: the lines
+pub mod Lines

@@ -1,0 +1,3 @@
+-- THE PROOFS' MEANS
+pub mod Numbers
+pub mod Read
