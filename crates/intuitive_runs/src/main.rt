@@ -1,5 +1,6 @@
 // Hours through the entry of request S-3: 001's two price sets, hours whose answer is known, and one input for each cause. Printed for each is its name, then
 // number, index, 1 for a yes or 0, the total in tenths, and how many numbers at the scratch's start are zero; all are 7 before.
+use intuitive::Carried;
 use libc::STDOUT_FILENO;
 
 const ROOM: usize = 330;
@@ -24,20 +25,26 @@ fn zeros(s: &[i64]) -> u64 {
     i as u64
 }
 
+// Short functions: what a check takes grows with the square of a function's length.
+fn counted(n: u64) {
+    print_count(n);
+    print(b" ");
+}
+
+fn told(r: Carried, zeros: u64) {
+    counted(r.number as u64);
+    counted(r.index as u64);
+    counted(r.intuitive as u64);
+    counted(r.total.bits().0);
+    print_count(zeros);
+    print(b"\n");
+}
+
 fn answer(name: &[u8], net: &[i64], prices: &[i64], pairs: &[u8], scratch: &mut [i64]) {
     let r = intuitive::intuitive(net, prices, pairs, scratch);
     print(name);
     print(b": ");
-    print_count(r.number as u64);
-    print(b" ");
-    print_count(r.index as u64);
-    print(b" ");
-    print_count(r.intuitive as u64);
-    print(b" ");
-    print_count(r.total.bits().0);
-    print(b" ");
-    print_count(zeros(scratch));
-    print(b"\n");
+    told(r, zeros(scratch));
 }
 
 fn run(name: &[u8], net: &[i64], prices: &[i64], pairs: &[u8]) {
@@ -62,27 +69,35 @@ fn run_001() {
     run(b"001, no pairs", &net, &second, &none);
 }
 
-fn run_small() {
+fn run_one_zone() {
     let none = [0u8; 0];
-    let nothing = [0i64, 0, 0];
-    let equal = [5000000i64, 5000000, 5000000];
-    let falling = [7000000i64, 6000000, 5000000];
-    let circle = [0u8, 1, 1, 2, 2, 0];
-    let around = [100i64, 0, -100];
-    run(b"one zone", &nothing[..1], &equal[..1], &none);
+    let nothing = [0i64; 1];
+    run(b"one zone", &nothing, &[5000000i64], &none);
     run(
         b"one zone at the lowest price",
-        &nothing[..1],
+        &nothing,
         &[-5000000000i64],
         &none,
     );
     run(
         b"one zone at the highest price",
-        &nothing[..1],
+        &nothing,
         &[40000000000i64],
         &none,
     );
-    run(b"a circle with nothing to carry", &nothing, &equal, &circle);
+}
+
+fn run_circle() {
+    let equal = [5000000i64, 5000000, 5000000];
+    let falling = [7000000i64, 6000000, 5000000];
+    let circle = [0u8, 1, 1, 2, 2, 0];
+    let around = [100i64, 0, -100];
+    run(
+        b"a circle with nothing to carry",
+        &[0i64, 0, 0],
+        &equal,
+        &circle,
+    );
     run(b"around a circle", &around, &equal, &circle);
     run(
         b"around a circle of falling prices",
@@ -90,6 +105,9 @@ fn run_small() {
         &falling,
         &circle,
     );
+}
+
+fn run_small() {
     run(
         b"back along a used pair",
         &[10i64, 10, -10, -10],
@@ -289,16 +307,30 @@ fn run_large() {
     run(b"84, a 65th pair", &net, &equal, &pairs);
 }
 
-fn run_refused() {
+fn run_81() {
     let none = [0u8; 0];
     let empty = [0i64; 0];
     let many = [0i64; 17];
-    let net = [10i64, 0, -10];
-    let prices = [3i64, 4, 5];
-    let pairs = [0u8, 1, 1, 2];
     run(b"81, no zone", &empty, &empty, &none);
     run(b"81, seventeen zones", &many, &many, &none);
-    run(b"81, lists of two lengths", &net, &prices[..2], &pairs);
+    run(
+        b"81, lists of two lengths",
+        &[10i64, 0, -10],
+        &[3i64, 4],
+        &[0u8, 1, 1, 2],
+    );
+}
+
+// Of the inputs below, what is not at fault.
+const PRICES: [i64; 3] = [3, 4, 5];
+
+const PAIRS: [u8; 4] = [0, 1, 1, 2];
+
+const NET: [i64; 3] = [10, 0, -10];
+
+fn run_82() {
+    let prices = PRICES;
+    let pairs = PAIRS;
     run(
         b"82, a position above",
         &[-51200000i64, 51200001, 0],
@@ -317,6 +349,11 @@ fn run_refused() {
         &prices,
         &pairs,
     );
+}
+
+fn run_83() {
+    let net = NET;
+    let pairs = PAIRS;
     run(
         b"83, a price above",
         &net,
@@ -324,17 +361,34 @@ fn run_refused() {
         &pairs,
     );
     run(b"83, a price below", &net, &[3i64, 4, -5000000001], &pairs);
+}
+
+fn run_84() {
+    let net = NET;
+    let prices = PRICES;
     run(b"84, an unknown zone", &net, &prices, &[0u8, 1, 1, 3]);
     run(b"84, equal zones", &net, &prices, &[0u8, 1, 2, 2]);
     run(b"84, an earlier pair", &net, &prices, &[0u8, 1, 1, 0, 0, 1]);
     run(b"84, a last byte alone", &net, &prices, &[0u8, 1, 1]);
+}
+
+fn run_85() {
+    let net = NET;
+    let prices = PRICES;
+    let pairs = PAIRS;
     run_short(b"85, a scratch of 323", &net, &prices, &pairs);
     run_short(b"84 before 85", &net, &prices, &[0u8, 0]);
 }
 
 fn main() {
     run_001();
+    run_one_zone();
+    run_circle();
     run_small();
     run_large();
-    run_refused();
+    run_81();
+    run_82();
+    run_83();
+    run_84();
+    run_85();
 }
