@@ -4,7 +4,7 @@ ghost use mathlib.Core.List.{List, _++_};
 ghost use Prim.Native.Nat.{ℕ};
 ghost use lib.ListN.{length, take};
 ghost use Rattle.rows.specs.Meaning.Rows.{verdict};
-ghost use Rattle.margin_sheet.specs.Meaning.Sheet.{Header, Holds, lineCount, sheetOutcome, sheetWritten, sheetOutput};
+ghost use Rattle.sheet_lines.specs.Meaning.Sheet.{Header, Holds, lineCount, sheetOutcome, sheetWritten, sheetOutput};
 use margin_sheet::sheet_branches;
 use output::Written;
 

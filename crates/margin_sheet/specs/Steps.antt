@@ -1,6 +1,2 @@
 -- THE PROOFS' MEANS
-pub mod Split
-pub mod Entries
-pub mod Lines
-pub mod Walks
 pub mod Answers

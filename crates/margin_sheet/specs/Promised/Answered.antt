@@ -14,9 +14,9 @@ use Rattle.rows.specs.Promised.RowLaws.{empty, all-pass, no-place}
 use Rattle.decimal.specs.Meaning.Text.{valueOf}
 use Rattle.numerals.specs.Meaning.Numeral.{whole, decimals, isNumber, units, finer}
 use Rattle.numerals.specs.Promised.Exact.{exact}
-use Rattle.margin_sheet.specs.Meaning.Sheet.{fields, places, limit, fieldOf, entryOf, malformed, tooFine, outOfRange, lineOf, lineCount, branchPart, sheetRows, sheetRefusal, sheetOutcome, sheetBytes, sheetWritten}
+use Rattle.sheet_lines.specs.Meaning.Sheet.{fields, places, limit, fieldOf, entryOf, malformed, tooFine, outOfRange, lineOf, lineCount, branchPart, sheetRows, sheetRefusal, sheetOutcome, sheetBytes, sheetWritten}
 use Rattle.margin_sheet.specs.Promised.Causes.{sheet-none, sheet-writes}
-use Rattle.margin_sheet.specs.Steps.Lines.{lines-length}
+use Rattle.sheet_lines.specs.Steps.Lines.{lines-length}
 
 module _ (zones : ℕ) (sheet : List ℕ) (room : ℕ) (answered : (sheetOutcome zones sheet room) .number ≡ 0) where
   -- every row of the table passed

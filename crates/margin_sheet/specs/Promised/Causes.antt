@@ -13,8 +13,8 @@ use Rattle.rows.specs.Meaning.Rows.{Row, verdict, answer, unnamed, the-place, a
 use Rattle.rows.specs.Promised.RowLaws.{empty, Cause, answer-caused, Answered, answered, Soonest, soonest, lacks, zero-none}
 use Rattle.output.specs.Meaning.Output.{writtenBy, outputAfter}
 use Rattle.numerals.specs.Meaning.Numeral.{digits, starts, before, negative, unsigned, whole, isNumber}
-use Rattle.margin_sheet.specs.Meaning.Sheet.{fields, fieldOf, malformed, sheetRows, sheetRefusal, sheetOutcome, sheetBytes, sheetWritten, sheetOutput}
-use Rattle.margin_sheet.specs.Steps.Lines.{malformed-field}
+use Rattle.sheet_lines.specs.Meaning.Sheet.{fields, fieldOf, malformed, sheetRows, sheetRefusal, sheetOutcome, sheetBytes, sheetWritten, sheetOutput}
+use Rattle.sheet_lines.specs.Steps.Lines.{malformed-field}
 
 module _ (zones : ℕ) (sheet : List ℕ) (room : ℕ) where
   abbrev rows : List Row

@@ -8,7 +8,7 @@ use native.Mathlib.Omega.{arith}
 use lib.Dec.{T, eqb}
 use lib.ListN.{length}
 use Rattle.numerals.specs.Meaning.Numeral.{has}
-use Rattle.margin_sheet.specs.Meaning.Sheet.{onto, lines, fields}
+use Rattle.sheet_lines.specs.Meaning.Sheet.{onto, lines, fields}
 
 -- none of some texts has the mark
 unfoldable pub lack : ℕ → List (List ℕ) → Bool

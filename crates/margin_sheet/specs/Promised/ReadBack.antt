@@ -19,10 +19,10 @@ use Rattle.rules.specs.Steps.LayoutLaws.{signed-there}
 use Rattle.rules.specs.Meaning.Hour.{caseOf}
 use Rattle.rows.specs.Promised.RowLaws.{any-none}
 use Rattle.rules.specs.Meaning.Verdict.{branchFault}
-use Rattle.margin_sheet.specs.Meaning.Sheet.{limit, entry, Header, Holds, entryOf, lineOf, lineCount, branchPart, entryBytes, lineBytes, sheetBytes, sheetOutcome, sheetWritten, sheetOutput}
+use Rattle.sheet_lines.specs.Meaning.Sheet.{limit, entry, Header, Holds, entryOf, lineOf, lineCount, branchPart, entryBytes, lineBytes, sheetBytes, sheetOutcome, sheetWritten, sheetOutput}
 use Rattle.margin_sheet.specs.Promised.Causes.{sheet-writes}
 use Rattle.margin_sheet.specs.Promised.Answered.{not-outside}
-use Rattle.margin_sheet.specs.Steps.Lines.{signed-length, entries-length, lines-length}
+use Rattle.sheet_lines.specs.Steps.Lines.{signed-length, entries-length, lines-length}
 
 -- WHERE AN ENTRY STANDS: in its line, in the branch part, in the case
 entry-last : (n : ℕ) (line rest : List ℕ) (j : ℕ) → j ≡ n → take 4 (drop (4 * j) (entryBytes n line ++ (signed32 (entryOf line n) ++ rest))) ≡ signed32 (entryOf line j)

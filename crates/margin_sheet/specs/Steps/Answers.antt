@@ -4,7 +4,6 @@ use mathlib.Core.Bool.{true, false}
 use mathlib.Core.List.{List, [], _++_}
 use mathlib.Core.Option.{none, some}
 use Prim.Native.Nat.{ℕ, _+_, _*_, _≤_, _<_}
-use native.Mathlib.Nat.{mul-le-mul}
 use native.Mathlib.Omega.{arith}
 use borrow.Author.Tests.{lt-ltb, le-ltb}
 use lib.ListN.{length, take, drop}
@@ -17,16 +16,13 @@ use Rattle.rows.specs.Meaning.Rows.{verdict, firstBelow, refusal, each}
 use Rattle.rows.specs.Promised.RowLaws.{row-found, row-clear, field-fails, field-passes}
 use Rattle.output.specs.declared.Written.{Written}
 use Rattle.output.specs.Steps.Met as output
-use Rattle.margin_sheet.specs.Meaning.Sheet.{Header, Holds, lineCount, branchPart, sheetRows, sheetRefusal, sheetOutcome, sheetBytes, sheetWritten, sheetOutput}
+use Rattle.sheet_lines.specs.Meaning.Sheet.{Header, Holds, lineCount, branchPart, sheetRows, sheetRefusal, sheetOutcome, sheetBytes, sheetWritten, sheetOutput}
 use Rattle.margin_sheet.specs.Promised.ReadBack.{written-back}
-use Rattle.margin_sheet.specs.Steps.Lines.{malformedAt, tooFineAt, outOfRangeAt, lines-length}
+use Rattle.sheet_lines.specs.Steps.Lines.{malformedAt, tooFineAt, outOfRangeAt, lines-length}
 
 -- the zone count passes
 pub zones-within : (zones : ℕ) → outside zoneCounts (pos zones) ≡ false → (1 ≤ zones) × (zones ≤ 16)
 zones-within zones e = nat-within 1 16 zones (is-false e)
-
-pub part-bound : (zones n : ℕ) → zones ≤ 16 → n ≤ 64 → branchPart zones n ≤ 4352
-part-bound zones n h k = mul-le-mul {n₁ = 4 * (zones + 1)} {m₁ = n} {n₂ = 68} {m₂ = 64} (omega arith) k
 
 module _ (zones : ℕ) (sheet : List ℕ) (room : ℕ) where
   abbrev pub From : ℕ → Type 0

@@ -4,7 +4,7 @@ use mathlib.Core.Bool.{Bool, true, false, not, cond, _||_, or-true}
 use mathlib.Core.List.{List, [], _∷_}
 use mathlib.Core.Option.{Option, none, some}
 use Prim.Native.Nat.{ℕ, zero, suc, _+_, _*_, _-_, _≤_, _<_}
-use native.Mathlib.Nat.{add-zero}
+use native.Mathlib.Nat.{add-zero, mul-le-mul}
 use native.Mathlib.Numerals.{add-one}
 use native.Mathlib.Decide.{decLt}
 use native.Mathlib.Omega.{arith}
@@ -20,12 +20,12 @@ use Rattle.rows.specs.Promised.RowLaws.{placeOf, any-some, no-place, not-below}
 use Rattle.numerals.specs.declared.Piece.{Piece}
 use Rattle.numerals.specs.Meaning.Numeral.{before, after, isNumber}
 use Rattle.numerals.specs.Steps.Pieces.{Cut}
-use Rattle.margin_sheet.specs.declared.Flaws.{Flaws}
-use Rattle.margin_sheet.specs.declared.LineAnswer.{LineAnswer}
-use Rattle.margin_sheet.specs.declared.LineAnswer.the-variants as answer
-use Rattle.margin_sheet.specs.declared.Survey.{Survey}
-use Rattle.margin_sheet.specs.Meaning.Sheet.{lines, fields, limit, fieldOf, entryOf, malformed, tooFine, outOfRange, lineOf, lineCount, branchPart, entryBytes, lineBytes}
-use Rattle.margin_sheet.specs.Steps.Split.{fields-cut, fields-last, fields-some, lines-cut}
+use Rattle.sheet_lines.specs.declared.Flaws.{Flaws}
+use Rattle.sheet_lines.specs.declared.LineAnswer.{LineAnswer}
+use Rattle.sheet_lines.specs.declared.LineAnswer.the-variants as answer
+use Rattle.sheet_lines.specs.declared.Survey.{Survey}
+use Rattle.sheet_lines.specs.Meaning.Sheet.{lines, fields, limit, fieldOf, entryOf, malformed, tooFine, outOfRange, lineOf, lineCount, branchPart, entryBytes, lineBytes}
+use Rattle.sheet_lines.specs.Steps.Split.{fields-cut, fields-last, fields-some, lines-cut}
 
 clash : true ≡ false → ⊥
 clash q = subst (λ (t : Bool). T t) q tt
@@ -304,3 +304,7 @@ next-line l zones m sheet =
     ap (λ (k : ℕ). sets (sets l 0 (lineBytes zones m sheet)) k (entryBytes (zones + 1) (lineOf sheet m))) e
     ∙ sets-append l 0 (lineBytes zones m sheet) (entryBytes (zones + 1) (lineOf sheet m))
     ∙ ap (λ (k : ℕ). sets l 0 (lineBytes zones k sheet)) (sym (add-one m))
+
+-- the bytes of the most branches
+pub part-bound : (zones n : ℕ) → zones ≤ 16 → n ≤ 64 → branchPart zones n ≤ 4352
+part-bound zones n h k = mul-le-mul {n₁ = 4 * (zones + 1)} {m₁ = n} {n₂ = 68} {m₂ = 64} (omega arith) k

@@ -1,13 +1,13 @@
--- `margin_sheet::out_of_range` meets its contract: the measure's constructor refuses. Assumes nothing.
+-- `sheet_lines::out_of_range` meets its contract: the measure's constructor refuses. Assumes nothing.
 use mathlib.Core.Path.{sym, ap, _∙_}
 use Prim.Native.Nat.{ℕ}
 use borrow.Author.Needs.{needs}
 use Rattle.integers.specs.Ranges.{Range, outside}
 use Rattle.measures.specs.Steps.Held.{tenths-outside, tenths-held, ptdf-outside, ptdf-held}
-use Rattle.margin_sheet.specs.Steps.Entries.{ptdf-limit}
-use Rattle.margin_sheet.specs.Meaning.Sheet.{limit}
-use Rattle.margin_sheet.proofs.out_of_range.Statement.{statement}
-use Rattle.margin_sheet.proofs.out_of_range.Tie as tie
+use Rattle.sheet_lines.specs.Steps.Entries.{ptdf-limit}
+use Rattle.sheet_lines.specs.Meaning.Sheet.{limit}
+use Rattle.sheet_lines.proofs.out_of_range.Statement.{statement}
+use Rattle.sheet_lines.proofs.out_of_range.Tie as tie
 
 margin-requires : tie.Need-margin-requires
 margin-requires c κs = search needs

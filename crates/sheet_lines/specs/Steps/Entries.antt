@@ -21,7 +21,7 @@ use Rattle.numerals.specs.Meaning.Numeral.{isDigit, negative, units, sign, valu
 use Rattle.numerals.specs.Steps.Scan.{Separator}
 use Rattle.numerals.specs.Steps.Capped.{cap, capped, capped-over, capped-within}
 use Rattle.numerals.specs.Steps.Pieces.{heldNumber}
-use Rattle.margin_sheet.specs.Meaning.Sheet.{places, limit, entry}
+use Rattle.sheet_lines.specs.Meaning.Sheet.{places, limit, entry}
 
 -- a PTDF's sign is turned, a margin's is not
 abbrev pub turned : ℕ → Bool → Bool

@@ -8,7 +8,7 @@ use native.Mathlib.Omega.{arith}
 use lib.Dec.{eqb}
 use lib.ListN.{length}
 use Rattle.numerals.specs.Meaning.Numeral.{before, after}
-use Rattle.margin_sheet.specs.Meaning.Sheet.{onto, lines, fields}
+use Rattle.sheet_lines.specs.Meaning.Sheet.{onto, lines, fields}
 
 -- LINES
 pub lines-cut : (s : List ℕ) → 0 < length s → lines s ≡ before 10 s ∷ lines (after 10 s)

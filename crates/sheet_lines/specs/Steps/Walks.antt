@@ -18,11 +18,11 @@ use Rattle.rows.specs.declared.Place.the-variants.{At, Nowhere}
 use Rattle.numerals.specs.declared.Piece.{Piece}
 use Rattle.numerals.specs.Meaning.Numeral.{before, isNumber, finer}
 use Rattle.numerals.specs.Steps.Pieces.{Cut}
-use Rattle.margin_sheet.specs.declared.Flaws.{Flaws}
-use Rattle.margin_sheet.specs.declared.LineAnswer.the-variants as answer
-use Rattle.margin_sheet.specs.Meaning.Sheet.{places, limit, entry, fieldOf, entryOf, malformed, tooFine, outOfRange, lineOf, lineCount, branchPart, entryBytes, lineBytes, sheetBytes}
-use Rattle.margin_sheet.specs.Steps.Entries.{heldEntry, held-exact}
-use Rattle.margin_sheet.specs.Steps.Lines.{FieldsFrom, fields-start, misplaced, field-here, field-next, field-misplaced, field-onward, noNumber, malformed-count, malformed-field, malformed-no, wellformed-count, lineBy, lineFlaws, any-more, LinesFrom, lines-start, lines-done, line-in, line-here, line-next, malformedAt, tooFineAt, outOfRangeAt, Surveyed, firstWith, first-more, Good, AllGood, good-line, good-number, good-entry, next-entry, next-line}
+use Rattle.sheet_lines.specs.declared.Flaws.{Flaws}
+use Rattle.sheet_lines.specs.declared.LineAnswer.the-variants as answer
+use Rattle.sheet_lines.specs.Meaning.Sheet.{places, limit, entry, fieldOf, entryOf, malformed, tooFine, outOfRange, lineOf, lineCount, branchPart, entryBytes, lineBytes, sheetBytes}
+use Rattle.sheet_lines.specs.Steps.Entries.{heldEntry, held-exact}
+use Rattle.sheet_lines.specs.Steps.Lines.{FieldsFrom, fields-start, misplaced, field-here, field-next, field-misplaced, field-onward, noNumber, malformed-count, malformed-field, malformed-no, wellformed-count, lineBy, lineFlaws, any-more, LinesFrom, lines-start, lines-done, line-in, line-here, line-next, malformedAt, tooFineAt, outOfRangeAt, Surveyed, firstWith, first-more, Good, AllGood, good-line, good-number, good-entry, next-entry, next-line}
 
 abbrev pub finerField : List ℕ → ℕ → Bool
 finerField line j = finer (places j) (fieldOf line j)

@@ -1,0 +1,3 @@
+-- The rooms: `Meaning` is to be read and believed, all else is proved of it
+pub mod Meaning
+pub mod Steps

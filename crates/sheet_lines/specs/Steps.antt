@@ -1,0 +1,5 @@
+-- THE PROOFS' MEANS
+pub mod Split
+pub mod Entries
+pub mod Lines
+pub mod Walks
