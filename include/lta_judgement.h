@@ -376,8 +376,8 @@ enum lta_dump_number {
 #define LTA_PROPOSAL_SIZE(orders, links, branches) (13 + 4 * ((orders) + (links) + (branches))) /* bytes of a proposal for a case */
 #define LTA_PROPOSAL_ROOM 2573      /* room that is enough for every proposal: 512 orders, 64 links and 64 branches */
 
-/* Writes a proposal for a case from what the solver dumped, and answers with number 0, index 0 and its length in bytes [outcome]; or it
- * refuses, with length 0.
+/* Writes a proposal for a case from what the solver dumped, and answers with number 0, index 0 [outcome] and its length in bytes
+ * [length]; or it refuses, with length 0.
  *
  *   case_bytes, case_len       a case, as lta_judge takes it, of either version
  *   dump, dump_len             the dump, as laid out below
@@ -400,14 +400,15 @@ enum lta_dump_number {
  * and is neither negative nor outside 0 to 1; any other finite value with its sign set is negative, however small. Nothing is rebalanced:
  * what is written of a value depends on it, of a share of an order on its quantity too, and on nothing else.
  *
- * The bytes of `out` afterwards [proposal]: if the number is 0, the first `length` bytes are the proposal, that is mark LTP, version 1, the
+ * The bytes of `out` afterwards [output]: if the number is 0, the first `length` bytes are the proposal, that is mark LTP, version 1, the
  * LTA share, the system price, the volumes, the flows and the shadow prices, laid out as lta_judge takes them, and all past them are as
  * they were. In a refusal every byte is as it was.
  *
  * What holds of an answer:
  *   [volumes]    Each volume written differs from the exact product of its share and its quantity by less than one tenth, and is never
  *                above the quantity.
- *   [read_back]  lta_judge reads the proposal for this case: none of its numbers 9 to 14 has a cause.
+ *   [read_back]  lta_judge reads the proposal for this case: none of its numbers 9 to 14 has a cause. Each field read is its own value's
+ *                number.
  */
 struct lta_written lta_dump_proposal(const uint8_t *case_bytes, size_t case_len,
                                      const uint8_t *dump, size_t dump_len,

@@ -1,2 +1,3 @@
 -- WHAT IS PROVED OF THE MEANING, for its reader
+pub mod Machine
 pub mod Within

@@ -2,7 +2,7 @@
 -- `round` is the library's: the value of the format that is nearest to a fraction, and of two that are as near the even one. Assumes nothing.
 use mathlib.Core.Bool.{Bool, not, cond, _&&_}
 use mathlib.Core.List.{List}
-use Prim.Native.Nat.{ℕ, _+_, _-_, _*_, _/_, _%_, _^_}
+use Prim.Native.Nat.{ℕ, _+_, _-_, _*_, _/_, _%_, _^_, _≤_, _<_}
 use lib.Dec.{eqb, leb, ltb}
 use lib.Ieee.{Float, binary64, round}
 use lib.Ieee.Positive.{num, den}
@@ -47,3 +47,9 @@ cut p = num p / den p
 
 unfoldable pub nearest : Float → ℕ
 nearest p = (2 * num p + den p) / (2 * den p)
+
+-- THE EXACT PRODUCT of the share b and the whole q is the fraction units b * q / 2 ^ 1074: v is at most the whole, and differs from it by less than one
+pub record Within (b q v : ℕ) : Type 0 where
+  pub most : v ≤ q
+  pub over : v * 2 ^ 1074 < units b * q + 2 ^ 1074
+  pub under : units b * q < v * 2 ^ 1074 + 2 ^ 1074

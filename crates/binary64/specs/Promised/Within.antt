@@ -10,17 +10,11 @@ use lib.Ieee.{Float, nan, inf, fin, binary64, le, ofBits}
 use lib.Ieee.Exact.{HasValue}
 use lib.Ieee.Positive.{num, den, den-pos}
 use Rattle.integers.specs.Ranges.{is-true}
-use Rattle.binary64.specs.Meaning.Value.{minus, finite, units, negative, aboveOne, product, cut}
+use Rattle.binary64.specs.Meaning.Value.{minus, finite, units, negative, aboveOne, product, cut, Within}
 use Rattle.binary64.specs.Steps.Machine.{zero64, one64}
 use Rattle.binary64.specs.Steps.Cutting.{Part, share-part}
 use Rattle.binary64.specs.Steps.Patterns.{bits-value}
 use Rattle.binary64.specs.Steps.Products.{product-is, not-negative, not-above-one}
-
--- a volume v for the share b of the whole q
-pub record Within (b q v : ℕ) : Type 0 where
-  pub most : v ≤ q
-  pub over : v * 2 ^ 1074 < units b * q + 2 ^ 1074
-  pub under : units b * q < v * 2 ^ 1074 + 2 ^ 1074
 
 value-cross : (x : Float) (s : Bool) (a c : ℕ) → HasValue x s a c → num x * c ≡ a * den x
 value-cross nan s a c h = absurd h

@@ -15,8 +15,7 @@ use Rattle.rows.specs.Meaning.Rows.{Row, refusal, answer, once, field, each}
 use Rattle.rules.specs.Meaning.Layout.{ordersIn, linksIn, branchesIn, quantityIn, proposalLength, shareIn, systemIn, volumeIn, flowIn, shadowIn}
 use Rattle.rules.specs.Meaning.Verdict.{under, differ, caseRefusal, proposalRefusal}
 use Rattle.output.specs.Meaning.Output.{writtenBy, outputAfter}
-use Rattle.binary64.specs.Meaning.Value.{bitsAt, finite}
-use Rattle.binary64.specs.Promised.Within.{Within}
+use Rattle.binary64.specs.Meaning.Value.{bitsAt, finite, Within}
 use Rattle.dump_values.specs.Meaning.Field.{kindOf, converted, fault}
 
 -- how many values a dump for the case s has, eight bytes each, nothing after
