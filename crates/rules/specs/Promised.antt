@@ -13,5 +13,7 @@ pub mod IndexChange
 -- S-4: contracted volumes, and the two case versions
 pub mod Contracted
 pub mod Versions
+-- S-6: hours without links
+pub mod NoLinks
 -- in the terms of Annex 14.29
 pub mod Annex

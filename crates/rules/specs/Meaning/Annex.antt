@@ -6,7 +6,8 @@
 --   fractions: all variables are whole numbers over one common positive denominator, all multipliers whole cents or grains;
 --   orders: a side and an unsigned quantity for the signed Q^i, and for x_i the accepted volume |Q^i| x_i, so x_i is `accepted i` over den times quantity;
 --   capacities: of links, each an ordered pair of zones that occurs once, and zero for a pair without a link; contracted volumes (S-4) do not enter;
---   no link: section 3.3 takes an empty LTA domain for none; by rule 9 it holds the zero exchange, so α₂ is free also where there is no link;
+--   no link: section 3.3 takes an empty LTA domain for none, and so does S-6: an hour without links is the formulation without its LTA part, (65) with
+--   α₂ = 0, and the LTA domain of appendix B then has no point;
 --   misprints: two, both before the appendix; a note says where each would fall. (62) is an empty line.
 use mathlib.Core.Path.{_≡_}
 use mathlib.Core.Bool.{Bool, not, _&&_}
@@ -72,6 +73,8 @@ pub record Network (c : Case) (x : Solution) : Type 0 where
   pub alpha-sum : x .alpha1 +ℤ x .alpha2 ≡ pos (partsInOne * x .den)
   -- (66) α ≥ 0
   pub alpha-in : (pos 0 ≤ℤ x .alpha1) × (pos 0 ≤ℤ x .alpha2)
+  -- section 3.3 (S-6): without links no LTAs are taken into consideration, α₂ = 0
+  pub no-LTA : c .links ≡ 0 → x .alpha2 ≡ pos 0
   -- (67) Σ_l ptdf_{m,l} netpos^FB_l ≤ α₁ RAM_m
   pub branch : (m : ℕ) → m < c .branches → sumTo (c .zones) (λ l. c .ptdf m l *ℤ x .netposFB l) ≤ℤ (x .alpha1 *ℤ c .ram m)
   -- (68) netpos^FB_l = Σ_{k ≠ l} (flow^FB_{k,l} - flow^FB_{l,k})
@@ -162,8 +165,9 @@ pub record FBDomain (c : Case) (den : ℕ) (netpos : ℕ → ℤ) (flow : ℕ �
   pub netpos-is : (l : ℕ) → l < c .zones → netpos l ≡ netFlow (c .zones) flow l
   pub flow-in : (l k : ℕ) → l < c .zones → k < c .zones → pos 0 ≤ℤ flow l k
 
--- a point of the LTA domain, (94) to (96)
+-- a point of the LTA domain, (94) to (96); without links there is none (S-6)
 pub record LTADomain (c : Case) (den : ℕ) (netpos : ℕ → ℤ) (flow : ℕ → ℕ → ℤ) : Type 0 where
+  pub some-link : 0 < c .links
   pub link : (l k : ℕ) → l < c .zones → k < c .zones → flow l k ≤ℤ (pos den *ℤ capacityLTA c l k)
   pub netpos-is : (l : ℕ) → l < c .zones → netpos l ≡ netFlow (c .zones) flow l
   pub flow-in : (l k : ℕ) → l < c .zones → k < c .zones → pos 0 ≤ℤ flow l k

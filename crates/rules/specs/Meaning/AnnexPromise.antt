@@ -11,6 +11,7 @@ use Rattle.rules.specs.Meaning.Hour.{Case, Plan, Prices, caseOf, planOf,
 use Rattle.rules.specs.Meaning.Clearing.{Clearing}
 use Rattle.rules.specs.Meaning.Annex.{Solution, Network, Feasible, AlongLines, Multipliers, Complementary, everyPair, PriceConditions, congestionRent, liabilities, objective}
 use Rattle.rules.specs.Meaning.Report.{reportedWelfare, reportedGap, reportedRent, reportedOwed, reportedPrice}
+use Rattle.rules.specs.Meaning.Promise.{HasLink}
 
 -- THE SAME CLEARING: volumes, LTA flows and share agree
 pub record Same (c : Case) (p : Plan) (x : Solution) : Type 0 where
@@ -65,9 +66,9 @@ pub record AnnexDemand3 (s t : List ℕ) (report : List ℕ) : Type 0 where
   pub is-complementary : reportedGap report ≡ pos 0 → Complementary (caseOf s) (is-feasible .solution) (multipliersOf (caseOf s) (pricesOf s t))
   -- (82): at these prices no import and export that the network allows earns more than rent and gap together
   pub is-network-best : (x : Solution) → Network (caseOf s) x → congestionRent (caseOf s) x (reportedPrice report) ≤ℤ (pos (x .den) *ℤ (reportedRent report +ℤ reportedGap report))
-  -- (81): its left side is the rent, its right side that of the capacities; their order up to the gap. Owed, on the contracted volumes, is at most the right
-  -- side (S-4), and is that where each contracted volume is its link's capacity
+  -- (81): its left side is the rent, its right side that of the capacities; their order up to the gap, of an hour with a link (S-6). Owed, on the contracted
+  -- volumes, is at most the right side (S-4), and is that where each contracted volume is its link's capacity
   pub rent-is : congestionRent (caseOf s) (is-feasible .solution) (reportedPrice report) ≡ reportedRent report
   pub owed-within : reportedOwed report ≤ℤ liabilities (caseOf s) (reportedPrice report)
   pub owed-all : ((l : ℕ) → l < (caseOf s) .links → (caseOf s) .contracted l ≡ (caseOf s) .capacity l) → reportedOwed report ≡ liabilities (caseOf s) (reportedPrice report)
-  pub is-covered : (liabilities (caseOf s) (reportedPrice report) -ℤ reportedGap report) ≤ℤ congestionRent (caseOf s) (is-feasible .solution) (reportedPrice report)
+  pub is-covered : HasLink s → (liabilities (caseOf s) (reportedPrice report) -ℤ reportedGap report) ≤ℤ congestionRent (caseOf s) (is-feasible .solution) (reportedPrice report)

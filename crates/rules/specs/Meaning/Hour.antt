@@ -2,7 +2,7 @@
 -- Volumes are in tenths of a MWh, order, system and shadow prices in cents, zone prices in grains, money in microcents.
 -- What is unsigned in the files is a ℕ, what is signed a ℤ. A table is a function of the index and means nothing at or above its count.
 -- Assumes nothing.
-use mathlib.Core.Bool.{Bool, true, false}
+use mathlib.Core.Bool.{Bool, true, false, cond}
 use mathlib.Core.List.{List}
 use Prim.Native.Nat.{ℕ, _*_, _≤_}
 use lib.Dec.{eqb, ltb}
@@ -194,10 +194,14 @@ linkOwed c d l = pos (c .contracted l) *ℤ positive (spread c d l)
 unfoldable pub owed : Case → Prices → ℤ
 owed c d = sumTo (c .links) (λ l. linkOwed c d l)
 
--- RULE 10: bound = all order surpluses plus the larger of branch total and link total (S-4: the larger-of in the bound keeps using capacities). No import and
--- export that the network allows earns more at these prices, (82).
+-- NO LINK MEANS NO LTA DOMAIN (S-6; Annex 14.29, section 3.3)
+unfoldable pub noLink : Case → Bool
+noLink c = eqb (c .links) 0
+
+-- RULE 10: bound = all order surpluses plus the larger of branch total and link total (S-4: the larger-of in the bound keeps using capacities); without links
+-- plus the branch total alone, even a negative one (S-6). No import and export that the network allows earns more at these prices, (82).
 unfoldable pub networkBound : Case → Prices → ℤ
-networkBound c d = larger (branchTotal c d) (linkTotal c d)
+networkBound c d = cond (noLink c) (branchTotal c d) (larger (branchTotal c d) (linkTotal c d))
 
 unfoldable pub bound : Case → Prices → ℤ
 bound c d = surplus c d +ℤ networkBound c d

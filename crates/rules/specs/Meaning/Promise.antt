@@ -1,7 +1,7 @@
 -- What is promised of a judgement, a definition for each clause: of the case s, the proposal t and the report that is written. Assumes nothing.
 use mathlib.Core.Path.{_≡_}
 use mathlib.Core.List.{List}
-use Prim.Native.Nat.{ℕ}
+use Prim.Native.Nat.{ℕ, _<_}
 use lib.Dec.{T}
 use lib.IntN.{pos, _+ℤ_, _-ℤ_, _*ℤ_}
 use lib.Signed.{_≤ℤ_}
@@ -19,13 +19,18 @@ TotalsReported s t room report = T (reports ((outcome s t room) .number)) → Re
 abbrev pub Allowed : List ℕ → List ℕ → Type 0
 Allowed s t = Clearing (caseOf s) (planOf s t)
 
--- THE ACCURACY RULE: every clearing, over any denominator, has a welfare of at most the reported welfare plus the reported gap
+-- THE ACCURACY RULE: every clearing, over any denominator, has a welfare of at most the reported welfare plus the reported gap. S-6: of an hour without links
+-- these are the flow-based clearings alone, those of LTA share 0 (`Clearing`)
 abbrev pub Accurate : List ℕ → List ℕ → Type 0
 Accurate s report = (q : Plan) → Clearing (caseOf s) q → welfare (caseOf s) q ≤ℤ (pos (q .den) *ℤ (reportedWelfare report +ℤ reportedGap report))
 
 -- 0 <= gap <= tolerance, in microcents
 abbrev pub GapWithin : List ℕ → List ℕ → Type 0
 GapWithin s report = (pos 0 ≤ℤ reportedGap report) × (reportedGap report ≤ℤ microcentsOf (pos ((caseOf s) .tolerance)))
+
+-- S-6: THE COVERAGE RULE SPEAKS OF HOURS WITH A LINK, and so does what it says at gap zero
+abbrev pub HasLink : List ℕ → Type 0
+HasLink s = 0 < (caseOf s) .links
 
 -- THE COVERAGE RULE: rent >= owed - gap. S-4: it speaks of the new owed, on the contracted volumes; the accuracy rule is unchanged
 abbrev pub Covered : List ℕ → Type 0

@@ -1,4 +1,4 @@
--- The verdict table of document 01, as requests S-2 and S-4 amend it: a row for each cause, in the table's own order, and the judgement's outcome.
+-- The verdict table of document 01, as requests S-2, S-4 and S-6 amend it: a row for each cause, in the table's own order, and the judgement's outcome.
 -- Every test has a value on any bytes; its value counts only where the rows before it passed. Assumes nothing.
 use mathlib.Core.Path.{_≡_}
 use mathlib.Core.Bool.{Bool, not, _&&_, _||_}
@@ -12,7 +12,7 @@ use lib.Signed.{ltZ}
 use Rattle.integers.specs.Ranges.{outside, isZero}
 use Rattle.measures.specs.Meaning.Limits as limits
 use Rattle.rules.specs.Meaning.Layout.{u8At, caseHeader, caseVersion, caseLength, proposalHeader, proposalVersion, proposalLength, zoneCounts, branchCounts, linkCounts, orderCounts, reportRoom, branchFieldAt, linkFields, linkFieldAt, orderFields, orderFieldAt, shadowAt}
-use Rattle.rules.specs.Meaning.Hour.{Case, Plan, Prices, caseOf, planOf, pricesOf, netSum, broken, brokenZ, linkRule, branchRule, zonePrice, gap}
+use Rattle.rules.specs.Meaning.Hour.{Case, Plan, Prices, caseOf, planOf, pricesOf, netSum, broken, brokenZ, linkRule, branchRule, zonePrice, noLink, gap}
 use Rattle.rows.specs.declared.Outcome.{Outcome}
 use Rattle.rows.specs.Meaning.Rows.{Row, anyBelow, refusal, answer, once, field, each, eachAt, eachField}
 
@@ -170,9 +170,12 @@ proposalRows s t c p d =
 abbrev pub excessVolume : Case → Plan → Row
 excessVolume c p = each 21 (c .orders) (λ i. over (c .quantity i) (p .volume i))
 
--- 22: balance (rule 3) fails. 23: link rule (4) fails. 24: branch rule (5) fails
+-- 22: balance (rule 3) fails. 27, asked between 22 and 23: no link, and the LTA share above 0 (S-6). 23: link rule (4) fails. 24: branch rule (5) fails
 abbrev pub unbalanced : Case → Plan → Row
 unbalanced c p = once 22 (not (isZero (netSum c p)))
+
+abbrev pub shareWithoutLink : Case → Plan → Row
+shareWithoutLink c p = once 27 (noLink c && over 0 (p .share))
 
 abbrev pub overusedLink : Case → Plan → Row
 overusedLink c p = each 23 (c .links) (λ l. broken (linkRule c p l))
@@ -192,6 +195,7 @@ unfoldable pub clearingRows : Case → Plan → Prices → List Row
 clearingRows c p d =
     excessVolume c p
     ∷ unbalanced c p
+    ∷ shareWithoutLink c p
     ∷ overusedLink c p
     ∷ overloadedBranch c p
     ∷ priceOutside c d

@@ -1,13 +1,13 @@
 -- The verdict table: its numbers in the order asked, that a refusal is given for its cause and for no other, and that no cause asked earlier holds.
 -- Assumes nothing.
 use mathlib.Core.Path.{_≡_, refl, sym, ap, subst}
-use mathlib.Core.Bool.{Bool, true, false}
-use mathlib.Core.List.{List, [], _∷_}
+use mathlib.Core.Bool.{Bool, true, false, not, cond}
+use mathlib.Core.List.{List, [], _∷_, map}
 use mathlib.Core.Option.{Option, none, some}
 use Prim.Native.Nat.{ℕ, _<_}
 use native.Mathlib.Omega.{arith}
-use lib.ListN.{getD, drop}
-use lib.Dec.{T}
+use lib.ListN.{getD, take, drop}
+use lib.Dec.{T, eqb}
 use lib.Signed.{_<ℤ_, ltZ-yes}
 use lib.IntN.{ℤ, pos}
 use Rattle.measures.specs.Meaning.Limits as limits
@@ -18,7 +18,7 @@ use Rattle.rows.specs.Promised.RowLaws.{empty, Answered, answered, Soonest, soo
 use Rattle.rules.specs.Meaning.Book.{BookRow, bookRows, bookRefusal, bookSurplus, bookAnswer, bookAnswerBy}
 use Rattle.rules.specs.Meaning.Verdict.{overZ, roomRows, caseRows, proposalRows, clearingRows, table, outcome}
 
--- 30 is asked first of all, then the others from the smallest number, and of one number from the smallest offset
+-- 30 is asked first of all, then the others from the smallest number, and of one number from the smallest offset; but 27 between 22 and 23 (S-6)
 unfoldable pub asked : List Asked
 asked =
     ask 30 unnamed
@@ -42,19 +42,33 @@ asked =
     ∷ ask 14 a-field
     ∷ ask 21 the-place
     ∷ ask 22 unnamed
+    ∷ ask 27 unnamed
     ∷ ask 23 the-place
     ∷ ask 24 the-place
     ∷ ask 25 the-place
     ∷ ask 26 unnamed
     ∷ []
 
-pub after-30-ascending : T (ascending (drop 1 asked))
+-- THE ORDER: behind 30, 27 is the one number out of turn. Without it the others ascend, with it they do not, and it stands between 22 and 23
+unfoldable pub without : ℕ → List Asked → List Asked
+without n [] = []
+without n (a ∷ rest) = cond (eqb (a .number) n) (without n rest) (a ∷ without n rest)
+
+pub others-ascending : T (ascending (without 27 (drop 1 asked)))
+unfolding asked without ascending
+others-ascending = tt
+
+pub not-in-turn : T (not (ascending (drop 1 asked)))
 unfolding asked ascending
-after-30-ascending = tt
+not-in-turn = tt
+
+pub between-22-and-23 : map (λ (a : Asked). a .number) (take 3 (drop 20 asked)) ≡ 22 ∷ 27 ∷ 23 ∷ []
+unfolding asked
+between-22-and-23 = refl
 
 pub table-order : (s t : List ℕ) (room : ℕ) (c : Case) (p : Plan) (d : Prices) → Asks (table s t room c p d) asked
 unfolding table roomRows caseRows proposalRows clearingRows asked
-table-order s t room c p d = (refl, (λ k. refl, (refl, (λ k. refl, (refl, (λ k. refl, (refl, (λ k. refl, (refl, (λ k. refl, (refl, (λ k. refl, (refl, (λ k. refl, (refl, (λ k. refl, (refl, (λ k. refl, (refl, (λ k. refl, (refl, (tt, (refl, (tt, (refl, (tt, (refl, (λ k. refl, (refl, (λ k. refl, (refl, (λ k. refl, (refl, (λ k. refl, (refl, (λ k. refl, (refl, (tt, (refl, (λ k. refl, (refl, (λ k. refl, (refl, (λ k. refl, (refl, (λ k. refl, (refl, (λ k. refl, (refl, (λ k. refl, tt))))))))))))))))))))))))))))))))))))))))))))))))))
+table-order s t room c p d = (refl, (λ k. refl, (refl, (λ k. refl, (refl, (λ k. refl, (refl, (λ k. refl, (refl, (λ k. refl, (refl, (λ k. refl, (refl, (λ k. refl, (refl, (λ k. refl, (refl, (λ k. refl, (refl, (λ k. refl, (refl, (tt, (refl, (tt, (refl, (tt, (refl, (λ k. refl, (refl, (λ k. refl, (refl, (λ k. refl, (refl, (λ k. refl, (refl, (λ k. refl, (refl, (tt, (refl, (λ k. refl, (refl, (λ k. refl, (refl, (λ k. refl, (refl, (λ k. refl, (refl, (λ k. refl, (refl, (λ k. refl, (refl, (λ k. refl, tt))))))))))))))))))))))))))))))))))))))))))))))))))))
 
 -- the clearing's rows end in 26 only by its own row: were it to pass, with those before it, nothing would be refused
 by-26 : (c : Case) (p : Plan) (d : Prices) → (answer (refusal (clearingRows c p d))) .number ≡ 26
@@ -63,7 +77,7 @@ unfolding clearingRows before hasRow rowOf isRow
 by-26 c p d e true q = subst (λ (b : Bool). T b) (sym q) tt
 by-26 c p d e false q =
     let rows : Comes (clearingRows c p d) none =
-    past (passed 21 0 tt) (past (passed 22 0 tt) (past (passed 23 0 tt) (past (passed 24 0 tt) (past (passed 25 0 tt) (clear (once-passes q) none-left))))) in
+    past (passed 21 0 tt) (past (passed 22 0 tt) (past (passed 27 0 tt) (past (passed 23 0 tt) (past (passed 24 0 tt) (past (passed 25 0 tt) (clear (once-passes q) none-left)))))) in
     absurd (differ (ap (λ (o : Option Outcome). (answer o) .number) (rows .is)))
   where
     passed : (i k : ℕ) → T (hasRow i k (before 26 (clearingRows c p d))) → Pass (rowOf i k (clearingRows c p d))

@@ -9,7 +9,7 @@ use lib.Signed.{_≤ℤ_}
 use Rattle.integers.specs.Difference.{at, _⊗_, eq-by}
 use Rattle.integers.specs.Order.{positive}
 use Rattle.integers.specs.Sums.{sum-ext, sum-zero, sum-le}
-use Rattle.rules.specs.Meaning.Hour.{Case, Plan, Prices, buys, orderNet, net, inflow, outflow, ltaPart, fbPart, netSum, linkUse, linkRoom, branchUse, branchRoom, branchPrice, zonePrice, orderWelfare, welfare, orderSurplus, surplus, branchValue, branchTotal, spread, linkValue, linkTotal, linkOwed, owed, networkBound, bound, gap, rent}
+use Rattle.rules.specs.Meaning.Hour.{Case, Plan, Prices, buys, orderNet, net, inflow, outflow, ltaPart, fbPart, netSum, linkUse, linkRoom, branchUse, branchRoom, branchPrice, zonePrice, orderWelfare, welfare, orderSurplus, surplus, branchValue, branchTotal, spread, linkValue, linkTotal, linkOwed, owed, noLink, networkBound, bound, gap, rent}
 use Rattle.rules.specs.Meaning.Clearing.{Clearing}
 use Rattle.rules.specs.Steps.Duality.{more-le}
 
@@ -36,7 +36,7 @@ contracting f c = record {
 module _ (f : ℕ → ℕ) (c : Case) where
   -- what does not change
   pub same-bound : (d : Prices) → bound (contracting f c) d ≡ bound c d
-  unfolding contracting bound surplus orderSurplus buys zonePrice branchPrice networkBound branchTotal branchValue linkTotal linkValue spread
+  unfolding contracting bound surplus orderSurplus buys zonePrice branchPrice noLink networkBound branchTotal branchValue linkTotal linkValue spread
   same-bound d = refl
 
   pub same-welfare : (p : Plan) → welfare (contracting f c) p ≡ welfare c p
@@ -57,6 +57,7 @@ module _ (f : ℕ → ℕ) (c : Case) where
     den-positive = cl .den-positive;
     volume-in = cl .volume-in;
     share-in = cl .share-in;
+    without-links = cl .without-links;
     balance = cl .balance;
     link = cl .link;
     branch = cl .branch;

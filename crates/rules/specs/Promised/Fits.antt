@@ -12,7 +12,7 @@ use lib.IntN.{ℤ, pos, _+ℤ_, _-ℤ_, _*ℤ_}
 use mir.Syntax.{w64}
 use mir.Val.{SFits}
 use Rattle.integers.specs.Difference.{at, _⊗_, le-by, le-fact}
-use Rattle.integers.specs.Order.{positive}
+use Rattle.integers.specs.Order.{larger, positive, cond-ind}
 use Rattle.integers.specs.Ranges.{minus, Within}
 use Rattle.integers.specs.Sums.{sumTo, only}
 use Rattle.integers.specs.Size.{Near, near-le, near-pos, near-add, near-neg, near-sub, near-mul, near-sum, near-fits, near-within, near-gathered, apart, near-larger, near-positive, near-only, near-unsigned, near-32}
@@ -20,7 +20,7 @@ use Rattle.integers.specs.Machine.{SumsFit, small-sums}
 use Rattle.measures.specs.Meaning.Limits as limits
 use Rattle.measures.specs.Meaning.Limits.{partsInOne}
 use Rattle.rules.specs.Meaning.Layout.{u32At, i32At, systemIn}
-use Rattle.rules.specs.Meaning.Hour.{Case, Plan, Prices, caseOf, planOf, pricesOf, signed, buys, above, orderNet, net, inflow, outflow, ltaPart, fbPart, linkUse, linkRoom, branchPrice, zonePrice, orderWelfare, welfare, surplusOf, orderSurplus, surplus, branchValue, branchTotal, spread, linkValue, linkTotal, linkOwed, owed, networkBound, bound, gap, rent}
+use Rattle.rules.specs.Meaning.Hour.{Case, Plan, Prices, caseOf, planOf, pricesOf, signed, buys, above, orderNet, net, inflow, outflow, ltaPart, fbPart, linkUse, linkRoom, branchPrice, zonePrice, orderWelfare, welfare, surplusOf, orderSurplus, surplus, branchValue, branchTotal, spread, linkValue, linkTotal, linkOwed, owed, noLink, networkBound, bound, gap, rent}
 use Rattle.rules.specs.Meaning.Clearing.{Clearing}
 use Rattle.rules.specs.Meaning.Verdict.{outcome}
 use Rattle.rules.specs.Meaning.Report.{reports}
@@ -201,7 +201,8 @@ module _ (c : Case) (cs : CaseSound c) where
 
       pub bound-near : Near 5504000000000000000 (bound c d)
       unfolding bound networkBound
-      bound-near = near-add surpluses-near (near-larger 3200000000000000000 (branchTotal c d) (linkTotal c d) branchTotal-near (near-le (omega arith) linkTotal-near))
+      bound-near = near-add surpluses-near (cond-ind (noLink c) (branchTotal c d) (larger (branchTotal c d) (linkTotal c d)) (λ z. Near 3200000000000000000 z)
+          (λ t. branchTotal-near) (λ t. near-larger 3200000000000000000 (branchTotal c d) (linkTotal c d) branchTotal-near (near-le (omega arith) linkTotal-near)))
 
       module _ (p : Plan) (volumes : (i : ℕ) → i < c .orders → p .volume i ≤ c .quantity i) where
         pub gap-near : Near 7552000000000000000 (gap c p d)

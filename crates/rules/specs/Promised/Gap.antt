@@ -1,4 +1,4 @@
--- The gap, taken apart exactly: what each order, branch and link falls short, and what the larger total leaves. Assumes nothing.
+-- The gap, taken apart exactly: what each order, branch and link falls short, and what the network's bound leaves. Assumes nothing.
 use mathlib.Core.Path.{_≡_, ap}
 use Prim.Native.Nat.{ℕ, _+_, _*_, _-_, _<_}
 use native.Mathlib.Nat.{mul-le-mul-right}
@@ -6,12 +6,12 @@ use native.Mathlib.Omega.{arith}
 use lib.IntN.{ℤ, pos, _+ℤ_, _-ℤ_, _*ℤ_}
 use lib.Signed.{_≤ℤ_}
 use Rattle.integers.specs.Difference.{up, dn, at, _⊕_, _⊖_, _⊗_, le-by, eq-by, le-fact, eq-fact}
-use Rattle.integers.specs.Order.{le-trans, le-antisym, diff-nonneg, add-nonneg, times-nonneg, larger-left, larger-right}
+use Rattle.integers.specs.Order.{le-trans, le-antisym, diff-nonneg, add-nonneg, times-nonneg}
 use Rattle.integers.specs.Sums.{sumTo, sum-sub, sum-scale-l, sum-nonneg, one-le-sum}
 use Rattle.measures.specs.Meaning.Limits.{partsInOne}
 use Rattle.rules.specs.Meaning.Hour.{Case, Plan, Prices, buys, orderNet, linkUse, linkRoom, branchUse, branchRoom, zonePrice, orderWelfare, welfare, surplusOf, orderSurplus, surplus, branchValue, branchTotal, spread, linkValue, linkTotal, networkBound, bound, rent}
 use Rattle.rules.specs.Meaning.Clearing.{Clearing}
-use Rattle.rules.specs.Steps.Duality.{Placed, order-le, link-le, rest, by-orders, rent-is, rent-split, over-links, over-branches, branches-are, in-cents}
+use Rattle.rules.specs.Steps.Duality.{Placed, branches-within, share-within, order-le, link-le, rest, by-orders, rent-is, rent-split, over-links, over-branches, branches-are, in-cents}
 
 unfoldable pub orderShort : Case → Prices → Plan → ℕ → ℤ
 orderShort c d p i = pos (p .den) *ℤ orderSurplus c d i
@@ -25,7 +25,7 @@ unfoldable pub linkShort : Case → Prices → Plan → ℕ → ℤ
 linkShort c d p l = pos (p .share) *ℤ (linkValue c d l)
     -ℤ pos partsInOne *ℤ (pos (p .flow l) *ℤ (spread c d l))
 
--- what is left since each total is at most the larger
+-- what is left since each total, weighed by its share, is at most the network's bound
 unfoldable pub slack : Case → Prices → Plan → ℤ
 slack c d p = pos (partsInOne * p .den - p .share) *ℤ (networkBound c d -ℤ branchTotal c d) +ℤ pos (p .share) *ℤ (networkBound c d -ℤ linkTotal c d)
 
@@ -98,10 +98,8 @@ module _ (c : Case) (ok : Placed c) (d : Prices) (p : Plan) (cl : Clearing c p) 
       one x r s k h = le-by (at x ⊗ at (pos s)) (at (pos k) ⊗ (at r ⊗ at (pos s))) (omega (arith, mul-le-mul-right s (le-fact (at x) (at (pos k) ⊗ at r) h)))
 
   pub slack-short : pos 0 ≤ℤ slack c d p
-  unfolding slack networkBound
-  slack-short = add-nonneg
-      (times-nonneg (partsInOne * p .den - p .share) (diff-nonneg (larger-left (branchTotal c d) (linkTotal c d))))
-      (times-nonneg (p .share) (diff-nonneg (larger-right (branchTotal c d) (linkTotal c d))))
+  unfolding slack
+  slack-short = add-nonneg (times-nonneg (partsInOne * p .den - p .share) (diff-nonneg (branches-within c d))) (share-within c ok d p cl)
 
   -- so at a gap of zero no link falls short
   pub link-exact : pos (p .den) *ℤ bound c d ≡ welfare c p → (l : ℕ) → l < c .links → linkShort c d p l ≡ pos 0

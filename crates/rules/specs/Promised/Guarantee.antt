@@ -13,7 +13,7 @@ use Rattle.rules.specs.Meaning.Hour.{Plan, Prices, caseOf, planOf, price
 use Rattle.rules.specs.Meaning.Clearing.{Clearing}
 use Rattle.rules.specs.Meaning.Verdict.{outcome, Readable}
 use Rattle.rules.specs.Meaning.Report.{reports, bufferAfter}
-use Rattle.rules.specs.Meaning.Promise.{Allowed, Accurate, GapWithin, Covered, Best, CoveredInFull}
+use Rattle.rules.specs.Meaning.Promise.{Allowed, Accurate, GapWithin, HasLink, Covered, Best, CoveredInFull}
 use Rattle.rules.specs.Steps.Duality
 use Rattle.rules.specs.Steps.Passed.{Sound, sound, case-sound, within-tolerance}
 use Rattle.rules.specs.Promised.Reported.{reported}
@@ -48,23 +48,23 @@ gap-range s t room a = (
   within-tolerance s t room (a .answer),
 )
 
--- the rent covers the link total, that of the capacities, up to the gap
-pub links-covered : (s t : List ℕ) (room : ℕ) → Accepted s t room
+-- of an hour with a link (S-6) the rent covers the link total, that of the capacities, up to the gap
+pub links-covered : (s t : List ℕ) (room : ℕ) → Accepted s t room → HasLink s
     → (linkTotal (caseOf s) (pricesOf s t) -ℤ gap (caseOf s) (planOf s t) (pricesOf s t)) ≤ℤ rent (caseOf s) (planOf s t) (pricesOf s t)
 unfolding planOf
-links-covered s t room a = Duality.links-covered (caseOf s) ((case-sound s ((accepted-sound s t room a) .readable)) .placed) (pricesOf s t) (planOf s t) (allowed s t room a) refl
+links-covered s t room a linked = Duality.links-covered (caseOf s) linked ((case-sound s ((accepted-sound s t room a) .readable)) .placed) (pricesOf s t) (planOf s t) (allowed s t room a) refl
 
 -- of a readable case no more is owed, on the contracted volumes, than the link total (S-4)
 pub owed-within : (s : List ℕ) → Readable s → (d : Prices) → owed (caseOf s) d ≤ℤ linkTotal (caseOf s) d
 owed-within s r d = Duality.owed-le (caseOf s) ((case-sound s r) .contracted-in) d
 
 -- so the rent covers what is owed, up to the gap
-pub coverage : (s t : List ℕ) (room : ℕ) → Accepted s t room
+pub coverage : (s t : List ℕ) (room : ℕ) → Accepted s t room → HasLink s
     → (owed (caseOf s) (pricesOf s t) -ℤ gap (caseOf s) (planOf s t) (pricesOf s t)) ≤ℤ rent (caseOf s) (planOf s t) (pricesOf s t)
 unfolding planOf
-coverage s t room a =
+coverage s t room a linked =
     let ok = case-sound s ((accepted-sound s t room a) .readable) in
-    Duality.coverage (caseOf s) (ok .placed) (ok .contracted-in) (pricesOf s t) (planOf s t) (allowed s t room a) refl
+    Duality.coverage (caseOf s) linked (ok .placed) (ok .contracted-in) (pricesOf s t) (planOf s t) (allowed s t room a) refl
 
 -- at a gap of zero the proposal's welfare is the highest of all clearings
 pub best-at-zero-gap : (s t : List ℕ) (room : ℕ) → Accepted s t room → gap (caseOf s) (planOf s t) (pricesOf s t) ≡ pos 0
@@ -80,9 +80,9 @@ best-at-zero-gap s t room a z q cl = no-gap (welfare (caseOf s) q) (welfare (cas
         ))
 
 -- and the rent covers all that is owed
-pub covered-at-zero-gap : (s t : List ℕ) (room : ℕ) → Accepted s t room → gap (caseOf s) (planOf s t) (pricesOf s t) ≡ pos 0
+pub covered-at-zero-gap : (s t : List ℕ) (room : ℕ) → Accepted s t room → HasLink s → gap (caseOf s) (planOf s t) (pricesOf s t) ≡ pos 0
     → owed (caseOf s) (pricesOf s t) ≤ℤ rent (caseOf s) (planOf s t) (pricesOf s t)
-covered-at-zero-gap s t room a z = whole (owed (caseOf s) (pricesOf s t)) (gap (caseOf s) (planOf s t) (pricesOf s t)) (rent (caseOf s) (planOf s t) (pricesOf s t)) z (coverage s t room a)
+covered-at-zero-gap s t room a linked z = whole (owed (caseOf s) (pricesOf s t)) (gap (caseOf s) (planOf s t) (pricesOf s t)) (rent (caseOf s) (planOf s t) (pricesOf s t)) z (coverage s t room a linked)
   where
     whole : (o g r : ℤ) → g ≡ pos 0 → (o -ℤ g) ≤ℤ r → o ≤ℤ r
     whole o g r z h = le-by (at o) (at r) (omega (arith, le-fact (at o ⊖ at g) (at r) h, eq-fact (at g) (at (pos 0)) z))
@@ -92,9 +92,9 @@ pub record Demand3 (s t : List ℕ) (report : List ℕ) : Type 0 where
   pub is-allowed : Allowed s t
   pub is-accurate : Accurate s report
   pub gap-in : GapWithin s report
-  pub is-covered : Covered report
+  pub is-covered : HasLink s → Covered report
   pub is-best : Best s report
-  pub covered-in-full : CoveredInFull report
+  pub covered-in-full : HasLink s → CoveredInFull report
 
 pub demand-3 : (s t buffer : List ℕ) → Accepted s t (length buffer) → Demand3 s t (bufferAfter s t buffer)
 unfolding reports
@@ -104,7 +104,7 @@ demand-3 s t buffer a =
       is-allowed = allowed s t (length buffer) a;
       is-accurate = λ q cl. rw (r .welfare-at, r .gap-at) (accuracy s t (length buffer) a q cl);
       gap-in = (rw (r .gap-at) ((gap-range s t (length buffer) a) .0), rw (r .gap-at) ((gap-range s t (length buffer) a) .1));
-      is-covered = rw (r .owed-at, r .gap-at, r .rent-at) (coverage s t (length buffer) a);
+      is-covered = λ linked. rw (r .owed-at, r .gap-at, r .rent-at) (coverage s t (length buffer) a linked);
       is-best = λ z q cl. rw (r .welfare-at) (best-at-zero-gap s t (length buffer) a (sym (r .gap-at) ∙ z) q cl);
-      covered-in-full = λ z. rw (r .owed-at, r .rent-at) (covered-at-zero-gap s t (length buffer) a (sym (r .gap-at) ∙ z));
+      covered-in-full = λ linked z. rw (r .owed-at, r .rent-at) (covered-at-zero-gap s t (length buffer) a linked (sym (r .gap-at) ∙ z));
     }

@@ -16,7 +16,7 @@ use Rattle.integers.specs.Bytes.{signed64}
 use Rattle.integers.specs.Ranges.{outside, isZero, is-true, is-false}
 use Rattle.measures.specs.Meaning.Limits as limits
 use Rattle.rules.specs.Meaning.Layout.{u32At, caseVersion, linksIn, contracts, capacityIn, contractedIn, branchFieldAt, linkFields, linkFieldAt, orderFields, orderFieldAt, zoneCounts, branchCounts, linkCounts, orderCounts, caseLength, flowIn, shadowAt, shadowIn, shareIn, systemIn, volumeIn, proposalLength}
-use Rattle.rules.specs.Meaning.Hour.{Case, Plan, Prices, caseOf, planOf, pricesOf, zonePrice}
+use Rattle.rules.specs.Meaning.Hour.{Case, Plan, Prices, caseOf, planOf, pricesOf, zonePrice, noLink}
 use Rattle.rows.specs.declared.Outcome.{Outcome}
 use Rattle.rows.specs.Meaning.Rows.{Row, verdict, firstBelow, anyBelow, firstField, placeElse, refusal, answer}
 use Rattle.rows.specs.Promised.RowLaws.{First, first-is, first-ext, first-field, row-found, row-clear, field-fails, else-refusal, refusal-append, behind}
@@ -193,15 +193,16 @@ module _ (s : List ℕ) (version-1 : caseVersion s ≡ 1) (long : 14 ≤ length 
           rows .is
 
       clearing-mapped : Placed c → refusal (clearingRows e p d) ≡ mapped f (refusal (clearingRows c p d))
-      unfolding clearingRows counted movedIndex
+      unfolding clearingRows counted movedIndex noLink
       clearing-mapped ok =
           let rows : Maps f (clearingRows c p d) (clearingRows e p d) =
           more refl (λ i h. ap (λ (n : ℕ). ltb n (p .volume i)) (same .quantity-same i h)) (λ k x. refl)
           (more refl (λ k h. ap (λ (x : ℤ). not (isZero x)) (net-sum c (caseOf v) same p)) (λ k x. refl)
+          (more refl (λ k h. refl) (λ k x. refl)
           (more refl (λ l h. link-broken c (caseOf v) same p l h) (λ k x. refl)
           (more refl (λ m h. branch-broken c (caseOf v) same p m h) (λ k x. refl)
           (more refl (λ z h. ap (outside limits.zonePrice) (zone-price c (caseOf v) same d z h)) (λ k x. refl)
-          (more refl (λ k h. ap (overZ (limits.microcentsOf (pos (c .tolerance)))) (gap-same c (caseOf v) same d ok p)) (λ k x. refl) no-rows))))) in
+          (more refl (λ k h. ap (overZ (limits.microcentsOf (pos (c .tolerance)))) (gap-same c (caseOf v) same d ok p)) (λ k x. refl) no-rows)))))) in
           rows .is
 
       case-is : caseOf v ≡ e

@@ -1,17 +1,20 @@
--- Weak duality of the clearing: no clearing's welfare passes the bound (accuracy), and the rent covers the link total, and so what is owed, up to the gap (coverage). Assumes nothing.
+-- Weak duality of the clearing: no clearing's welfare passes the bound (accuracy), and where there is a link the rent covers the link total, and so what is
+-- owed, up to the gap (coverage). Assumes nothing.
 use mathlib.Core.Path.{_≡_, sym, ap, _∙_}
-use mathlib.Core.Bool.{Bool, true, false}
+use mathlib.Core.Bool.{Bool, true, false, cond}
 use Prim.Native.Nat.{ℕ, _+_, _*_, _-_, _≤_, _<_}
 use native.Mathlib.Nat.{mul-le-mul-left, mul-le-mul-right}
 use native.Mathlib.Omega.{arith}
+use native.Mathlib.Decide.{decLt}
+use borrow.Author.Tests.{ne-eqb}
 use lib.Dec.{eqb}
 use lib.IntN.{ℤ, pos, negsuc, _+ℤ_, _-ℤ_, _*ℤ_}
-use lib.Signed.{_≤ℤ_}
+use lib.Signed.{_≤ℤ_, ≤ℤ-refl}
 use Rattle.integers.specs.Difference.{up, dn, at, _⊕_, _⊖_, _⊗_, ⊝_, le-by, eq-by, le-fact, eq-fact}
-use Rattle.integers.specs.Order.{positive, larger-left, larger-right, scaled}
+use Rattle.integers.specs.Order.{larger, positive, cond-ind, diff-nonneg, mul-nonneg, larger-left, larger-right, scaled}
 use Rattle.integers.specs.Sums.{sumTo, only, sum-ext, sum-le, sum-zero, sum-add, sum-sub, sum-scale, sum-scale-l, gather, sum-weights}
 use Rattle.measures.specs.Meaning.Limits.{partsInOne}
-use Rattle.rules.specs.Meaning.Hour.{Case, Plan, Prices, signed, buys, above, orderNet, net, inflow, outflow, ltaPart, fbPart, netSum, linkUse, linkRoom, branchUse, branchRoom, branchPrice, zonePrice, orderWelfare, welfare, surplusOf, orderSurplus, surplus, branchValue, branchTotal, spread, linkValue, linkTotal, linkOwed, owed, networkBound, bound, gap, rent}
+use Rattle.rules.specs.Meaning.Hour.{Case, Plan, Prices, signed, buys, above, orderNet, net, inflow, outflow, ltaPart, fbPart, netSum, linkUse, linkRoom, branchUse, branchRoom, branchPrice, zonePrice, orderWelfare, welfare, surplusOf, orderSurplus, surplus, branchValue, branchTotal, spread, linkValue, linkTotal, linkOwed, owed, noLink, networkBound, bound, gap, rent}
 use Rattle.rules.specs.Meaning.Clearing.{Clearing}
 
 -- every zone that a link or an order names is a zone of the case
@@ -19,6 +22,32 @@ pub record Placed (c : Case) : Type 0 where
   pub from-in : (l : ℕ) → l < c .links → c .from l < c .zones
   pub to-in : (l : ℕ) → l < c .links → c .to l < c .zones
   pub zone-in : (i : ℕ) → i < c .orders → c .zone i < c .zones
+
+-- RULE 10'S PART OF THE NETWORK: the branch total alone without links (S-6), the larger of both totals with one
+pub without-links-is : (c : Case) (d : Prices) → c .links ≡ 0 → networkBound c d ≡ branchTotal c d
+unfolding networkBound noLink
+without-links-is c d e = ap (λ (n : ℕ). cond (eqb n 0) (branchTotal c d) (larger (branchTotal c d) (linkTotal c d))) e
+
+pub with-links-is : (c : Case) (d : Prices) → 0 < c .links → networkBound c d ≡ larger (branchTotal c d) (linkTotal c d)
+unfolding networkBound noLink
+with-links-is c d h = ap (λ (b : Bool). cond b (branchTotal c d) (larger (branchTotal c d) (linkTotal c d))) (ne-eqb (c .links) 0 (λ e. none e))
+  where
+    none : c .links ≡ 0 → ⊥
+    none e = omega (arith, h)
+
+pub branches-within : (c : Case) (d : Prices) → branchTotal c d ≤ℤ networkBound c d
+unfolding networkBound
+branches-within c d = cond-ind (noLink c) (branchTotal c d) (larger (branchTotal c d) (linkTotal c d)) (λ z. branchTotal c d ≤ℤ z) (λ t. ≤ℤ-refl (branchTotal c d)) (λ t. larger-left (branchTotal c d) (linkTotal c d))
+
+pub links-within : (c : Case) (d : Prices) → 0 < c .links → linkTotal c d ≤ℤ networkBound c d
+links-within c d h = rw (with-links-is c d h) (larger-right (branchTotal c d) (linkTotal c d))
+
+-- weighed by an LTA share, which is 0 without links, the link total is within it in every hour
+pub weighed-within : (c : Case) (d : Prices) (a : ℤ) → pos 0 ≤ℤ a → (c .links ≡ 0 → a ≡ pos 0) → pos 0 ≤ℤ (a *ℤ (networkBound c d -ℤ linkTotal c d))
+weighed-within c d a h none = elim (decLt 0 (c .links)) [ yes l ↦ mul-nonneg a (networkBound c d -ℤ linkTotal c d) h (diff-nonneg (links-within c d l)) | no g ↦ nothing (networkBound c d -ℤ linkTotal c d) (none (omega arith)) ]
+  where
+    nothing : (x : ℤ) → a ≡ pos 0 → pos 0 ≤ℤ (a *ℤ x)
+    nothing x e = rw e (le-by (at (pos 0)) (at (pos 0) ⊗ at x) (omega arith))
 
 -- v of at most e q units at t each: no more than e times what q units bring, where that is positive
 pub at-most : (v q e : ℕ) (t : ℤ) → v ≤ e * q → (pos v *ℤ t) ≤ℤ (pos e *ℤ positive (pos q *ℤ t))
@@ -51,9 +80,9 @@ link-le f k a (pos n) h = le-by (at (pos partsInOne) ⊗ (at (pos f) ⊗ at (pos
 link-le f k a (negsuc n) h = le-by (at (pos partsInOne) ⊗ (at (pos f) ⊗ at (negsuc n))) (at (pos a) ⊗ (at (pos k) ⊗ at (positive (negsuc n))))
     (omega (arith, mul-le-mul-left (a * k) (le-fact (at (pos 0)) (at (positive (negsuc n))) (larger-left (pos 0) (negsuc n)))))
 
--- the last step: r is the rent, split in what the branches and the links bound; g is the branches' total in cents, o the links', m the larger
+-- the last step: r is the rent, split in what the branches and the links bound; g is the branches' total in cents, o the links', m the network's bound
 weighed : (r x y g o m : ℤ) (e a k : ℕ) → k + a ≡ partsInOne * e → r ≡ x +ℤ y
-    → x ≤ℤ (pos k *ℤ g) → (pos partsInOne *ℤ y) ≤ℤ (pos a *ℤ o) → (pos partsInOne *ℤ g) ≤ℤ m → o ≤ℤ m → r ≤ℤ (pos e *ℤ m)
+    → x ≤ℤ (pos k *ℤ g) → (pos partsInOne *ℤ y) ≤ℤ (pos a *ℤ o) → (pos partsInOne *ℤ g) ≤ℤ m → pos 0 ≤ℤ (pos a *ℤ (m -ℤ o)) → r ≤ℤ (pos e *ℤ m)
 weighed r x y g o m e a k hk hr hx hy hg ho =
     le-by (at r) (at (pos e) ⊗ at m)
     (omega (
@@ -62,7 +91,7 @@ weighed r x y g o m e a k hk hr hx hy hg ho =
       le-fact (at x) (at (pos k) ⊗ at g) hx,
       le-fact (at (pos partsInOne) ⊗ at y) (at (pos a) ⊗ at o) hy,
       le-fact (at (pos k) ⊗ (at (pos partsInOne) ⊗ at g)) (at (pos k) ⊗ at m) (scaled k hg),
-      le-fact (at (pos a) ⊗ at o) (at (pos a) ⊗ at m) (scaled a ho),
+      le-fact (at (pos 0)) (at (pos a) ⊗ (at m ⊖ at o)) ho,
       ap (λ (j : ℕ). j * up m) hk,
       ap (λ (j : ℕ). j * dn m) hk,
     ))
@@ -172,10 +201,13 @@ module _ (c : Case) (ok : Placed c) (d : Prices) (p : Plan) (cl : Clearing c p) 
       one : (x r : ℤ) (s k : ℕ) → x ≤ℤ (pos k *ℤ r) → (x *ℤ pos s) ≤ℤ (pos k *ℤ (r *ℤ pos s))
       one x r s k h = le-by (at x ⊗ at (pos s)) (at (pos k) ⊗ (at r ⊗ at (pos s))) (omega (arith, mul-le-mul-right s (le-fact (at x) (at (pos k) ⊗ at r) h)))
 
+  pub share-within : pos 0 ≤ℤ (pos (p .share) *ℤ (networkBound c d -ℤ linkTotal c d))
+  share-within = weighed-within c d (pos (p .share)) (le-by (at (pos 0)) (at (pos (p .share))) (omega arith)) (λ e. ap pos (cl .without-links e))
+
   pub rent-le : rent c p d ≤ℤ (pos (p .den) *ℤ networkBound c d)
-  unfolding branchTotal in-cents networkBound
+  unfolding branchTotal in-cents
   rent-le = weighed (rent c p d) over-branches over-links in-cents (linkTotal c d) (networkBound c d) (p .den) (p .share) (partsInOne * p .den - p .share)
-      (omega (arith, cl .share-in)) rent-split branches-le links-le (larger-left (branchTotal c d) (linkTotal c d)) (larger-right (branchTotal c d) (linkTotal c d))
+      (omega (arith, cl .share-in)) rent-split branches-le links-le (branches-within c d) share-within
 
   -- ACCURACY: no clearing's welfare is above the bound
   pub welfare-bound : welfare c p ≤ℤ (pos (p .den) *ℤ bound c d)
@@ -194,16 +226,16 @@ pub accuracy : (c : Case) → Placed c → (d : Prices) (q p : Plan) → Clearin
 unfolding gap
 accuracy c ok d q p cl = rw (eq-by (at (welfare c q) ⊕ (at (bound c d) ⊖ at (welfare c q))) (at (bound c d)) (omega arith)) (welfare-bound c ok d p cl)
 
--- COVERAGE: the rent of a clearing over denominator 1 is at least the link total, less the gap
-pub links-covered : (c : Case) → Placed c → (d : Prices) (q : Plan) → Clearing c q → q .den ≡ 1 → (linkTotal c d -ℤ gap c q d) ≤ℤ rent c q d
-unfolding gap bound networkBound
-links-covered c ok d q cl one = le-by (at oo ⊖ (at ss ⊕ at mm ⊖ at ww)) (at rr)
+-- COVERAGE: where there is a link (S-6), the rent of a clearing over denominator 1 is at least the link total, less the gap
+pub links-covered : (c : Case) → 0 < c .links → Placed c → (d : Prices) (q : Plan) → Clearing c q → q .den ≡ 1 → (linkTotal c d -ℤ gap c q d) ≤ℤ rent c q d
+unfolding gap bound
+links-covered c linked ok d q cl one = le-by (at oo ⊖ (at ss ⊕ at mm ⊖ at ww)) (at rr)
     (omega (
       arith,
       le-fact (at ww ⊖ at rr) (at (pos (q .den)) ⊗ at ss) (welfare-le c ok d q cl),
       ap (λ (k : ℕ). k * up ss) one,
       ap (λ (k : ℕ). k * dn ss) one,
-      le-fact (at oo) (at mm) (larger-right (branchTotal c d) oo),
+      le-fact (at oo) (at mm) (links-within c d linked),
     ))
   where
     ss : ℤ
@@ -234,8 +266,8 @@ pub owed-le : (c : Case) → ((l : ℕ) → l < c .links → c .contracted l ≤
 unfolding owed linkOwed linkTotal linkValue
 owed-le c within d = sum-le (c .links) _ _ (λ l h. more-le (c .contracted l) (c .capacity l) (spread c d l) (within l h))
 
-pub coverage : (c : Case) → Placed c → ((l : ℕ) → l < c .links → c .contracted l ≤ c .capacity l) → (d : Prices) (q : Plan) → Clearing c q → q .den ≡ 1 → (owed c d -ℤ gap c q d) ≤ℤ rent c q d
-coverage c ok within d q cl one = less (owed c d) (linkTotal c d) (gap c q d) (rent c q d) (owed-le c within d) (links-covered c ok d q cl one)
+pub coverage : (c : Case) → 0 < c .links → Placed c → ((l : ℕ) → l < c .links → c .contracted l ≤ c .capacity l) → (d : Prices) (q : Plan) → Clearing c q → q .den ≡ 1 → (owed c d -ℤ gap c q d) ≤ℤ rent c q d
+coverage c linked ok within d q cl one = less (owed c d) (linkTotal c d) (gap c q d) (rent c q d) (owed-le c within d) (links-covered c linked ok d q cl one)
   where
     less : (o k g r : ℤ) → o ≤ℤ k → (k -ℤ g) ≤ℤ r → (o -ℤ g) ≤ℤ r
     less o k g r h i = le-by (at o ⊖ at g) (at r) (omega (arith, le-fact (at o) (at k) h, le-fact (at k ⊖ at g) (at r) i))

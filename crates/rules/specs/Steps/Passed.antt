@@ -1,5 +1,5 @@
 -- What the rows of the table leave where they pass: every limit of a readable case, of a proposal, and a clearing of the case. Assumes nothing.
-use mathlib.Core.Path.{_≡_, refl, sym, ap}
+use mathlib.Core.Path.{_≡_, refl, sym, ap, subst}
 use mathlib.Core.Bool.{Bool, true, false, not, _&&_, _||_}
 use mathlib.Core.List.{List}
 use mathlib.Core.Option.{none}
@@ -14,12 +14,12 @@ use Rattle.integers.specs.Ranges.{Within, within, nat-within, nor-left, nor-rig
 use Rattle.measures.specs.Meaning.Limits as limits
 use Rattle.measures.specs.Meaning.Limits.{partsInOne}
 use Rattle.rules.specs.Meaning.Layout.{reportRoom, linkFields, orderFields, caseLength, proposalLength}
-use Rattle.rules.specs.Meaning.Hour.{Case, Plan, Prices, caseOf, planOf, pricesOf, netSum, linkUse, linkRoom, zonePrice, gap}
+use Rattle.rules.specs.Meaning.Hour.{Case, Plan, Prices, caseOf, planOf, pricesOf, netSum, linkUse, linkRoom, zonePrice, noLink, gap}
 use Rattle.rules.specs.Meaning.Clearing.{Clearing}
 use Rattle.rules.specs.Meaning.Annex.{PairsOnce}
 use Rattle.rows.specs.Meaning.Rows.{refusal, Pass}
 use Rattle.rows.specs.Promised.RowLaws.{has-before, isRow, rowOf, hasRow, before, row-passed, lacks, no-place, later, none-zero, rowNumbered, number-passes, field-at-passes}
-use Rattle.rules.specs.Meaning.Verdict.{unknown, branchFault, repeated, linkFault, rowFault, orderFault, roomRows, caseRows, proposalRows, clearingRows, table, outcome, Readable, caseRefusal, proposalRefusal}
+use Rattle.rules.specs.Meaning.Verdict.{over, unknown, branchFault, repeated, linkFault, rowFault, orderFault, roomRows, caseRows, proposalRows, clearingRows, table, outcome, Readable, caseRefusal, proposalRefusal}
 use Rattle.rules.specs.Meaning.Report.{reports}
 use Rattle.rules.specs.Steps.Duality.{Placed}
 
@@ -160,6 +160,14 @@ pub proposal-length : (s t : List ℕ) → proposalRefusal s t ≡ none → leng
 unfolding proposalRefusal
 proposal-length s t e = proposal-rows-length s t (caseOf s) (planOf s t) (pricesOf s t) e
 
+-- row 27 (S-6)
+no-share : (c : Case) (share : ℕ) → c .links ≡ 0 → T (not (noLink c && over 0 share)) → share ≡ 0
+unfolding noLink
+no-share c share e t = none (nltb→le 0 share (subst (λ (n : ℕ). T (not (eqb n 0 && over 0 share))) e t))
+  where
+    none : share ≤ 0 → share ≡ 0
+    none h = omega arith
+
 -- the rows before 26
 module _ (c : Case) (p : Plan) (d : Prices) (one : p .den ≡ 1) (share-in : p .share ≤ partsInOne)
     (rows : (n k : ℕ) → T (hasRow n k (before 26 (clearingRows c p d))) → Pass (rowOf n k (clearingRows c p d))) where
@@ -170,6 +178,7 @@ module _ (c : Case) (p : Plan) (d : Prices) (one : p .den ≡ 1) (share-in : p .
       den-positive = omega (arith, one);
       volume-in = λ i h. omega (arith, one, ap (λ (k : ℕ). k * c .quantity i) one, nltb→le (c .quantity i) (p .volume i) ((rows 21 0 tt) .pass i h));
       share-in = omega (arith, one);
+      without-links = λ e. no-share c (p .share) e ((rows 27 0 tt) .pass 0 (omega arith));
       balance = zero-is (netSum c p) (not-not (isZero (netSum c p)) ((rows 22 0 tt) .pass 0 (omega arith)));
       link = λ l h. nltb→le (linkRoom c p l) (linkUse c p l) ((rows 23 0 tt) .pass l h);
       branch = λ m h. ltZ-no ((rows 24 0 tt) .pass m h);

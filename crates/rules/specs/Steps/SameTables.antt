@@ -1,7 +1,7 @@
 -- Two cases with the same counts, and the same fields below them: rules 1 to 11 give the same numbers, and row 6 to 8's and 21 to 26's tests the same
 -- answers. What stands past the counts is never read. Assumes nothing.
 use mathlib.Core.Path.{_≡_, refl, ap, _∙_}
-use mathlib.Core.Bool.{Bool, _&&_, _||_}
+use mathlib.Core.Bool.{Bool, cond, _&&_, _||_}
 use Prim.Native.Nat.{ℕ, zero, suc, _+_, _*_, _<_}
 use native.Mathlib.Omega.{arith}
 use lib.Dec.{eqb, ltb}
@@ -12,7 +12,7 @@ use Rattle.integers.specs.Ranges.{outside}
 use Rattle.integers.specs.Sums.{only, sum-ext}
 use Rattle.measures.specs.Meaning.Limits as limits
 use Rattle.measures.specs.Meaning.Limits.{partsInOne}
-use Rattle.rules.specs.Meaning.Hour.{Case, Plan, Prices, signed, buys, orderNet, net, inflow, outflow, ltaPart, fbPart, netSum, broken, brokenZ, linkUse, linkRoom, linkRule, branchUse, branchRoom, branchRule, branchPrice, zonePrice, orderWelfare, welfare, surplusOf, orderSurplus, surplus, branchValue, branchTotal, spread, linkValue, linkTotal, linkOwed, owed, networkBound, bound, gap, rent}
+use Rattle.rules.specs.Meaning.Hour.{Case, Plan, Prices, signed, buys, orderNet, net, inflow, outflow, ltaPart, fbPart, netSum, broken, brokenZ, linkUse, linkRoom, linkRule, branchUse, branchRoom, branchRule, branchPrice, zonePrice, orderWelfare, welfare, surplusOf, orderSurplus, surplus, branchValue, branchTotal, spread, linkValue, linkTotal, linkOwed, owed, noLink, networkBound, bound, gap, rent}
 use Rattle.rows.specs.Meaning.Rows.{anyBelow}
 use Rattle.rules.specs.Meaning.Verdict.{over, unknown, branchFault, repeated, linkFault, rowFault, orderFault}
 use Rattle.rules.specs.Meaning.Report.{totalsOf}
@@ -178,8 +178,8 @@ module _ (c e : Case) (w : SameTables c e) where
       owed-same = sum-ext (c .links) _ _ (λ l h. λ j. pos (w .contracted-same l h j) *ℤ positive (spread-same l h j))
 
       pub bound-same : bound c d ≡ bound other d
-      unfolding bound networkBound
-      bound-same = λ j. surplus-same j +ℤ larger (branch-total j) (link-total j)
+      unfolding bound networkBound noLink counted
+      bound-same = λ j. surplus-same j +ℤ cond (eqb (c .links) 0) (branch-total j) (larger (branch-total j) (link-total j))
 
       module _ (p : Plan) where
         pub gap-same : gap c p d ≡ gap other p d

@@ -10,7 +10,7 @@ use Rattle.integers.specs.Sums.{sumTo}
 use Rattle.integers.specs.Bytes.{bytesOf}
 use Rattle.integers.specs.Ranges.{minus, outside, isZero}
 use Rattle.rules.specs.Meaning.Layout.{u8At, u16At, u32At, i32At, caseVersion, zonesIn, branchesIn, linksIn, ordersIn, toleranceIn, branchSize, branchAt, ramIn, ptdfIn, linkAt, fromIn, toIn, capacityIn, contracts, contractedSize, contractedIn, orderAt, zoneIn, sideIn, quantityIn, priceIn, caseLength, proposalVersion, shareIn, systemIn, volumeIn, flowIn, shadowAt, shadowIn, proposalLength, reportRoom}
-use Rattle.rules.specs.Meaning.Hour.{caseOf, planOf, pricesOf, buys, orderNet, net, inflow, outflow, ltaPart, fbPart, netSum, linkUse, linkRoom, branchUse, branchRoom, branchPrice, zonePrice, orderWelfare, welfare, surplusOf, orderSurplus, surplus, branchValue, branchTotal, spread, linkValue, linkTotal, linkOwed, owed, networkBound, bound, gap, rent}
+use Rattle.rules.specs.Meaning.Hour.{caseOf, planOf, pricesOf, buys, orderNet, net, inflow, outflow, ltaPart, fbPart, netSum, linkUse, linkRoom, branchUse, branchRoom, branchPrice, zonePrice, orderWelfare, welfare, surplusOf, orderSurplus, surplus, branchValue, branchTotal, spread, linkValue, linkTotal, linkOwed, owed, noLink, networkBound, bound, gap, rent}
 use Rattle.rules.specs.Meaning.Verdict.{outcome, notMark, branchFault, repeated, linkFault, rowFault, orderFault, roomRows, caseRows, proposalRows, clearingRows, table}
 use Rattle.rows.specs.declared.Outcome.{Outcome}
 use Rattle.rows.specs.Meaning.Rows.{verdict, firstBelow, anyBelow, firstField, refusal}
@@ -181,8 +181,8 @@ examples =
     -- P10: one zone, system 400,000. P11: 400,001
     ∷ example (oneZone []) (noOrders 0 400000 []) (verdict 0 0) []
     ∷ example (oneZone []) (noOrders 0 400001 []) (verdict 25 0) []
-    -- P12: one branch of RAM -1 and PTDF 0, shadow 1,000,000, share 100,000; share 0
-    ∷ example (oneZone (branch (minus 1) (pos 0 ∷ []) ∷ [])) (noOrders 100000 0 (1000000 ∷ [])) (verdict 0 0) []
+    -- P12: one branch of RAM -1 and PTDF 0, shadow 1,000,000, share 100,000: no link, and 27 since S-6; share 0
+    ∷ example (oneZone (branch (minus 1) (pos 0 ∷ []) ∷ [])) (noOrders 100000 0 (1000000 ∷ [])) (verdict 27 0) []
     ∷ example (oneZone (branch (minus 1) (pos 0 ∷ []) ∷ [])) (noOrders 0 0 (1000000 ∷ [])) (verdict 24 0) []
     ∷ []
 
@@ -202,7 +202,7 @@ said e = record { answered = e .expected; totals = map (λ v. v .value) (e .name
 
 -- every example comes out as the paper says
 pub examples-hold : map given examples ≡ map said examples
-unfolding u8At u16At u32At i32At caseVersion zonesIn branchesIn linksIn ordersIn toleranceIn branchSize branchAt ramIn ptdfIn linkAt fromIn toIn capacityIn contracts contractedSize contractedIn orderAt zoneIn sideIn quantityIn priceIn caseLength proposalVersion shareIn systemIn volumeIn flowIn shadowAt shadowIn proposalLength sumTo caseOf planOf pricesOf buys orderNet net inflow outflow ltaPart fbPart netSum linkUse linkRoom branchUse branchRoom branchPrice zonePrice orderWelfare welfare surplusOf orderSurplus surplus branchValue branchTotal spread linkValue linkTotal linkOwed owed networkBound bound gap rent outcome firstBelow firstField refusal outside isZero anyBelow notMark branchFault repeated linkFault rowFault orderFault roomRows caseRows proposalRows clearingRows table bytesOf le32 joined branchBytes linkBytes orderBytes caseBytes proposalBytes linkAB threeZones proposal1 proposal2 oneZone noOrders examples judged given said
+unfolding u8At u16At u32At i32At caseVersion zonesIn branchesIn linksIn ordersIn toleranceIn branchSize branchAt ramIn ptdfIn linkAt fromIn toIn capacityIn contracts contractedSize contractedIn orderAt zoneIn sideIn quantityIn priceIn caseLength proposalVersion shareIn systemIn volumeIn flowIn shadowAt shadowIn proposalLength sumTo caseOf planOf pricesOf buys orderNet net inflow outflow ltaPart fbPart netSum linkUse linkRoom branchUse branchRoom branchPrice zonePrice orderWelfare welfare surplusOf orderSurplus surplus branchValue branchTotal spread linkValue linkTotal linkOwed owed noLink networkBound bound gap rent outcome firstBelow firstField refusal outside isZero anyBelow notMark branchFault repeated linkFault rowFault orderFault roomRows caseRows proposalRows clearingRows table bytesOf le32 joined branchBytes linkBytes orderBytes caseBytes proposalBytes linkAB threeZones proposal1 proposal2 oneZone noOrders examples judged given said
 examples-hold = refl
 
 -- case 102 bytes, proposal 45 bytes

@@ -1,6 +1,6 @@
 -- A readable case and an accepted hour in the Annex's own terms: the case's clearings are the solutions of (60) to (72); none of them does better than
 -- reported welfare and gap together; the proposal is one; its prices are those of (73) to (80), its rent is the left side of (81), and what is owed is at
--- most the right side (S-4), and covered with it.
+-- most the right side (S-4), and of an hour with a link (S-6) covered with it.
 -- Assumes nothing.
 use mathlib.Core.Path.{_≡_, refl, sym, ap, subst, _∙_}
 use mathlib.Core.Bool.{Bool}
@@ -62,7 +62,7 @@ annex-demand-3 s t buffer a = record {
   rent-is = rent-here;
   owed-within = rw (r .owed-at, right-side) (owed-within s readable (pricesOf s t));
   owed-all = λ e. r .owed-at ∙ all-contracted c (pricesOf s t) e ∙ sym right-side;
-  is-covered = rw (rent-here, right-side, r .gap-at, r .rent-at) (links-covered s t (length buffer) a);
+  is-covered = λ linked. rw (rent-here, right-side, r .gap-at, r .rent-at) (links-covered s t (length buffer) a linked);
 }
   where
     no-gap : (w b : ℤ) → b -ℤ w ≡ pos 0 → pos 1 *ℤ b ≡ w

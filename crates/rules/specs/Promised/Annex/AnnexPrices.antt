@@ -1,5 +1,5 @@
 -- The Annex's prices and rule 6's: (79) and (80), both sides of (81), complementary slackness (77) at a gap of zero, and (82), that no import and export
--- which the network allows earns more at the prices than rule 10's larger total. Assumes nothing.
+-- which the network allows earns more at the prices than rule 10's bound of the network. Assumes nothing.
 use mathlib.Core.Path.{_≡_, refl, sym, ap, _∙_}
 use mathlib.Core.Bool.{Bool, true, false, not}
 use Prim.Native.Nat.{ℕ, _+_, _*_, _<_}
@@ -16,7 +16,7 @@ use Rattle.rules.specs.Meaning.Hour.{Case, Plan, Prices, zonePrice, bran
 use Rattle.rules.specs.Meaning.Clearing.{Clearing}
 use Rattle.rules.specs.Meaning.Annex.{Solution, Network, Feasible, PairsOnce, AlongLines, Route, here, onward, Connected, Multipliers, PriceConditions, Complementary, joins, byPair, capacityLTA, netFlow, congestionRent, marginValue, capacityValue, liabilities}
 use Rattle.rules.specs.Meaning.AnnexPromise.{Same, Agree, multipliersOf}
-use Rattle.rules.specs.Steps.Duality.{Placed, welfare-le}
+use Rattle.rules.specs.Steps.Duality.{Placed, branches-within, weighed-within, welfare-le}
 use Rattle.rules.specs.Promised.Gap.{linkShort, link-exact}
 use Rattle.rules.specs.Promised.Annex.CommercialFlows.{net-priced}
 use Rattle.rules.specs.Promised.Annex.Extended as extended
@@ -188,23 +188,23 @@ module _ (c : Case) {line : ℕ → ℕ → Bool} (x : Solution) (nw : Network c
       together : (a b e m v : ℤ) → a ≤ℤ pos 0 → b ≤ℤ m → (pos partsInOne *ℤ e) ≤ℤ v → (pos partsInOne *ℤ ((a +ℤ b) +ℤ e)) ≤ℤ (pos partsInOne *ℤ m +ℤ v)
       together a b e m v h g i = le-by (at (pos partsInOne) ⊗ ((at a ⊕ at b) ⊕ at e)) (at (pos partsInOne) ⊗ at m ⊕ at v) (omega (arith, le-fact (at a) (at (pos 0)) h, le-fact (at b) (at m) g, le-fact (at (pos partsInOne) ⊗ at e) (at v) i))
 
--- so at rule 6's prices no choice earns more than rule 10's larger total
+-- so at rule 6's prices no choice earns more than rule 10's bound of the network: the larger total, and without links, where α₂ is 0, the branch total (S-6)
 pub network-le : (c : Case) → Placed c → (x : Solution) → Network c x → (d : Prices) → congestionRent c x (zonePrice c d) ≤ℤ (pos (x .den) *ℤ networkBound c d)
-unfolding multipliersOf marginValue capacityValue liabilities networkBound branchTotal branchValue
+unfolding multipliersOf marginValue capacityValue liabilities branchTotal branchValue
 network-le c ok x nw d =
     weighed (congestionRent c x (zonePrice c d)) (marginValue c y) (linkTotal c d) (networkBound c d) (x .alpha1) (x .alpha2) (x .den)
     (rw (← liabilities-are c ok d) (weak-duality c x nw (record { elsewhere = λ l k hl hk t. absurd t }) y (priced-of c (λ l k. true) d)))
-    (larger-left (branchTotal c d) (linkTotal c d)) (larger-right (branchTotal c d) (linkTotal c d)) (nw .alpha-in .0) (nw .alpha-in .1) (nw .alpha-sum)
+    (branches-within c d) (weighed-within c d (x .alpha2) (nw .alpha-in .1) (nw .no-LTA)) (nw .alpha-in .0) (nw .alpha-sum)
   where
     y : Multipliers
     y = multipliersOf c d
 
-    weighed : (r m o t a b : ℤ) (e : ℕ) → (pos partsInOne *ℤ r) ≤ℤ (pos partsInOne *ℤ (a *ℤ m) +ℤ b *ℤ o) → (pos partsInOne *ℤ m) ≤ℤ t → o ≤ℤ t → pos 0 ≤ℤ a → pos 0 ≤ℤ b → a +ℤ b ≡ pos (partsInOne * e) → r ≤ℤ (pos e *ℤ t)
-    weighed r m o t a b e h hm ho ha hb s = le-by (at r) (at (pos e) ⊗ at t) (omega (
+    weighed : (r m o t a b : ℤ) (e : ℕ) → (pos partsInOne *ℤ r) ≤ℤ (pos partsInOne *ℤ (a *ℤ m) +ℤ b *ℤ o) → (pos partsInOne *ℤ m) ≤ℤ t → pos 0 ≤ℤ (b *ℤ (t -ℤ o)) → pos 0 ≤ℤ a → a +ℤ b ≡ pos (partsInOne * e) → r ≤ℤ (pos e *ℤ t)
+    weighed r m o t a b e h hm ho ha s = le-by (at r) (at (pos e) ⊗ at t) (omega (
       arith,
       le-fact (at (pos partsInOne) ⊗ at r) (at (pos partsInOne) ⊗ (at a ⊗ at m) ⊕ at b ⊗ at o) h,
       le-fact (at (pos 0)) (at a ⊗ (at t ⊖ at (pos partsInOne) ⊗ at m)) (mul-nonneg a (t -ℤ pos partsInOne *ℤ m) ha (diff-nonneg hm)),
-      le-fact (at (pos 0)) (at b ⊗ (at t ⊖ at o)) (mul-nonneg b (t -ℤ o) hb (diff-nonneg ho)),
+      le-fact (at (pos 0)) (at b ⊗ (at t ⊖ at o)) ho,
       eq-fact ((at a ⊕ at b) ⊗ at t) (at (pos (partsInOne * e)) ⊗ at t) (ap (λ (z : ℤ). z *ℤ t) s),
     ))
 

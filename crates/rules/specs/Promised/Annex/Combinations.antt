@@ -1,10 +1,11 @@
 -- Appendix B of the Annex: the network constraints (63) to (72) allow every convex combination of the flow-based domain and the LTA domain; with both
--- weights positive nothing else, and without LTA weight only points of the flow-based domain. With the whole weight on the LTA domain the Annex assumes
+-- weights positive nothing else, and without LTA weight, as in every hour without links (S-6), only points of the flow-based domain. With the whole weight on the LTA domain the Annex assumes
 -- that the PTDF constraints bound the positions; that nothing else is allowed then is not shown. Assumes nothing.
 use mathlib.Core.Path.{_≡_, refl, sym, ap, _∙_}
 use Prim.Native.Nat.{ℕ, zero, suc, _+_, _*_, _<_}
 use native.Mathlib.Nat.{mul-le-mul-left, mul-pos}
 use native.Mathlib.Omega.{arith}
+use native.Mathlib.Decide.{decLt}
 use lib.Dec.{ltb→lt}
 use lib.IntN.{ℤ, pos, negsuc, natAbs, _+ℤ_, _*ℤ_}
 use lib.Signed.{_≤ℤ_, _<ℤ_, yes-nonNeg, pos-natAbs}
@@ -51,6 +52,7 @@ allowed c y = record {
   flow-is = λ l k hl hk. refl;
   alpha-sum = eq-by (at (pos (partsInOne * (y .a1 * y .den))) ⊕ at (pos (partsInOne * (y .a2 * y .den)))) (at (pos (partsInOne * ((y .a1 + y .a2) * y .den)))) (omega arith);
   alpha-in = (le-by (at (pos 0)) (at (pos (partsInOne * (y .a1 * y .den)))) (omega arith), le-by (at (pos 0)) (at (pos (partsInOne * (y .a2 * y .den)))) (omega arith));
+  no-LTA = λ e. unweighed (y .a2) (λ w. (y .long-term w) .some-link) e;
   branch = λ m h. rw (scaled-use (c .zones) (pos (y .a1)) (c .ptdf m) (y .netposFB), ← regroup (y .a1) (y .den) (c .ram m))
       (weighed-le (y .a1) (sumTo (c .zones) (λ l. c .ptdf m l *ℤ y .netposFB l)) (pos (partsInOne * y .den) *ℤ c .ram m) (λ w. (y .flow-based w) .branch m h));
   netposFB-is = λ l h. weighed-eq (y .a1) (y .netposFB l) (netFlow (c .zones) (y .flowFB) l) (λ w. (y .flow-based w) .netpos-is l h) ∙ sym (net-scale (c .zones) (pos (y .a1)) (y .flowFB) l);
@@ -61,6 +63,11 @@ allowed c y = record {
   flowLTA-in = λ l k hl hk. weighed-in (y .a2) (y .flowLTA l k) (λ w. (y .long-term w) .flow-in l k hl hk);
 }
   where
+    -- without links there is no point of the LTA domain, and so no weight on it
+    unweighed : (a : ℕ) → (0 < a → 0 < c .links) → c .links ≡ 0 → pos (partsInOne * (a * y .den)) ≡ pos 0
+    unweighed zero h e = eq-by (at (pos (partsInOne * (0 * y .den)))) (at (pos 0)) (omega arith)
+    unweighed (suc a) h e = absurd (omega (arith, h (omega arith)))
+
     -- what holds where the weight is positive holds of the weighed sides
     weighed-le : (a : ℕ) (u v : ℤ) → (0 < a → u ≤ℤ v) → (pos a *ℤ u) ≤ℤ (pos a *ℤ v)
     weighed-le zero u v h = le-by (at (pos 0) ⊗ at u) (at (pos 0) ⊗ at v) (omega arith)
@@ -85,6 +92,12 @@ module _ (c : Case) (x : Solution) (nw : Network c x) (a b : ℕ) (is-a : pos a 
   whole : a + b ≡ partsInOne * x .den
   whole = omega (arith, eq-fact (at (pos a) ⊕ at (pos b)) (at (pos (partsInOne * x .den))) (cc (is-a, is-b, nw .alpha-sum)))
 
+  linked : 0 < c .links
+  linked = elim (decLt 0 (c .links)) [ yes h ↦ h | no g ↦ absurd (weightless (is-b ∙ nw .no-LTA (omega arith))) ]
+    where
+      weightless : pos b ≡ pos 0 → ⊥
+      weightless e = omega (arith, eq-fact (at (pos b)) (at (pos 0)) e)
+
   points : TwoPoints c
   points = record {
     den = a * b;
@@ -102,6 +115,7 @@ module _ (c : Case) (x : Solution) (nw : Network c x) (a b : ℕ) (is-a : pos a 
       flow-in = λ l k hl hk. times-nonneg (partsInOne * b) (nw .flowFB-in l k hl hk);
     };
     long-term = λ w. record {
+      some-link = linked;
       link = λ l k hl hk. link-le (x .flowLTA l k) (capacityLTA c l k) (rw (← is-b) at (nw .link l k hl hk));
       netpos-is = λ l h. ap (λ (z : ℤ). pos (partsInOne * a) *ℤ z) (nw .netposLTA-is l h) ∙ sym (net-scale (c .zones) (pos (partsInOne * a)) (x .flowLTA) l);
       flow-in = λ l k hl hk. times-nonneg (partsInOne * a) (nw .flowLTA-in l k hl hk);
@@ -145,7 +159,7 @@ only-combinations c x nw h l = record {
     above (pos n) h = ltb→lt 0 n (h .lt)
     above (negsuc n) h = absurd (h .lt)
 
--- WITHOUT LTA WEIGHT the network is the flow-based domain
+-- WITHOUT LTA WEIGHT the network is the flow-based domain; so it is without links (S-6)
 pub flow-based-alone : (c : Case) (x : Solution) → Network c x → x .alpha2 ≡ pos 0 → FBDomain c (x .den) (x .netpos) (x .flow)
 flow-based-alone c x nw e = record {
   branch = λ m h. rw (sum-ext (c .zones) (λ l. c .ptdf m l *ℤ x .netpos l) (λ l. c .ptdf m l *ℤ x .netposFB l) (λ l g. ap (λ (z : ℤ). c .ptdf m l *ℤ z) (netpos-FB l g)), ← whole (x .alpha1) (x .alpha2) e (nw .alpha-sum)) (nw .branch m h);
@@ -171,3 +185,6 @@ flow-based-alone c x nw e = record {
     netpos-FB : (l : ℕ) → l < c .zones → x .netpos l ≡ x .netposFB l
     netpos-FB l h = less (x .netpos l) (x .netposFB l) (x .netposLTA l) (nw .netpos-is l h)
         (nw .netposLTA-is l h ∙ net-ext (c .zones) (x .flowLTA) (λ l k. pos 0) no-LTA l h ∙ net-zero (c .zones) l)
+
+pub no-links-flow-based : (c : Case) (x : Solution) → Network c x → c .links ≡ 0 → FBDomain c (x .den) (x .netpos) (x .flow)
+no-links-flow-based c x nw e = flow-based-alone c x nw (nw .no-LTA e)

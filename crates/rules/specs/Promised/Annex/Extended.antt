@@ -132,6 +132,7 @@ module _ (c : Case) (ok : Placed c) (o : PairsOnce c) (p : Plan) (x : Solution) 
   clears = record {
     den-positive = omega (arith, same .den, fe .network .den-positive);
     volume-in = λ i h. volume-le (p .volume i) (x .accepted i) (p .den) (x .den) (c .quantity i) (same .den) (same .volume i h) ((fe .accepted-in i h) .1);
+    without-links = λ e. none (p .share) (x .alpha2) (same .share) (fe .network .no-LTA e);
     share-in = share-le (p .share) (p .den) (x .alpha1) (x .alpha2) (x .den) (same .den) (same .share) (fe .network .alpha-sum) (fe .network .alpha-in .0);
     balance = balanced;
     link = λ j h. link-le (p .flow j) (p .share) (c .capacity j) (x .flowLTA (c .from j) (c .to j)) (x .alpha2) (capacityLTA c (c .from j) (c .to j))
@@ -145,6 +146,9 @@ module _ (c : Case) (ok : Placed c) (o : PairsOnce c) (p : Plan) (x : Solution) 
     where
       volume-le : (v : ℕ) (a : ℤ) (e d q : ℕ) → e ≡ d → pos v ≡ a → a ≤ℤ pos (d * q) → v ≤ e * q
       volume-le v a e d q u w h = omega (arith, eq-fact (at (pos v)) (at a) w, le-fact (at a) (at (pos (d * q))) h, ap (λ (k : ℕ). k * q) u)
+
+      none : (s : ℕ) (a : ℤ) → pos s ≡ a → a ≡ pos 0 → s ≡ 0
+      none s a u w = omega (arith, eq-fact (at (pos s)) (at a) u, eq-fact (at a) (at (pos 0)) w)
 
       share-le : (s e : ℕ) (a b : ℤ) (d : ℕ) → e ≡ d → pos s ≡ b → a +ℤ b ≡ pos (partsInOne * d) → pos 0 ≤ℤ a → s ≤ partsInOne * e
       share-le s e a b d u w h l = omega (arith, eq-fact (at (pos s)) (at b) w, eq-fact (at a ⊕ at b) (at (pos (partsInOne * d))) h, le-fact (at (pos 0)) (at a) l)
@@ -222,6 +226,7 @@ module _ (c : Case) (ok : Placed c) (p : Plan) (cl : Clearing c p) where
       flow-is = λ l k hl hk. refl;
       alpha-sum = back (pos (partsInOne * p .den)) (pos (p .share));
       alpha-in = (le-by (at (pos 0)) (at (pos (partsInOne * p .den)) ⊖ at (pos (p .share))) (omega (arith, cl .share-in)), le-by (at (pos 0)) (at (pos (p .share))) (omega arith));
+      no-LTA = λ e. ap pos (cl .without-links e);
       branch = cl .branch;
       netposFB-is = λ l h. sym (r .carries l h);
       flowFB-in = λ l k hl hk. r .flow-in l k;

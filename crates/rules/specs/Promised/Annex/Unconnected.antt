@@ -46,6 +46,7 @@ allowed = record {
   den-positive = omega arith;
   volume-in = λ i h. omega arith;
   share-in = omega arith;
+  without-links = λ e. refl;
   balance = refl;
   link = λ l h. absurd (omega arith);
   branch = λ m h. absurd (omega arith);
