@@ -1,6 +1,10 @@
 // THE DRIVER: what the verdict table from row 1 to row 26 finds in an hour. Each stage is asked in the table's order, and may rest on what those before it passed.
 ghost use mathlib.Core.Path.{_≡_};
+ghost use mathlib.Core.Bool.{_&&_};
 ghost use Prim.Native.Nat.{_<_};
+ghost use lib.Dec.{eqb};
+ghost use lib.IntN.{pos};
+ghost use lib.Signed.{ltZ};
 ghost use Rattle.rules.specs.Meaning.Hour.{caseOf, planOf, pricesOf};
 ghost use Rattle.rows.specs.Meaning.Rows.{refusal};
 ghost use Rattle.rules.specs.Meaning.Verdict.{clearingRows};
@@ -16,6 +20,7 @@ use clearing::net_sum;
 use clearing::order_sums;
 use measures::Grains;
 use measures::Microcents;
+use measures::Share;
 use measures::Tenths;
 use network::branch_sums;
 use proposal_file::Opening;
@@ -88,6 +93,16 @@ fn valued(
     }
 }
 
+// Row 27 (S-6): a share of the LTA domain, which an hour without links does not have.
+fn share_without_link(links: usize, share: Share) -> bool
+    ensures { λ r. ⌜ r ≡ (eqb links 0 && ltZ (pos 0) (share .0)) ⌝ }
+{
+    if links == 0 {
+        return share.is_above_zero();
+    }
+    false
+}
+
 // Rows 21 to 26, of files that were read.
 fn find_clearing(case: &[u8], k: Counts, proposal: &[u8], opening: Opening) -> Found
     requires { ⌜ Proposed (now «case») k (now proposal) ⌝ }
@@ -102,8 +117,13 @@ fn find_clearing(case: &[u8], k: Counts, proposal: &[u8], opening: Opening) -> F
         return refused(21, i);
     }
     let nets = accepted.nets;
-    if !net_sum(nets, zones).is_zero() {
+    let unbalanced = !net_sum(nets, zones).is_zero();
+    let no_domain = share_without_link(k.links, share);
+    if unbalanced {
         return refused(22, 0);
+    }
+    if no_domain {
+        return refused(27, 0);
     }
     let exchange = link_sums(case, k, proposal, share, nets);
     let overused = exchange.overused;

@@ -1,14 +1,14 @@
 -- `findings::find_clearing` meets its contract: a row of the table for each stage, in the table's order, past each that passes to the one that fails.
 -- A stage reaches what it rests on through the stage before it, so that a row put between two others is met by the one that follows it. Assumes nothing.
 use mathlib.Core.Path.{_≡_, refl, ap, sym, subst, _∙_}
-use mathlib.Core.Bool.{not}
+use mathlib.Core.Bool.{not, _&&_}
 use mathlib.Core.List.{List}
 use mathlib.Core.Option.{Option, none, some}
 use Prim.Native.Nat.{ℕ, _≤_, _<_}
 use native.Mathlib.Omega.{arith}
 use borrow.Author.Needs.{needs}
 use denote.Ref.{now}
-use lib.Dec.{T}
+use lib.Dec.{T, eqb}
 use lib.IntN.{ℤ, pos, _-ℤ_, _*ℤ_}
 use lib.Signed.{ltZ}
 use mir.Syntax.{w64}
@@ -18,11 +18,11 @@ use Rattle.integers.specs.Size.{near-fits, near-sub, near-pos, near-unsigned}
 use Rattle.integers.specs.Machine.{SumsFit, sfits-by}
 use Rattle.measures.specs.Meaning.Limits as limits
 use Rattle.measures.specs.Meaning.Limits.{microcentsOf}
-use Rattle.rules.specs.Meaning.Hour.{Case, Plan, Prices, caseOf, planOf, pricesOf, net, netSum, zonePrice, gap, rent}
+use Rattle.rules.specs.Meaning.Hour.{Case, Plan, Prices, caseOf, planOf, pricesOf, net, netSum, zonePrice, noLink, gap, rent}
 use Rattle.rows.specs.declared.Outcome.{Outcome}
 use Rattle.rows.specs.Meaning.Rows.{Row, verdict, failing, firstBelow}
 use Rattle.rows.specs.Promised.RowLaws.{placeOf, Comes, clear, fails-at, none-left, once-fails, once-passes, behind, not-below, at-place, at-none, first-ext, place-below}
-use Rattle.rules.specs.Meaning.Verdict.{overZ, excessVolume, overusedLink, overloadedBranch, priceOutside, clearingRows}
+use Rattle.rules.specs.Meaning.Verdict.{over, overZ, excessVolume, overusedLink, overloadedBranch, priceOutside, clearingRows}
 use Rattle.rules.specs.Steps.Passed.{CaseSound, case-sound, proposal-sound}
 use Rattle.rules.specs.Promised.Fits.{balance-sums, rent-sums, system-near}
 use Rattle.rules.specs.Meaning.Report as rules
@@ -62,6 +62,10 @@ zones-is a = ap (λ (k : Counts). k .zones) (a .pre .0 .opened .counts)
 
 few-zones : (a : tie.Start) → a .args .k .zones ≤ 16
 few-zones a = omega (arith, zones-is a, (sound a) .zones-in .1)
+
+links-is : (a : tie.Start) → a .args .k .links ≡ hour a .links
+unfolding caseOf
+links-is a = ap (λ (k : Counts). k .links) (a .pre .0 .opened .counts)
 
 share-is : (a : tie.Start) → a .args .opening .share .0 ≡ pos (plan a .share)
 unfolding planOf
@@ -140,16 +144,38 @@ refused-requires-2 c κs = search needs
 returns-2 : tie.Need-returns-2
 unfolding clearingRows reports
 returns-2 c =
-    let z = c .before .before in
+    let z = c .before .before .before in
     finds-refused (verdict 22 _) (c .refused2 .ensures) refl ((past-volumes (volumes-of z) _ (fails-at 0 (once-fails (sym (ap not (balance-is z)) ∙ c .before .if1 .taken)))) .is)
 
-past-balance : (c : tie.Else1) → Past (asked (orders (volumes-of (c .before)))) 22
+past-balance : (c : tie.Else1) → Past (asked (orders (volumes-of (c .before .before)))) 22
 unfolding clearingRows
-past-balance c o q = past-volumes (volumes-of (c .before)) o (clear (once-passes (sym (ap not (balance-is (c .before))) ∙ c .if1 .left)) q)
+past-balance c o q = past-volumes (volumes-of (c .before .before)) o (clear (once-passes (sym (ap not (balance-is (c .before .before))) ∙ c .if1 .left)) q)
+
+-- 27, THE SHARE WITHOUT LINKS (S-6)
+share-without-link-requires : tie.Need-share-without-link-requires
+share-without-link-requires c κs = search needs
+
+-- as the machine asks it
+no-domain-is : (c : tie.After-share-without-link) → let a = asked (orders (volumes-of (c .before))) in c .share-without-link .result ≡ (noLink (hour a) && over 0 (plan a .share))
+unfolding noLink
+no-domain-is c = let a = asked (orders (volumes-of (c .before))) in c .share-without-link .ensures ∙ (λ j. eqb (links-is a j) 0 && ltZ (pos 0) (share-is a j))
+
+refused-requires-3 : tie.Need-refused-requires-3
+refused-requires-3 c κs = search needs
+
+returns-3 : tie.Need-returns-3
+unfolding clearingRows reports
+returns-3 c =
+    let e = c .before .before in
+    finds-refused (verdict 27 _) (c .refused3 .ensures) refl ((past-balance e _ (fails-at 0 (once-fails (sym (no-domain-is (e .before)) ∙ c .before .if2 .taken)))) .is)
+
+past-share : (c : tie.Else2) → Past (asked (orders (volumes-of (c .before .before .before)))) 27
+unfolding clearingRows
+past-share c o q = past-balance (c .before) o (clear (once-passes (sym (no-domain-is (c .before .before)) ∙ c .if2 .left)) q)
 
 -- 23, THE LINKS
 abbrev before-links : tie.After-link-sums → tie.After-enum-told
-before-links c = volumes-of (c .before .before)
+before-links c = volumes-of (c .before .before .before .before)
 
 abbrev links-asked : tie.After-link-sums → tie.Start
 links-asked c = asked (orders (before-links c))
@@ -159,7 +185,7 @@ links c = c .before .before
 
 link-sums-requires : tie.Need-link-sums-requires
 link-sums-requires c κs =
-    let v = volumes-of (c .before) in
+    let v = volumes-of (c .before .before .before) in
     let a = asked (orders v) in
     (a .pre .0, (volumes v, (share-is a, nets v)))
 
@@ -169,14 +195,14 @@ enum-known-overused c = search needs
 overused-at : (c : tie.After-overused) → failing (overusedLink (hour (links-asked (c .before .before))) (plan (links-asked (c .before .before)))) ≡ some (c .overused .given .0 .0)
 overused-at c = at-place _ _ _ (c .before .before .link-sums .ensures .0) (c .overused .given .1)
 
-refused-requires-3 : tie.Need-refused-requires-3
-refused-requires-3 c κs = let o = c .before in place-below _ _ _ 4294967296 (overused-at o) (omega (arith, (sound (links-asked (o .before .before))) .links-in))
+refused-requires-4 : tie.Need-refused-requires-4
+refused-requires-4 c κs = let o = c .before in place-below _ _ _ 4294967296 (overused-at o) (omega (arith, (sound (links-asked (o .before .before))) .links-in))
 
-returns-3 : tie.Need-returns-3
+returns-4 : tie.Need-returns-4
 unfolding clearingRows reports
-returns-3 c =
+returns-4 c =
     let o = c .before .before in
-    finds-refused (verdict 23 _) (c .refused3 .ensures) refl ((past-balance (o .before .before .before) _ (fails-at _ (overused-at o))) .is)
+    finds-refused (verdict 23 _) (c .refused4 .ensures) refl ((past-share (o .before .before .before) _ (fails-at _ (overused-at o))) .is)
 
 enum-told-2 : tie.Need-enum-told-2
 enum-told-2 c = search needs
@@ -186,7 +212,7 @@ none-overused c = at-none _ _ (links c .link-sums .ensures .0) (c .enum-told2 .g
 
 past-links : (c : tie.After-enum-told2) → Past (links-asked (links c)) 23
 unfolding clearingRows
-past-links c o q = past-balance (links c .before) o (clear (none-overused c) q)
+past-links c o q = past-share (links c .before) o (clear (none-overused c) q)
 
 -- 24, THE BRANCHES
 abbrev before-branches : tie.After-branch-sums → tie.After-enum-told2
@@ -234,14 +260,14 @@ enum-known-overloaded c = search needs
 overloaded-at : (c : tie.After-overloaded) → failing (overloadedBranch (hour (branches-asked (c .before .before))) (plan (branches-asked (c .before .before)))) ≡ some (c .overloaded .given .0 .0)
 overloaded-at c = at-place _ _ _ (c .before .before .branch-sums .ensures .0) (c .overloaded .given .1)
 
-refused-requires-4 : tie.Need-refused-requires-4
-refused-requires-4 c κs = let o = c .before in place-below _ _ _ 4294967296 (overloaded-at o) (omega (arith, (sound (branches-asked (o .before .before))) .branches-in))
+refused-requires-5 : tie.Need-refused-requires-5
+refused-requires-5 c κs = let o = c .before in place-below _ _ _ 4294967296 (overloaded-at o) (omega (arith, (sound (branches-asked (o .before .before))) .branches-in))
 
-returns-4 : tie.Need-returns-4
+returns-5 : tie.Need-returns-5
 unfolding clearingRows reports
-returns-4 c =
+returns-5 c =
     let o = c .before .before in
-    finds-refused (verdict 24 _) (c .refused4 .ensures) refl ((past-links (before-branches (o .before .before)) _ (fails-at _ (overloaded-at o))) .is)
+    finds-refused (verdict 24 _) (c .refused5 .ensures) refl ((past-links (before-branches (o .before .before)) _ (fails-at _ (overloaded-at o))) .is)
 
 enum-told-3 : tie.Need-enum-told-3
 enum-told-3 c = search needs
@@ -299,14 +325,14 @@ enum-known-outside c = search needs
 outside-at : (c : tie.After-outside) → failing (priceOutside (hour (prices-asked (c .before .before))) (rates (prices-asked (c .before .before)))) ≡ some (c .outside .given .0 .0)
 outside-at c = let f = c .before .before in sym (searched f) ∙ at-place _ _ _ (f .zone-sums .ensures .0) (c .outside .given .1)
 
-refused-requires-5 : tie.Need-refused-requires-5
-refused-requires-5 c κs = let o = c .before in let a = prices-asked (o .before .before) in place-below _ _ _ 4294967296 (outside-at o) (omega (arith, (sound a) .zones-in .1))
+refused-requires-6 : tie.Need-refused-requires-6
+refused-requires-6 c κs = let o = c .before in let a = prices-asked (o .before .before) in place-below _ _ _ 4294967296 (outside-at o) (omega (arith, (sound a) .zones-in .1))
 
-returns-5 : tie.Need-returns-5
+returns-6 : tie.Need-returns-6
 unfolding clearingRows reports
-returns-5 c =
+returns-6 c =
     let o = c .before .before in
-    finds-refused (verdict 25 _) (c .refused5 .ensures) refl ((past-branches (before-prices (o .before .before)) _ (fails-at _ (outside-at o))) .is)
+    finds-refused (verdict 25 _) (c .refused6 .ensures) refl ((past-branches (before-prices (o .before .before)) _ (fails-at _ (outside-at o))) .is)
 
 enum-told-4 : tie.Need-enum-told-4
 enum-told-4 c = search needs
@@ -369,21 +395,21 @@ gap-is c =
 valued-requires : tie.Need-valued-requires
 valued-requires c κs = search needs
 
-returns-6 : tie.Need-returns-6
+returns-7 : tie.Need-returns-7
 unfolding clearingRows reports
-returns-6 c =
+returns-7 c =
     let e = c .before .before in
-    finds-valued 26 _ _ _ _ (some (verdict 26 0)) (c .valued .ensures) refl refl (past-prices (before-gap e) _ (fails-at 0 (once-fails (sym (gap-is e) ∙ c .before .if2 .taken))))
+    finds-valued 26 _ _ _ _ (some (verdict 26 0)) (c .valued .ensures) refl refl (past-prices (before-gap e) _ (fails-at 0 (once-fails (sym (gap-is e) ∙ c .before .if3 .taken))))
     (few-zones (gap-asked e)) (zones-is (gap-asked e)) (gap-nets e) (priced (before-prices (prices (before-gap e)))) (e .before .before .before .totals .ensures)
 
 valued-requires-2 : tie.Need-valued-requires-2
 valued-requires-2 c κs = search needs
 
-returns-7 : tie.Need-returns-7
+returns-8 : tie.Need-returns-8
 unfolding clearingRows reports
-returns-7 c =
+returns-8 c =
     let e = c .before .before in
-    finds-valued 0 _ _ _ _ none (c .valued2 .ensures) refl refl (past-prices (before-gap e) _ (clear (once-passes (sym (gap-is e) ∙ c .before .if2 .left)) none-left))
+    finds-valued 0 _ _ _ _ none (c .valued2 .ensures) refl refl (past-prices (before-gap e) _ (clear (once-passes (sym (gap-is e) ∙ c .before .if3 .left)) none-left))
     (few-zones (gap-asked e)) (zones-is (gap-asked e)) (gap-nets e) (priced (before-prices (prices (before-gap e)))) (e .before .before .before .totals .ensures)
 
 pub find-clearing-spec : {M : Type 1} → statement M
@@ -397,28 +423,31 @@ find-clearing-spec =
     enum-told
     net-sum-requires
     is-zero-requires
+    share-without-link-requires
     refused-requires-2
     returns-2
-    link-sums-requires
-    enum-known-overused
     refused-requires-3
     returns-3
+    link-sums-requires
+    enum-known-overused
+    refused-requires-4
+    returns-4
     enum-told-2
     ptdf-table-requires
     rest-requires
     branch-sums-requires
     enum-known-overloaded
-    refused-requires-4
-    returns-4
+    refused-requires-5
+    returns-5
     enum-told-3
     zone-sums-requires
     enum-known-outside
-    refused-requires-5
-    returns-5
+    refused-requires-6
+    returns-6
     enum-told-4
     totals-requires
     exceeds-requires
     valued-requires
-    returns-6
+    returns-7
     valued-requires-2
-    returns-7)
+    returns-8)

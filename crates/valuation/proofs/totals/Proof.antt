@@ -1,17 +1,20 @@
 -- `valuation::totals` meets its contract: each total is its rule's, and none leaves 64 bits. Assumes nothing.
-use mathlib.Core.Path.{_≡_, _∙_}
+use mathlib.Core.Path.{_≡_, ap, _∙_}
+use mathlib.Core.Bool.{cond}
 use Prim.Native.Nat.{ℕ, _≤_, _<_}
 use native.Mathlib.Omega.{arith}
 use denote.Ref.{now}
-use lib.IntN.{_+ℤ_, _-ℤ_}
+use lib.Dec.{eqb}
+use lib.IntN.{ℤ, _+ℤ_, _-ℤ_}
 use mir.Syntax.{w64}
 use Rattle.integers.specs.Size.{near-fits}
 use Rattle.integers.specs.Machine.{sfits-by}
 use Rattle.rules.specs.Steps.Passed.{case-sound, proposal-sound, CaseSound}
 use Rattle.rules.specs.Promised.Fits.{system-near, bound-near, gap-near}
 use Rattle.integers.specs.Order.{larger}
-use Rattle.rules.specs.Meaning.Hour.{caseOf, planOf, pricesOf, networkBound, bound, gap}
+use Rattle.rules.specs.Meaning.Hour.{caseOf, planOf, pricesOf, noLink, networkBound, bound, gap}
 use Rattle.rules.specs.Meaning.Report.{totalsOf}
+use Rattle.case_header.specs.declared.Counts.{Counts}
 use borrow.Author.Needs.{needs}
 use Rattle.valuation.proofs.totals.Statement.{statement}
 use Rattle.valuation.proofs.totals.Tie as tie
@@ -19,8 +22,8 @@ use Rattle.valuation.proofs.totals.Tie as tie
 link-totals-requires : tie.Need-link-totals-requires
 link-totals-requires c κs = search needs
 
-larger-requires : tie.Need-larger-requires
-larger-requires c κs = search needs
+network-bound-requires : tie.Need-network-bound-requires
+network-bound-requires c κs = search needs
 
 surpluses-requires : tie.Need-surpluses-requires
 surpluses-requires c κs = search needs
@@ -31,16 +34,24 @@ cs a = case-sound _ (a .pre .0 .opened .readable)
 shadows : (a : tie.Start) → (m : ℕ) → m < (caseOf (now (a .args .«case»))) .branches → (pricesOf (now (a .args .«case»)) (now (a .args .proposal))) .shadow m ≤ 1000000
 shadows a = (proposal-sound _ _ (a .pre .0 .passed)) .shadow-in
 
-abbrev links : tie.After-larger → tie.After-link-totals
+abbrev links : tie.After-network-bound → tie.After-link-totals
 links c = c .before .before .before
 
-abbrev start : tie.After-larger → tie.Start
+abbrev start : tie.After-network-bound → tie.Start
 start c = links c .before .before .before
 
+-- rule 10's part of the network, by the count of links
+abbrev taken : ℕ → ℤ → ℤ → ℤ
+taken n x y = cond (eqb n 0) x (larger x y)
+
+links-are : (a : tie.Start) → a .args .k .links ≡ (caseOf (now (a .args .«case»))) .links
+unfolding caseOf
+links-are a = ap (λ (k : Counts). k .links) (a .pre .0 .opened .counts)
+
 -- the bound and the gap as the machine adds them
-bound-of : (c : tie.After-surpluses) → let a = start (c .before) in c .surpluses .result .0 +ℤ c .before .larger .result .0 ≡ bound (caseOf (now (a .args .«case»))) (pricesOf (now (a .args .«case»)) (now (a .args .proposal)))
-unfolding bound networkBound
-bound-of c = λ j. c .surpluses .ensures j +ℤ (c .before .larger .ensures ∙ (λ i. larger (start (c .before) .pre .1 .1 .1 .1 .0 i) (links (c .before) .link-totals .ensures .0 i))) j
+bound-of : (c : tie.After-surpluses) → let a = start (c .before) in c .surpluses .result .0 +ℤ c .before .network-bound .result .0 ≡ bound (caseOf (now (a .args .«case»))) (pricesOf (now (a .args .«case»)) (now (a .args .proposal)))
+unfolding bound networkBound noLink
+bound-of c = λ j. c .surpluses .ensures j +ℤ (c .before .network-bound .ensures ∙ (λ i. taken (links-are (start (c .before)) i) (start (c .before) .pre .1 .1 .1 .1 .0 i) (links (c .before) .link-totals .ensures .0 i))) j
 
 gap-of : (c : tie.After-plus) → let a = start (c .before .before) in
     c .plus .result .0 -ℤ a .args .total-welfare .0 ≡ gap (caseOf (now (a .args .«case»))) (planOf (now (a .args .«case»)) (now (a .args .proposal))) (pricesOf (now (a .args .«case»)) (now (a .args .proposal)))
@@ -71,7 +82,7 @@ totals-spec =
     tie.close
     (tie.spec
     link-totals-requires
-    larger-requires
+    network-bound-requires
     surpluses-requires
     plus-requires
     minus-requires
