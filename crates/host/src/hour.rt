@@ -2,7 +2,7 @@
 ghost use mathlib.Core.Path.{_≡_};
 ghost use Prim.Native.Nat.{_+_, _*_, _/_, _%_};
 ghost use lib.ListN.{length};
-ghost use Rattle.rules.specs.Meaning.Promise.{TotalsReported, Allowed, Accurate, GapWithin, Covered, Best, CoveredInFull};
+ghost use Rattle.rules.specs.Meaning.Promise.{TotalsReported, Allowed, Accurate, GapWithin, HasLink, Covered, Best, CoveredInFull};
 ghost use Rattle.rules.specs.Meaning.Report.{bufferAfter};
 ghost use Rattle.rules.specs.Meaning.Verdict.{outcome};
 ghost use Rattle.rules.specs.Meaning.AnnexPromise.{AnnexDemand3};
@@ -15,7 +15,8 @@ fn packed(number: u32, index: u32) -> u64
 }
 
 // THE ENTRY: number + 256 * index of the verdict table; the buffer afterwards, every byte of it; and demand 3 of an hour that is answered with 0, in the
-// numbers that the report's bytes then hold, by document 01's rules and in the Annex's terms.
+// numbers that the report's bytes then hold, by document 01's rules and in the Annex's terms. S-6: coverage is promised of an hour with a link, and of an
+// hour without one accuracy compares with clearings of LTA share 0 alone (`Clearing`).
 #[no_mangle]
 pub extern "C" fn lta_judge(case: &[u8], proposal: &[u8], report: &mut [u8]) -> u64
     ensures outcome { λ r. ⌜ r ≡ (outcome (now («case» .entry)) (now (proposal .entry)) (length (now (report .entry)))) .number + 256 * (outcome (now («case» .entry)) (now (proposal .entry)) (length (now (report .entry)))) .index ⌝ }
@@ -26,9 +27,9 @@ pub extern "C" fn lta_judge(case: &[u8], proposal: &[u8], report: &mut [u8]) -> 
     ensures allowed { λ r. ⌜ (r ≡ 0 → Allowed (now («case» .entry)) (now (proposal .entry))) ⌝ }
     ensures accuracy { λ r. ⌜ (r ≡ 0 → Accurate (now («case» .entry)) (now (report .exit))) ⌝ }
     ensures gap { λ r. ⌜ (r ≡ 0 → GapWithin (now («case» .entry)) (now (report .exit))) ⌝ }
-    ensures coverage { λ r. ⌜ (r ≡ 0 → Covered (now (report .exit))) ⌝ }
+    ensures coverage { λ r. ⌜ (r ≡ 0 → HasLink (now («case» .entry)) → Covered (now (report .exit))) ⌝ }
     ensures best { λ r. ⌜ (r ≡ 0 → Best (now («case» .entry)) (now (report .exit))) ⌝ }
-    ensures covered_in_full { λ r. ⌜ (r ≡ 0 → CoveredInFull (now (report .exit))) ⌝ }
+    ensures covered_in_full { λ r. ⌜ (r ≡ 0 → HasLink (now («case» .entry)) → CoveredInFull (now (report .exit))) ⌝ }
     ensures annex { λ r. ⌜ (r ≡ 0 → AnnexDemand3 (now («case» .entry)) (now (proposal .entry)) (now (report .exit))) ⌝ }
 {
     let v = judge(case, proposal, report);

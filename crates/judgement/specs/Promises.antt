@@ -8,7 +8,7 @@ use Rattle.rules.specs.Meaning.Hour.{caseOf, planOf, pricesOf}
 use Rattle.rules.specs.Meaning.Verdict.{table, outcome}
 use Rattle.rules.specs.Meaning.Report.{Reported, bufferAfter}
 use Rattle.rules.specs.Promised.Reported.{reported}
-use Rattle.rules.specs.Meaning.Promise.{TotalsReported, Allowed, Accurate, GapWithin, Covered, Best, CoveredInFull}
+use Rattle.rules.specs.Meaning.Promise.{TotalsReported, Allowed, Accurate, GapWithin, HasLink, Covered, Best, CoveredInFull}
 use Rattle.rules.specs.Promised.Guarantee.{Accepted, Demand3, demand-3}
 use Rattle.rules.specs.Meaning.AnnexPromise.{AnnexDemand3}
 use Rattle.rules.specs.Promised.Annex.AnnexHour.{annex-demand-3}
@@ -41,9 +41,9 @@ module _ (s t b : List ℕ) (r : Outcome) (b′ : List ℕ) (j : Judged (table s
       × ((r .number ≡ 0 → Allowed s t)
       × ((r .number ≡ 0 → Accurate s b′)
       × ((r .number ≡ 0 → GapWithin s b′)
-      × ((r .number ≡ 0 → Covered b′)
+      × ((r .number ≡ 0 → HasLink s → Covered b′)
       × ((r .number ≡ 0 → Best s b′)
-      × ((r .number ≡ 0 → CoveredInFull b′)
+      × ((r .number ≡ 0 → HasLink s → CoveredInFull b′)
       × (r .number ≡ 0 → AnnexDemand3 s t b′)))))))))
   promises = (
     answered,

@@ -3,7 +3,7 @@ ghost use mathlib.Core.Path.{_≡_};
 ghost use Prim.Native.Nat.{_<_, _≤_};
 ghost use lib.ListN.{length};
 ghost use Rattle.rules.specs.Meaning.Layout.{reportRoom};
-ghost use Rattle.rules.specs.Meaning.Promise.{TotalsReported, Allowed, Accurate, GapWithin, Covered, Best, CoveredInFull};
+ghost use Rattle.rules.specs.Meaning.Promise.{TotalsReported, Allowed, Accurate, GapWithin, HasLink, Covered, Best, CoveredInFull};
 ghost use Rattle.rules.specs.Meaning.Report.{bufferAfter};
 ghost use Rattle.rules.specs.Meaning.Verdict.{outcome};
 ghost use Rattle.rules.specs.Meaning.AnnexPromise.{AnnexDemand3};
@@ -55,7 +55,8 @@ fn conclude(found: Found, report: &mut [u8]) -> Outcome
 pub const REPORT_ROOM: usize = 176;
 
 // THE JUDGEMENT of a case and a proposal. The answer is the verdict table's, the buffer afterwards is `bufferAfter`'s, and an accepted hour, of which
-// the number is 0, keeps demand 3 in the numbers that the report's bytes then hold, by document 01's rules and in the Annex's terms.
+// the number is 0, keeps demand 3 in the numbers that the report's bytes then hold, by document 01's rules and in the Annex's terms. S-6: coverage is promised
+// of an hour with a link, and of an hour without one accuracy compares with clearings of LTA share 0 alone (`Clearing`).
 pub fn judge(case: &[u8], proposal: &[u8], report: &mut [u8]) -> Outcome
     ensures outcome { λ r. ⌜ r ≡ outcome (now («case» .entry)) (now (proposal .entry)) (length (now (report .entry))) ⌝ }
     ensures report { λ r. ⌜ now (report .exit) ≡ bufferAfter (now («case» .entry)) (now (proposal .entry)) (now (report .entry)) ⌝ }
@@ -63,9 +64,9 @@ pub fn judge(case: &[u8], proposal: &[u8], report: &mut [u8]) -> Outcome
     ensures allowed { λ r. ⌜ (r .number ≡ 0 → Allowed (now («case» .entry)) (now (proposal .entry))) ⌝ }
     ensures accuracy { λ r. ⌜ (r .number ≡ 0 → Accurate (now («case» .entry)) (now (report .exit))) ⌝ }
     ensures gap { λ r. ⌜ (r .number ≡ 0 → GapWithin (now («case» .entry)) (now (report .exit))) ⌝ }
-    ensures coverage { λ r. ⌜ (r .number ≡ 0 → Covered (now (report .exit))) ⌝ }
+    ensures coverage { λ r. ⌜ (r .number ≡ 0 → HasLink (now («case» .entry)) → Covered (now (report .exit))) ⌝ }
     ensures best { λ r. ⌜ (r .number ≡ 0 → Best (now («case» .entry)) (now (report .exit))) ⌝ }
-    ensures covered_in_full { λ r. ⌜ (r .number ≡ 0 → CoveredInFull (now (report .exit))) ⌝ }
+    ensures covered_in_full { λ r. ⌜ (r .number ≡ 0 → HasLink (now («case» .entry)) → CoveredInFull (now (report .exit))) ⌝ }
     ensures annex { λ r. ⌜ (r .number ≡ 0 → AnnexDemand3 (now («case» .entry)) (now (proposal .entry)) (now (report .exit))) ⌝ }
 {
     if report.len() < REPORT_ROOM {

@@ -107,12 +107,15 @@ later-short s t n =
                           (
                             fixed 22 0 tt tt,
                             (
-                              placed 23 _ tt links,
+                              fixed 27 0 tt tt,
                               (
-                                placed 24 _ tt branches,
+                                placed 23 _ tt links,
                                 (
-                                  placed 25 _ tt zones,
-                                  (fixed 26 0 tt tt, tt),
+                                  placed 24 _ tt branches,
+                                  (
+                                    placed 25 _ tt zones,
+                                    (fixed 26 0 tt tt, tt),
+                                  ),
                                 ),
                               ),
                             ),
