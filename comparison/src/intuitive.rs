@@ -17,8 +17,8 @@ const LEAST_HOURS: u64 = 10_000;
 const LEAST_TIMES: u64 = 100;
 const NUMBERS: [u32; 6] = [0, 81, 82, 83, 84, 85];
 /// Those of the judgement but 30, and the two that an accepted hour can have.
-const HOUR_NUMBERS: [usize; 23] = [
-    0, 1, 2, 3, 4, 5, 6, 7, 8, 9, 10, 11, 12, 13, 14, 21, 22, 23, 24, 25, 26, 84, 85,
+const HOUR_NUMBERS: [usize; 24] = [
+    0, 1, 2, 3, 4, 5, 6, 7, 8, 9, 10, 11, 12, 13, 14, 21, 22, 23, 24, 25, 26, 27, 84, 85,
 ];
 
 /// Numbers kept on either side of the lent scratch.
@@ -228,7 +228,7 @@ impl Exchanges<'_> {
                     yes && total > 0,
                     no,
                     number == 26,
-                    number != 0 && number < 26,
+                    number != 0 && number != 26 && number < 81,
                     number == 84,
                     number == 85,
                 ];

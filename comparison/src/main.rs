@@ -20,6 +20,7 @@ mod fields;
 #[cfg(feature = "intuitive")]
 mod intuitive;
 mod make;
+mod no_links;
 mod offsets;
 mod places;
 #[cfg(feature = "intuitive")]
@@ -39,8 +40,8 @@ use std::time::Instant;
 const SEED: u64 = 1;
 const INPUTS: u64 = 260_000;
 /// Every number of the verdict table.
-const NUMBERS: [usize; 22] = [
-    0, 1, 2, 3, 4, 5, 6, 7, 8, 9, 10, 11, 12, 13, 14, 21, 22, 23, 24, 25, 26, 30,
+const NUMBERS: [usize; 23] = [
+    0, 1, 2, 3, 4, 5, 6, 7, 8, 9, 10, 11, 12, 13, 14, 21, 22, 23, 24, 25, 26, 27, 30,
 ];
 
 fn main() -> ExitCode {
@@ -77,6 +78,7 @@ fn main() -> ExitCode {
     offsets::offsets(&mut run, &mut Rng::new(seed));
     versions::halves(&mut run);
     versions::laws(&mut run, &mut Rng::new(seed));
+    no_links::hours(&mut run, &mut Rng::new(seed));
     #[cfg(feature = "desk")]
     {
         desk::end(&mut run);

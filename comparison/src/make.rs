@@ -6,7 +6,8 @@
 //! call the sum of their capacities in and out of a zone its net position. Let
 //! each branch's RAM be just what these net positions use. Then branch total,
 //! owed and rent are equal, whatever the share, and with orders taken in the
-//! money only, the gap is zero.
+//! money only, the gap is zero. Without links (S-6) the share is 0 and the net
+//! positions are drawn: branch total and rent are equal, and often negative.
 
 use crate::rng::Rng;
 use second_judge::hours::{Branch, Hour, Link, Version};
@@ -206,6 +207,7 @@ fn try_optimal(rng: &mut Rng, shape: Shape, halvings: u32) -> Option<Hour> {
         .map(|pair| link(pair, 100 * rng.between_or_end(0, widest) as u32))
         .collect();
     let share = match rng.below(4) {
+        _ if links.is_empty() => 0,
         0 => 0,
         1 => 100_000,
         _ => 1_000 * rng.between(0, 100) as u32,
@@ -223,6 +225,13 @@ fn try_optimal(rng: &mut Rng, shape: Shape, halvings: u32) -> Option<Hour> {
         if full {
             net[usize::from(link.to)] += capacity;
             net[usize::from(link.from)] -= capacity;
+        }
+    }
+    if links.is_empty() && shape.orders > 0 {
+        for _ in 0..shape.zones {
+            let volume = 100 * rng.between_or_end(0, widest);
+            net[rng.below(shape.zones)] += volume;
+            net[rng.below(shape.zones)] -= volume;
         }
     }
     let mut branches = Vec::with_capacity(shape.branches);
@@ -377,7 +386,7 @@ fn disturb(rng: &mut Rng, hour: &mut Hour) {
     if rng.one_in(2) {
         hour.system_price += rng.between(-300, 300) as i32;
     }
-    if rng.one_in(2) {
+    if rng.one_in(2) && !hour.links.is_empty() {
         hour.share = rng.between_or_end(0, ONE) as u32;
         for (link, flow) in hour.links.iter_mut().zip(&mut hour.flows) {
             link.capacity = (link.capacity + rng.below(100) as u32).min(100_000);
@@ -464,6 +473,9 @@ pub fn random(rng: &mut Rng, shape: Shape) -> Hour {
     hour.volumes = hour.orders.iter().map(|row| volume(rng, row)).collect();
     if seen_to >= 2 {
         balance(&mut hour);
+    }
+    if seen_to >= 3 && hour.links.is_empty() {
+        hour.share = 0;
     }
     for link in &hour.links {
         let most = match seen_to {
@@ -630,11 +642,47 @@ pub fn widest() -> Vec<Widest> {
         system_price,
         ..one_zone.clone()
     };
-    let with_branches = |hour: &Hour, ram, share| Hour {
+    let with_branches = |hour: &Hour, ram| Hour {
         branches: flat(ram, 64),
         shadow_prices: vec![1_000_000; 64],
-        share,
         ..hour.clone()
+    };
+    // A second zone and a link of no capacity, for the whole share.
+    let leaning = |hour: Hour| Hour {
+        zones: 2,
+        branches: hour
+            .branches
+            .iter()
+            .map(|branch| Branch {
+                ptdfs: vec![0, 0],
+                ..branch.clone()
+            })
+            .collect(),
+        links: vec![link((0, 1), 0)],
+        flows: vec![0],
+        share: 100_000,
+        ..hour
+    };
+    // S-6: margins that make the second zone buy for -500 euros what the first
+    // sells for 4,000, and earn as much below zero.
+    let forced = Hour {
+        zones: 2,
+        branches: vec![
+            Branch {
+                ram: -500_000,
+                ptdfs: vec![0, -2_000],
+            };
+            23
+        ],
+        orders: [
+            vec![order(0, SELLS, HIGHEST); 250],
+            vec![order(1, BUYS, LOWEST); 250],
+        ]
+        .concat(),
+        volumes: vec![100_000; 500],
+        shadow_prices: [vec![1_000_000; 22], vec![500_000]].concat(),
+        system_price: HIGHEST,
+        ..Hour::default()
     };
     let carried = |buys_in, sells_in| Hour {
         zones: 2,
@@ -678,7 +726,7 @@ pub fn widest() -> Vec<Widest> {
         widest("welfare, negative", low.clone(), WELFARE, -256 * ALL),
         widest(
             "gap of welfare, negative",
-            with_branches(&low, 500_000, 0),
+            with_branches(&low, 500_000),
             GAP,
             256 * ALL + branch_total,
         ),
@@ -686,25 +734,33 @@ pub fn widest() -> Vec<Widest> {
         widest("surplus of sells", sells.clone(), BOUND, 512 * ALL),
         widest(
             "branch total",
-            with_branches(&one_zone, 500_000, 0),
+            with_branches(&one_zone, 500_000),
             BOUND,
             branch_total,
         ),
         widest(
             "branch total, negative",
-            with_branches(&buys, -500_000, 100_000),
+            leaning(with_branches(&buys, -500_000)),
             BOUND,
             512 * ALL,
         ),
+        widest("bound, negative", forced.clone(), BOUND, -250 * ALL),
+        widest(
+            "bound, negative: the rent",
+            forced.clone(),
+            RENT,
+            -250 * ALL,
+        ),
+        widest("bound, negative: the gap", forced, GAP, 0),
         widest(
             "bound",
-            with_branches(&buys, 500_000, 0),
+            with_branches(&buys, 500_000),
             BOUND,
             512 * ALL + branch_total,
         ),
         widest(
             "gap",
-            with_branches(&sells, 500_000, 100_000),
+            with_branches(&sells, 500_000),
             GAP,
             512 * ALL + branch_total,
         ),

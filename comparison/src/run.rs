@@ -36,7 +36,7 @@ const LARGE: i64 = 1_000_000_000_000_000_000;
 const MOST_OWED: i64 = 64 * 100_000 * 450_000 * 100_000;
 
 /// Things a good stream of inputs must come across, counted.
-pub const MET: [&str; 20] = [
+pub const MET: [&str; 25] = [
     "accepted with gap zero",
     "accepted, gap at the tolerance",
     "refused, gap a microcent over",
@@ -57,6 +57,11 @@ pub const MET: [&str; 20] = [
     "version 2: less owed",
     "less owed, accepted at gap zero",
     "less owed, links' total in bound",
+    "accepted without links",
+    "no links: negative branch total",
+    "no links: accepted, bound < 0",
+    "no links: bound below -10^18",
+    "no links: rent below owed - gap",
 ];
 
 pub struct Run {
@@ -92,7 +97,7 @@ impl Run {
             verdicts: [0; 31],
             verdicts_on_two: [0; 31],
             versions: [0; 3],
-            second_wrong: Default::default(),
+            second_wrong: [Found::default(); Build::WRONG.len()],
             second_wrong_tried: 0,
             met: [0; MET.len()],
             places: [0; PLACES.len()],
@@ -309,10 +314,15 @@ impl Run {
         let link_total: i64 = (0..links).map(|l| capacity(l) * spread(l).max(0)).sum();
         let less = two && owed < link_total;
         let offered = two && (0..links).any(|l| capacity(l) > 0);
-        // The coverage rule, which holds by capacities too.
-        if rent < owed - gap || rent < link_total - gap {
+        // The coverage rule, which holds by capacities too, speaks of hours with a link (S-6).
+        let uncovered = rent < owed - gap || rent < link_total - gap;
+        if links > 0 && uncovered {
             self.fault(|| format!("rent {rent} does not cover {owed} or {link_total} less {gap}"));
         }
+        if gap < 0 {
+            self.fault(|| format!("a gap of {gap}"));
+        }
+        let alone = links == 0;
         let met = [
             accepted && gap == 0,
             accepted && gap == tolerance && gap > 0,
@@ -334,6 +344,11 @@ impl Run {
             accepted && less,
             accepted && less && gap == 0,
             accepted && less && link_total > branch_total,
+            accepted && alone,
+            accepted && alone && branch_total < 0,
+            accepted && alone && bound < 0,
+            accepted && alone && bound < -LARGE,
+            accepted && alone && uncovered,
         ];
         for (count, met) in self.met.iter_mut().zip(met) {
             *count += u64::from(met);

@@ -184,6 +184,29 @@ pub fn contracted_hour() -> Hour {
     hour
 }
 
+/// S-6: no link, and a margin of -1,000 tenths that makes the second zone import
+/// so much: what A sells at 50 euros B buys at 40. The branch earns -1,000 euros.
+pub fn forced_hour() -> Hour {
+    let order = |zone, side, price| Row {
+        zone,
+        side,
+        quantity: 1_000,
+        price,
+    };
+    Hour {
+        zones: 2,
+        branches: vec![Branch {
+            ram: -1_000,
+            ptdfs: vec![0, -100_000],
+        }],
+        orders: vec![order(0, SELLS, 5_000), order(1, BUYS, 4_000)],
+        system_price: 5_000,
+        volumes: vec![1_000, 1_000],
+        shadow_prices: vec![1_000],
+        ..Hour::default()
+    }
+}
+
 /// P1 to P12, the hours that are run only, and those of the requests.
 pub fn stored() -> Vec<Stored> {
     let mut list = Vec::new();
@@ -314,7 +337,7 @@ pub fn stored() -> Vec<Stored> {
         shadow_prices: vec![1_000_000],
         ..Hour::default()
     };
-    hour("P12", 0, 0, &p12);
+    hour("P12", 27, 0, &p12);
     hour("P12, share 0", 24, 0, &Hour { share: 0, ..p12 });
 
     hour(
@@ -332,6 +355,27 @@ pub fn stored() -> Vec<Stored> {
     hour("P1, all contracted", 0, 0, &all);
     all.links[0].contracted = 4_001;
     hour("P1, 4,001 of 4,000 contracted", 7, 52, &all);
+    let forced = forced_hour();
+    hour("no link, negative branch total", 0, 0, &forced);
+    hour(
+        "no link, a share of 1",
+        27,
+        0,
+        &Hour {
+            share: 1,
+            ..forced.clone()
+        },
+    );
+    hour(
+        "no link, a share, out of balance",
+        22,
+        0,
+        &Hour {
+            share: 1,
+            volumes: vec![1_000, 999],
+            ..forced
+        },
+    );
     bytes("empty input", vec![], vec![], 1, 0);
     let mut long = p1.proposal();
     long.push(0);
@@ -361,6 +405,16 @@ pub fn stored() -> Vec<Stored> {
                 stored.totals.welfare = Some(19_500 * EURO);
                 stored.totals.rent = Some(15_000 * EURO);
                 stored.totals.owed = Some(0);
+            }
+            "no link, negative branch total" => {
+                stored.totals = Totals {
+                    welfare: Some(-1_000 * EURO),
+                    bound: Some(-1_000 * EURO),
+                    gap: Some(0),
+                    rent: Some(-1_000 * EURO),
+                    owed: Some(0),
+                };
+                stored.prices = vec![500_000_000, 400_000_000];
             }
             "P3" | "P3, tolerance 299,999" | "P4" => {
                 stored.totals.gap = Some(3_000 * EURO);

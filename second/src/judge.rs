@@ -43,11 +43,20 @@ pub enum Build {
     ContractedToItsOwnLimit,
     ContractedNamesCapacity,
     ContractedBeforeCapacity,
+    // S-6's: where and of which hours 27 is asked, and what bounds an hour
+    // without links. That 27 is asked before 23 no hour can show: without links
+    // 23 has no place. That it is asked before 24 many can.
+    ShareNotAsked,
+    ShareBeforeBalance,
+    ShareAfterBranches,
+    ShareWithLink,
+    LargerWithoutLinks,
+    NegativeTotalAsZero,
 }
 
 impl Build {
     /// Every wrong build, with the name a table gives it.
-    pub const WRONG: [(Build, &'static str); 28] = [
+    pub const WRONG: [(Build, &'static str); 34] = [
         (Build::ExportPositive, "export counted positive"),
         (Build::CapacityWithoutShare, "capacity without the share"),
         (Build::BranchTotalAlone, "branch total alone"),
@@ -79,6 +88,12 @@ impl Build {
             Build::ContractedBeforeCapacity,
             "contracted before capacity",
         ),
+        (Build::ShareNotAsked, "27 not asked"),
+        (Build::ShareBeforeBalance, "27 before 22"),
+        (Build::ShareAfterBranches, "27 after 24"),
+        (Build::ShareWithLink, "27 also with a link"),
+        (Build::LargerWithoutLinks, "no link: the larger-of kept"),
+        (Build::NegativeTotalAsZero, "no link: zero for a negative"),
     ];
 }
 
@@ -129,13 +144,23 @@ fn decide(
         net[usize::from(order.zone)] += if import { volume } else { -volume };
     }
 
+    // S-6, verdict 27: without links no part of the hour is LTA. It is asked
+    // after the balance.
+    let share = i128::from(proposal.share);
+    let no_link = case.links == 0 || build == Build::ShareWithLink;
+    let leans = share > 0 && no_link && build != Build::ShareNotAsked;
+    if leans && build == Build::ShareBeforeBalance {
+        return Err(Verdict::new(27, 0));
+    }
     // Rule 3, verdict 22.
     if net.iter().sum::<i128>() != 0 {
         return Err(Verdict::new(22, 0));
     }
+    if leans && build != Build::ShareAfterBranches {
+        return Err(Verdict::new(27, 0));
+    }
 
     // Rule 4, verdict 23, and rule 2: the LTA parts.
-    let share = i128::from(proposal.share);
     let link_share = if build == Build::CapacityWithoutShare {
         ONE
     } else {
@@ -176,6 +201,9 @@ fn decide(
         if used > (ONE - share) * ram(b) {
             return Err(Verdict::new(24, b));
         }
+    }
+    if leans {
+        return Err(Verdict::new(27, 0));
     }
 
     // Rule 6, verdict 25.
@@ -235,10 +263,14 @@ fn decide(
         _ => {}
     }
 
-    // Rules 10 and 11: S-4 leaves the bound to the capacities.
+    // Rules 10 and 11: S-4 leaves the bound to the capacities, S-6 to the branches
+    // where there is no link.
     let bound = surpluses
         + match build {
             Build::BranchTotalAlone => branch_total,
+            Build::NegativeTotalAsZero if case.links == 0 => branch_total.max(0),
+            Build::LargerWithoutLinks => branch_total.max(link_total),
+            _ if case.links == 0 => branch_total,
             Build::SmallerTotal => branch_total.min(link_total),
             _ => branch_total.max(link_total),
         };

@@ -1,6 +1,6 @@
 //! The paper's stored hours, its wrong builds and its shams, value by value.
 
-use crate::hours::{contracted_hour, stored, three_zone_hour, Hour, Stored, EURO};
+use crate::hours::{contracted_hour, forced_hour, stored, three_zone_hour, Hour, Stored, EURO};
 use crate::limits::{LEAST_BUFFER, REPORT_FIELD, REPORT_HEADER, REPORT_TOTALS};
 use crate::*;
 
@@ -571,6 +571,64 @@ fn version_2_with_the_most_links() {
     hour.orders[511].price = 400_001;
     let verdict = judge(&hour.case(), &hour.proposal(), &mut [0; LEAST_BUFFER]);
     assert_eq!((verdict.number, verdict.index), (8, 10_122));
+}
+
+// S-6. Without links the hour of the negative branch total is accepted with a
+// bound below zero, and refused by 27 with any share.
+
+#[test]
+fn share_without_links_accepted() {
+    let mut hour = forced_hour();
+    hour.share = 100_000;
+    hour.volumes = vec![0, 0];
+    told_apart(Build::ShareNotAsked, &hour, (27, 0), (0, 0));
+}
+
+#[test]
+fn share_asked_before_the_balance() {
+    let mut hour = forced_hour();
+    hour.share = 1;
+    hour.volumes[1] = 999;
+    told_apart(Build::ShareBeforeBalance, &hour, (22, 0), (27, 0));
+}
+
+#[test]
+fn share_asked_after_the_branches() {
+    let mut hour = forced_hour();
+    hour.share = 1;
+    hour.branches[0].ram = -1_001;
+    told_apart(Build::ShareAfterBranches, &hour, (27, 0), (24, 0));
+    hour.share = 0;
+    told_apart(Build::ShareAfterBranches, &hour, (24, 0), (24, 0));
+}
+
+#[test]
+fn share_refused_with_a_link() {
+    told_apart(Build::ShareWithLink, &three_zone_hour(), (0, 0), (27, 0));
+}
+
+#[test]
+fn larger_of_the_totals_without_links() {
+    for build in [Build::LargerWithoutLinks, Build::NegativeTotalAsZero] {
+        let (right, wrong) = ((0, 0, -1_000.0, 0.0), (26, 0, 0.0, 0.0));
+        told_apart_by_totals(build, &forced_hour(), right, wrong);
+    }
+}
+
+#[test]
+fn a_link_brings_back_the_zero_exchange() {
+    // A link of no capacity: an LTA domain that holds the zero exchange alone.
+    let mut hour = forced_hour();
+    hour.links = vec![link(0, 1, 0)];
+    hour.flows = vec![0];
+    let right = (26, 0, 0.0, 0.0);
+    told_apart_by_totals(Build::LargerWithoutLinks, &hour, right, right);
+    hour.tolerance = 100_000;
+    let right = (0, 0, 0.0, 0.0);
+    told_apart_by_totals(Build::LargerWithoutLinks, &hour, right, right);
+    hour.share = 100_000;
+    hour.volumes = vec![0, 0];
+    told_apart(Build::ShareNotAsked, &hour, (0, 0), (0, 0));
 }
 
 /// Two zones with the spread of one link positive and of the other negative.
