@@ -3,9 +3,10 @@
 stored dumps of such hours.
 
   largest_hour.py NAME        NAME is largest-varied, largest-contracted, largest-welfare, largest-welfare-contracted,
-                              largest-loss or largest-bound; of a dump refused-60-largest or largest-less-an-order
+                              largest-loss, largest-loss-no-link or largest-bound; of a dump refused-60-largest or
+                              largest-less-an-order
 
-The two contracted ones are of case version 2 and have the greatest length of all.
+The two contracted ones are of case version 2 and have the greatest length of all. largest-loss-no-link has no link.
 """
 
 import math
@@ -34,7 +35,7 @@ def hour_text(comment, tolerance, share, system, branches, links, orders, contra
     return "\n".join(lines) + "\n"
 
 
-def two_price_hour(comment, ram, low_side, high_side, contracted=None):
+def two_price_hour(comment, ram, low_side, high_side, contracted=None, linked=True):
     """Zones 0 to 7 at -50,000 cents and 8 to 15 at 400,000, every order accepted whole at its zone's price.
 
     64 branches with PTDF 1,000 in the high zones and shadow price 703,125 make the spread of 450,000 cents.
@@ -42,7 +43,7 @@ def two_price_hour(comment, ram, low_side, high_side, contracted=None):
     """
     ptdfs = [0] * len(LOW_ZONES) + [1000] * len(HIGH_ZONES)
     branches = [(ram, ptdfs, 703125)] * BRANCHES
-    links = [(low, high, 100000, 0) for low in LOW_ZONES for high in HIGH_ZONES]
+    links = [(low, high, 100000, 0) for low in LOW_ZONES for high in HIGH_ZONES if linked]
     orders = [(f"{zone} {low_side} 100000 -50000", 100000) for zone in LOW_ZONES for _ in range(ORDERS_PER_ZONE)]
     orders += [(f"{zone} {high_side} 100000 400000", 100000) for zone in HIGH_ZONES for _ in range(ORDERS_PER_ZONE)]
     return hour_text(comment, 0, 0, -50000, branches, links, orders, contracted)
@@ -73,6 +74,15 @@ def largest_loss():
         "totals welfare -11520000000 bound 2880000000 gap 14400000000 rent -11520000000 owed 2880000000",
     )
     return two_price_hour(comment, -256000, "buy", "sell")
+
+
+def largest_loss_no_link():
+    comment = (
+        "largest-loss without its links: the least bound of all, which the branches alone make (S-6), and no gap.",
+        "expect 0 0",
+        "totals welfare -11520000000 bound -11520000000 gap 0 rent -11520000000 owed 0",
+    )
+    return two_price_hour(comment, -256000, "buy", "sell", linked=False)
 
 
 def largest_bound():
@@ -236,6 +246,7 @@ HOURS = {
     "largest-welfare": largest_welfare,
     "largest-welfare-contracted": largest_welfare_contracted,
     "largest-loss": largest_loss,
+    "largest-loss-no-link": largest_loss_no_link,
     "largest-bound": largest_bound,
 }
 
