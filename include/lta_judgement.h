@@ -44,8 +44,8 @@ extern "C" {
 
 /* The version of this header and of what it declares. The first number rises where a program that was right may no longer be, the second
  * where something is added. LTA_VERSION_NUMBER is for comparing: 1.2.3 is 10203. */
-#define LTA_VERSION "2.1.0"
-#define LTA_VERSION_NUMBER 20100
+#define LTA_VERSION "3.0.0"
+#define LTA_VERSION_NUMBER 30000
 
 #define LTA_GRAINS_PER_CENT 100000
 #define LTA_GRAINS_PER_EURO 10000000
@@ -57,7 +57,7 @@ extern "C" {
 #define LTA_INDEX(verdict) ((uint32_t)((verdict) / 256))
 
 /* The numbers. LTA_NO_ROOM is asked first of all; among the others the smallest number that has a cause wins, and then the smallest
- * index. No number is returned for another cause than its own.
+ * index. But 27 is asked between 22 and 23: the order is 22, 27, 23. No number is returned for another cause than its own.
  *
  * The index is 0 where none is named, else a place counted from 0. For 4, 6, 7, 8 and 14 it is an offset: how many bytes stand in the
  * file, the case or for 14 the proposal, before the field that is refused. That is the first field in file order that is at fault: row by
@@ -82,6 +82,7 @@ enum lta_number {
     LTA_SHADOW_PRICE = 14,          /* shadow price above 1,000,000; index: its offset in the proposal */
     LTA_VOLUME = 21,                /* volume above its order's quantity; index: the order */
     LTA_BALANCE = 22,               /* rule 3 fails: the net positions do not sum to zero */
+    LTA_SHARE_WITHOUT_LINK = 27,    /* the case has no link, and the LTA share is above 0; asked here, between 22 and 23 */
     LTA_LINK_RULE = 23,             /* rule 4 fails: flow * 100,000 > share * capacity; index: the link */
     LTA_BRANCH_RULE = 24,           /* rule 5 fails: load > (100,000 - share) * margin; index: the branch */
     LTA_ZONE_PRICE = 25,            /* zone price under -50,000 or over 400,000 cents; index: the zone */
@@ -95,7 +96,7 @@ enum lta_number {
 #define LTA_REPORT_NUMBER 5         /* 8 bits, the verdict's number: 0 or 26 */
 #define LTA_REPORT_ZONES 6          /* 8 bits, the case's zones; the byte after it is zero */
 #define LTA_REPORT_WELFARE 8        /* signed 64 bits, microcents, and so the next four */
-#define LTA_REPORT_BOUND 16
+#define LTA_REPORT_BOUND 16         /* may be negative where the case has no link */
 #define LTA_REPORT_GAP 24           /* bound - welfare */
 #define LTA_REPORT_RENT 32
 #define LTA_REPORT_OWED 40
@@ -147,13 +148,16 @@ static inline int64_t lta_report_price(const uint8_t *report, size_t zone)
  * What holds of an accepted hour, that is if lta_judge returns 0, of the numbers that then stand in the report:
  *   [allowed]   The proposal is a clearing of the case.
  *   [accuracy]  No clearing of the case has a welfare above welfare + gap. [best] At gap 0 none has more than the proposal.
+ *               WITHOUT LINKS the clearings are the flow-based ones alone, those of LTA share 0.
  *   [gap]       The gap is at least 0 and at most 1,000,000 * tolerance.
- *   [coverage]  The rent is at least owed - gap, owed being by contracted volumes. [covered_in_full] At gap 0 it covers all that is owed.
+ *   [coverage]  IF THE CASE HAS A LINK the rent is at least owed - gap, owed being by contracted volumes. [covered_in_full] At gap 0 it
+ *               then covers all that is owed. Without links nothing is promised of the rent, and it may be below owed, which is 0.
  *   [annex]     In the terms of Annex 14.29: the proposal solves (60) to (72), no solution has an objective (59) above welfare + gap, the
- *               zone prices are those of (73) to (79), rent and link total the two sides of (81), whose capacities are those offered, and
- *               at these prices no import and export that the network allows earns more than rent + gap (82).
- * A clearing is any choice of volumes (each from zero to its order's quantity), flows (none negative) and LTA share (from 0 to 100,000)
- * that meets rules 3, 4 and 5; fractions are allowed, of any denominator.
+ *               zone prices are those of (73) to (79), rent and link total the two sides of (81), whose capacities are those offered and
+ *               which is promised if the case has a link, and at these prices no import and export that the network allows earns more
+ *               than rent + gap (82). Without links it is the formulation without its LTA part: (65) with the second weight 0.
+ * A clearing is any choice of volumes (each from zero to its order's quantity), flows (none negative) and LTA share (from 0 to 100,000,
+ * and 0 if the case has no link) that meets rules 3, 4 and 5; fractions are allowed, of any denominator.
  *
  * The rules, with import positive:
  *    1  net position of a zone = accepted buys - accepted sells
@@ -167,7 +171,8 @@ static inline int64_t lta_report_price(const uint8_t *report, size_t zone)
  *       prices in grains, and never below zero
  *    9  branch total = 100,000 * sum of margin * shadow price; link total = sum over links of capacity * (price at `to` - price at
  *       `from`), where positive, else zero; owed = the same sum with the contracted volume in place of the capacity
- *   10  bound = all order surpluses + the larger of branch total and link total
+ *   10  bound = all order surpluses + the larger of branch total and link total; if the case has no link, + the branch total alone, even a
+ *       negative one
  *   11  gap = bound - welfare; rent = sum over zones of net position * zone price
  *
  * The case, little-endian, each field with its least and greatest value:
@@ -180,7 +185,8 @@ static inline int64_t lta_report_price(const uint8_t *report, size_t zone)
  *   each order         zone, 8 bits; side, 8 bits, 0 buys, 1 sells; quantity, 32 bits, 1 to 100,000; price, signed 32 bits, -50,000 to
  *                      400,000
  * The proposal, little-endian:
- *   header, 13 bytes   mark LTP; version, 16 bits, 1; LTA share, 32 bits, 0 to 100,000; system price, signed 32 bits, any value
+ *   header, 13 bytes   mark LTP; version, 16 bits, 1; LTA share, 32 bits, 0 to 100,000, and 0 if the case has no link; system price,
+ *                      signed 32 bits, any value
  *   then               a volume per order, a flow per link, a shadow price per branch (0 to 1,000,000), 32 bits each
  */
 uint64_t lta_judge(const uint8_t *case_bytes, size_t case_len,
@@ -436,6 +442,7 @@ static inline const char *lta_number_text(uint32_t number)
     case LTA_SHADOW_PRICE: return "shadow price above 1,000,000";
     case LTA_VOLUME: return "volume above its order's quantity";
     case LTA_BALANCE: return "net positions do not sum to zero";
+    case LTA_SHARE_WITHOUT_LINK: return "no link, and an LTA share above 0";
     case LTA_LINK_RULE: return "flow above the link's share of its capacity";
     case LTA_BRANCH_RULE: return "load above the branch's share of its margin";
     case LTA_ZONE_PRICE: return "zone price out of range";

@@ -476,6 +476,10 @@ static void refused_hours(void)
     h.volume[4]++;
     about("P6, the balance");
     hour_is(&h, 2, (uint8_t[]){0, 1}, ROOM, (struct lta_carried){LTA_BALANCE, 0, 0, 0});
+    h = one_zone_hour();
+    h.share = 1;
+    about("a share without links");
+    hour_is(&h, 0, NULL, ROOM, (struct lta_carried){LTA_SHARE_WITHOUT_LINK, 0, 0, 0});
     h = three_zone_hour();
     h.link[0].capacity = 100001;
     about("a capacity above its limit, by its offset");

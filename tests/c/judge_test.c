@@ -131,7 +131,7 @@ static void paper(void)
 
     h = (struct hour){.version = 1, .zones = 1, .branches = 1, .branch = {{-1, {0}}}, .shadow = {1000000}, .share = 100000};
     about("P12, margin -1 and share 100,000");
-    reported(&h, LTA_ACCEPTED, (struct totals){0});
+    refused(&h, LTA_SHARE_WITHOUT_LINK, 0);
     h.share = 0;
     about("P12, margin -1 and share 0");
     refused(&h, LTA_BRANCH_RULE, 0);
@@ -493,6 +493,55 @@ static void causes(void)
     reported(&h, LTA_GAP_ABOVE_TOLERANCE, t);
 }
 
+/* S-6: no link, and a margin of -1,000 tenths by which the second zone must buy for 40 euros what the first sells for 50. */
+static void without_links(void)
+{
+    const struct hour forced = {
+        .version = 1,
+        .zones = 2,
+        .branches = 1,
+        .branch = {{-1000, {0, -100000}}},
+        .orders = 2,
+        .order = {{0, LTA_SELLS, 1000, 5000}, {1, LTA_BUYS, 1000, 4000}},
+        .system = 5000,
+        .volume = {1000, 1000},
+        .shadow = {1000},
+    };
+    struct totals t = {.price = {cents(5000), cents(4000)}};
+    t.welfare = t.bound = t.rent = euros(-1000);
+    for (uint16_t version = 1; version <= 2; version++) {
+        struct hour h = forced;
+        h.version = version;
+        about("version %d: a negative bound, and a rent below what is owed", version);
+        reported(&h, LTA_ACCEPTED, t);
+        h.share = 1;
+        about("version %d: a share of 1", version);
+        refused(&h, LTA_SHARE_WITHOUT_LINK, 0);
+        h.branch[0].ram = -1001;
+        h.system = 400001;
+        about("version %d: share, branch rule and zone price fail: the share is named", version);
+        refused(&h, LTA_SHARE_WITHOUT_LINK, 0);
+        h.share = 0;
+        about("version %d: branch rule and zone price fail", version);
+        refused(&h, LTA_BRANCH_RULE, 0);
+        h.share = 100000;
+        h.volume[1]--;
+        about("version %d: balance and share fail: the balance is named", version);
+        refused(&h, LTA_BALANCE, 0);
+
+        h = forced;
+        h.version = version;
+        h.links = 1;
+        h.link[0] = (struct link){0, 1, 0, 0};
+        about("version %d: a link of no capacity, and the larger of branch total and zero", version);
+        reported(&h, LTA_GAP_ABOVE_TOLERANCE, (struct totals){t.welfare, 0, euros(1000), t.rent, 0, {t.price[0], t.price[1]}});
+        h.share = 100000;
+        h.volume[0] = h.volume[1] = 0;
+        about("version %d: with that link the whole share", version);
+        reported(&h, LTA_ACCEPTED, (struct totals){.price = {t.price[0], t.price[1]}});
+    }
+}
+
 /* Case and proposal cut short at each length, and lengthened by zero bytes: the length is refused, and nothing past it is read. */
 static void case_lengths(void)
 {
@@ -812,6 +861,7 @@ int main(int count, char **words)
     group("contracted volumes that are refused", contracted_refused);
     group("the first field in file order", first_in_file_order);
     group("which cause and which index", causes);
+    group("hours without links", without_links);
     group("cases of 0 to 200 bytes", case_lengths);
     group("cases of version 2, of 0 to 200 bytes", contracted_case_lengths);
     group("proposals of 0 to 200 bytes", proposal_lengths);
