@@ -719,7 +719,7 @@ class StoredHours(unittest.TestCase):
 
     def test_every_number_and_header_offset_is_expected_somewhere(self):
         expected = {hour.expected(text)[0] for text in stored_hours().values()}
-        self.assertEqual({number for number, _ in expected}, {0, *range(1, 15), *range(21, 27)})
+        self.assertEqual({number for number, _ in expected}, {0, *range(1, 15), *range(21, 28)})
         self.assertEqual({index for number, index in expected if number == 4}, {5, 6, 7, 8, 10})
 
     def test_largest_hours_are_as_made(self):
@@ -728,9 +728,11 @@ class StoredHours(unittest.TestCase):
                 text = stored_hours()[name]
                 self.assertEqual(text, make())
                 case, proposal = hour.build(text)
-                self.assertEqual(case[5:10], bytes([16, 64, 64, 0, 2]))
+                links = 0 if "no-link" in name else 64
+                self.assertEqual(case[5:10], bytes([16, 64, links, 0, 2]))
                 link = 10 if "contracted" in name else 6
-                self.assertEqual((len(case), len(proposal)), (14 + 64 * 68 + 64 * link + 512 * 10, 13 + 4 * 640))
+                lengths = 14 + 64 * 68 + links * link + 512 * 10, 13 + 4 * (576 + links)
+                self.assertEqual((len(case), len(proposal)), lengths)
 
 
 P1_DUMP = struct.pack("<10d", 0.875, 22.5, 1.0, 1375 / 6000, 1.0, 0.0, 0.4375, 350.0, 55.0, 2.5)

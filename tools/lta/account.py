@@ -73,6 +73,14 @@ def totals_lines(judgement, sums):
     )
     if has_contracted(sums):
         yield f"  Owed is by contracted volumes; by capacities it is the bound's link total, {link_total(sums)}."
+    if not sums.links:
+        yield f"  {no_link_words(sums)}"
+
+
+def no_link_words(sums):
+    """Request S-6: what an hour without links is bounded by, and that nothing is promised of its rent."""
+    total = amounts.microcents(sums.branch_total)
+    return f"No link: the bound has the branch total alone, {total} euros, and the coverage rule says nothing here."
 
 
 def has_contracted(sums):
@@ -214,7 +222,7 @@ def hour_lines(judgement, sums):
 
 def clearable(number):
     """Whether an hour of this number has volumes, flows and prices that can be looked at."""
-    return number == 0 or 21 <= number <= 26
+    return number == 0 or 21 <= number <= 27
 
 
 def account(case, proposal, judgement, explanation, joined=False):

@@ -301,7 +301,7 @@ def wrong_shadow_price(proposal, counts):
     return None
 
 
-# 21 to 26: the clearing.
+# 21 to 27: the clearing.
 
 
 class ClearingCauses:
@@ -311,7 +311,7 @@ class ClearingCauses:
         self.sums, self.counts = sums, counts
 
     def first(self):
-        asked = (self.volume, self.balance, self.link, self.branch, self.zone_price, self.gap)
+        asked = (self.volume, self.balance, self.no_link, self.link, self.branch, self.zone_price, self.gap)
         return next((found for found in (ask() for ask in asked) if found), None)
 
     def in_case(self, kind, index, position, value, limit=""):
@@ -350,6 +350,15 @@ class ClearingCauses:
             "proposal", start, 4 * count, f"the volumes of all {counted(count, 'order')}", value, amounts.mwh(0)
         )
         return Explanation(22, 0, "", cause, (volumes,))
+
+    def no_link(self):
+        """Request S-6: 27, asked between 22 and 23."""
+        share = self.sums.share
+        if self.sums.links or share == 0:
+            return None
+        cause = f"the case has no link, so there is no LTA domain for a share of {amounts.per_cent(share)}"
+        field = header_field("proposal", "share", stored(share, amounts.per_cent(share)), amounts.per_cent(0))
+        return Explanation(27, 0, "", cause, (field, header_field("case", "links", "0")))
 
     def link(self):
         for index, link in enumerate(self.sums.links):

@@ -208,12 +208,14 @@ def totals(judgement, sums):
     owed_note = f"{amounts.counted(sum(spread > 0 for spread in sums.spreads), 'link')} with a positive spread"
     if account.has_contracted(sums):
         owed_note += f"; by contracted volumes, the link total by capacities is {euros(sums.link_total)}"
+    if not sums.links:
+        owed_note = f"no link: the bound has the branch total alone, {euros(sums.branch_total)}"
     rows = (
         ("gap", judgement.gap, sums.tolerance, f"tolerance {euros(sums.tolerance)}"),
         (
             "rent",
             judgement.rent,
-            judgement.owed - judgement.gap,
+            judgement.owed - judgement.gap if sums.links else None,
             f"rent less owed {euros(judgement.rent - judgement.owed)}",
         ),
         ("owed", judgement.owed, None, owed_note),

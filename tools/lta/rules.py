@@ -56,6 +56,7 @@ NUMBERS = {
     24: "load above the branch's share of its margin",
     25: "zone price out of range",
     26: "gap above the tolerance",
+    27: "no link, and an LTA share above 0",
     30: "report buffer under 176 bytes",
 }
 # The same of request S-3's.
@@ -162,7 +163,9 @@ class Sums:
         earned = [max(0, spread) for spread in self.spreads]
         self.link_total = sum(link.capacity * spread for link, spread in zip(self.links, earned))
         self.owed = sum(link.contracted * spread for link, spread in zip(self.links, earned))
-        self.bound = sum(self.surpluses) + max(self.branch_total, self.link_total)
+        # Request S-6: without links the branch total alone, even a negative one.
+        self.network = max(self.branch_total, self.link_total) if self.links else self.branch_total
+        self.bound = sum(self.surpluses) + self.network
         self.gap = self.bound - self.welfare
         self.rent = sum(net * price for net, price in zip(self.net, self.prices))
 
@@ -177,7 +180,6 @@ class Sums:
             parts.append(("branch", place, WHOLE * (room - load) * branch.shadow))
         for place, (link, spread) in enumerate(zip(self.links, self.spreads)):
             parts.append(("link", place, self.share * link.capacity * max(0, spread) - WHOLE * link.flow * spread))
-        larger = max(self.branch_total, self.link_total)
-        parts.append(("branch total", None, (WHOLE - self.share) * (larger - self.branch_total)))
-        parts.append(("link total", None, self.share * (larger - self.link_total)))
+        parts.append(("branch total", None, (WHOLE - self.share) * (self.network - self.branch_total)))
+        parts.append(("link total", None, self.share * (self.network - self.link_total)))
         return parts
