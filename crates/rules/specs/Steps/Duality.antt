@@ -6,7 +6,7 @@ use Prim.Native.Nat.{ℕ, _+_, _*_, _-_, _≤_, _<_}
 use native.Mathlib.Nat.{mul-le-mul-left, mul-le-mul-right}
 use native.Mathlib.Omega.{arith}
 use native.Mathlib.Decide.{decLt}
-use borrow.Author.Tests.{ne-eqb}
+use borrow.Author.Tests.{eq-eqb, ne-eqb}
 use lib.Dec.{eqb}
 use lib.IntN.{ℤ, pos, negsuc, _+ℤ_, _-ℤ_, _*ℤ_}
 use lib.Signed.{_≤ℤ_, ≤ℤ-refl}
@@ -24,13 +24,19 @@ pub record Placed (c : Case) : Type 0 where
   pub zone-in : (i : ℕ) → i < c .orders → c .zone i < c .zones
 
 -- RULE 10'S PART OF THE NETWORK: the branch total alone without links (S-6), the larger of both totals with one
+the-first : (b : Bool) (x y : ℤ) → b ≡ true → cond b x y ≡ x
+the-first b x y e = ap (λ (b : Bool). cond b x y) e
+
+the-second : (b : Bool) (x y : ℤ) → b ≡ false → cond b x y ≡ y
+the-second b x y e = ap (λ (b : Bool). cond b x y) e
+
 pub without-links-is : (c : Case) (d : Prices) → c .links ≡ 0 → networkBound c d ≡ branchTotal c d
 unfolding networkBound noLink
-without-links-is c d e = ap (λ (n : ℕ). cond (eqb n 0) (branchTotal c d) (larger (branchTotal c d) (linkTotal c d))) e
+without-links-is c d e = the-first _ _ _ (eq-eqb (c .links) 0 e)
 
 pub with-links-is : (c : Case) (d : Prices) → 0 < c .links → networkBound c d ≡ larger (branchTotal c d) (linkTotal c d)
 unfolding networkBound noLink
-with-links-is c d h = ap (λ (b : Bool). cond b (branchTotal c d) (larger (branchTotal c d) (linkTotal c d))) (ne-eqb (c .links) 0 (λ e. none e))
+with-links-is c d h = the-second _ _ _ (ne-eqb (c .links) 0 none)
   where
     none : c .links ≡ 0 → ⊥
     none e = omega (arith, h)
