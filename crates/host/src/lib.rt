@@ -3,5 +3,6 @@ pub mod book;
 pub mod dump;
 pub mod hour;
 pub mod intuitive_hours;
+pub mod queue;
 pub mod sheet;
 pub mod text;

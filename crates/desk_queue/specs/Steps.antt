@@ -1,0 +1,4 @@
+-- THE PROOFS' MEANS
+pub mod Invariant
+pub mod Fairness
+pub mod Account

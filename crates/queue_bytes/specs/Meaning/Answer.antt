@@ -1,0 +1,6 @@
+-- What a serve answers, in the fields that the host is given. Assumes nothing.
+use Rattle.desk_queue.specs.Meaning.Queue.{ServeAnswer}
+use Rattle.queue_bytes.specs.declared.Served.{Served}
+
+abbrev pub given : ServeAnswer → Served
+given a = record { number = a .number; index = a .index; area = a .area; hour = a .hour }

@@ -1,0 +1,2 @@
+-- WHAT HOLDS of calls on the bytes, one after the other
+pub mod Calls

@@ -1,0 +1,5 @@
+-- THE PROOFS' MEANS
+pub mod ReadBack
+pub mod Cells
+pub mod Walks
+pub mod Answers

@@ -1,0 +1,172 @@
+-- What the code answers and leaves, against the definitions: a refused post, one that is taken, a serve that finds nothing, and one that takes an hour.
+-- Assumes nothing.
+use mathlib.Core.Path.{_≡_, refl, sym, ap, _∙_, subst}
+use mathlib.Core.Bool.{true, false}
+use mathlib.Core.Logic.{⊎-elim}
+use mathlib.Core.List.{List, [], _∷_, _++_, tail}
+use mathlib.Core.Option.{Option, none, some}
+use Prim.Native.Nat.{ℕ, _+_, _*_, _-_, _%_, _≤_, _<_}
+use native.Mathlib.Omega.{arith}
+use borrow.Author.Tests.{lt-ltb, le-ltb}
+use lib.ListN.{length, getD, drop, set}
+use lib.Seq.{paste}
+use Rattle.rows.specs.declared.Outcome.{Outcome}
+use Rattle.rows.specs.Meaning.Rows.{verdict, refusal}
+use Rattle.queue_bytes.specs.declared.Waiting.{Waiting}
+use Rattle.queue_bytes.specs.declared.Served.{Served}
+use Rattle.desk_queue.specs.Meaning.Queue.{Pair, pair, among, postRows, postNumber, next, ServeAnswer, serveAnswer}
+use Rattle.desk_queue.specs.Steps.Invariant.{Hours, also, Taken, Refused, posting, at-most-25, Heads, next-heads, refused-61, refused-62, refused-63, not-refused, number-by, answerBy, answer-by}
+use Rattle.queue_bytes.specs.Meaning.Bytes.{cellsOf, hoursAt, queueOf, withHours, bytesUnless, bytesAfterPost, bytesWithout, bytesAfterServe}
+use Rattle.queue_bytes.specs.Steps.ReadBack.{good-bytes}
+use Rattle.queue_bytes.specs.Steps.Cells.{waitingOf, Addable, addable, among-of, cells-less}
+use Rattle.queue_bytes.specs.Meaning.Answer.{given}
+use Rattle.queue_bytes.specs.Steps.Walks.{areaOf}
+
+-- ---- posts
+
+module _ (a h : ℕ) (b : List ℕ) where
+  bytes-by : (o : Option Outcome) → refusal (postRows a h (queueOf b)) ≡ o → bytesUnless o a h b ≡ bytesAfterPost a h b
+  unfolding bytesAfterPost
+  bytes-by o e = sym (ap (λ (x : Option Outcome). bytesUnless x a h b) e)
+
+  pub post-refused : (n : ℕ) → refusal (postRows a h (queueOf b)) ≡ some (verdict n 0) → (n ≡ postNumber a h (queueOf b)) × (b ≡ bytesAfterPost a h b)
+  post-refused n e = (sym (number-by a h (queueOf b) (some (verdict n 0)) e), bytes-by (some (verdict n 0)) e)
+
+  pub post-61 : 3 < a → (61 ≡ postNumber a h (queueOf b)) × (b ≡ bytesAfterPost a h b)
+  post-61 p = post-refused 61 (refused-61 a h (queueOf b) (lt-ltb 3 a p))
+
+  pub post-62 : a ≤ 3 → 24 < h → (62 ≡ postNumber a h (queueOf b)) × (b ≡ bytesAfterPost a h b)
+  post-62 p q = post-refused 62 (refused-62 a h (queueOf b) (le-ltb 3 a p) (lt-ltb 24 h q))
+
+  pub post-63 : a ≤ 3 → h ≤ 24 → among h (hoursAt b a) ≡ true → (63 ≡ postNumber a h (queueOf b)) × (b ≡ bytesAfterPost a h b)
+  unfolding queueOf
+  post-63 p q r = post-refused 63 (refused-63 a h (queueOf b) (le-ltb 3 a p) (le-ltb 24 h q) r)
+
+  pub post-taken : a ≤ 3 → h ≤ 24 → among h (hoursAt b a) ≡ false
+      → (0 ≡ postNumber a h (queueOf b)) × (paste b (25 * a) (cellsOf (hoursAt b a ++ (h ∷ []))) 25 ≡ bytesAfterPost a h b)
+  unfolding queueOf withHours
+  post-taken p q r =
+      let e = not-refused a h (queueOf b) (le-ltb 3 a p) (le-ltb 24 h q) r in
+      (sym (number-by a h (queueOf b) none e), bytes-by none e)
+
+-- ---- serves
+
+area-none : (o : Option Pair) → 3 < areaOf o → (p : Pair) → p .area < 4 → o ≡ some p → ⊥
+area-none o l p m e = let z = ap areaOf e in omega arith
+
+module _ (b : List ℕ) where
+  serving-by : (o : Option Pair) → next (queueOf b) ≡ o → (given (answerBy o) ≡ given (serveAnswer (queueOf b))) × (bytesWithout o b ≡ bytesAfterServe b)
+  unfolding bytesAfterServe
+  serving-by o e = (sym (ap given (answer-by (queueOf b) o e)), sym (ap (λ (x : Option Pair). bytesWithout x b) e))
+
+  first-of : (p : Pair) → next (queueOf b) ≡ some p → Heads (hoursAt b) p
+  unfolding queueOf
+  first-of p e = next-heads (queueOf b) p e
+
+  pub serve-64 : (a : ℕ) → a ≡ areaOf (next (queueOf b)) → 3 < a
+      → (_≡_ {A = Served} (record { number = 64; index = 0; area = 0; hour = 0 }) (given (serveAnswer (queueOf b)))) × (b ≡ bytesAfterServe b)
+  serve-64 a f l = by (next (queueOf b)) refl
+    where
+      by : (o : Option Pair) → next (queueOf b) ≡ o
+          → (_≡_ {A = Served} (record { number = 64; index = 0; area = 0; hour = 0 }) (given (serveAnswer (queueOf b)))) × (b ≡ bytesAfterServe b)
+      by none e = serving-by none e
+      by (some p) e = absurd (area-none (next (queueOf b)) (subst (λ (x : ℕ). 3 < x) f l) p (first-of p e .area-in) e)
+
+  -- what the area found has waiting, and what it then leaves
+  pub record Taking (a : ℕ) : Type 0 where
+    pub hour : ℕ
+    pub rest : List ℕ
+    pub line : hoursAt b a ≡ hour ∷ rest
+    pub is : next (queueOf b) ≡ some (pair a hour)
+
+  pub taking : (a : ℕ) → a ≡ areaOf (next (queueOf b)) → a ≤ 3 → Taking a
+  taking a f l = by (next (queueOf b)) refl
+    where
+      by : (o : Option Pair) → next (queueOf b) ≡ o → Taking a
+      by none e = absurd (past a (f ∙ ap areaOf e) l)
+        where
+          past : (x : ℕ) → x ≡ 4 → x ≤ 3 → ⊥
+          past x u v = omega arith
+      by (some p) e =
+          let k = first-of p e in
+          let same : a ≡ p .area = f ∙ ap areaOf e in
+          record {
+            hour = p .hour;
+            rest = k .rest;
+            line = ap (hoursAt b) same ∙ k .first;
+            is = e ∙ ap (λ (x : ℕ). some (pair x (p .hour))) (sym same);
+          }
+
+  pub good-hours : (a : ℕ) → Hours (hoursAt b a)
+  good-hours a = unfold queueOf in good-bytes b .hours a
+
+  -- the first cell is the hour plus 1
+  pub first-cell : (a : ℕ) (t : Taking a) (w : Waiting) → w ≡ waitingOf (hoursAt b a) → getD (w .cells) 0 0 ≡ t .hour + 1
+  unfolding cellsOf
+  first-cell a t w e = ap (λ (v : Waiting). getD (v .cells) 0 0) e ∙ ap (λ (hours : List ℕ). getD (cellsOf hours) 0 0) (t .line)
+
+  -- and the hour is at most 24
+  pub hour-in : (a : ℕ) (t : Taking a) → t .hour ≤ 24
+  hour-in a t = small (subst (λ (hours : List ℕ). Hours hours) (t .line) (good-hours a))
+    where
+      small : {h : ℕ} {rest : List ℕ} → Hours (h ∷ rest) → h ≤ 24
+      small (also l new more) = l
+
+  pub cells-left : (a : ℕ) (t : Taking a) (w : Waiting) → w ≡ waitingOf (hoursAt b a) → drop 1 (w .cells) ++ (0 ∷ []) ≡ cellsOf (tail (hoursAt b a))
+  cells-left a t w e =
+      ap (λ (v : Waiting). drop 1 (v .cells) ++ (0 ∷ [])) e
+      ∙ ap (λ (hours : List ℕ). drop 1 (cellsOf hours) ++ (0 ∷ [])) (t .line)
+      ∙ cells-less (t .hour) (t .rest) (subst (λ (hours : List ℕ). length hours ≤ 25) (t .line) (at-most-25 (good-hours a)))
+      ∙ sym (ap (λ (hours : List ℕ). cellsOf (tail hours)) (t .line))
+
+  -- with c the first cell, and the cells that were stored
+  pub serve-taken : (a : ℕ) (t : Taking a) (c : ℕ) (cells stored : List ℕ) → c ≡ t .hour + 1 → cells ≡ cellsOf (tail (hoursAt b a)) → stored ≡ paste b (25 * a) cells 25
+      → (_≡_ {A = Served} (record { number = 0; index = 0; area = a; hour = c - 1 }) (given (serveAnswer (queueOf b))))
+      × (set stored 100 ((a + 1) % 4) ≡ bytesAfterServe b)
+  unfolding withHours
+  serve-taken a t c cells stored e f g =
+      let r = serving-by (some (pair a (t .hour))) (t .is) in (
+        ap (λ (h : ℕ). record { number = 0; index = 0; area = a; hour = h }) (back c (t .hour) e) ∙ r .0,
+        ap (λ (x : List ℕ). set x 100 ((a + 1) % 4)) (g ∙ ap (λ (x : List ℕ). paste b (25 * a) x 25) f) ∙ r .1,
+      )
+    where
+      back : (x h : ℕ) → x ≡ h + 1 → x - 1 ≡ h
+      back x h u = omega arith
+
+-- ---- the cell of an hour that is posted
+
+one-back : (h : ℕ) → h + 1 - 1 ≡ h
+one-back h = omega arith
+
+pub among-hour : (w : Waiting) (h : ℕ) (hours : List ℕ) → w ≡ waitingOf hours → among (h + 1) (w .cells) ≡ among h hours
+among-hour w h hours e = among-of w (h + 1) hours (above h) e ∙ ap (λ (k : ℕ). among k hours) (one-back h)
+  where
+    above : (k : ℕ) → 0 < k + 1
+    above k = omega arith
+
+pub post-addable : (w : Waiting) (h : ℕ) (b : List ℕ) (a : ℕ) → w ≡ waitingOf (hoursAt b a) → h ≤ 24 → among (h + 1) (w .cells) ≡ false → Addable w (h + 1)
+post-addable w h b a e small new = addable w (h + 1) (record { hours = hoursAt b a; good = good-hours b a; is = e }) (omega arith) (omega arith) new
+
+pub post-stored : (b : List ℕ) (a h : ℕ) (v : Waiting) → v ≡ waitingOf (hoursAt b a ++ ((h + 1 - 1) ∷ []))
+    → paste b (25 * a) (v .cells) 25 ≡ paste b (25 * a) (cellsOf (hoursAt b a ++ (h ∷ []))) 25
+post-stored b a h v e =
+    ap (λ (x : Waiting). paste b (25 * a) (x .cells) 25) e
+    ∙ ap (λ (k : ℕ). paste b (25 * a) (cellsOf (hoursAt b a ++ (k ∷ []))) 25) (one-back h)
+
+-- ---- a refused call leaves the bytes
+
+pub post-leaves : (a h : ℕ) (b : List ℕ) → 0 < postNumber a h (queueOf b) → b ≡ bytesAfterPost a h b
+post-leaves a h b p = ⊎-elim (λ (t : Taken a h (queueOf b)). absurd (never (t .number-is))) (λ (r : Refused a h (queueOf b)). bytes-by a h b (some (r .outcome)) (r .by-row)) (posting a h (queueOf b))
+  where
+    never : postNumber a h (queueOf b) ≡ 0 → ⊥
+    never e = omega arith
+
+pub serve-leaves : (b : List ℕ) → 0 < serveAnswer (queueOf b) .number → b ≡ bytesAfterServe b
+serve-leaves b p = by (next (queueOf b)) refl
+  where
+    by : (o : Option Pair) → next (queueOf b) ≡ o → b ≡ bytesAfterServe b
+    by none e = serving-by b none e .1
+    by (some x) e = absurd (never (ap (λ (s : ServeAnswer). s .number) (answer-by (queueOf b) (some x) e)))
+      where
+        never : serveAnswer (queueOf b) .number ≡ 0 → ⊥
+        never z = omega arith

@@ -1,0 +1,241 @@
+// The desk queue of request S-8 in 101 bytes that the caller lends: a post and a serve. Bytes are laid out as specs/Meaning/Bytes.antt says; any are a queue, and
+// all zeros the empty one. The inner functions take and give the bytes by value, since only of an array by value a proof knows the length.
+ghost use mathlib.Core.Path.{_≡_};
+ghost use mathlib.Core.List.{List, [], _∷_, _++_};
+ghost use Prim.Native.Nat.{ℕ, _+_, _*_, _-_, _<_};
+ghost use lib.ListN.{length, drop};
+ghost use lib.Seq.{paste};
+ghost use Rattle.desk_queue.specs.Meaning.Queue.{among, postNumber, afterPost, next, afterServe, serveAnswer};
+ghost use Rattle.desk_queue.specs.Steps.Invariant.{Hours};
+ghost use Rattle.queue_bytes.specs.Meaning.Bytes.{keep, hoursAt, queueOf, bytesAfterPost, bytesAfterServe};
+ghost use Rattle.queue_bytes.specs.Steps.Cells.{waitingOf, Tidy, Addable};
+ghost use Rattle.queue_bytes.specs.Meaning.Answer.{given};
+ghost use Rattle.queue_bytes.specs.Steps.Walks.{areaOf};
+
+// The hours that wait in one area: its cells, those that hold an hour first, and how many these are.
+pub struct Waiting {
+    pub cells: [u8; 25],
+    pub count: usize,
+}
+
+// The answer of a serve: number 0 with area and hour, or 64 with zeros. The index is 0.
+#[repr(C)]
+pub struct Served {
+    pub number: u32,
+    pub index: u32,
+    pub area: u32,
+    pub hour: u32,
+}
+
+// What a post leaves, and its number.
+pub struct Posted {
+    pub number: u32,
+    pub bytes: [u8; 101],
+}
+
+// What a serve leaves, and its answer.
+pub struct Taken {
+    pub answer: Served,
+    pub bytes: [u8; 101],
+}
+
+// Whether a cell is among some cells.
+fn is_among(cells: [u8; 25], c: u8) -> bool
+    ensures { λ r. ⌜ r ≡ among c cells ⌝ }
+{
+    let mut i = 0;
+    while i < 25 {
+        if cells[i] == c {
+            return true;
+        }
+        i += 1;
+    }
+    false
+}
+
+// The hours with one more behind them. There is always room: at most 25 hours differ.
+fn added(w: Waiting, c: u8) -> Waiting
+    requires { ⌜ Addable w c ⌝ }
+    ensures { λ r. ⌜ ((hours : List ℕ) → Hours hours → w ≡ waitingOf hours → r ≡ waitingOf (hours ++ ((c - 1) ∷ []))) ⌝ }
+{
+    let mut cells = w.cells;
+    let n = w.count;
+    cells[n] = c;
+    Waiting {
+        cells,
+        count: n + 1,
+    }
+}
+
+// The hours with that of one more cell, where it counts.
+fn kept(w: Waiting, c: u8) -> Waiting
+    requires { ⌜ Tidy w ⌝ }
+    ensures { λ r. ⌜ ((hours : List ℕ) → Hours hours → w ≡ waitingOf hours → r ≡ waitingOf (keep hours c)) ⌝ }
+{
+    if c == 0 {
+        return w;
+    }
+    if 25 < c {
+        return w;
+    }
+    let cells = w.cells;
+    if is_among(cells, c) {
+        return w;
+    }
+    added(w, c)
+}
+
+// The hours that wait in an area.
+fn waiting_in(bytes: [u8; 101], area: usize) -> Waiting
+    requires { ⌜ area < 4 ⌝ }
+    ensures { λ r. ⌜ r ≡ waitingOf (hoursAt bytes area) ⌝ }
+{
+    let mut w = Waiting {
+        cells: [0u8; 25],
+        count: 0,
+    };
+    let mut i = 0;
+    while i < 25 {
+        w = kept(w, bytes[25 * area + i]);
+        i += 1;
+    }
+    w
+}
+
+// The cells of an area replaced.
+fn store(bytes: [u8; 101], area: usize, cells: [u8; 25]) -> [u8; 101]
+    requires { ⌜ area < 4 ⌝ }
+    ensures { λ r. ⌜ r ≡ paste bytes (25 * area) cells 25 ⌝ }
+{
+    let mut next = bytes;
+    let mut i = 0;
+    while i < 25 {
+        next[25 * area + i] = cells[i];
+        i += 1;
+    }
+    next
+}
+
+// The cells without the first.
+fn moved_up(cells: [u8; 25]) -> [u8; 25]
+    ensures { λ r. ⌜ r ≡ drop 1 cells ++ (0 ∷ []) ⌝ }
+{
+    let mut next = [0u8; 25];
+    let mut i = 0;
+    while i < 24 {
+        next[i] = cells[i + 1];
+        i += 1;
+    }
+    next
+}
+
+// A post on the bytes by value.
+fn post_bytes(bytes: [u8; 101], area: u32, hour: u32) -> Posted
+    ensures number { λ r. ⌜ r .number ≡ postNumber area hour (queueOf bytes) ⌝ }
+    ensures bytes { λ r. ⌜ r .bytes ≡ bytesAfterPost area hour bytes ⌝ }
+    ensures length { λ r. ⌜ length bytes ≡ 101 ⌝ }
+{
+    if 3 < area {
+        return Posted { number: 61, bytes };
+    }
+    if 24 < hour {
+        return Posted { number: 62, bytes };
+    }
+    let at = area as usize;
+    let c = (hour + 1) as u8;
+    let w = waiting_in(bytes, at);
+    let cells = w.cells;
+    if is_among(cells, c) {
+        return Posted { number: 63, bytes };
+    }
+    let longer = added(w, c);
+    let more = longer.cells;
+    Posted {
+        number: 0,
+        bytes: store(bytes, at, more),
+    }
+}
+
+// The area that the next serve takes from, or 4 where none has an hour waiting.
+fn next_area(bytes: [u8; 101]) -> usize
+    ensures { λ r. ⌜ r ≡ areaOf (next (queueOf bytes)) ⌝ }
+{
+    let turn = (bytes[100] % 4) as usize;
+    let mut k = 0;
+    while k < 4 {
+        let area = (turn + k) % 4;
+        let w = waiting_in(bytes, area);
+        if 0 < w.count {
+            return area;
+        }
+        k += 1;
+    }
+    4
+}
+
+// A serve on the bytes by value.
+fn serve_bytes(bytes: [u8; 101]) -> Taken
+    ensures answer { λ r. ⌜ r .answer ≡ given (serveAnswer (queueOf bytes)) ⌝ }
+    ensures bytes { λ r. ⌜ r .bytes ≡ bytesAfterServe bytes ⌝ }
+    ensures length { λ r. ⌜ length bytes ≡ 101 ⌝ }
+{
+    let area = next_area(bytes);
+    if area > 3 {
+        return Taken {
+            answer: Served {
+                number: 64,
+                index: 0,
+                area: 0,
+                hour: 0,
+            },
+            bytes,
+        };
+    }
+    let w = waiting_in(bytes, area);
+    let cells = w.cells;
+    let hour = cells[0] - 1;
+    let mut next = store(bytes, area, moved_up(cells));
+    next[100] = ((area + 1) % 4) as u8;
+    Taken {
+        answer: Served {
+            number: 0,
+            index: 0,
+            area: area as u32,
+            hour: hour as u32,
+        },
+        bytes: next,
+    }
+}
+
+// A post: 61 when the area is over 3, 62 when the hour is over 24, 63 when that area has it waiting already; else 0, and the hour waits. A refused post stores
+// nothing.
+pub fn post(queue: &mut [u8; 101], area: u32, hour: u32) -> u32
+    ensures number { λ r. ⌜ r ≡ postNumber area hour (queueOf (now (queue .entry))) ⌝ }
+    ensures queue { λ r. ⌜ queueOf (now (queue .exit)) ≡ afterPost area hour (queueOf (now (queue .entry))) ⌝ }
+    ensures bytes { λ r. ⌜ now (queue .exit) ≡ bytesAfterPost area hour (now (queue .entry)) ⌝ }
+{
+    let p = post_bytes(*queue, area, hour);
+    let number = p.number;
+    if 0 < number {
+        return number;
+    }
+    let bytes = p.bytes;
+    *queue = bytes;
+    number
+}
+
+// A serve: the next area in turn that has an hour waiting, and its earliest posted; 64 when there is none, and nothing is stored.
+pub fn serve(queue: &mut [u8; 101]) -> Served
+    ensures answer { λ r. ⌜ r ≡ given (serveAnswer (queueOf (now (queue .entry)))) ⌝ }
+    ensures queue { λ r. ⌜ queueOf (now (queue .exit)) ≡ afterServe (queueOf (now (queue .entry))) ⌝ }
+    ensures bytes { λ r. ⌜ now (queue .exit) ≡ bytesAfterServe (now (queue .entry)) ⌝ }
+{
+    let t = serve_bytes(*queue);
+    let answer = t.answer;
+    if 0 < answer.number {
+        return answer;
+    }
+    let bytes = t.bytes;
+    *queue = bytes;
+    answer
+}
