@@ -4,6 +4,8 @@
 use second_judge::CarriedAnswer;
 #[cfg(any(feature = "desk", feature = "dump", feature = "sheet"))]
 use second_judge::OutputAnswer;
+#[cfg(feature = "queue")]
+use second_judge::ServedAnswer;
 #[cfg(feature = "book")]
 use second_judge::{BookAnswer, Row};
 
@@ -70,6 +72,12 @@ extern "C" {
         scratch: *mut i64,
         scratch_count: usize,
     ) -> Carried;
+
+    #[cfg(feature = "queue")]
+    fn lta_queue_post(queue: *mut u8, area: u32, hour: u32) -> u32;
+
+    #[cfg(feature = "queue")]
+    fn lta_queue_serve(queue: *mut u8) -> Served;
 }
 
 /// struct lta_order.
@@ -142,6 +150,28 @@ impl From<Carried> for CarriedAnswer {
             index: carried.index,
             intuitive: carried.intuitive,
             total: carried.total,
+        }
+    }
+}
+
+/// struct lta_served.
+#[cfg(feature = "queue")]
+#[repr(C)]
+pub struct Served {
+    number: u32,
+    index: u32,
+    area: u32,
+    hour: u32,
+}
+
+#[cfg(feature = "queue")]
+impl From<Served> for ServedAnswer {
+    fn from(served: Served) -> ServedAnswer {
+        ServedAnswer {
+            number: served.number,
+            index: served.index,
+            area: served.area,
+            hour: served.hour,
         }
     }
 }
@@ -320,4 +350,18 @@ pub fn hour_intuitive(
         )
     }
     .into()
+}
+
+/// Posts an hour to the queue that these bytes are.
+#[cfg(feature = "queue")]
+pub fn queue_post(queue: &mut [u8; 101], area: u32, hour: u32) -> u32 {
+    // Safe: the entry takes 101 bytes.
+    unsafe { lta_queue_post(queue.as_mut_ptr(), area, hour) }
+}
+
+/// Serves from it.
+#[cfg(feature = "queue")]
+pub fn queue_serve(queue: &mut [u8; 101]) -> ServedAnswer {
+    // Safe: the entry takes 101 bytes.
+    unsafe { lta_queue_serve(queue.as_mut_ptr()) }.into()
 }

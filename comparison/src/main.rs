@@ -25,6 +25,8 @@ mod offsets;
 mod places;
 #[cfg(feature = "intuitive")]
 mod planted;
+#[cfg(feature = "queue")]
+mod queue;
 mod rng;
 mod run;
 #[cfg(feature = "sheet")]
@@ -92,6 +94,8 @@ fn main() -> ExitCode {
     intuitive::exchanges(&mut run, &mut Rng::new(seed));
     #[cfg(feature = "dump")]
     dump::dumps(&mut run, &mut Rng::new(seed));
+    #[cfg(feature = "queue")]
+    queue::queues(&mut run, &mut Rng::new(seed));
 
     run.section("verdicts, times met");
     for number in NUMBERS {
@@ -122,6 +126,7 @@ fn main() -> ExitCode {
         ("sheet", cfg!(feature = "sheet")),
         ("intuitive", cfg!(feature = "intuitive")),
         ("dump", cfg!(feature = "dump")),
+        ("queue", cfg!(feature = "queue")),
     ] {
         if !built {
             println!("NOT COMPARED: the {name} entry (built without the feature {name})");

@@ -164,6 +164,7 @@ impl Run {
         feature = "desk",
         feature = "dump",
         feature = "intuitive",
+        feature = "queue",
         feature = "sheet"
     ))]
     pub fn count(&mut self) {

@@ -14,6 +14,7 @@ mod intuitive;
 mod judge;
 pub mod limits;
 mod misnamed;
+mod queue;
 mod read;
 mod sheet;
 
@@ -24,6 +25,10 @@ pub use intuitive::{
     hour_intuitive, hour_intuitive_as, intuitive, intuitive_as, CarriedAnswer, IntuitiveBuild,
 };
 pub use judge::{judge, judge_as, Build};
+pub use queue::{
+    queue_post, queue_post_as, queue_serve, queue_serve_as, Queue, QueueBuild, ServedAnswer,
+    QUEUE_BYTES,
+};
 pub use sheet::{sheet_branches, sheet_branches_as, SheetBuild};
 
 /// Number and index as the paper's table returns them.

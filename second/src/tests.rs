@@ -740,3 +740,104 @@ fn book_answers() {
     assert_eq!(book_surplus(&sells, &[40_000_000_000]), answer(0, 0, most));
     assert_eq!(book_surplus(&sells, &[-5_000_000_000]), answer(0, 0, 0));
 }
+
+/// The stored runs of the desk queue as this queue prints them: a run opens with
+/// its name, and from a line `byte` on it is followed by its bytes.
+fn queue_runs(build: QueueBuild, events: &str) -> String {
+    let mut queue = Queue::empty(build);
+    let mut bytes = [0; QUEUE_BYTES];
+    let mut by_bytes = false;
+    let mut printed = String::new();
+    for line in events.lines() {
+        let words: Vec<&str> = line.split(' ').collect();
+        let number = |n: usize| words[n].parse::<u32>().unwrap();
+        printed += line;
+        match words[0] {
+            "#" => {
+                queue = Queue::empty(build);
+                bytes = [0; QUEUE_BYTES];
+                by_bytes = false;
+            }
+            "byte" => {
+                bytes[number(1) as usize] = number(2) as u8;
+                by_bytes = true;
+            }
+            "post" => {
+                let (area, hour) = (number(1), number(2));
+                let of_bytes = queue_post_as(build, &mut bytes, area, hour);
+                let followed = queue.post(area, hour);
+                let answer = if by_bytes { of_bytes } else { followed };
+                printed += &format!(": {answer}");
+            }
+            "serve" => {
+                let of_bytes = queue_serve_as(build, &mut bytes);
+                let followed = queue.serve();
+                let answer = if by_bytes { of_bytes } else { followed };
+                let ServedAnswer {
+                    number,
+                    index,
+                    area,
+                    hour,
+                } = answer;
+                printed += &format!(": {number} {index} {area} {hour}");
+            }
+            word => panic!("no event: {word}"),
+        }
+        printed += "\n";
+    }
+    printed
+}
+
+const QUEUE_EVENTS: &str = include_str!("../../crates/queue_runs/stdin");
+const QUEUE_PRINTED: &str = include_str!("../../crates/queue_runs/stdout");
+
+#[test]
+fn stored_queue_runs() {
+    assert_eq!(queue_runs(QueueBuild::Right, QUEUE_EVENTS), QUEUE_PRINTED);
+    // What is written into cells is no answer: that build shows in the bytes alone.
+    for (build, name) in QueueBuild::WRONG {
+        let told = queue_runs(build, QUEUE_EVENTS) != QUEUE_PRINTED;
+        assert_eq!(told, build != QueueBuild::AllAreasWritten, "{name}");
+    }
+}
+
+#[test]
+fn queue_bounds_are_reached() {
+    // Every hour of the long day waits, that of area 3 posted last.
+    let mut queue = Queue::empty(QueueBuild::Right);
+    for place in 0..100 {
+        assert_eq!(queue.post(place / 25, place % 25), 0);
+        assert_eq!(queue.post(place / 25, place % 25), 63);
+    }
+    let served: Vec<ServedAnswer> = (0..101).map(|_| queue.serve()).collect();
+    for (n, one) in (0..100).zip(&served) {
+        assert_eq!((one.number, one.area, one.hour), (0, n % 4, n / 4));
+    }
+    assert_eq!(served[100].number, 64);
+}
+
+#[test]
+fn queue_in_bytes() {
+    let mut bytes = [0; QUEUE_BYTES];
+    assert_eq!(queue_serve(&mut bytes).number, 64);
+    assert_eq!(bytes, [0; QUEUE_BYTES]);
+    for hour in [24, 0, 7] {
+        assert_eq!(queue_post(&mut bytes, 2, hour), 0);
+    }
+    assert_eq!(bytes[50..55], [25, 1, 8, 0, 0]);
+    for (area, hour, number) in [(4, 25, 61), (2, 25, 62), (2, 7, 63)] {
+        let before = bytes;
+        assert_eq!(queue_post(&mut bytes, area, hour), number);
+        assert_eq!(bytes, before);
+    }
+    let answer = queue_serve(&mut bytes);
+    assert_eq!((answer.number, answer.area, answer.hour), (0, 2, 24));
+    assert_eq!((&bytes[50..53], bytes[100]), (&[1, 8, 0][..], 3));
+    // Free cells between are closed, and other areas stay as they are.
+    bytes[0] = 200;
+    bytes[30] = 3;
+    bytes[31] = 3;
+    assert_eq!(queue_post(&mut bytes, 1, 4), 0);
+    assert_eq!(bytes[25..32], [3, 5, 0, 0, 0, 0, 0]);
+    assert_eq!(bytes[0], 200);
+}
