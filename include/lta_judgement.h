@@ -4,14 +4,16 @@
  * whether the proposal is accepted, or else the first cause for which it is refused. lta_book_surplus values an order book that lies in
  * memory. lta_desk_lines gives a judgement as text. lta_sheet_branches turns a published margin sheet into the branches of a case.
  * lta_hour_intuitive answers whether an accepted hour's exchanges can all go from a lower or equal price to a higher one, and lta_intuitive
- * answers it of net positions and zone prices. lta_dump_proposal turns a solver's dump into a proposal for a case.
+ * answers it of net positions and zone prices. lta_dump_proposal turns a solver's dump into a proposal for a case. lta_queue_post and
+ * lta_queue_serve keep the queue of a desk that serves four areas.
  *
  * Each promise below is part of a contract in crates/host, and the archive is built only if every function in it is proved to meet its
  * contract. A word in brackets, as [outcome], is the name of the clause that says it.
  *
  * What the caller owes, in every call:
  *   - A pointer and the length or count after it are one array: all of it may be read, and all of `report`, `out` or `scratch` may be
- *     written. A null pointer is allowed where the length or count is 0.
+ *     written. A null pointer is allowed where the length or count is 0. A queue has no length: it is LTA_QUEUE_SIZE bytes that may be read
+ *     and written, never null.
  *   - `report`, `out` and `scratch` overlap no other argument, and nothing else writes to an argument during the call.
  *   - `orders`, `zone_prices`, `net_exports` and `scratch` are aligned as their types demand.
  *   - There is stack enough. The proofs are about a machine that cannot run out of it; by test, 16 KiB are enough.
@@ -19,9 +21,10 @@
  * What holds then, of every call, whatever the bytes are:
  *   - It returns.
  *   - It reads nothing but its arguments. The answer, and what is written, depend on nothing else.
- *   - It writes nothing but what is said below of `report`, `out` and `scratch`. The case, the proposal, the input, the orders, the prices,
- *     the sheet, the net positions, the pairs and the dump stay as they were, and no file is read or written.
- *   - It is reentrant: nothing is kept between calls, so every entry may be called from several threads at once.
+ *   - It writes nothing but what is said below of `report`, `out`, `scratch` and `queue`. The case, the proposal, the input, the orders,
+ *     the prices, the sheet, the net positions, the pairs and the dump stay as they were, and no file is read or written.
+ *   - It is reentrant: nothing is kept between calls but in the caller's queue, so every entry may be called from several threads at once,
+ *     and on one queue by one thread at a time.
  *
  * Measures:
  *   tenth      0.1 MW, for one hour 0.1 MWh     margins, capacities, contracted volumes, quantities, volumes, flows,
@@ -44,8 +47,8 @@ extern "C" {
 
 /* The version of this header and of what it declares. The first number rises where a program that was right may no longer be, the second
  * where something is added. LTA_VERSION_NUMBER is for comparing: 1.2.3 is 10203. */
-#define LTA_VERSION "3.0.0"
-#define LTA_VERSION_NUMBER 30000
+#define LTA_VERSION "3.1.0"
+#define LTA_VERSION_NUMBER 30100
 
 #define LTA_GRAINS_PER_CENT 100000
 #define LTA_GRAINS_PER_EURO 10000000
@@ -420,6 +423,66 @@ struct lta_written lta_dump_proposal(const uint8_t *case_bytes, size_t case_len,
                                      const uint8_t *dump, size_t dump_len,
                                      uint8_t *out, size_t out_len);
 
+/* THE DESK QUEUE, of a desk that judges the hours of four areas, up to 25 a day, as their solvers finish. The numbers by which
+ * lta_queue_post, 61 to 63, and lta_queue_serve, 64, refuse, in the order in which they are asked. No number is returned for another cause
+ * than its own. */
+enum lta_queue_number {
+    LTA_QUEUE_AREA = 61,            /* area over 3 */
+    LTA_QUEUE_HOUR = 62,            /* hour over 24 */
+    LTA_QUEUE_WAITING = 63,         /* that area has the hour waiting already */
+    LTA_QUEUE_NOTHING = 64          /* no area has an hour waiting */
+};
+
+/* THE QUEUE is 101 bytes of the host's, which it may copy, store and load: `uint8_t queue[LTA_QUEUE_SIZE] = {0};` is the empty queue.
+ *
+ *   25 * area to 25 * area + 24   the cells of an area: its waiting hours, each plus 1, the earliest posted first, then zeros
+ *   LTA_QUEUE_TURN                the area whose turn it is: the one after the area last served, modulo 4; 0 before any was served
+ *
+ * Any bytes are a queue, so that no call has a condition: a cell over 25, and one that repeats an earlier cell of its area, count as free,
+ * and the turn is taken modulo 4. */
+#define LTA_QUEUE_SIZE 101
+#define LTA_QUEUE_TURN 100
+#define LTA_QUEUE_AREAS 4
+#define LTA_QUEUE_HOURS 25
+
+/* Posts an hour of an area: it waits behind those that the area has waiting, and 0 is returned; or it is refused, by 61, 62 or 63 [number].
+ *
+ *   queue                      LTA_QUEUE_SIZE bytes
+ *   area                       0 to 3
+ *   hour                       0 to 24
+ *
+ * There is always room: at most 25 different hours wait in an area. An hour that was served may be posted again at once.
+ *
+ * The bytes of `queue` afterwards [bytes]: the cells of the area hold its waiting hours and then zeros, and all others are as they were. In
+ * a refusal every byte is as it was, and none is written. [queue] says the same of the queue that the bytes are.
+ */
+uint32_t lta_queue_post(uint8_t *queue, uint32_t area, uint32_t hour);
+
+/* The answer of a serve. */
+struct lta_served {
+    uint32_t number; /* 0, or LTA_QUEUE_NOTHING */
+    uint32_t index;  /* 0 */
+    uint32_t area;   /* of the hour served; 0 in a refusal */
+    uint32_t hour;   /* 0 in a refusal */
+};
+
+/* Serves an hour: of the next area in turn after the one last served, area 0 first of all, that has an hour waiting, its earliest posted
+ * [answer]. It waits no more. LTA_QUEUE_NOTHING is returned when, and only when, no hour waits.
+ *
+ *   queue                      LTA_QUEUE_SIZE bytes
+ *
+ * The bytes of `queue` afterwards [bytes]: the cells of the area served hold what still waits there and then zeros, LTA_QUEUE_TURN the
+ * area after it, and all others are as they were. In a refusal every byte is as it was, and none is written. [queue] says the same of the
+ * queue that the bytes are.
+ *
+ * What holds of all calls on a queue together, from the empty one on and in whatever order, refused ones included. It is proved in
+ * crates/desk_queue and crates/queue_bytes, of what [number], [answer] and [bytes] say of each call:
+ *   - An area that has an hour waiting is served by one of the next four serves. An hour is served by one of the next hundred serves after
+ *     its posting, whatever else is posted. Both hold from any other bytes too, and neither of a smaller number.
+ *   - An area's hours are served in the order posted; none is lost, and none served that was not posted.
+ */
+struct lta_served lta_queue_serve(uint8_t *queue);
+
 /* What a number that an entry returns means, in a few words, and "unknown number" for any other. As the readers of a report it is C in this
  * header: tested, and not proved. */
 static inline const char *lta_number_text(uint32_t number)
@@ -460,6 +523,10 @@ static inline const char *lta_number_text(uint32_t number)
     case LTA_DUMP_NOT_FINITE: return "value of the dump is not finite";
     case LTA_DUMP_RANGE: return "value of the dump, or its result, out of range";
     case LTA_DUMP_NO_ROOM: return "output too short for the proposal";
+    case LTA_QUEUE_AREA: return "area over 3";
+    case LTA_QUEUE_HOUR: return "hour over 24";
+    case LTA_QUEUE_WAITING: return "hour waits in that area already";
+    case LTA_QUEUE_NOTHING: return "no hour waits";
     case LTA_INTUITIVE_ZONES: return "no zone, over 16, or lists of two lengths";
     case LTA_INTUITIVE_POSITION: return "net position out of range, or their sum is not zero";
     case LTA_INTUITIVE_PRICE: return "price of a zone out of range";
