@@ -7,7 +7,6 @@ use mathlib.Core.List.{List, [], _∷_}
 use mathlib.Core.Option.{none, some}
 use Prim.Native.Nat.{ℕ, _≤_, _<_}
 use native.Mathlib.Omega.{arith}
-use borrow.Author.Tests.{lt-ltb, le-ltb}
 use lib.Dec.{T}
 use lib.ListN.{getD}
 use Rattle.rows.specs.Meaning.Rows.{Row, verdict, refusal, answer, unnamed, ask, Asks}
@@ -35,16 +34,16 @@ module _ (a h : ℕ) (q : Queue) where
 
   -- in plain words: one of these four holds of every post
   pub is-61 : 3 < a → postNumber a h q ≡ 61
-  is-61 p = number-by a h q (some (verdict 61 0)) (refused-61 a h q (lt-ltb 3 a p))
+  is-61 p = number-by a h q (some (verdict 61 0)) (refused-61 a h q p)
 
   pub is-62 : a ≤ 3 → 24 < h → postNumber a h q ≡ 62
-  is-62 p l = number-by a h q (some (verdict 62 0)) (refused-62 a h q (le-ltb 3 a p) (lt-ltb 24 h l))
+  is-62 p l = number-by a h q (some (verdict 62 0)) (refused-62 a h q p l)
 
   pub is-63 : a ≤ 3 → h ≤ 24 → among h (q .waiting a) ≡ true → postNumber a h q ≡ 63
-  is-63 p l w = number-by a h q (some (verdict 63 0)) (refused-63 a h q (le-ltb 3 a p) (le-ltb 24 h l) w)
+  is-63 p l w = number-by a h q (some (verdict 63 0)) (refused-63 a h q p l w)
 
   pub is-taken : a ≤ 3 → h ≤ 24 → among h (q .waiting a) ≡ false → postNumber a h q ≡ 0
-  is-taken p l w = number-by a h q none (not-refused a h q (le-ltb 3 a p) (le-ltb 24 h l) w)
+  is-taken p l w = number-by a h q none (not-refused a h q p l w)
 
   -- "the queue unchanged"
   pub refused-post-unchanged : 0 < postNumber a h q → afterPost a h q ≡ q

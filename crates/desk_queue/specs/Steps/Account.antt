@@ -8,11 +8,11 @@ use mathlib.Core.Option.{Option, none, some}
 use Prim.Native.Nat.{ℕ, _≤_, _<_}
 use native.Mathlib.Omega.{arith}
 use native.Mathlib.Decide.{ℕ-discrete}
-use borrow.Author.Tests.{eq-eqb, ne-eqb, le-ltb}
+use borrow.Author.Tests.{eq-eqb, ne-eqb}
 use lib.Dec.{eqb}
 use Rattle.desk_queue.specs.Meaning.Queue.{Queue, among, put, postNumber, afterPost, Pair, next, without, afterServe}
 use Rattle.desk_queue.specs.Meaning.Runs.{Event, post, serve, step, after, servings, postedIn, ofArea, hoursOf, servedIn}
-use Rattle.desk_queue.specs.Steps.Invariant.{Hours, also, Good, Taken, Refused, Heads, posting, next-heads, put-here, put-other, not-refused, number-by}
+use Rattle.desk_queue.specs.Steps.Invariant.{Hours, also, Good, Taken, Refused, Heads, posting, next-heads, put-here, put-other, served-first, not-refused, number-by}
 
 -- what a post adds to the hours that an area posted
 adds : ℕ → ℕ → ℕ → Queue → List ℕ → List ℕ
@@ -103,7 +103,7 @@ post-again q p g e =
     let k = next-heads q p e in
     let known = new-again (subst (λ (l : List ℕ). Hours l) (k .first) (g .hours (p .area))) in
     let now-waits : afterServe q .waiting (p .area) ≡ k .rest =
-    ap (λ (o : Option Pair). without o q .waiting (p .area)) e ∙ put-here (p .area) (tail (q .waiting (p .area))) (q .waiting) ∙ ap tail (k .first) in
+    ap (λ (o : Option Pair). without o q .waiting (p .area)) e ∙ served-first p q ∙ ap tail (k .first) in
     number-by (p .area) (p .hour) (afterServe q) none
-    (not-refused (p .area) (p .hour) (afterServe q) (le-ltb 3 (p .area) (omega (arith, k .area-in))) (le-ltb 24 (p .hour) (known .1))
+    (not-refused (p .area) (p .hour) (afterServe q) (omega (arith, k .area-in)) (known .1)
     (ap (λ (l : List ℕ). among (p .hour) l) now-waits ∙ known .0))

@@ -10,7 +10,7 @@ use native.Mathlib.Decide.{decLt, ℕ-discrete}
 use lib.ListN.{length}
 use Rattle.desk_queue.specs.Meaning.Queue.{Queue, put, postNumber, afterPost, pair, inTurn, firstWaiting, earliestElse, next, ServeAnswer, serveAnswer, afterServe}
 use Rattle.desk_queue.specs.Meaning.Runs.{Event, post, serve, step, serves, servings, ServedWithin, AreaServedWithin}
-use Rattle.desk_queue.specs.Steps.Invariant.{Good, Taken, Refused, posting, taken-of, room, put-here, put-other, answer-by, after-next, found-none, good-post, good-serve}
+use Rattle.desk_queue.specs.Steps.Invariant.{Good, Taken, Refused, posting, taken-of, room, put-here, put-other, taken-last, answer-by, after-next, found-none, good-post, good-serve}
 
 -- ---- what the next serve takes, when an area that is d areas from its turn has an hour waiting: an area at most as far from its turn
 
@@ -222,11 +222,8 @@ step-own a h (y ∷ before) behind q s x rest f is =
     })
     (omega (arith, near (afterServe q .turn) a))
 
-next-is : (q : Queue) → next q ≡ firstWaiting (q .waiting) (inTurn 4 (q .turn))
-unfolding next
-next-is q = refl
-
 pub serve-step : (a h : ℕ) (before behind : List ℕ) (q : Queue) → Stands a h before behind q → ServeStep a h before behind q
+unfolding next
 serve-step a h before behind q s = by (found (q .waiting) 4 (q .turn) d (omega (arith, near (q .turn) a)) waits)
   where
     d : ℕ
@@ -246,7 +243,7 @@ serve-step a h before behind q s = by (found (q .waiting) 4 (q .turn) d (omega (
     by f = which (decLt (f .ahead) d)
       where
         is : next q ≡ some (pair ((q .turn + f .ahead) % 4) (f .hour))
-        is = next-is q ∙ f .is
+        is = f .is
 
         which : Dec (f .ahead < d) → ServeStep a h before behind q
         which (yes l) = step-other a h before behind q s (f .ahead) (f .hour) l is
@@ -305,7 +302,7 @@ hour-served run a h q g taken-is m =
     (record {
       good = good-post a h q g;
       area-in = t .area-in;
-      line = ap (λ (x : Queue). x .waiting a) (t .leaves) ∙ put-here a (q .waiting a ++ (h ∷ [])) (q .waiting);
+      line = ap (λ (x : Queue). x .waiting a) (t .leaves) ∙ taken-last a h q;
     })
     (omega (arith, near (afterPost a h q .turn) a, room h (t .hour-in) (t .new) (g .hours a)))
     m
@@ -323,6 +320,7 @@ unfolding next
 nothing-found q e = ap (λ (x : ServeAnswer). x .number) (answer-by q none (all-empty (q .waiting) 4 (q .turn) e))
 
 pub nothing-waits : (q : Queue) → Good q → serveAnswer q .number ≡ 64 → (a : ℕ) → a < 4 → q .waiting a ≡ []
+unfolding next
 nothing-waits q g e a l = by (q .waiting a) refl
   where
     by : (hours : List ℕ) → q .waiting a ≡ hours → hours ≡ []
@@ -332,4 +330,4 @@ nothing-waits q g e a l = by (q .waiting a) refl
         (subst (λ (l : List ℕ). 0 < length l) (sym (ap (q .waiting) (reaches (q .turn) a (g .turn-in) l) ∙ f)) (omega arith))))
       where
         some-found : Found (q .waiting) 4 (q .turn) (distance (q .turn) a) → ⊥
-        some-found k = Option·none-ne-some (pair ((q .turn + k .ahead) % 4) (k .hour)) (sym (found-none q e) ∙ next-is q ∙ k .is)
+        some-found k = Option·none-ne-some (pair ((q .turn + k .ahead) % 4) (k .hour)) (sym (found-none q e) ∙ k .is)

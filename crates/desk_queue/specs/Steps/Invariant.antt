@@ -7,7 +7,8 @@ use mathlib.Core.Logic.{_⊎_, inl, inr, ⊎-elim}
 use mathlib.Core.Option.{Option, none, some, Option·none-ne-some, Option·some-injective}
 use Prim.Native.Nat.{ℕ, zero, suc, _+_, _%_, _≤_, _<_}
 use native.Mathlib.Omega.{arith}
-use borrow.Author.Tests.{eq-eqb, ne-eqb, eqb-false, ltb-false}
+use native.Mathlib.Decide.{decLt}
+use borrow.Author.Tests.{eq-eqb, ne-eqb, eqb-false, lt-ltb, le-ltb}
 use lib.Dec.{eqb, ltb}
 use lib.ListN.{length, length-append}
 use Rattle.integers.specs.NaturalSums.{sumNat, only, sum-zero, sum-one, sum-bound, only-le}
@@ -80,21 +81,21 @@ unfolding refusal
 row-end = refl
 
 module _ (a h : ℕ) (q : Queue) where
-  pub refused-61 : ltb 3 a ≡ true → refusal (postRows a h q) ≡ some (verdict 61 0)
+  pub refused-61 : 3 < a → refusal (postRows a h q) ≡ some (verdict 61 0)
   unfolding postRows
-  refused-61 p = field-fails 61 0 _ p
+  refused-61 p = field-fails 61 0 _ (lt-ltb _ a (omega arith))
 
-  pub refused-62 : ltb 3 a ≡ false → ltb 24 h ≡ true → refusal (postRows a h q) ≡ some (verdict 62 0)
+  pub refused-62 : a ≤ 3 → 24 < h → refusal (postRows a h q) ≡ some (verdict 62 0)
   unfolding postRows
-  refused-62 p r = field-passes 61 0 _ p ∙ field-fails 62 0 _ r
+  refused-62 p r = field-passes 61 0 _ (le-ltb _ a (omega arith)) ∙ field-fails 62 0 _ (lt-ltb _ h (omega arith))
 
-  pub refused-63 : ltb 3 a ≡ false → ltb 24 h ≡ false → among h (q .waiting a) ≡ true → refusal (postRows a h q) ≡ some (verdict 63 0)
+  pub refused-63 : a ≤ 3 → h ≤ 24 → among h (q .waiting a) ≡ true → refusal (postRows a h q) ≡ some (verdict 63 0)
   unfolding postRows
-  refused-63 p r s = field-passes 61 0 _ p ∙ field-passes 62 0 _ r ∙ field-fails 63 0 _ s
+  refused-63 p r s = field-passes 61 0 _ (le-ltb _ a (omega arith)) ∙ field-passes 62 0 _ (le-ltb _ h (omega arith)) ∙ field-fails 63 0 _ s
 
-  pub not-refused : ltb 3 a ≡ false → ltb 24 h ≡ false → among h (q .waiting a) ≡ false → refusal (postRows a h q) ≡ none
+  pub not-refused : a ≤ 3 → h ≤ 24 → among h (q .waiting a) ≡ false → refusal (postRows a h q) ≡ none
   unfolding postRows
-  not-refused p r s = field-passes 61 0 _ p ∙ field-passes 62 0 _ r ∙ field-passes 63 0 _ s ∙ row-end
+  not-refused p r s = field-passes 61 0 _ (le-ltb _ a (omega arith)) ∙ field-passes 62 0 _ (le-ltb _ h (omega arith)) ∙ field-passes 63 0 _ s ∙ row-end
 
   -- the number of a post by its refusal
   pub number-by : (o : Option Outcome) → refusal (postRows a h q) ≡ o → postNumber a h q ≡ (answer o) .number
@@ -122,23 +123,18 @@ pub record Refused (a h : ℕ) (q : Queue) : Type 0 where
   pub unchanged : afterPost a h q ≡ q
 
 pub posting : (a h : ℕ) (q : Queue) → Taken a h q ⊎ Refused a h q
-posting a h q = by (ltb 3 a) refl (ltb 24 h) refl (among h (q .waiting a)) refl
+posting a h q = by (decLt 3 a) (decLt 24 h) (among h (q .waiting a)) refl
   where
     refused : (n : ℕ) → 0 < n → refusal (postRows a h q) ≡ some (verdict n 0) → Refused a h q
     refused n pos e = record { outcome = verdict n 0; by-row = e; some-number = omega (arith, number-by a h q (some (verdict n 0)) e); unchanged = after-by a h q (some (verdict n 0)) e }
 
-    by : (x : Bool) → ltb 3 a ≡ x → (y : Bool) → ltb 24 h ≡ y → (z : Bool) → among h (q .waiting a) ≡ z → Taken a h q ⊎ Refused a h q
-    by true p y r z s = inr (refused 61 (omega arith) (refused-61 a h q p))
-    by false p true r z s = inr (refused 62 (omega arith) (refused-62 a h q p r))
-    by false p false r true s = inr (refused 63 (omega arith) (refused-63 a h q p r s))
-    by false p false r false s = inl (record {
-      area-in = omega (arith, ltb-false 3 a p);
-      hour-in = omega (arith, ltb-false 24 h r);
-      new = s;
-      passes = not-refused a h q p r s;
-      number-is = number-by a h q none (not-refused a h q p r s);
-      leaves = after-by a h q none (not-refused a h q p r s);
-    })
+    by : Dec (3 < a) → Dec (24 < h) → (z : Bool) → among h (q .waiting a) ≡ z → Taken a h q ⊎ Refused a h q
+    by (yes p) y z s = inr (refused 61 (omega arith) (refused-61 a h q p))
+    by (no p) (yes r) z s = inr (refused 62 (omega arith) (refused-62 a h q (omega arith) r))
+    by (no p) (no r) true s = inr (refused 63 (omega arith) (refused-63 a h q (omega arith) (omega arith) s))
+    by (no p) (no r) false s =
+        let e = not-refused a h q (omega arith) (omega arith) s in
+        inl (record { area-in = omega arith; hour-in = omega arith; new = s; passes = e; number-is = number-by a h q none e; leaves = after-by a h q none e })
 
 -- the number 0 is answered only to a post that is taken
 pub taken-of : (a h : ℕ) (q : Queue) → postNumber a h q ≡ 0 → Taken a h q
@@ -206,6 +202,13 @@ put-here a l w = ap (λ (b : Bool). cond b l (w a)) (eq-eqb a a refl)
 
 pub put-other : (a b : ℕ) (l : List ℕ) (w : ℕ → List ℕ) → (b ≡ a → ⊥) → put a l w b ≡ w b
 put-other a b l w other = ap (λ (x : Bool). cond x l (w b)) (ne-eqb b a other)
+
+-- a taken hour waits behind those posted before it, and a served one waits no more
+pub taken-last : (a h : ℕ) (q : Queue) → taken a h q .waiting a ≡ q .waiting a ++ (h ∷ [])
+taken-last a h q = put-here a (q .waiting a ++ (h ∷ [])) (q .waiting)
+
+pub served-first : (p : Pair) (q : Queue) → without (some p) q .waiting (p .area) ≡ tail (q .waiting (p .area))
+served-first p q = put-here (p .area) (tail (q .waiting (p .area))) (q .waiting)
 
 hours-put : (a : ℕ) (l : List ℕ) (w : ℕ → List ℕ) → Hours l → ((b : ℕ) → Hours (w b)) → (b : ℕ) → Hours (put a l w b)
 hours-put a l w g all b = by (eqb b a)

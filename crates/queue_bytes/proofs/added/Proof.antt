@@ -5,7 +5,7 @@ use Rattle.queue_bytes.proofs.added.Statement.{statement}
 use Rattle.queue_bytes.proofs.added.Tie as tie
 
 array-write-cells : tie.Need-array-write-cells
-array-write-cells c = addable-room (c .before .pre) .0
+array-write-cells c = omega (arith, addable-room (c .before .pre) .0)
 
 add-t8 : tie.Need-add-t8
 add-t8 c = omega (arith, addable-room (c .before .pre) .0)

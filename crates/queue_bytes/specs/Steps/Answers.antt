@@ -7,7 +7,6 @@ use mathlib.Core.List.{List, [], _∷_, _++_, tail}
 use mathlib.Core.Option.{Option, none, some}
 use Prim.Native.Nat.{ℕ, _+_, _*_, _-_, _%_, _≤_, _<_}
 use native.Mathlib.Omega.{arith}
-use borrow.Author.Tests.{lt-ltb, le-ltb}
 use lib.ListN.{length, getD, drop, set}
 use lib.Seq.{paste}
 use Rattle.rows.specs.declared.Outcome.{Outcome}
@@ -33,20 +32,20 @@ module _ (a h : ℕ) (b : List ℕ) where
   post-refused n e = (sym (number-by a h (queueOf b) (some (verdict n 0)) e), bytes-by (some (verdict n 0)) e)
 
   pub post-61 : 3 < a → (61 ≡ postNumber a h (queueOf b)) × (b ≡ bytesAfterPost a h b)
-  post-61 p = post-refused 61 (refused-61 a h (queueOf b) (lt-ltb 3 a p))
+  post-61 p = post-refused 61 (refused-61 a h (queueOf b) p)
 
   pub post-62 : a ≤ 3 → 24 < h → (62 ≡ postNumber a h (queueOf b)) × (b ≡ bytesAfterPost a h b)
-  post-62 p q = post-refused 62 (refused-62 a h (queueOf b) (le-ltb 3 a p) (lt-ltb 24 h q))
+  post-62 p q = post-refused 62 (refused-62 a h (queueOf b) p q)
 
   pub post-63 : a ≤ 3 → h ≤ 24 → among h (hoursAt b a) ≡ true → (63 ≡ postNumber a h (queueOf b)) × (b ≡ bytesAfterPost a h b)
   unfolding queueOf
-  post-63 p q r = post-refused 63 (refused-63 a h (queueOf b) (le-ltb 3 a p) (le-ltb 24 h q) r)
+  post-63 p q r = post-refused 63 (refused-63 a h (queueOf b) p q r)
 
   pub post-taken : a ≤ 3 → h ≤ 24 → among h (hoursAt b a) ≡ false
       → (0 ≡ postNumber a h (queueOf b)) × (paste b (25 * a) (cellsOf (hoursAt b a ++ (h ∷ []))) 25 ≡ bytesAfterPost a h b)
   unfolding queueOf withHours
   post-taken p q r =
-      let e = not-refused a h (queueOf b) (le-ltb 3 a p) (le-ltb 24 h q) r in
+      let e = not-refused a h (queueOf b) p q r in
       (sym (number-by a h (queueOf b) none e), bytes-by none e)
 
 -- ---- serves
