@@ -1,6 +1,6 @@
 //! Measures the proved judge against the second one, the margin sheet's and the
-//! dump's entry against plain C and S-3's against plain Rust, on the same inputs;
-//! prints only.
+//! dump's entry against plain C, S-3's and S-8's against plain Rust, on the same
+//! inputs; prints only.
 
 #[path = "../../comparison/src/archive.rs"]
 mod archive;
@@ -8,6 +8,8 @@ mod archive;
 mod dump;
 #[cfg(feature = "intuitive")]
 mod intuitive;
+#[cfg(feature = "queue")]
+mod queue;
 #[cfg(feature = "sheet")]
 mod sheet;
 
@@ -308,4 +310,6 @@ fn main() {
 
     #[cfg(feature = "dump")]
     dump::dumps();
+    #[cfg(feature = "queue")]
+    queue::queues();
 }
