@@ -104,6 +104,14 @@ struct Followed {
     last: Option<ServedAnswer>,
 }
 
+/// Whether a build is wrong in bytes alone.
+fn of_bytes(build: QueueBuild) -> bool {
+    matches!(
+        build,
+        QueueBuild::RepeatedCellCounts | QueueBuild::CellOver25Counts | QueueBuild::AllAreasWritten
+    )
+}
+
 fn lent(space: &mut [u8; SPACE]) -> &mut [u8; QUEUE_BYTES] {
     let lent = &mut space[GUARD..GUARD + QUEUE_BYTES];
     lent.try_into().expect("101 bytes")
@@ -140,7 +148,9 @@ impl Queues<'_> {
             theirs,
             ours: bytes,
             queue,
-            wrong: QueueBuild::WRONG.map(|(build, _)| Some(followed(build))),
+            // From zeros the builds that read or write bytes wrongly are right.
+            wrong: QueueBuild::WRONG
+                .map(|(build, _)| (!from_zeros || !of_bytes(build)).then(|| followed(build))),
             area_waits,
             hour_waits,
             last: None,
@@ -195,12 +205,7 @@ impl Queues<'_> {
         for (((build, _), wrong), times) in builds.zip(&mut self.second_wrong) {
             let Some(queue) = wrong else { continue };
             let mut told = event.on(queue) != theirs || !queue.waits_as(&one.queue);
-            if matches!(
-                build,
-                QueueBuild::RepeatedCellCounts
-                    | QueueBuild::CellOver25Counts
-                    | QueueBuild::AllAreasWritten
-            ) {
+            if of_bytes(*build) {
                 let mut bytes = *lent(&mut before);
                 told |= event.on_bytes(*build, &mut bytes) != theirs || bytes != after;
             }

@@ -11,7 +11,7 @@ use lib.Dec.{T}
 use lib.ListN.{getD}
 use Rattle.rows.specs.Meaning.Rows.{Row, verdict, refusal, answer, unnamed, ask, Asks}
 use Rattle.rows.specs.Promised.RowLaws.{empty, Answered, answered, Soonest, soonest, lacks}
-use Rattle.desk_queue.specs.Meaning.Queue.{Queue, among, postRows, postNumber, afterPost, serveRows, serveAnswer, afterServe}
+use Rattle.desk_queue.specs.Meaning.Queue.{Queue, among, postRows, postNumber, afterPost, Pair, next, serveRows, serveAnswer, afterServe}
 use Rattle.desk_queue.specs.Steps.Invariant.{Taken, Refused, posting, refused-61, refused-62, refused-63, not-refused, number-by, answer-by, after-next, found-none}
 
 module _ (a h : ℕ) (q : Queue) where
@@ -60,6 +60,10 @@ module _ (q : Queue) where
   pub serve-answers : Answered (serveRows q) (verdict (serveAnswer q .number) (serveAnswer q .index))
   unfolding serveAnswer serveRows lacks
   serve-answers = answered (serveRows q) tt
+
+  -- what a serve finds is what it answers
+  pub serve-finds : (p : Pair) → next q ≡ some p → serveAnswer q ≡ record { number = 0; index = 0; area = p .area; hour = p .hour }
+  serve-finds p e = answer-by q (some p) e
 
   -- 64 has area 0 and hour 0, and leaves "the queue unchanged"
   pub refused-serve : serveAnswer q .number ≡ 64 → serveAnswer q ≡ record { number = 64; index = 0; area = 0; hour = 0 }
