@@ -7,8 +7,8 @@ ghost use lib.ListN.{length, drop};
 ghost use lib.Seq.{paste};
 ghost use Rattle.desk_queue.specs.Meaning.Queue.{among, postNumber, afterPost, next, afterServe, serveAnswer};
 ghost use Rattle.desk_queue.specs.Steps.Invariant.{Hours};
-ghost use Rattle.queue_bytes.specs.Meaning.Bytes.{keep, hoursAt, queueOf, bytesAfterPost, bytesAfterServe};
-ghost use Rattle.queue_bytes.specs.Steps.Cells.{waitingOf, Tidy, Addable};
+ghost use Rattle.queue_bytes.specs.Meaning.Bytes.{hoursAt, queueOf, bytesAfterPost, bytesAfterServe};
+ghost use Rattle.queue_bytes.specs.Steps.Cells.{waitingOf, Addable, countsBehind};
 ghost use Rattle.queue_bytes.specs.Meaning.Answer.{given};
 ghost use Rattle.queue_bytes.specs.Steps.Walks.{areaOf};
 
@@ -39,18 +39,17 @@ pub struct Taken {
     pub bytes: [u8; 101],
 }
 
-// Whether a cell is among some cells.
+// Whether a cell is among some cells. All of them are looked at, so that they can be compared at once.
 fn is_among(cells: [u8; 25], c: u8) -> bool
     ensures { λ r. ⌜ r ≡ among c cells ⌝ }
 {
+    let mut found = false;
     let mut i = 0;
     while i < 25 {
-        if cells[i] == c {
-            return true;
-        }
+        found = found | (cells[i] == c);
         i += 1;
     }
-    false
+    found
 }
 
 // The hours with one more behind them. There is always room: at most 25 hours differ.
@@ -67,22 +66,17 @@ fn added(w: Waiting, c: u8) -> Waiting
     }
 }
 
-// The hours with that of one more cell, where it counts.
-fn kept(w: Waiting, c: u8) -> Waiting
-    requires { ⌜ Tidy w ⌝ }
-    ensures { λ r. ⌜ ((hours : List ℕ) → Hours hours → w ≡ waitingOf hours → r ≡ waitingOf (keep hours c)) ⌝ }
+// Whether a cell counts behind some others: it holds an hour, and none of them the same.
+fn counts(cells: [u8; 25], c: u8) -> bool
+    ensures { λ r. ⌜ r ≡ countsBehind cells c ⌝ }
 {
     if c == 0 {
-        return w;
+        return false;
     }
     if 25 < c {
-        return w;
+        return false;
     }
-    let cells = w.cells;
-    if is_among(cells, c) {
-        return w;
-    }
-    added(w, c)
+    !is_among(cells, c)
 }
 
 // The hours that wait in an area.
@@ -90,16 +84,18 @@ fn waiting_in(bytes: [u8; 101], area: usize) -> Waiting
     requires { ⌜ area < 4 ⌝ }
     ensures { λ r. ⌜ r ≡ waitingOf (hoursAt bytes area) ⌝ }
 {
-    let mut w = Waiting {
-        cells: [0u8; 25],
-        count: 0,
-    };
+    let mut cells = [0u8; 25];
+    let mut count = 0;
     let mut i = 0;
     while i < 25 {
-        w = kept(w, bytes[25 * area + i]);
+        let c = bytes[25 * area + i];
         i += 1;
+        if counts(cells, c) {
+            cells[count] = c;
+            count += 1;
+        }
     }
-    w
+    Waiting { cells, count }
 }
 
 // The cells of an area replaced.

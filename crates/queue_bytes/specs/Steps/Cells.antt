@@ -4,7 +4,7 @@ use mathlib.Core.Bool.{Bool, true, false, cond, not, _&&_, _||_}
 use mathlib.Core.List.{List, [], _∷_, _++_, map, append-assoc}
 use Prim.Native.Nat.{ℕ, zero, suc, _+_, _-_, _≤_, _<_}
 use native.Mathlib.Omega.{arith}
-use native.Mathlib.Decide.{ℕ-discrete}
+use native.Mathlib.Decide.{decLt, ℕ-discrete}
 use borrow.Author.Tests.{eq-eqb, ne-eqb, lt-ltb, le-ltb}
 use lib.Dec.{eqb, ltb}
 use lib.ListN.{length, getD, drop, set, replicate, length-append, length-drop, drop-of-length-le}
@@ -14,7 +14,7 @@ use Rattle.queue_bytes.specs.declared.Waiting.{Waiting}
 use Rattle.desk_queue.specs.Meaning.Queue.{among}
 use Rattle.desk_queue.specs.Steps.Invariant.{Hours, at-most-25, room}
 use Rattle.queue_bytes.specs.Meaning.Bytes.{isNew, cellsOf, keep}
-use Rattle.queue_bytes.specs.Steps.ReadBack.{New, is-new, length-cells-map, length-cells}
+use Rattle.queue_bytes.specs.Steps.ReadBack.{New, new-of, length-cells-map, length-cells}
 
 abbrev pub waitingOf : List ℕ → Waiting
 waitingOf hours = record { cells = cellsOf hours; count = length hours }
@@ -37,9 +37,6 @@ addable-room {w} {c} p =
           (room (c - 1) (omega (arith, p .new .below)) (p .new .new) (t .good)),
       ap (λ (v : Waiting). length (v .cells)) (t .is) ∙ length-cells (t .hours) (at-most-25 (t .good)),
     )
-
-pub tidy-wide : {w : Waiting} → Tidy w → length (w .cells) ≡ 25
-tidy-wide {w} t = ap (λ (v : Waiting). length (v .cells)) (t .is) ∙ length-cells (t .hours) (at-most-25 (t .good))
 
 map-append : (l m : List ℕ) → map (λ h. h + 1) (l ++ m) ≡ map (λ h. h + 1) l ++ map (λ h. h + 1) m
 map-append [] m = refl
@@ -105,16 +102,9 @@ among-cells l c above = go l (25 - length l)
 -- ---- a search through cells
 
 module _ (cells : List ℕ) (c i : ℕ) where
-  pub among-here : i < length cells → getD cells i 0 ≡ c → among c (drop i cells) ≡ true
+  pub among-on : i < length cells → among c (drop i cells) ≡ (eqb (getD cells i 0) c || among c (drop (i + 1) cells))
   unfolding among
-  among-here l e = ap (λ (x : List ℕ). among c x) (drop-cons cells i 0 l) ∙ ap (λ (b : Bool). b || among c (drop (suc i) cells)) (eq-eqb (getD cells i 0) c e)
-
-  pub among-later : i < length cells → (getD cells i 0 ≡ c → ⊥) → among c (drop i cells) ≡ among c (drop (i + 1) cells)
-  unfolding among
-  among-later l other =
-      ap (λ (x : List ℕ). among c x) (drop-cons cells i 0 l)
-      ∙ ap (λ (b : Bool). b || among c (drop (suc i) cells)) (ne-eqb (getD cells i 0) c other)
-      ∙ ap (λ (k : ℕ). among c (drop k cells)) (sym (add-one i))
+  among-on l = ap (λ (x : List ℕ). among c x) (drop-cons cells i 0 l) ∙ ap (λ (k : ℕ). eqb (getD cells i 0) c || among c (drop k cells)) (sym (add-one i))
 
   pub among-end : length cells ≤ i → among c (drop i cells) ≡ false
   unfolding among
@@ -135,29 +125,52 @@ added-is w c hours p e =
     ap (λ (v : Waiting). record { cells = set (v .cells) (v .count) c; count = v .count + 1 }) e
     ∙ (λ i. record { cells = cells-more hours c few (p .new .above) i; count = longer i })
 
-module _ (hours : List ℕ) (c : ℕ) where
-  keep-by : (x : Bool) → isNew hours c ≡ x → keep hours c ≡ cond x (hours ++ ((c - 1) ∷ [])) hours
-  keep-by x e = ap (λ (b : Bool). cond b (hours ++ ((c - 1) ∷ [])) hours) e
+-- whether a cell counts behind others: it holds an hour, and none of them the same
+unfoldable pub countsBehind : List ℕ → ℕ → Bool
+countsBehind cells c = ltb 0 c && (ltb c 26 && not (among c cells))
 
-  pub kept-free : c ≡ 0 → keep hours c ≡ hours
-  unfolding isNew
-  kept-free e = keep-by false (ap (λ (b : Bool). b && (ltb c 26 && not (among (c - 1) hours))) (le-ltb 0 c (omega arith)))
+module _ (cells : List ℕ) (c : ℕ) where
+  pub counts-free : c ≡ 0 → false ≡ countsBehind cells c
+  unfolding countsBehind
+  counts-free e = sym (ap (λ (b : Bool). b && (ltb c 26 && not (among c cells))) (le-ltb 0 c (omega arith)))
 
-  pub kept-over : 25 < c → keep hours c ≡ hours
-  unfolding isNew
-  kept-over l = keep-by false
-      (ap (λ (b : Bool). b && (ltb c 26 && not (among (c - 1) hours))) (lt-ltb 0 c (omega arith))
-      ∙ ap (λ (b : Bool). b && not (among (c - 1) hours)) (le-ltb c 26 l))
+  pub counts-over : 0 < c → 25 < c → false ≡ countsBehind cells c
+  unfolding countsBehind
+  counts-over p l = sym
+      (ap (λ (b : Bool). b && (ltb c 26 && not (among c cells))) (lt-ltb 0 c p)
+      ∙ ap (λ (b : Bool). b && not (among c cells)) (le-ltb c 26 (omega arith)))
 
-  pub kept-again : 0 < c → c < 26 → among (c - 1) hours ≡ true → keep hours c ≡ hours
-  unfolding isNew
-  kept-again p l again = keep-by false
-      (ap (λ (b : Bool). b && (ltb c 26 && not (among (c - 1) hours))) (lt-ltb 0 c p)
-      ∙ ap (λ (b : Bool). b && not (among (c - 1) hours)) (lt-ltb c 26 l)
-      ∙ ap not again)
+  pub counts-else : 0 < c → c ≤ 25 → not (among c cells) ≡ countsBehind cells c
+  unfolding countsBehind
+  counts-else p l = sym
+      (ap (λ (b : Bool). b && (ltb c 26 && not (among c cells))) (lt-ltb 0 c p)
+      ∙ ap (λ (b : Bool). b && not (among c cells)) (lt-ltb c 26 (omega arith)))
 
-  pub kept-new : New hours c → keep hours c ≡ hours ++ ((c - 1) ∷ [])
-  kept-new n = keep-by true (is-new hours c n)
+-- behind the cells of some hours, a cell counts just when its hour is new to them
+pub counts-new : (hours : List ℕ) (c : ℕ) → countsBehind (cellsOf hours) c ≡ isNew hours c
+unfolding countsBehind isNew
+counts-new hours c = by (decLt 0 c)
+  where
+    by : Dec (0 < c) → countsBehind (cellsOf hours) c ≡ isNew hours c
+    by (yes p) = ap (λ (b : Bool). ltb 0 c && (ltb c 26 && not b)) (among-cells hours c p)
+    by (no p) =
+        let free : ltb 0 c ≡ false = le-ltb 0 c (omega arith) in
+        ap (λ (b : Bool). b && (ltb c 26 && not (among c (cellsOf hours)))) free ∙ sym (ap (λ (b : Bool). b && (ltb c 26 && not (among (c - 1) hours))) free)
+
+-- the hours with what one more cell says, where it counts and where it does not
+module _ (w : Waiting) (c : ℕ) (hours : List ℕ) (good : Hours hours) (e : w ≡ waitingOf hours) where
+  is-new-by : (x : Bool) → countsBehind (w .cells) c ≡ x → isNew hours c ≡ x
+  is-new-by x f = sym (ap (λ (v : Waiting). countsBehind (v .cells) c) e ∙ counts-new hours c) ∙ f
+
+  pub kept-addable : countsBehind (w .cells) c ≡ true → Addable w c
+  kept-addable f = record { tidy = record { hours = hours; good = good; is = e }; new = new-of hours c (is-new-by true f) }
+
+  pub kept-more : countsBehind (w .cells) c ≡ true
+      → _≡_ {A = Waiting} (record { cells = set (w .cells) (w .count) c; count = w .count + 1 }) (waitingOf (keep hours c))
+  kept-more f = added-is w c hours (kept-addable f) e ∙ ap (λ (b : Bool). waitingOf (cond b (hours ++ ((c - 1) ∷ [])) hours)) (sym (is-new-by true f))
+
+  pub kept-same : countsBehind (w .cells) c ≡ false → w ≡ waitingOf (keep hours c)
+  kept-same f = e ∙ ap (λ (b : Bool). waitingOf (cond b (hours ++ ((c - 1) ∷ [])) hours)) (sym (is-new-by false f))
 
 -- whether a cell is among the cells of hours, as the hour that it stands for
 pub among-of : (w : Waiting) (c : ℕ) (hours : List ℕ) → 0 < c → w ≡ waitingOf hours → among c (w .cells) ≡ among (c - 1) hours

@@ -1,6 +1,6 @@
 -- What a walk over an area's cells has read, and what a walk over the areas in turn has found. Assumes nothing.
 use mathlib.Core.Path.{_≡_, refl, sym, ap, _∙_, subst}
-use mathlib.Core.Bool.{Bool, cond}
+use mathlib.Core.Bool.{Bool, true, cond}
 use mathlib.Core.List.{List, [], _∷_}
 use mathlib.Core.Option.{Option, none, some}
 use Prim.Native.Nat.{ℕ, suc, _+_, _*_, _-_, _%_, _≤_, _<_}
@@ -14,7 +14,7 @@ use Rattle.desk_queue.specs.Meaning.Queue.{Pair, inTurn, firstWaiting, earliest
 use Rattle.desk_queue.specs.Steps.Invariant.{Hours}
 use Rattle.queue_bytes.specs.Meaning.Bytes.{keep, keepAll, hoursIn, cellsOf, cellsAt, hoursAt, queueOf}
 use Rattle.queue_bytes.specs.Steps.ReadBack.{hours-in, keep-more, length-cells-at, getD-cells}
-use Rattle.queue_bytes.specs.Steps.Cells.{waitingOf, Tidy}
+use Rattle.queue_bytes.specs.Steps.Cells.{waitingOf, addable-room, countsBehind, kept-addable}
 
 module _ (bytes : List ℕ) (area : ℕ) where
   -- the hours in an area's first i cells
@@ -25,13 +25,13 @@ module _ (bytes : List ℕ) (area : ℕ) where
   unfolding hoursTo hoursIn keepAll cellsOf
   read-none = refl
 
-  pub read-tidy : (w : Waiting) (i : ℕ) → w ≡ waitingOf (hoursTo i) → Tidy w
-  unfolding hoursTo
-  read-tidy w i e = record { hours = hoursTo i; good = hours-in (take i (cellsAt bytes area)); is = e }
-
   pub read-good : (i : ℕ) → Hours (hoursTo i)
   unfolding hoursTo
   read-good i = hours-in (take i (cellsAt bytes area))
+
+  -- a cell that counts finds room
+  pub read-room : (w : Waiting) (c i : ℕ) → w ≡ waitingOf (hoursTo i) → countsBehind (w .cells) c ≡ true → w .count < 25
+  read-room w c i e f = addable-room (kept-addable w c (hoursTo i) (read-good i) e f) .0
 
   pub read-more : (i : ℕ) → length bytes ≡ 101 → area < 4 → i < 25 → keep (hoursTo i) (getD bytes (25 * area + i) 0) ≡ hoursTo (i + 1)
   unfolding hoursTo hoursIn
