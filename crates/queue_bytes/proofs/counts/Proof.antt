@@ -13,7 +13,7 @@ returns c = counts-free (c .before .args .cells) (c .before .args .c) (c .if1 .t
 returns-2 : tie.Need-returns-2
 returns-2 c =
     let a = c .before .before .args in
-    counts-over (a .cells) (a .c) (omega (arith, c .before .if1 .left)) (c .if2 .taken)
+    counts-over (a .cells) (a .c) (omega (arith, c .before .if1 .left)) (omega (arith, c .if2 .taken))
 
 is-among-requires : tie.Need-is-among-requires
 is-among-requires c κs = search needs
