@@ -240,7 +240,7 @@ impl Dumps<'_> {
                 format!("judged: archive {answer}, second judge {number} {index}, or their reports")
             });
         }
-        if !matches!(number, 0 | 22..=26) {
+        if !matches!(number, 0 | 22..=27) {
             self.fault(case, dump, proposal.len(), || {
                 format!("the proposal written is refused by {number} {index}")
             });
@@ -717,7 +717,7 @@ pub fn dumps(run: &mut Run, rng: &mut Rng) {
         run.check(format!("56 {number}"), *times > 0, format!("{times}"));
     }
     run.section("solver's dumps, verdicts on what was written, times met");
-    for number in [0, 22, 23, 24, 25, 26] {
+    for number in [0, 22, 27, 23, 24, 25, 26] {
         let times = judged[number];
         run.check(format!("{number}"), times > 0, format!("{times}"));
     }
