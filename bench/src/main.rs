@@ -153,7 +153,8 @@ fn sized(zones: usize, branches: usize, links: usize, orders: usize) -> Hour {
                 price: 17_500 + (o % 50) as i32 * 100,
             })
             .collect(),
-        share: 50_000,
+        // without links there is no LTA domain to lean on (S-6)
+        share: if links > 0 { 50_000 } else { 0 },
         system_price: 20_000,
         volumes: (0..orders)
             .map(|o| if o == orders - orders % 2 { 0 } else { 50 })
