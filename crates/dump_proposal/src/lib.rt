@@ -23,6 +23,7 @@ use case_header::Counts;
 use dump_values::FieldAnswer;
 use dump_values::Opening;
 use dump_values::field_of;
+use dump_values::leaves_field;
 use dump_values::opening_fields;
 use measures::Bits;
 use output::Written;
@@ -81,9 +82,9 @@ fn first_outside(case: &[u8], k: Counts, dump: &[u8]) -> Place
     ensures { λ r. ⌜ placeOf r ≡ firstBelow (restOf k) (faultAfter (now («case» .entry)) (now (dump .entry))) ⌝ }
 {
     for i in 0..rest_of(k) {
-        let FieldAnswer::Held(_) = field_of(case, k, i, bits_at(dump, OPENING + i)) else {
+        if leaves_field(case, k, i, bits_at(dump, OPENING + i)) {
             return Place::At(i);
-        };
+        }
     }
     Place::Nowhere
 }

@@ -1,13 +1,15 @@
 // What each value of a solver's dump becomes (S-5): the field of the proposal that stands in its place, or that it has none.
 ghost use mathlib.Core.Path.{_≡_};
-ghost use mathlib.Core.Bool.{true};
+ghost use mathlib.Core.Bool.{true, not, _&&_};
 ghost use Prim.Native.Nat.{_+_, _≤_, _<_};
 ghost use lib.Dec.{T};
+ghost use lib.Ieee as Ieee;
 ghost use lib.Ieee.Scale as float;
 ghost use Rattle.binary64.specs.Meaning.Value.{finite};
+ghost use Rattle.binary64.specs.Steps.Machine.{zero64, one64};
 ghost use Rattle.case_header.specs.Opened.{Opened};
-ghost use Rattle.dump_values.specs.Steps.Fields.{shareField, flowField, systemField, shadowField, fieldOf};
-ghost use Rattle.dump_values.specs.Meaning.Field.{afterOpening};
+ghost use Rattle.dump_values.specs.Steps.Fields.{shareField, flowField, systemField, shadowField, fieldOf, isOutside};
+ghost use Rattle.dump_values.specs.Meaning.Field.{afterOpening, fault};
 use binary64::WholeAnswer;
 use binary64::cut_to_word;
 use binary64::nearest_up_to;
@@ -63,6 +65,18 @@ fn share_of(x: f64, whole: u32) -> FieldAnswer
         }
     }
     FieldAnswer::Outside
+}
+
+// The test of a share alone: whatever the whole, its product is in its field.
+fn outside_unit(x: f64) -> bool
+    ensures { λ r. ⌜ r ≡ not (Ieee.le zero64 x && Ieee.le x one64) ⌝ }
+{
+    if x >= 0.0 {
+        if x <= 1.0 {
+            return false;
+        }
+    }
+    true
 }
 
 fn flow(x: f64) -> FieldAnswer
@@ -138,4 +152,30 @@ pub fn field_of(case: &[u8], k: Counts, i: usize, bits: u64) -> FieldAnswer
         return flow(x);
     }
     shadow_price(x)
+}
+
+fn has_none(field: FieldAnswer) -> bool
+    ensures { λ r. ⌜ r ≡ isOutside field ⌝ }
+{
+    match field {
+        FieldAnswer::Held(_) => false,
+        FieldAnswer::Outside => true,
+    }
+}
+
+// Row 59 at the i-th value after the opening. A share needs no product for it, and so no order; the contract speaks of the case.
+pub fn leaves_field(case: &[u8], k: Counts, i: usize, bits: u64) -> bool
+    requires { ⌜ Opened (now «case») k ⌝ }
+    requires { ⌜ i < k .orders + k .links + k .branches ⌝ }
+    requires { ⌜ finite bits ≡ true ⌝ }
+    ensures { λ r. ⌜ r ≡ fault (afterOpening (now («case» .entry)) i) bits ⌝ }
+{
+    let x = value(bits);
+    if i < k.orders {
+        return outside_unit(x);
+    }
+    if i < k.orders + k.links {
+        return has_none(flow(x));
+    }
+    has_none(shadow_price(x))
 }

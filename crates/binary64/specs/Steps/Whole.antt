@@ -28,6 +28,13 @@ pub one-bits : ofBits binary64 0x3ff0_0000_0000_0000 ≡ one64
 unfolding ofBits
 one-bits = refl
 
+-- a test against them, as the code makes it
+pub zero-test : {t : Bool} (x : Float) → le (ofBits binary64 0) x ≡ t → le zero64 x ≡ t
+zero-test x e = ap (λ (z : Float). le z x) (sym zero-bits) ∙ e
+
+pub one-test : {t : Bool} (x : Float) → le x (ofBits binary64 0x3ff0_0000_0000_0000) ≡ t → le x one64 ≡ t
+one-test x e = ap (le x) (sym one-bits) ∙ e
+
 abbrev pub word-end : Float
 word-end = fin false 1 (pos 32)
 

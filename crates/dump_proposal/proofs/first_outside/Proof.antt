@@ -3,14 +3,12 @@ use mathlib.Core.Path.{_≡_, sym, ap, _∙_, subst}
 use mathlib.Core.Option.{none}
 use Prim.Native.Nat.{ℕ, _+_, _-_, _≤_, _<_}
 use native.Mathlib.Omega.{arith}
-use borrow.Author.Needs.{needs}
 use Rattle.rows.specs.Meaning.Rows.{firstBelow}
 use Rattle.rows.specs.Promised.RowLaws.{first-here, first-later, first-nowhere}
 use Rattle.case_header.specs.Opened.{headed, limited}
-use Rattle.binary64.specs.Meaning.Value.{bitsAt, finite}
-use Rattle.dump_values.specs.Meaning.Field.{afterOpening}
-use Rattle.dump_values.specs.Steps.Fields.{fieldOf}
-use Rattle.dump_proposal.specs.Steps.Walks.{restOf, faultAfter, none-yet, field-held, field-outside}
+use Rattle.binary64.specs.Meaning.Value.{finite}
+use Rattle.dump_values.specs.Meaning.Field.{afterOpening, fault}
+use Rattle.dump_proposal.specs.Steps.Walks.{restOf, faultAfter, none-yet}
 use Rattle.dump_proposal.proofs.first_outside.Statement.{statement}
 use Rattle.dump_proposal.proofs.first_outside.Tie as tie
 
@@ -30,12 +28,12 @@ loop-holds c = let a = c .before .before .before .args in (omega arith, none-yet
 within : (c : tie.In-loop Inv-loop μ-loop) → c .before .loop .i < restOf (c .before .before .before .before .before .args .k)
 within c = subst (λ (n : ℕ). c .before .loop .i < n) (c .before .before .rest-of .ensures) (c .loop-test .taken)
 
--- its field as it was found
-read : (f : tie.After-field-of Inv-loop μ-loop) → let l = f .before .before .before in let a = l .before .before .before .before .args in fieldOf (afterOpening (a .«case» .now) (l .loop .i)) (bitsAt (a .dump .now) (2 + l .loop .i)) ≡ f .field-of .result
-read f =
+-- row 59 at this value
+fault-is : (f : tie.After-leaves-field Inv-loop μ-loop) → let l = f .before .before .before in let a = l .before .before .before .before .args in faultAfter (a .«case» .now) (a .dump .now) (l .loop .i) ≡ f .leaves-field .result
+fault-is f =
     let l = f .before .before .before in
     let a = l .before .before .before .before .args in
-    ap (fieldOf (afterOpening (a .«case» .now) (l .loop .i))) (sym (f .before .bits-at .ensures)) ∙ sym (f .field-of .ensures)
+    ap (fault (afterOpening (a .«case» .now) (l .loop .i))) (sym (f .before .bits-at .ensures)) ∙ sym (f .leaves-field .ensures)
 
 add-bits-at : tie.Need-add-bits-at Inv-loop μ-loop
 add-bits-at c = omega (arith, within c)
@@ -43,45 +41,33 @@ add-bits-at c = omega (arith, within c)
 bits-at-requires : tie.Need-bits-at-requires Inv-loop μ-loop
 bits-at-requires c κs = omega (arith, within c, c .before .before .before .before .before .pre .1 .0)
 
-field-of-requires : tie.Need-field-of-requires Inv-loop μ-loop
-field-of-requires c κs =
+leaves-field-requires : tie.Need-leaves-field-requires Inv-loop μ-loop
+leaves-field-requires c κs =
     let t = c .before in
     let s = t .before .before .before .before .before in
     (s .pre .0, (within t, ap finite (c .bits-at .ensures) ∙ s .pre .1 .1 .is-finite (2 + t .before .loop .i) (omega (arith, within t))))
 
-enum-told : tie.Need-enum-told Inv-loop μ-loop
-enum-told c = search needs
-
-enum-told-2 : tie.Need-enum-told-2 Inv-loop μ-loop
-enum-told-2 c = search needs
-
 returns : tie.Need-returns Inv-loop μ-loop
 returns c =
-    let f = c .before .before in
-    let b = f .before in
-    let t = b .before in
+    let f = c .before in
+    let t = f .before .before in
     let l = t .before in
     let a = l .before .before .before .before .args in
-    sym (first-here (faultAfter (a .«case» .now) (a .dump .now)) (l .loop .i) (within t) (l .loop .inv .1)
-    (field-outside (afterOpening (a .«case» .now) (l .loop .i)) (bitsAt (a .dump .now) (2 + l .loop .i)) (read f ∙ c .enum-told2 .given .1)))
+    sym (first-here (faultAfter (a .«case» .now) (a .dump .now)) (l .loop .i) (within t) (l .loop .inv .1) (fault-is f ∙ c .if1 .taken))
 
 add-i : tie.Need-add-i Inv-loop μ-loop
-add-i c = omega (arith, within (c .before .before .before .before))
+add-i c = omega (arith, within (c .before .before .before))
 
 loop-less : tie.Need-loop-less Inv-loop μ-loop
-loop-less c = omega (arith, within (c .before .before .before .before))
+loop-less c = omega (arith, within (c .before .before .before))
 
 loop-again : tie.Need-loop-again Inv-loop μ-loop
 loop-again c =
-    let f = c .before .before in
-    let b = f .before in
-    let t = b .before in
+    let f = c .before in
+    let t = f .before .before in
     let l = t .before in
-    let a = l .before .before .before .before .args in (
-      omega (arith, within t),
-      first-later (faultAfter (a .«case» .now) (a .dump .now)) (l .loop .i) (l .loop .inv .1)
-          (field-held (afterOpening (a .«case» .now) (l .loop .i)) (bitsAt (a .dump .now) (2 + l .loop .i)) (read f ∙ c .enum-told .given .1)),
-    )
+    let a = l .before .before .before .before .args in
+    (omega (arith, within t), first-later (faultAfter (a .«case» .now) (a .dump .now)) (l .loop .i) (l .loop .inv .1) (fault-is f ∙ c .if1 .left))
 
 returns-2 : tie.Need-returns-2 Inv-loop μ-loop
 returns-2 c =
@@ -99,9 +85,7 @@ first-outside-spec =
     loop-holds
     add-bits-at
     bits-at-requires
-    field-of-requires
-    enum-told
-    enum-told-2
+    leaves-field-requires
     returns
     add-i
     loop-less

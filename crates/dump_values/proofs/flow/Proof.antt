@@ -1,7 +1,5 @@
 -- `dump_values::flow` meets its contract: the product of a flow that is not negative is not negative, and its cut is a word or none. Assumes nothing.
 use mathlib.Core.Path.{_≡_, sym, ap, _∙_, subst}
-use mathlib.Core.Bool.{Bool}
-use Prim.Native.Nat.{ℕ}
 use borrow.Author.Needs.{needs}
 use lib.Dec.{T, lit≤}
 use lib.Ieee.{Float, le, mul, ofBits, binary64}
@@ -10,27 +8,19 @@ use mir.Val.{ofZ}
 use Rattle.integers.specs.Ranges.{is-true}
 use Rattle.binary64.specs.Steps.Machine.{zero64, times}
 use Rattle.binary64.specs.Steps.Cutting.{times-not-negative}
-use Rattle.binary64.specs.Steps.Whole.{zero-bits}
-use Rattle.measures.specs.declared.Bits.{Bits}
-use Rattle.dump_values.specs.declared.FieldAnswer.the-variants.{Held}
+use Rattle.binary64.specs.Steps.Whole.{zero-test}
 use Rattle.binary64.specs.Steps.Machine.{wholeBelow}
 use Rattle.dump_values.specs.Steps.Agree.{ten-bits}
-use Rattle.dump_values.specs.Steps.Taken.{flow-held, flow-outside, flow-negative}
+use Rattle.dump_values.specs.Steps.Taken.{bits-are, flow-held, flow-outside, flow-negative}
 use Rattle.dump_values.proofs.flow.Statement.{statement}
 use Rattle.dump_values.proofs.flow.Tie as tie
 
--- the test and the product, with their constants as values
-from : {b : Bool} (x : Float) → le (ofBits binary64 0) x ≡ b → le zero64 x ≡ b
-from x e = ap (λ (z : Float). le z x) (sym zero-bits) ∙ e
-
+-- the product, with its constant as a value
 product-is : (x : Float) → mul binary64 x (ofBits binary64 0x4024_0000_0000_0000) ≡ times x 10
 product-is x = ap (mul binary64 x) ten-bits
 
-bits-are : {b : Bits} {n : ℕ} → b .0 ≡ n → Held b ≡ Held (record { 0 = n })
-bits-are e = λ i. Held (record { 0 = e i })
-
 cut-to-word-requires : tie.Need-cut-to-word-requires
-cut-to-word-requires c κs = subst (λ (p : Float). T (le zero64 p)) (sym (product-is (c .before .args .x))) (times-not-negative (c .before .args .x) 10 (c .before .pre) (lit≤ tt) (is-true (from (c .before .args .x) (c .if1 .taken))))
+cut-to-word-requires c κs = subst (λ (p : Float). T (le zero64 p)) (sym (product-is (c .before .args .x))) (times-not-negative (c .before .args .x) 10 (c .before .pre) (lit≤ tt) (is-true (zero-test (c .before .args .x) (c .if1 .taken))))
 
 enum-known-n : tie.Need-enum-known-n
 enum-known-n c = search needs
@@ -48,7 +38,7 @@ returns c =
     let w = k .before .before in
     let x = w .before .before .args .x in
     bits-are (c .bits .ensures ∙ ap (ofZ w64) (u .unsigned .ensures))
-    ∙ flow-held x (k .n .given .0 .0) (from x (w .before .if1 .taken)) (ap wholeBelow (sym (product-is x)) ∙ sym (w .cut-to-word .ensures) ∙ k .n .given .1)
+    ∙ flow-held x (k .n .given .0 .0) (zero-test x (w .before .if1 .taken)) (ap wholeBelow (sym (product-is x)) ∙ sym (w .cut-to-word .ensures) ∙ k .n .given .1)
 
 enum-told : tie.Need-enum-told
 enum-told c = search needs
@@ -57,10 +47,10 @@ returns-2 : tie.Need-returns-2
 returns-2 c =
     let w = c .before .before in
     let x = w .before .before .args .x in
-    flow-outside x (from x (w .before .if1 .taken)) (ap wholeBelow (sym (product-is x)) ∙ sym (w .cut-to-word .ensures) ∙ c .enum-told .given .1)
+    flow-outside x (zero-test x (w .before .if1 .taken)) (ap wholeBelow (sym (product-is x)) ∙ sym (w .cut-to-word .ensures) ∙ c .enum-told .given .1)
 
 returns-3 : tie.Need-returns-3
-returns-3 c = flow-negative (c .before .args .x) (from (c .before .args .x) (c .if1 .left))
+returns-3 c = flow-negative (c .before .args .x) (zero-test (c .before .args .x) (c .if1 .left))
 
 pub flow-spec : {M : Type 1} → statement M
 flow-spec =

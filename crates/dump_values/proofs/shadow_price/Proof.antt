@@ -1,7 +1,5 @@
 -- `dump_values::shadow_price` meets its contract: the nearest whole number of a product that is not negative, held to the measure's limits. Assumes nothing.
 use mathlib.Core.Path.{_≡_, sym, ap, _∙_, subst}
-use mathlib.Core.Bool.{Bool}
-use Prim.Native.Nat.{ℕ}
 use borrow.Author.Needs.{needs}
 use lib.Dec.{T, lit≤}
 use lib.Ieee.{Float, le, mul, ofBits, binary64}
@@ -10,33 +8,25 @@ use mir.Val.{ofZ}
 use Rattle.integers.specs.Ranges.{is-true}
 use Rattle.binary64.specs.Steps.Machine.{zero64, times}
 use Rattle.binary64.specs.Steps.Cutting.{times-not-negative}
-use Rattle.binary64.specs.Steps.Whole.{zero-bits}
+use Rattle.binary64.specs.Steps.Whole.{zero-test}
 use Rattle.binary64.specs.declared.WholeAnswer.{WholeAnswer}
 use Rattle.measures.specs.Meaning.Limits as limits
 use Rattle.measures.specs.Steps.Held.{centsIn}
-use Rattle.measures.specs.declared.Bits.{Bits}
-use Rattle.dump_values.specs.declared.FieldAnswer.the-variants.{Held}
 use Rattle.binary64.specs.Steps.Machine.{wholeUpTo}
 use Rattle.dump_values.specs.Steps.Agree.{hundred-bits}
-use Rattle.dump_values.specs.Steps.Taken.{shadow-held, shadow-outside, shadow-far, shadow-negative}
+use Rattle.dump_values.specs.Steps.Taken.{bits-are, shadow-held, shadow-outside, shadow-far, shadow-negative}
 use Rattle.dump_values.proofs.shadow_price.Statement.{statement}
 use Rattle.dump_values.proofs.shadow_price.Tie as tie
 
--- the test and the product, with their constants as values
-from : {b : Bool} (x : Float) → le (ofBits binary64 0) x ≡ b → le zero64 x ≡ b
-from x e = ap (λ (z : Float). le z x) (sym zero-bits) ∙ e
-
+-- the product, with its constant as a value
 product-is : (x : Float) → mul binary64 x (ofBits binary64 0x4059_0000_0000_0000) ≡ times x 100
 product-is x = ap (mul binary64 x) hundred-bits
 
 whole : (x : Float) {r : WholeAnswer} → r ≡ wholeUpTo (mul binary64 x (ofBits binary64 0x4059_0000_0000_0000)) 4294967295 → wholeUpTo (times x 100) 4294967295 ≡ r
 whole x e = ap (λ (p : Float). wholeUpTo p 4294967295) (sym (product-is x)) ∙ sym e
 
-bits-are : {b : Bits} {n : ℕ} → b .0 ≡ n → Held b ≡ Held (record { 0 = n })
-bits-are e = λ i. Held (record { 0 = e i })
-
 nearest-up-to-requires : tie.Need-nearest-up-to-requires
-nearest-up-to-requires c κs = subst (λ (p : Float). T (le zero64 p)) (sym (product-is (c .before .args .x))) (times-not-negative (c .before .args .x) 100 (c .before .pre) (lit≤ tt) (is-true (from (c .before .args .x) (c .if1 .taken))))
+nearest-up-to-requires c κs = subst (λ (p : Float). T (le zero64 p)) (sym (product-is (c .before .args .x))) (times-not-negative (c .before .args .x) 100 (c .before .pre) (lit≤ tt) (is-true (zero-test (c .before .args .x) (c .if1 .taken))))
 
 enum-known-n : tie.Need-enum-known-n
 enum-known-n c = search needs
@@ -62,7 +52,7 @@ returns c =
     let w = k .before .before in
     let x = w .before .before .args .x in
     bits-are (c .bits .ensures ∙ ap (ofZ w64) (u .unsigned .ensures))
-    ∙ shadow-held x (k .n .given .0 .0) (t .enum-told .given .0 .0) (from x (w .before .if1 .taken)) (whole x (w .nearest-up-to .ensures) ∙ k .n .given .1)
+    ∙ shadow-held x (k .n .given .0 .0) (t .enum-told .given .0 .0) (zero-test x (w .before .if1 .taken)) (whole x (w .nearest-up-to .ensures) ∙ k .n .given .1)
     (ap (centsIn limits.shadowPrice) (sym (u .unsigned .ensures)) ∙ sym (h .shadow-price .ensures) ∙ t .enum-told .given .1)
 
 enum-told-2 : tie.Need-enum-told-2
@@ -88,7 +78,7 @@ returns-3 c =
     shadow-far x (whole x (w .nearest-up-to .ensures) ∙ c .enum-told3 .given .1)
 
 returns-4 : tie.Need-returns-4
-returns-4 c = shadow-negative (c .before .args .x) (from (c .before .args .x) (c .if1 .left))
+returns-4 c = shadow-negative (c .before .args .x) (zero-test (c .before .args .x) (c .if1 .left))
 
 pub shadow-price-spec : {M : Type 1} → statement M
 shadow-price-spec =

@@ -1,42 +1,33 @@
 -- `dump_values::system_price` meets its contract: by the side of zero on which the product lies. Assumes nothing.
 use mathlib.Core.Path.{_≡_, sym, ap, _∙_, subst}
-use mathlib.Core.Bool.{Bool}
-use Prim.Native.Nat.{ℕ, _≤_}
+use Prim.Native.Nat.{_≤_}
 use native.Mathlib.Omega.{arith}
 use borrow.Author.Needs.{needs}
-use lib.Ieee.{Float, le, mul, ofBits, binary64}
+use lib.Ieee.{Float, mul, ofBits, binary64}
 use mir.Syntax.{w64}
 use mir.Val.{ofZ}
 use Rattle.integers.specs.Ranges.{is-true}
-use Rattle.binary64.specs.Steps.Machine.{zero64, times}
+use Rattle.binary64.specs.Steps.Machine.{times}
 use Rattle.binary64.specs.Steps.Products.{Signs}
-use Rattle.binary64.specs.Steps.Whole.{zero-bits}
-use Rattle.measures.specs.declared.Bits.{Bits}
-use Rattle.dump_values.specs.declared.FieldAnswer.the-variants.{Held}
+use Rattle.binary64.specs.Steps.Whole.{zero-test}
 use Rattle.dump_values.specs.Steps.Agree.{hundred-bits, down-from-zero}
 use Rattle.dump_values.specs.Steps.Fields.{signOf, systemBy}
-use Rattle.dump_values.specs.Steps.Taken.{up-held, up-most, up-outside, down-held, down-most, down-outside, price-signs, plus-is, minus-fits, narrow-fits, narrow-is}
+use Rattle.dump_values.specs.Steps.Taken.{bits-are, up-held, up-most, up-outside, down-held, down-most, down-outside, price-signs, plus-is, minus-fits, narrow-fits, narrow-is}
 use Rattle.dump_values.proofs.system_price.Statement.{statement}
 use Rattle.dump_values.proofs.system_price.Tie as tie
 
--- the product and the test, with their constants as values
+-- the product, with its constant as a value
 abbrev product : Float → Float
 product x = mul binary64 x (ofBits binary64 0x4059_0000_0000_0000)
 
 product-is : (x : Float) → product x ≡ times x 100
 product-is x = ap (mul binary64 x) hundred-bits
 
-from : {b : Bool} (p : Float) → le (ofBits binary64 0) p ≡ b → le zero64 p ≡ b
-from p e = ap (λ (z : Float). le z p) (sym zero-bits) ∙ e
-
 signs : (c : tie.Start) → Signs (signOf (c .args .x)) (product (c .args .x))
 signs c = subst (Signs (signOf (c .args .x))) (sym (product-is (c .args .x))) (price-signs (c .args .x) (c .pre))
 
-bits-are : {b : Bits} {n : ℕ} → b .0 ≡ n → Held b ≡ Held (record { 0 = n })
-bits-are e = λ i. Held (record { 0 = e i })
-
 nearest-up-to-requires : tie.Need-nearest-up-to-requires
-nearest-up-to-requires c κs = is-true (from (product (c .before .args .x)) (c .if1 .taken))
+nearest-up-to-requires c κs = is-true (zero-test (product (c .before .args .x)) (c .if1 .taken))
 
 enum-known-n : tie.Need-enum-known-n
 enum-known-n c = search needs
@@ -48,7 +39,7 @@ returns : tie.Need-returns
 returns c =
     let w = c .before .before in
     let x = w .before .before .args .x in
-    up-outside (product x) (is-true (from (product x) (w .before .if1 .taken))) (sym (w .nearest-up-to .ensures) ∙ c .enum-told .given .1) ∙ ap systemBy (product-is x)
+    up-outside (product x) (is-true (zero-test (product x) (w .before .if1 .taken))) (sym (w .nearest-up-to .ensures) ∙ c .enum-told .given .1) ∙ ap systemBy (product-is x)
 
 up-size : (c : tie.After-known-told) → c .before .n .given .0 .0 ≤ 2147483647
 up-size c =
@@ -74,11 +65,11 @@ returns-2 c =
     let x = w .before .before .args .x in
     let n = k .n .given .0 .0 in
     bits-are (c .bits .ensures ∙ ap (ofZ w64) (u .signed .ensures ∙ plus-is n (up-size t)))
-    ∙ up-held (product x) n (is-true (from (product x) (w .before .if1 .taken))) (sym (w .nearest-up-to .ensures) ∙ k .n .given .1)
+    ∙ up-held (product x) n (is-true (zero-test (product x) (w .before .if1 .taken))) (sym (w .nearest-up-to .ensures) ∙ k .n .given .1)
     ∙ ap systemBy (product-is x)
 
 nearest-up-to-requires-2 : tie.Need-nearest-up-to-requires-2
-nearest-up-to-requires-2 c κs = let x = c .before .args .x in down-from-zero (product x) (signOf x) (signs (c .before)) (from (product x) (c .if1 .left))
+nearest-up-to-requires-2 c κs = let x = c .before .args .x in down-from-zero (product x) (signOf x) (signs (c .before)) (zero-test (product x) (c .if1 .left))
 
 enum-known-n-2 : tie.Need-enum-known-n-2
 enum-known-n-2 c = search needs
@@ -91,7 +82,7 @@ returns-3 c =
     let w = c .before .before in
     let s = w .before .before in
     let x = s .args .x in
-    down-outside (product x) (signOf x) (signs s) (from (product x) (w .before .if1 .left)) (sym (w .nearest-up-to2 .ensures) ∙ c .enum-told2 .given .1) ∙ ap systemBy (product-is x)
+    down-outside (product x) (signOf x) (signs s) (zero-test (product x) (w .before .if1 .left)) (sym (w .nearest-up-to2 .ensures) ∙ c .enum-told2 .given .1) ∙ ap systemBy (product-is x)
 
 down-size : (c : tie.After-known-told2) → c .before .n2 .given .0 .0 ≤ 2147483648
 down-size c =
@@ -124,7 +115,7 @@ returns-4 c =
     let x = s .args .x in
     let n = k .n2 .given .0 .0 in
     bits-are (c .bits2 .ensures ∙ ap (ofZ w64) (u .signed2 .ensures ∙ narrow-is n (down-size t)))
-    ∙ down-held (product x) (signOf x) (signs s) (from (product x) (w .before .if1 .left)) n (sym (w .nearest-up-to2 .ensures) ∙ k .n2 .given .1)
+    ∙ down-held (product x) (signOf x) (signs s) (zero-test (product x) (w .before .if1 .left)) n (sym (w .nearest-up-to2 .ensures) ∙ k .n2 .given .1)
     ∙ ap systemBy (product-is x)
 
 pub system-price-spec : {M : Type 1} → statement M

@@ -7,7 +7,7 @@ use native.Mathlib.Decide.{decLt}
 use native.Mathlib.Omega.{arith}
 use borrow.Author.Tests.{lt-ltb, le-ltb, lt-leb, le-leb}
 use lib.Dec.{T, leb, ltb, lit≤}
-use lib.IntN.{pos, negℤ}
+use lib.IntN.{ℤ, pos, negℤ}
 use lib.Ieee.{Float, nan, inf, fin, binary64, neg, le, lt, ofBits, ofInt, round}
 use lib.Ieee.Scale as float
 use Rattle.integers.specs.Ranges.{range, outside, is-true, not-is, nat-inside}
@@ -23,7 +23,7 @@ use Rattle.binary64.specs.Steps.Whole.{word-end, word-test, ranged-finite}
 use Rattle.dump_values.specs.declared.FieldAnswer.the-variants.{Outside}
 use Rattle.dump_values.specs.Meaning.Field as kind
 use Rattle.dump_values.specs.Meaning.Field.{Kind, productOf, converted, forbidden, fieldRange, fault}
-use Rattle.dump_values.specs.Steps.Fields.{fieldBy, fieldOf, shareField, flowField, shadowField, signOf, signedOf, systemBy, systemField}
+use Rattle.dump_values.specs.Steps.Fields.{isOutside, fieldBy, fieldOf, shareField, flowField, shadowField, signOf, signedOf, systemBy, systemField}
 
 -- TESTS. A number of no sign against a range from zero, and a number of either sign against 32 signed bits
 pub outside-above : (g n : ℕ) → outside (range (pos 0) (pos g)) (pos n) ≡ not (leb n g)
@@ -208,3 +208,16 @@ ten-bits = refl
 pub hundred-bits : ofBits binary64 0x4059_0000_0000_0000 ≡ ofInt binary64 (pos 100)
 unfolding ofBits ofInt round
 hundred-bits = refl
+
+-- ROW 59 ALONE, by the field
+outside-by : (t : Bool) (z : ℤ) → isOutside (fieldBy t z) ≡ not t
+outside-by true z = refl
+outside-by false z = refl
+
+pub outside-fault : (k : Kind) (b : ℕ) → isOutside (fieldOf k b) ≡ fault k b
+outside-fault k b = outside-by (not (fault k b)) (converted k b) ∙ twice-not (fault k b)
+
+-- and of a share without its whole
+pub unit-fault : (b : ℕ) → finite b ≡ true → (q : ℕ) → q ≤ 100000 → not (le zero64 (ofBits binary64 b) && le (ofBits binary64 b) one64) ≡ fault (kind.share-of q) b
+unit-fault b f q h =
+    sym (outside-by (le zero64 (ofBits binary64 b) && le (ofBits binary64 b) one64) (pos (cut (times (ofBits binary64 b) q)))) ∙ ap isOutside (share-agrees b f q h) ∙ outside-fault (kind.share-of q) b

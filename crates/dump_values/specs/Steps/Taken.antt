@@ -15,6 +15,7 @@ use Rattle.integers.specs.Size.{near-pos, near-neg, near-fits}
 use lib.Ieee.Scale as float
 use Rattle.integers.specs.Ranges.{outside, is-true, and-right}
 use Rattle.measures.specs.Meaning.Limits as limits
+use Rattle.measures.specs.declared.Bits.{Bits}
 use Rattle.measures.specs.declared.Cents.{Cents}
 use Rattle.measures.specs.declared.CentsAnswer.the-variants as cents
 use Rattle.measures.specs.Steps.Held.{centsBy, centsIn}
@@ -23,9 +24,13 @@ use Rattle.binary64.specs.declared.WholeAnswer.the-variants as whole
 use Rattle.binary64.specs.Steps.Machine.{zero64, times, wholeBy, wholeBelow, wholeUpTo}
 use Rattle.binary64.specs.Steps.Products.{Signs, times-signs}
 use Rattle.binary64.specs.Steps.Whole.{word-end}
-use Rattle.dump_values.specs.declared.FieldAnswer.the-variants.{Outside}
+use Rattle.dump_values.specs.declared.FieldAnswer.the-variants.{Held, Outside}
 use Rattle.dump_values.specs.Steps.Fields.{fieldBy, signOf, flowField, shadowField, systemBy}
 use Rattle.dump_values.specs.Steps.Agree.{outside-above, system-up, system-down}
+
+-- a number as it leaves its measure
+pub bits-are : {b : Bits} {n : ℕ} → b .0 ≡ n → Held b ≡ Held (record { 0 = n })
+bits-are e = λ i. Held (record { 0 = e i })
 
 -- an answer read back
 whole-held : (t : Bool) (n m : ℕ) → wholeBy t n ≡ whole.Held m → (t ≡ true) × (n ≡ m)
