@@ -2,7 +2,7 @@
 -- units b * q / 2 ^ 1074, by less than one. Assumes nothing.
 use mathlib.Core.Path.{_≡_, sym, ap, _∙_, subst}
 use mathlib.Core.Bool.{Bool, true, false, not}
-use Prim.Native.Nat.{ℕ, _+_, _*_, _^_, _≤_, _<_}
+use Prim.Native.Nat.{ℕ, _+_, _*_, _^_, _<_}
 use native.Mathlib.Nat.{le-of-lt, mul-comm, mul-right-comm, add-mul, lt-of-mul-lt-mul-right, mul-lt-mul-of-pos-right}
 use lib.Dec.{T}
 use lib.Pow.{pow-pos}

@@ -20,7 +20,7 @@ use lib.Ieee.Positive.{through, num, den}
 use Rattle.binary64.specs.Meaning.Value.{cut}
 use Rattle.binary64.specs.Steps.Machine.{zero64, one64, times}
 
--- ---- ≤ of two floats that are not negative, as ≤ of two numbers
+-- ≤ of two floats that are not negative, as ≤ of two numbers
 or-split : (a b : Bool) → T (a || b) → T a ⊎ T b
 or-split true b t = inl tt
 or-split false b t = inr t
@@ -28,7 +28,7 @@ or-split false b t = inr t
 pub lt-or-eq : (a b : ℕ) → T (ltb a b || (eqb a b && true)) → a ≤ b
 lt-or-eq a b t = elim (or-split (ltb a b) (eqb a b && true) t) [ inl u ↦ le-of-lt (ltb→lt a b u) | inr u ↦ le-of-eq (eqb→eq a b (and-l (eqb a b) true u)) ]
 
--- ---- the whole part against a whole number
+-- the whole part against a whole number
 whole-le : (a c n : ℕ) → 0 < c → a ≤ n * c → a / c ≤ n
 whole-le a c n C h = le-trans (div-mono a c n 1 C (pow-pos 0) (le-trans (le-of-eq (mul-one a)) h)) (le-of-eq (div-one n))
 
@@ -58,7 +58,7 @@ cut-le w (fin false m e) (fin false k d) n v h =
     (le-trans (le-of-eq (sym (mul-one (m * up e))))
     (through (m * up e) (k * up d) n (down e) (down d) 1 (down-pos d) (lt-or-eq (m * up e * down d) (k * up d * down e) h) (le-of-eq (v .1)))))
 
-none : (u b : ℕ) → 0 < b → u * b ≡ 0 → u ≡ 0
+pub none : (u b : ℕ) → 0 < b → u * b ≡ 0 → u ≡ 0
 none zero b B e = refl
 none (suc u) b B e = absurd (lt-irrefl 0 (subst (λ (x : ℕ). 0 < x) e (mul-pos (zero-lt-suc u) B)))
 
@@ -84,7 +84,7 @@ cut-ge w (fin false m e) (fin false k d) n l v h =
     (le-trans (through n (k * up d) (m * up e) 1 (down d) (down e) (down-pos d) (le-of-eq (sym (v .1))) (lt-or-eq (k * up d * down e) (m * up e * down d) h)) (le-of-eq (mul-one (m * up e)))))
     l
 
--- ---- a / c, rounded and cut
+-- a / c, rounded and cut
 pub round-cut-le : (f : Format) (w a c n : ℕ) → 0 < c → n ≤ 2 ^ prec f → a ≤ n * c → toUnsigned w (round f false a c) ≤ n
 round-cut-le f w a c n C p h =
     cut-le w (round f false a c) (round f false n 1) n (round-whole f false n p) (round-mono f a c n 1 C (pow-pos 0) (le-trans (le-of-eq (mul-one a)) h))
@@ -93,7 +93,7 @@ pub round-cut-ge : (f : Format) (w a c n : ℕ) → 0 < c → n ≤ 2 ^ prec f �
 round-cut-ge f w a c n C p l h =
     cut-ge w (round f false a c) (round f false n 1) n l (round-whole f false n p) (round-mono f n 1 a c (pow-pos 0) C (le-trans h (le-of-eq (sym (mul-one a)))))
 
--- ---- what the truncating cast asks: above -1 and below 2 ^ 64
+-- what the truncating cast asks: above -1 and below 2 ^ 64
 under-64 : (a c n : ℕ) → 0 < c → n < 2 ^ 64 → a ≤ n * c → a * 1 < 1 * 2 ^ 64 * c
 under-64 a c n C l h =
     lt-of-le-of-lt (le-trans (le-of-eq (mul-one a)) h) (subst (λ (x : ℕ). n * c < x * c) (sym (one-mul (2 ^ 64))) (mul-lt-mul-of-pos-right l C))
@@ -160,7 +160,7 @@ round-in-range a c n C p h =
     in-range (round binary64 false a c) (round binary64 false 0 1) (round binary64 false n 1) n (lt-of-le-of-lt p (lit< tt)) (round-whole binary64 false 0 zero-le) (round-whole binary64 false n p)
     (round-mono binary64 0 1 a c (pow-pos 0) C (le-trans (le-of-eq (zero-mul c)) zero-le)) (round-mono binary64 a c n 1 C (pow-pos 0) (le-trans (le-of-eq (mul-one a)) h))
 
--- ---- a product with a whole number
+-- a product with a whole number
 cross : (x y c d q : ℕ) → y * 1 ≡ q * d → x * y * c ≡ x * q * (c * d)
 cross x y c d q h = ap (λ (z : ℕ). x * z * c) (sym (mul-one y) ∙ h) ∙ simp (mul-assoc, mul-comm, mul-left-comm)
 
@@ -172,7 +172,7 @@ mul-whole f s m e (fin true n d) q v = absurd (true≢false (v .0))
 mul-whole f true m e (fin false n d) q v = round-same f true (m * up e * (n * up d)) (down e * down d) (m * up e * q) (down e) (mul-pos (down-pos e) (down-pos d)) (down-pos e) (cross (m * up e) (n * up d) (down e) (down d) q (v .1))
 mul-whole f false m e (fin false n d) q v = round-same f false (m * up e * (n * up d)) (down e * down d) (m * up e * q) (down e) (mul-pos (down-pos e) (down-pos d)) (down-pos e) (cross (m * up e) (n * up d) (down e) (down d) q (v .1))
 
--- ---- a share: from 0 to 1, a minus zero included
+-- a share: from 0 to 1, a minus zero included
 -- x is finite, and its sign is minus only where it is zero
 abbrev pub Share : Float → Type 0
 Share nan = ⊥
@@ -210,7 +210,7 @@ share-in-range (fin false m e) q s h =
     rw (mul-whole binary64 false m e (ofInt binary64 (pos q)) q (of-int q h))
     (round-in-range (m * up e * q) (down e) q (down-pos e) h (share-most (m * up e) (down e) q s))
 
--- ---- within one of the exact product
+-- within one of the exact product
 -- r * c < a + c, by which r - 1 < a / c
 over-by : (a c r : ℕ) → 0 < c → ((n : ℕ) → n ≤ r → a ≤ n * c → r ≤ n) → r * c < a + c
 over-by a c zero C h = subst (λ (x : ℕ). x < a + c) (sym (zero-mul c)) (other a c C)

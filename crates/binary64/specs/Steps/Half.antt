@@ -1,12 +1,11 @@
 -- A value from 0 to 2 ^ 51 to the nearest whole number, a half up: its whole part, or one more where the value is at least the whole part and a half. That sum is exact. Assumes nothing.
 use mathlib.Core.Path.{_≡_, refl, sym, ap, _∙_, subst}
-use mathlib.Core.Logic.{_⊎_, inl, inr}
-use Prim.Native.Nat.{ℕ, zero, suc, _+_, _-_, _*_, _/_, _%_, _^_, _≤_, _<_, zero-le, min}
-use native.Mathlib.Nat.{le-trans, le-of-eq, le-of-lt, le-antisymm, le-of-suc-le-suc, lt-irrefl, lt-of-le-of-lt, lt-of-lt-of-le, lt-of-not-le, zero-lt-suc, mul-one, one-mul, zero-mul, mul-assoc, mul-left-comm, mul-pos, add-mul, div-add-mod', mod-lt, le-div-iff-mul-le, div-lt-iff-lt-mul}
+use Prim.Native.Nat.{ℕ, suc, _+_, _-_, _*_, _/_, _%_, _^_, _≤_, _<_, zero-le, min}
+use native.Mathlib.Nat.{le-trans, le-of-eq, le-antisymm, le-of-suc-le-suc, lt-irrefl, lt-of-le-of-lt, lt-of-lt-of-le, lt-of-not-le, mul-one, one-mul, zero-mul, mul-assoc, mul-left-comm, mul-pos, add-mul, div-add-mod', mod-lt, le-div-iff-mul-le, div-lt-iff-lt-mul}
 use native.Mathlib.Omega.{arith}
-use mathlib.Core.Bool.{Bool, true, false, _&&_, _||_, true≢false}
+use mathlib.Core.Bool.{Bool, true, false, true≢false}
 use lib.IntN.{ℤ, pos, negsuc}
-use lib.Dec.{T, ltb, eqb, eqb→eq, ltb→lt, lit≤, lit<}
+use lib.Dec.{T, eqb, eqb→eq, lit≤, lit<}
 use lib.Pow.{pow-pos, shl-lt}
 use lib.Ieee.{Float, nan, inf, fin, binary64, up, down, round, add, le, toUnsigned, ofInt, ofBits}
 use lib.Ieee.Fits.{down-pos, and-l, and-r}
@@ -14,11 +13,11 @@ use lib.Ieee.Exact.{HasValue, round-exact}
 use lib.Ieee.Order.{le-of-values}
 use lib.Ieee.Scale.{round-same}
 use lib.Ieee.Positive.{through}
-use Rattle.binary64.specs.Steps.Cutting.{Ranged, in-range, of-int}
+use Rattle.binary64.specs.Steps.Cutting.{lt-or-eq, none, Ranged, in-range, of-int}
 use Rattle.binary64.specs.Meaning.Value.{nearest}
 use Rattle.binary64.specs.Steps.Machine.{zero64}
 
--- ---- numbers: n / d is w and a rest
+-- numbers: n / d is w and a rest
 unique : (a c k : ℕ) → 0 < c → k * c ≤ a → a < (k + 1) * c → a / c ≡ k
 unique a c k C l h = le-antisymm (le-of-suc-le-suc (le-trans (div-lt-iff-lt-mul C .1 h) (le-of-eq (add-one-is k)))) (le-div-iff-mul-le C .1 l)
   where
@@ -65,7 +64,7 @@ down-number n d w D e h =
     hi : (p n d : ℕ) → n * 2 < 2 * p + d → 2 * n + d < 2 * (p + d)
     hi p n d h = omega arith
 
--- ---- a whole number and a half, exactly
+-- a whole number and a half, exactly
 abbrev half : Float
 half = fin false 1 (negsuc 0)
 
@@ -99,14 +98,7 @@ half-sum w h =
     small : (w : ℕ) → w ≤ 0x8_0000_0000_0000 → 2 * w + 1 < 0x20_0000_0000_0000
     small w h = omega arith
 
--- ---- a value from 0 to 2 ^ 51, a minus zero included
-or-split : (a b : Bool) → T (a || b) → T a ⊎ T b
-or-split true b t = inl tt
-or-split false b t = inr t
-
-lt-or-eq : (a b : ℕ) → T (ltb a b || (eqb a b && true)) → a ≤ b
-lt-or-eq a b t = elim (or-split (ltb a b) (eqb a b && true) t) [ inl u ↦ le-of-lt (ltb→lt a b u) | inr u ↦ le-of-eq (eqb→eq a b (and-l (eqb a b) true u)) ]
-
+-- a value from 0 to 2 ^ 51, a minus zero included
 abbrev pub Bounded : Float → Type 0
 Bounded nan = ⊥
 Bounded (inf s) = ⊥
@@ -166,10 +158,6 @@ taken-up (fin true m e) (fin false k d) b v t =
     absurd (lt-irrefl 0 (subst (λ (x : ℕ). 0 < x)
     (sym (v .1) ∙ ap (λ (x : ℕ). x * 2) (none (k * up d) (down e) (down-pos e) (eqb→eq (k * up d * down e) 0 (and-r (eqb (k * up d * down e) (m * up e * down d)) (eqb (k * up d * down e) 0) t))) ∙ zero-mul 2)
     (mul-pos (odd-pos (toUnsigned 64 (fin true m e))) (down-pos d))))
-  where
-    none : (u c : ℕ) → 0 < c → u * c ≡ 0 → u ≡ 0
-    none zero c C e = refl
-    none (suc u) c C e = absurd (lt-irrefl 0 (subst (λ (x : ℕ). 0 < x) e (mul-pos (zero-lt-suc u) C)))
 taken-up (fin false m e) (fin false k d) b v t =
     let w = toUnsigned 64 (fin false m e) in
     sym (up-number (m * up e) (down e) w (down-pos e) (sym (whole-is m e b .0))

@@ -1,7 +1,7 @@
 -- The meaning of a value's bits against the machine's value: its sign, its order with 0 and 1, and its product. Assumes nothing.
-use mathlib.Core.Path.{_≡_, refl, sym, ap, _∙_, subst}
+use mathlib.Core.Path.{_≡_, refl, sym, ap, _∙_}
 use Prim.Native.Nat.{ℕ, zero, suc, _+_, _-_, _*_, _/_, _%_, _^_, _≤_, _<_, zero-le, compare}
-use native.Mathlib.Nat.{le-trans, le-of-eq, lt-irrefl, mul-one, one-mul, zero-mul, mul-comm, mul-right-comm, mul-pos, zero-lt-suc, le-of-mul-le-mul-right, mul-le-mul-right, not-le-of-lt}
+use native.Mathlib.Nat.{le-trans, le-of-eq, mul-one, one-mul, zero-mul, mul-comm, mul-right-comm, mul-pos, zero-lt-suc, le-of-mul-le-mul-right, mul-le-mul-right, not-le-of-lt}
 use native.Mathlib.Decide.{decLt}
 use native.Mathlib.Omega.{arith}
 use borrow.Author.Tests.{lt-ltb, le-ltb}
@@ -18,12 +18,8 @@ use lib.Ieee.Scale.{round-same}
 use Rattle.binary64.specs.Meaning.Value as value
 use Rattle.binary64.specs.Meaning.Value.{minus, finite, negative, aboveOne, product}
 use Rattle.binary64.specs.Steps.Machine.{zero64, one64, times}
-use Rattle.binary64.specs.Steps.Cutting.{mul-whole, of-int, lt-or-eq}
+use Rattle.binary64.specs.Steps.Cutting.{none, mul-whole, of-int, lt-or-eq}
 use Rattle.binary64.specs.Steps.Patterns.{bits-value}
-
-none : (u b : ℕ) → 0 < b → u * b ≡ 0 → u ≡ 0
-none zero b B e = refl
-none (suc u) b B e = absurd (lt-irrefl 0 (subst (λ (x : ℕ). 0 < x) e (mul-pos (zero-lt-suc u) B)))
 
 -- THE PRODUCT
 product-of : (x : Float) (s : Bool) (a c q : ℕ) → 0 < c → q ≤ 2 ^ 53 → HasValue x s a c → times x q ≡ round binary64 s (a * q) c
