@@ -1,0 +1,3 @@
+-- THE MEANING, to be read beside request S-9, in this order
+pub mod Permutation
+pub mod Rearranged

@@ -1,0 +1,2 @@
+-- WHAT HOLDS of the meaning, for every readable case, proposal of the right length and buffer
+pub mod OrderOfOrders
