@@ -6,7 +6,7 @@ use mathlib.Core.List.{List, _++_}
 use mathlib.Core.Option.{Option, none}
 use Prim.Native.Nat.{ℕ, zero, suc, _+_, _*_, _<_}
 use native.Mathlib.Omega.{arith}
-use lib.Dec.{eqb}
+use lib.Dec.{T, eqb}
 use lib.ListN.{length, drop}
 use lib.IntN.{ℤ, pos}
 use Rattle.integers.specs.Bytes.{signed64}
@@ -19,11 +19,11 @@ use Rattle.rows.specs.declared.Outcome.{Outcome}
 use Rattle.rows.specs.Meaning.Rows.{firstBelow, anyBelow, refusal, once, field}
 use Rattle.rules.specs.Meaning.Verdict.{under, over, overZ, differ, unknown, branchFault, repeated, linkFault, rowFault, orderFault, orderField, roomRows, caseRows, proposalRows, clearingRows, table, outcome, Readable, caseRefusal}
 use Rattle.rules.specs.Meaning.Report.{totalsOf, headerBytes, totalBytes, priceBytes, reportText, reportBytes, reportSize, reports, written, bufferAfter}
-use Rattle.rows.specs.Promised.RowLaws.{rowNumbered, number-passes, first-none, else-refusal, refusal-append}
+use Rattle.rows.specs.Promised.RowLaws.{First, first-none, lacks, rowNumbered, number-passes, row-by-number, else-refusal, refusal-append}
 use Rattle.rules.specs.Steps.Duality.{Placed}
 use Rattle.rules.specs.Steps.SameTables.{any-ext}
 use Rattle.rules.specs.Steps.Passed.{case-sound, case-length}
-use Rattle.rearranged.specs.Meaning.Rearranged.{rearrangedCase, rearrangedProposal, SameVerdict, SameHour}
+use Rattle.rearranged.specs.Meaning.Rearranged.{rearrangedCase, rearrangedProposal, excess, SameVerdict, SameHour}
 use Rattle.rearranged.specs.Steps.MovedOrders.{CaseMoved, PlanMoved, PricesSame, price-same, net-sum-same, link-use-same, link-room-same, branch-use-same, branch-room-same, gap-same, totals-same}
 use Rattle.rearranged.specs.Steps.RearrangedFile.{case-moved, plan-moved, prices-same, mark-same, version-same, length-same, length-demanded, branch-field-same, link-field-same, shadow-at-same, proposal-mark-same, proposal-version-same, proposal-length-same, proposal-demanded}
 use Rattle.rearranged.specs.Steps.SameRows.{SameRows, no-row, and-row, same-row, same-each, same-each-at, same-each-field, nowhere-row, refusal-same, SameRefusal, same-else, same-answer, same-but-21, nowhere-after}
@@ -142,9 +142,14 @@ module _ (s : List ℕ) (π : Permutation (ordersIn s)) (r : Readable s) where
         (and-row (same-each-at 14 _ _ (shadowAt s) (shadowAt s′) (m .branches-is) (λ b h j. outside limits.shadowPrice (pos (q .shadow-is b h j))) (shadow-at-same s π w))
         no-row)))))
 
+    -- the orders whose volume is above their quantity are the same orders, at their new places
+    pub excess-moved : (i : ℕ) → i < ordersIn s → excess c′ p′ i ≡ excess c p (π .source i)
+    unfolding caseOf excess
+    excess-moved i h = λ j. over (m .quantity-is i h j) (v .volume-is i h j)
+
     clearing-refusal : SameRefusal (refusal (clearingRows c p d)) (refusal (clearingRows c′ p′ d′))
-    unfolding clearingRows caseOf noLink
-    clearing-refusal = same-but-21 π (λ i. over (c .quantity i) (p .volume i)) (λ i. over (c′ .quantity i) (p′ .volume i)) (m .orders-is) (λ i h j. over (m .quantity-is i h j) (v .volume-is i h j))
+    unfolding clearingRows caseOf noLink excess
+    clearing-refusal = same-but-21 π (excess c p) (excess c′ p′) (m .orders-is) excess-moved
         (and-row (same-row (λ j. once 22 (not (isZero (net-sum-same c c′ π m p p′ v j)))))
         (and-row (same-row (λ j. once 27 (eqb (m .links-is j) 0 && over 0 (v .share-is j))))
         (and-row (same-each 23 _ _ (m .links-is) (λ l h j. over (link-room-same c c′ π m p p′ v l h j) (link-use-same c c′ π m p p′ v l h j)))
@@ -164,6 +169,20 @@ module _ (s : List ℕ) (π : Permutation (ordersIn s)) (r : Readable s) where
             → refusal (table s t room c p d) ≡ else-refusal (refusal (roomRows room)) (else-refusal (refusal (caseRows s c)) (else-refusal (refusal (proposalRows s t c p d)) (refusal (clearingRows c p d))))
         parts s t c p d = refusal-append (roomRows room) _
             ∙ ap (else-refusal (refusal (roomRows room))) (refusal-append (caseRows s c) _ ∙ ap (else-refusal (refusal (caseRows s c))) (refusal-append (proposalRows s t c p d) (clearingRows c p d)))
+
+    -- THE INDEX OF 21 is the first place to which an order at fault has gone
+    pub index-of-21 : (room : ℕ) → (outcome s t room) .number ≡ 21 → First (ordersIn s) (λ i. excess c p (π .source i)) ((outcome s′ t′ room) .index)
+    unfolding outcome table roomRows caseRows proposalRows clearingRows lacks rowNumbered caseOf excess
+    index-of-21 room e =
+        let row = row-by-number 21 (table s′ t′ room c′ p′ d′) (omega arith) tt tt (same-verdict room .number-same ∙ e) in
+        let place = row .first-place in
+        let here : (outcome s′ t′ room) .index ≡ row .place = ap (λ (o : Outcome). o .index) (row .is) in
+        let below : row .place < ordersIn s = subst (λ (n : ℕ). row .place < n) (m .orders-is) (place .place-in) in
+        subst (λ (k : ℕ). First (ordersIn s) (λ i. excess c p (π .source i)) k) (sym here) (record {
+          place-in = below;
+          holds = subst T (excess-moved (row .place) below) (place .holds);
+          none-before = λ i h. subst (λ (b : Bool). T (not b)) (excess-moved i (omega (arith, h, below))) (place .none-before i h);
+        })
 
     -- EVERY TOTAL AND EVERY ZONE PRICE IS THE SAME, whatever the verdict
     pub same-totals : totalsOf c′ p′ d′ ≡ totalsOf c p d

@@ -11,8 +11,8 @@ use Rattle.rearranged.specs.Meaning.Permutation.{Permutation}
 use Rattle.rules.specs.Meaning.Layout.{u8At, u32At, i32At, caseHeader, caseVersion, caseLength, zonesIn, branchesIn, linksIn, ordersIn, toleranceIn, branchSize, branchAt, branchFieldAt, ramIn, ptdfIn, contracts, contractedSize, linkSize, linkAt, linkFieldAt, fromIn, toIn, capacityIn, contractedIn, orderSize, orderAt, zoneIn, sideIn, quantityIn, priceIn, proposalHeader, proposalVersion, proposalLength, shareIn, systemIn, volumeIn, flowIn, shadowAt, shadowIn}
 use Rattle.rules.specs.Meaning.Hour.{caseOf, planOf, pricesOf}
 use Rattle.rules.specs.Meaning.Verdict.{notMark}
-use Rattle.rearranged.specs.Meaning.Rearranged.{rearrangedCase, rearrangedProposal}
-use Rattle.rearranged.specs.Steps.ReorderedBytes.{Reordered, is-reordered, only-reordered, u8-before, u16-before, u32-before, i32-before, u32-after, u8-row, u32-row, i32-row}
+use Rattle.rearranged.specs.Meaning.Rearranged.{Reordered, rearrangedCase, rearrangedProposal}
+use Rattle.rearranged.specs.Steps.ReorderedBytes.{is-reordered, u8-before, u16-before, u32-before, i32-before, u32-after, u8-row, u32-row, i32-row}
 use Rattle.rearranged.specs.Steps.MovedOrders.{CaseMoved, PlanMoved, PricesSame}
 
 -- where the orders start, and where order i stands
@@ -31,13 +31,9 @@ module _ (s : List ℕ) (π : Permutation (ordersIn s)) (whole : length s ≡ ca
   abbrev s′ : List ℕ
   s′ = rearrangedCase s π
 
-  moved : Reordered (start s) orderSize (ordersIn s) (π .source) s s′
+  pub moved : Reordered (orderAt s 0) orderSize (ordersIn s) (π .source) s (rearrangedCase s π)
   unfolding rearrangedCase orderAt caseLength
   moved = is-reordered (start s) orderSize (ordersIn s) (π .source) s (omega (arith, whole)) (π .source-in)
-
-  -- a file that reads so, byte by byte, is the rearranged case
-  pub rearranged-case-is : (other : List ℕ) → Reordered (orderAt s 0) orderSize (ordersIn s) (π .source) s other → other ≡ rearrangedCase s π
-  rearranged-case-is other x = only-reordered (start s) orderSize (ordersIn s) (π .source) s other s′ (omega arith) x moved
 
   header-in : caseHeader ≤ start s
   unfolding orderAt
@@ -172,12 +168,9 @@ module _ (s : List ℕ) (π : Permutation (ordersIn s)) (whole : length s ≡ ca
     abbrev t′ : List ℕ
     t′ = rearrangedProposal s π t
 
-    volumes-moved : Reordered proposalHeader 4 (ordersIn s) (π .source) t t′
+    pub volumes-moved : Reordered proposalHeader 4 (ordersIn s) (π .source) t (rearrangedProposal s π t)
     unfolding rearrangedProposal proposalLength
     volumes-moved = is-reordered proposalHeader 4 (ordersIn s) (π .source) t (omega (arith, right)) (π .source-in)
-
-    pub rearranged-proposal-is : (other : List ℕ) → Reordered proposalHeader 4 (ordersIn s) (π .source) t other → other ≡ rearrangedProposal s π t
-    rearranged-proposal-is other x = only-reordered proposalHeader 4 (ordersIn s) (π .source) t other t′ (omega arith) x volumes-moved
 
     volume-at : (i : ℕ) → proposalHeader + 4 * i ≡ proposalHeader + i * 4 + 0
     volume-at i = omega arith

@@ -11,14 +11,7 @@ use lib.Seq.{ext-getD, length-take-le, getD-append-add, getD-take, getD-drop}
 use mir.Syntax.{w32}
 use mir.Val.{toZ}
 use Rattle.rules.specs.Meaning.Layout.{u8At, u16At, u32At, i32At}
-use Rattle.rearranged.specs.Meaning.Rearranged.{fileRow, joinedRows, reordered}
-
--- BYTE BY BYTE: s′ is s with n rows of `size` bytes from `start` on in another order
-pub record Reordered (start size n : ℕ) (source : ℕ → ℕ) (s s′ : List ℕ) : Type 0 where
-  pub long : length s′ ≡ length s
-  pub before : (k : ℕ) → k < start → getD s′ k 0 ≡ getD s k 0
-  pub row : (i k : ℕ) → i < n → k < size → getD s′ (start + i * size + k) 0 ≡ getD s (start + source i * size + k) 0
-  pub after : (k : ℕ) → start + n * size ≤ k → getD s′ k 0 ≡ getD s k 0
+use Rattle.rearranged.specs.Meaning.Rearranged.{fileRow, joinedRows, reordered, Reordered}
 
 module _ (start size n : ℕ) (source : ℕ → ℕ) (s : List ℕ) (fits : start + n * size ≤ length s) (inside : (i : ℕ) → i < n → source i < n) where
   row′ : ℕ → List ℕ
