@@ -4,3 +4,4 @@ pub mod ReorderedBytes
 pub mod MovedOrders
 pub mod RearrangedFile
 pub mod SameRows
+pub mod Selection
