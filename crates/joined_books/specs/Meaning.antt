@@ -1,0 +1,2 @@
+-- THE MEANING: good rows and good prices
+pub mod Good

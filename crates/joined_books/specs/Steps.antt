@@ -1,0 +1,2 @@
+-- THE PROOFS' MEANS: nobody need believe or read these
+pub mod JoinedRows
