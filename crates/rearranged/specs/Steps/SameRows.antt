@@ -92,6 +92,9 @@ pub same-answer : {x x′ : Option Outcome} → SameRefusal x x′ → SameVerdi
 same-answer neither = same-verdict-of (verdict 0 0)
 same-answer (both q) = q
 
+another-place : (k k′ : ℕ) → SameVerdict (verdict 21 k) (verdict 21 k′)
+another-place k k′ = record { number-same = refl; index-same = λ no-21. absurd (no-21 refl) }
+
 -- ROW 21 before rows that fail alike
 pub same-but-21 : {n n′ : ℕ} (π : Permutation n) (f f′ : ℕ → Bool) → n′ ≡ n → ((k : ℕ) → k < n → f′ k ≡ f (π .source k)) → {rs rs′ : List Row} → SameRows rs rs′
     → SameRefusal (refusal (each 21 n f ∷ rs)) (refusal (each 21 n′ f′ ∷ rs′))
@@ -106,7 +109,7 @@ same-but-21 {n} {n′} π f f′ e h {rs} {rs′} q = by (firstBelow n f) refl (
     by : (o : Option ℕ) → firstBelow n f ≡ o → (o′ : Option ℕ) → firstBelow n f′ ≡ o′ → SameRefusal (refusal (each 21 n f ∷ rs)) (refusal (each 21 n′ f′ ∷ rs′))
     by (some k) a (some k′) b =
         subst (λ (x : Option Outcome). SameRefusal x (refusal (each 21 n′ f′ ∷ rs′))) (sym (row-found (each 21 n f) rs k a))
-        (subst (λ (x : Option Outcome). SameRefusal (some (verdict 21 k)) x) (sym (row-found (each 21 n′ f′) rs′ k′ (count ∙ b))) (both (record { number-same = refl; index-same = λ no-21. absurd (no-21 refl) })))
+        (subst (λ (x : Option Outcome). SameRefusal (some (verdict 21 k)) x) (sym (row-found (each 21 n′ f′) rs′ k′ (count ∙ b))) (both (another-place k k′)))
     by (some k) a none b = absurdly k (sym a ∙ nowhere-before π f f′ h b)
     by none a (some k′) b = absurdly k′ (sym b ∙ nowhere-after π f f′ h a)
     by none a none b = same-refusal (row-clear (each 21 n′ f′) rs′ (count ∙ b) ∙ refusal-same q ∙ sym (row-clear (each 21 n f) rs a))
