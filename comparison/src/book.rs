@@ -8,7 +8,7 @@ use second_judge::{book_surplus, BookAnswer, Row};
 const LOWEST: i64 = -50_000 * 100_000;
 const HIGHEST: i64 = 400_000 * 100_000;
 
-fn feed(run: &mut Run, rows: &[Row], prices: &[i64]) -> BookAnswer {
+pub fn feed(run: &mut Run, rows: &[Row], prices: &[i64]) -> BookAnswer {
     feed_as(run, rows, prices, false)
 }
 
@@ -33,7 +33,7 @@ fn expect(run: &mut Run, answer: BookAnswer, number: u32, index: u32, sum: i64) 
     }
 }
 
-fn book(rng: &mut Rng, zones: usize, count: usize) -> (Vec<Row>, Vec<i64>) {
+pub fn book(rng: &mut Rng, zones: usize, count: usize) -> (Vec<Row>, Vec<i64>) {
     let rows = (0..count)
         .map(|_| Row {
             zone: rng.below(zones) as u8,

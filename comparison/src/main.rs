@@ -27,6 +27,7 @@ mod places;
 mod planted;
 #[cfg(feature = "queue")]
 mod queue;
+mod rearranged;
 mod rng;
 mod run;
 #[cfg(feature = "sheet")]
@@ -81,6 +82,7 @@ fn main() -> ExitCode {
     versions::halves(&mut run);
     versions::laws(&mut run, &mut Rng::new(seed));
     no_links::hours(&mut run, &mut Rng::new(seed));
+    rearranged::hours(&mut run, &mut Rng::new(seed));
     #[cfg(feature = "desk")]
     {
         desk::end(&mut run);
