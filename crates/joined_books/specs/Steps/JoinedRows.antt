@@ -1,6 +1,6 @@
 -- Two lists of rows joined, in the terms of `rules`: each row of the joined list is a row of one of the two, so its rows are good and its surplus is the sum
 -- of theirs; and with good rows, and few, a book is refused by its prices alone. Assumes nothing.
-use mathlib.Core.Path.{_≡_, refl, sym, ap, subst, _∙_}
+use mathlib.Core.Path.{_≡_, sym, ap, subst, _∙_}
 use mathlib.Core.Bool.{Bool, false, not, _||_}
 use mathlib.Core.List.{List, [], _∷_, _++_}
 use mathlib.Core.Option.{Option, none}

@@ -21,14 +21,3 @@ unmoved n = record {
   target-source = λ i h. refl;
   source-target = λ i h. refl;
 }
-
--- there and back
-abbrev pub inverse : {n : ℕ} → Permutation n → Permutation n
-inverse π = record {
-  source = π .target;
-  target = π .source;
-  source-in = π .target-in;
-  target-in = π .source-in;
-  target-source = π .source-target;
-  source-target = π .target-source;
-}

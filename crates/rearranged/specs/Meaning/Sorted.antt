@@ -1,11 +1,11 @@
 -- Orders in order (request S-9: "the same book sorted differently"): by any key of an order's four fields. Assumes nothing.
+use mathlib.Core.List.{List}
 use Prim.Native.Nat.{ℕ, _≤_, _<_}
 use lib.IntN.{ℤ}
 use Rattle.rules.specs.Meaning.Layout.{ordersIn}
 use Rattle.rules.specs.Meaning.Hour.{Case, caseOf}
 use Rattle.rearranged.specs.Meaning.Permutation.{Permutation}
 use Rattle.rearranged.specs.Meaning.Rearranged.{rearrangedCase}
-use mathlib.Core.List.{List}
 
 -- a number by which orders are sorted, from zone, side, quantity and price
 abbrev pub Key : Type 0

@@ -11,9 +11,10 @@ use Rattle.rearranged.specs.Meaning.Permutation.{Permutation}
 use Rattle.rules.specs.Meaning.Layout.{u8At, u32At, i32At, caseHeader, caseVersion, caseLength, zonesIn, branchesIn, linksIn, ordersIn, toleranceIn, branchSize, branchAt, branchFieldAt, ramIn, ptdfIn, contracts, contractedSize, linkSize, linkAt, linkFieldAt, fromIn, toIn, capacityIn, contractedIn, orderSize, orderAt, zoneIn, sideIn, quantityIn, priceIn, proposalHeader, proposalVersion, proposalLength, shareIn, systemIn, volumeIn, flowIn, shadowAt, shadowIn}
 use Rattle.rules.specs.Meaning.Hour.{caseOf, planOf, pricesOf}
 use Rattle.rules.specs.Meaning.Verdict.{notMark}
+use Rattle.rules.specs.Steps.SameTables.{SameTables}
 use Rattle.rearranged.specs.Meaning.Rearranged.{Reordered, rearrangedCase, rearrangedProposal}
 use Rattle.rearranged.specs.Steps.ReorderedBytes.{is-reordered, u8-before, u16-before, u32-before, i32-before, u32-after, u8-row, u32-row, i32-row}
-use Rattle.rearranged.specs.Steps.MovedOrders.{CaseMoved, PlanMoved, PricesSame}
+use Rattle.rearranged.specs.Steps.MovedOrders.{movedCase, withVolumes}
 
 -- where the orders start, and where order i stands
 abbrev start : List ℕ → ℕ
@@ -139,24 +140,24 @@ module _ (s : List ℕ) (π : Permutation (ordersIn s)) (whole : length s ≡ ca
   first-moved i h = ap (u8At s′) (order-at-same i ∙ order-is s i) ∙ u8-row moved i h 0 (omega arith) ∙ ap (u8At s) (sym (order-is s (π .source i)))
 
   -- THE CASE, with its orders rearranged
-  pub case-moved : CaseMoved (caseOf s) (caseOf (rearrangedCase s π)) (π .source)
-  unfolding caseOf ramIn ptdfIn fromIn toIn zoneIn sideIn quantityIn priceIn
+  pub case-moved : SameTables (movedCase (caseOf s) (π .source)) (caseOf (rearrangedCase s π))
+  unfolding movedCase caseOf ramIn ptdfIn fromIn toIn zoneIn sideIn quantityIn priceIn
   case-moved = record {
-    zones-is = zones-same;
-    branches-is = branches-same;
-    links-is = links-same;
-    orders-is = orders-same;
-    tolerance-is = tolerance-same;
-    ram-is = λ m h. ap (i32At s′) (branch-field-same m 0) ∙ i32-before moved (branchAt s m) (ram-in m h);
-    ptdf-is = λ m z h l. ap (i32At s′) (branch-field-same m (suc z)) ∙ i32-before moved (branchAt s m + 4 + 4 * z) (ptdf-in m z h l);
-    from-is = λ l h. ap (u8At s′) (link-field-same l 0) ∙ u8-before moved (linkAt s l) (omega (arith, link-in l h));
-    to-is = λ l h. ap (u8At s′) (link-field-same l 1) ∙ u8-before moved (linkAt s l + 1) (omega (arith, link-in l h));
-    capacity-is = capacity-same;
-    contracted-is = contracted-same;
-    zone-is = first-moved;
-    side-is = λ i h. byte-moved i 1 h (omega arith);
-    quantity-is = λ i h. word-moved i 2 h (omega arith);
-    price-is = λ i h. signed-moved i 6 h (omega arith);
+    zones-same = sym zones-same;
+    branches-same = sym branches-same;
+    links-same = sym links-same;
+    orders-same = sym orders-same;
+    tolerance-same = sym tolerance-same;
+    ram-same = λ m h. sym (ap (i32At s′) (branch-field-same m 0) ∙ i32-before moved (branchAt s m) (ram-in m h));
+    ptdf-same = λ m z h l. sym (ap (i32At s′) (branch-field-same m (suc z)) ∙ i32-before moved (branchAt s m + 4 + 4 * z) (ptdf-in m z h l));
+    from-same = λ l h. sym (ap (u8At s′) (link-field-same l 0) ∙ u8-before moved (linkAt s l) (omega (arith, link-in l h)));
+    to-same = λ l h. sym (ap (u8At s′) (link-field-same l 1) ∙ u8-before moved (linkAt s l + 1) (omega (arith, link-in l h)));
+    capacity-same = λ l h. sym (capacity-same l h);
+    contracted-same = λ l h. sym (contracted-same l h);
+    zone-same = λ i h. sym (first-moved i h);
+    side-same = λ i h. sym (byte-moved i 1 h (omega arith));
+    quantity-same = λ i h. sym (word-moved i 2 h (omega arith));
+    price-same = λ i h. sym (signed-moved i 6 h (omega arith));
   }
 
   pub mark-same : (a b e : ℕ) → notMark a b e (rearrangedCase s π) ≡ notMark a b e s
@@ -175,20 +176,25 @@ module _ (s : List ℕ) (π : Permutation (ordersIn s)) (whole : length s ≡ ca
     volume-at : (i : ℕ) → proposalHeader + 4 * i ≡ proposalHeader + i * 4 + 0
     volume-at i = omega arith
 
-    pub plan-moved : PlanMoved (caseOf s) (π .source) (planOf s t) (planOf (rearrangedCase s π) (rearrangedProposal s π t))
-    unfolding caseOf planOf shareIn volumeIn flowIn
-    plan-moved = record {
-      den-is = refl;
-      share-is = u32-before volumes-moved 5 (omega arith);
-      volume-is = λ i h. ap (u32At t′) (volume-at i) ∙ u32-row volumes-moved i h 0 (omega arith) ∙ ap (u32At t) (sym (volume-at (π .source i)));
-      flow-is = λ l h. ap (λ (n : ℕ). u32At t′ (proposalHeader + 4 * (n + l))) orders-same ∙ u32-after volumes-moved (proposalHeader + 4 * (ordersIn s + l)) (omega arith);
+    pub volume-moved : (i : ℕ) → i < ordersIn s → volumeIn (rearrangedCase s π) (rearrangedProposal s π t) i ≡ volumeIn s t (π .source i)
+    unfolding volumeIn
+    volume-moved i h = ap (u32At t′) (volume-at i) ∙ u32-row volumes-moved i h 0 (omega arith) ∙ ap (u32At t) (sym (volume-at (π .source i)))
+
+    -- all else of the plan, and the prices, are the same: what stands after the volumes has stayed, to the end of the file and past it
+    pub plan-moved : planOf (rearrangedCase s π) (rearrangedProposal s π t) ≡ withVolumes (planOf s t) (volumeIn (rearrangedCase s π) (rearrangedProposal s π t))
+    unfolding planOf withVolumes shareIn flowIn
+    plan-moved = λ j. record {
+      den = 1;
+      share = u32-before volumes-moved 5 (omega arith) j;
+      volume = volumeIn (rearrangedCase s π) (rearrangedProposal s π t);
+      flow = λ l. (ap (λ (n : ℕ). u32At t′ (proposalHeader + 4 * (n + l))) orders-same ∙ u32-after volumes-moved (proposalHeader + 4 * (ordersIn s + l)) (omega arith)) j;
     }
 
-    pub prices-same : PricesSame (caseOf s) (pricesOf s t) (pricesOf (rearrangedCase s π) (rearrangedProposal s π t))
-    unfolding caseOf pricesOf systemIn shadowIn shadowAt
-    prices-same = record {
-      system-is = i32-before volumes-moved 9 (omega arith);
-      shadow-is = λ m h. (λ j. u32At t′ (proposalHeader + 4 * (orders-same j + links-same j + m))) ∙ u32-after volumes-moved (proposalHeader + 4 * (ordersIn s + linksIn s + m)) (omega arith);
+    pub prices-same : pricesOf (rearrangedCase s π) (rearrangedProposal s π t) ≡ pricesOf s t
+    unfolding pricesOf systemIn shadowIn shadowAt
+    prices-same = λ j. record {
+      system = i32-before volumes-moved 9 (omega arith) j;
+      shadow = λ m. ((λ i. u32At t′ (proposalHeader + 4 * (orders-same i + links-same i + m))) ∙ u32-after volumes-moved (proposalHeader + 4 * (ordersIn s + linksIn s + m)) (omega arith)) j;
     }
 
     -- its header and its length
