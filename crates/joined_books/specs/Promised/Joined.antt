@@ -16,6 +16,7 @@ use Rattle.rules.specs.Meaning.Book.{BookRow, bookRows, bookRefusal, bookSurplu
 use Rattle.order_book.specs.Meaning.Lent.{bookRow, given, lentAnswer}
 use Rattle.order_book.specs.Steps.Account.{answered}
 use Rattle.order_book.specs.declared.OrderRow.{OrderRow}
+use Rattle.order_book.specs.declared.Surplus.{Surplus}
 use Rattle.joined_books.specs.Meaning.Good.{GoodRows, GoodPrices}
 use Rattle.joined_books.specs.Steps.JoinedRows.{AllGood, joined-surplus, joined-good, priceRefusal, by-prices, good-prices}
 
@@ -27,29 +28,36 @@ abbrev pub sumOf : List OrderRow → List ℤ → ℤ
 sumOf orders prices = (lentAnswer orders prices) .sum .0
 
 module _ (prices : List ℤ) where
+  -- the surplus of a book, and the answer with it
+  abbrev earned : List OrderRow → ℤ
+  earned orders = bookSurplus (map bookRow orders) prices
+
+  abbrev answerWith : ℤ → Option Outcome → Surplus
+  answerWith x o = given (bookAnswerBy x o)
+
   -- the answer for one book of good rows
-  answer-is : (orders : List OrderRow) → GoodRows orders prices → length orders ≤ 512 → lentAnswer orders prices ≡ given (bookAnswerBy (bookSurplus (map bookRow orders) prices) (priceRefusal prices))
+  answer-is : (orders : List OrderRow) → GoodRows orders prices → length orders ≤ 512 → lentAnswer orders prices ≡ answerWith (earned orders) (priceRefusal prices)
   unfolding lentAnswer bookAnswer
-  answer-is orders g l = ap (λ (o : Option Outcome). given (bookAnswerBy (bookSurplus (map bookRow orders) prices) o)) (by-prices prices (map bookRow orders) (g .good) (omega (arith, length-map orders bookRow)))
+  answer-is orders g l = ap (λ (o : Option Outcome). answerWith (earned orders) o) (by-prices prices (map bookRow orders) (g .good) (omega (arith, length-map orders bookRow)))
 
   module _ (a b : List OrderRow) (g : GoodRows a prices) (h : GoodRows b prices) where
     -- ITS ROWS ARE GOOD
     pub joined-rows-good : GoodRows (a ++ b) prices
     joined-rows-good = record { good = subst (λ (l : List BookRow). AllGood l prices) (sym (map-joined a b)) (joined-good (map bookRow a) (map bookRow b) prices (g .good) (h .good)) }
 
-    surplus-is : bookSurplus (map bookRow (a ++ b)) prices ≡ bookSurplus (map bookRow a) prices +ℤ bookSurplus (map bookRow b) prices
+    surplus-is : earned (a ++ b) ≡ earned a +ℤ earned b
     surplus-is = ap (λ (l : List BookRow). bookSurplus l prices) (map-joined a b) ∙ joined-surplus (map bookRow a) (map bookRow b) prices
 
     module _ (together : length a + length b ≤ 512) where
-      joined-is : lentAnswer (a ++ b) prices ≡ given (bookAnswerBy (bookSurplus (map bookRow a) prices +ℤ bookSurplus (map bookRow b) prices) (priceRefusal prices))
-      joined-is = answer-is (a ++ b) joined-rows-good (omega (arith, length-append a b)) ∙ ap (λ (x : ℤ). given (bookAnswerBy x (priceRefusal prices))) surplus-is
+      joined-is : lentAnswer (a ++ b) prices ≡ answerWith (earned a +ℤ earned b) (priceRefusal prices)
+      joined-is = answer-is (a ++ b) joined-rows-good (omega (arith, length-append a b)) ∙ ap (λ (x : ℤ). answerWith x (priceRefusal prices)) surplus-is
 
       -- THE SUM, at any prices
       pub joined-sum : sumOf (a ++ b) prices ≡ sumOf a prices +ℤ sumOf b prices
-      joined-sum = (λ j. joined-is j .sum .0) ∙ split (bookSurplus (map bookRow a) prices) (bookSurplus (map bookRow b) prices) (priceRefusal prices)
+      joined-sum = (λ j. joined-is j .sum .0) ∙ split (earned a) (earned b) (priceRefusal prices)
           ∙ (λ j. (sym (answer-is a g (omega arith)) j) .sum .0 +ℤ (sym (answer-is b h (omega arith)) j) .sum .0)
         where
-          split : (x y : ℤ) (o : Option Outcome) → (given (bookAnswerBy (x +ℤ y) o)) .sum .0 ≡ (given (bookAnswerBy x o)) .sum .0 +ℤ (given (bookAnswerBy y o)) .sum .0
+          split : (x y : ℤ) (o : Option Outcome) → (answerWith (x +ℤ y) o) .sum .0 ≡ (answerWith x o) .sum .0 +ℤ (answerWith y o) .sum .0
           split x y none = refl
           split x y (some o) = refl
 
@@ -57,16 +65,15 @@ module _ (prices : List ℤ) where
       pub joined-answer : GoodPrices prices → lentAnswer (a ++ b) prices ≡ answered 0 0 (sumOf a prices +ℤ sumOf b prices)
       joined-answer p = (λ j. record { number = accepted j .number; index = accepted j .index; sum = record { 0 = joined-sum j } })
         where
-          accepted : lentAnswer (a ++ b) prices ≡ answered 0 0 (bookSurplus (map bookRow a) prices +ℤ bookSurplus (map bookRow b) prices)
-          accepted = joined-is ∙ ap (λ (o : Option Outcome). given (bookAnswerBy (bookSurplus (map bookRow a) prices +ℤ bookSurplus (map bookRow b) prices) o)) (good-prices prices p)
+          accepted : lentAnswer (a ++ b) prices ≡ answered 0 0 (earned a +ℤ earned b)
+          accepted = joined-is ∙ ap (λ (o : Option Outcome). answerWith (earned a +ℤ earned b) o) (good-prices prices p)
 
 -- IN EITHER ORDER, at any prices
-pub either-order : (prices : List ℤ) (a b : List OrderRow) → GoodRows a prices → GoodRows b prices → length a + length b ≤ 512 → lentAnswer (b ++ a) prices ≡ lentAnswer (a ++ b) prices
+pub either-order : (prices : List ℤ) (a b : List OrderRow) → GoodRows a prices → GoodRows b prices → length a + length b ≤ 512
+    → lentAnswer (b ++ a) prices ≡ lentAnswer (a ++ b) prices
 either-order prices a b g h l =
-    joined-is prices b a h g (omega arith)
-    ∙ ap (λ (x : ℤ). given (bookAnswerBy x (priceRefusal prices)))
-    (eq-by (at (bookSurplus (map bookRow b) prices) ⊕ at (bookSurplus (map bookRow a) prices)) (at (bookSurplus (map bookRow a) prices) ⊕ at (bookSurplus (map bookRow b) prices)) (omega arith))
-    ∙ sym (joined-is prices a b g h l)
+    let turned = eq-by (at (earned prices b) ⊕ at (earned prices a)) (at (earned prices a) ⊕ at (earned prices b)) (omega arith) in
+    joined-is prices b a h g (omega arith) ∙ ap (λ (x : ℤ). answerWith prices x (priceRefusal prices)) turned ∙ sym (joined-is prices a b g h l)
 
 -- AS A HOST MEETS IT: two books that are answered with 0 at the same prices, at most 512 rows together, are answered with 0 joined
 pub accepted-good : (prices : List ℤ) (orders : List OrderRow) → (lentAnswer orders prices) .number ≡ 0 → GoodRows orders prices × GoodPrices prices

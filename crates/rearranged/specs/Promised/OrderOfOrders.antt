@@ -3,7 +3,7 @@
 use mathlib.Core.Path.{_≡_, refl, sym, ap, subst, _∙_}
 use mathlib.Core.Bool.{Bool, not, cond, _&&_}
 use mathlib.Core.List.{List, _++_}
-use mathlib.Core.Option.{Option, none}
+use mathlib.Core.Option.{none}
 use Prim.Native.Nat.{ℕ, zero, suc, _+_, _<_}
 use native.Mathlib.Omega.{arith}
 use lib.Dec.{T}
@@ -19,14 +19,14 @@ use Rattle.rows.specs.declared.Outcome.{Outcome}
 use Rattle.rows.specs.Meaning.Rows.{firstBelow, anyBelow, refusal, answer, once}
 use Rattle.rules.specs.Meaning.Verdict.{under, over, overZ, differ, branchFault, linkFault, orderFault, orderField, roomRows, caseRows, proposalRows, clearingRows, table, outcome, Readable, caseRefusal}
 use Rattle.rules.specs.Meaning.Report.{totalsOf, headerBytes, totalBytes, priceBytes, reportText, reportBytes, reportSize, reports, written, bufferAfter}
-use Rattle.rows.specs.Promised.RowLaws.{First, first-none, lacks, rowNumbered, number-passes, row-by-number, else-refusal, refusal-append}
+use Rattle.rows.specs.Promised.RowLaws.{First, first-none, lacks, rowNumbered, number-passes, row-by-number}
 use Rattle.rules.specs.Steps.Duality.{Placed}
 use Rattle.rules.specs.Steps.SameTables.{SameTables, counted, counted-is, any-ext, branch-fault, link-fault, order-fault, net-sum, link-broken, branch-broken, zone-price, gap-same, totals-same}
 use Rattle.rules.specs.Steps.Passed.{case-sound, case-length}
 use Rattle.rearranged.specs.Meaning.Rearranged.{rearrangedCase, rearrangedProposal, excess, SameVerdict, SameHour}
 use Rattle.rearranged.specs.Steps.MovedOrders.{movedCase, withVolumes, still-placed, branch-fault-is, link-fault-is, net-sum-moved, branch-use-moved, gap-moved, totals-moved}
 use Rattle.rearranged.specs.Steps.RearrangedFile.{case-moved, volume-moved, plan-moved, prices-same, mark-same, version-same, length-same, length-demanded, branch-field-same, link-field-same, shadow-at-same, proposal-mark-same, proposal-version-same, proposal-length-same, proposal-demanded}
-use Rattle.rearranged.specs.Steps.SameRows.{SameRows, no-row, and-row, same-row, same-each, same-each-at, same-each-field, nowhere-row, refusal-same, SameRefusal, same-else, same-answer, same-but-21, nowhere-after}
+use Rattle.rearranged.specs.Steps.SameRows.{SameRows, no-row, and-row, same-row, same-each, same-each-at, same-each-field, nowhere-row, refusal-same, SameTable, after-rows, same-answer, same-but-21, nowhere-after}
 
 -- the report's prices
 price-bytes : (n : ℕ) (f f′ : ℕ → ℤ) → ((z : ℕ) → z < n → f′ z ≡ f z) → priceBytes n f′ ≡ priceBytes n f
@@ -72,7 +72,8 @@ module _ (s : List ℕ) (π : Permutation (ordersIn s)) (r : Readable s) where
 
   none-after : firstBelow (c .orders) (atFault c′) ≡ none
   unfolding caseOf orderFault movedCase
-  none-after = nowhere-after π (atFault c) (atFault c′) (λ i h. any-ext orderFields (orderFault c′ i) (orderFault c (π .source i)) (λ n k. sym (order-fault moved (caseOf s′) m i n h))) none-before
+  none-after = nowhere-after π (atFault c) (atFault c′)
+      (λ i h. any-ext orderFields (orderFault c′ i) (orderFault c (π .source i)) (λ n k. sym (order-fault moved (caseOf s′) m i n h))) none-before
 
   branch-same : (b n : ℕ) → b < c .branches → n < 1 + c .zones → branchFault c′ b n ≡ branchFault c b n
   unfolding caseOf movedCase
@@ -94,8 +95,8 @@ module _ (s : List ℕ) (π : Permutation (ordersIn s)) (r : Readable s) where
       (and-row (same-row refl)
       (and-row (same-row refl)
       (and-row (same-row (λ j. once 5 (differ (length-same s π whole j) (length-demanded s π whole j))))
-      (and-row (same-each-field 6 (branchFault c) (branchFault c′) (branchFieldAt s) (branchFieldAt s′) refl refl branch-same (branch-field-same s π whole))
-      (and-row (same-each-field 7 (linkFault c) (linkFault c′) (linkFieldAt s) (linkFieldAt s′) refl refl link-same (link-field-same s π whole))
+      (and-row (same-each-field 6 (branchFault c) (branchFault c′) (branchFieldAt s) (branchFieldAt s′) branch-same (branch-field-same s π whole))
+      (and-row (same-each-field 7 (linkFault c) (linkFault c′) (linkFieldAt s) (linkFieldAt s′) link-same (link-field-same s π whole))
       (and-row (nowhere-row (orderField s c) (orderField s′ c′) refl none-before none-after)
       no-row)))))))))))
 
@@ -131,7 +132,7 @@ module _ (s : List ℕ) (π : Permutation (ordersIn s)) (r : Readable s) where
         (and-row (same-row (λ j. once 11 (differ (proposal-version-same s π whole t right j) 1)))
         (and-row (same-row (λ j. once 12 (differ (proposal-length-same s π whole t right j) (proposal-demanded s π whole j))))
         (and-row (same-row refl)
-        (and-row (same-each-at 14 _ _ (shadowAt s) (shadowAt s′) refl (λ b h. refl) (shadow-at-same s π whole))
+        (and-row (same-each-at 14 _ _ (shadowAt s) (shadowAt s′) (λ b h. refl) (shadow-at-same s π whole))
         no-row)))))
 
     -- the orders whose volume is above their quantity are the same orders, at their new places
@@ -139,31 +140,24 @@ module _ (s : List ℕ) (π : Permutation (ordersIn s)) (r : Readable s) where
     unfolding caseOf planOf excess movedCase
     excess-moved i h = λ j. over (sym (m .quantity-same i h) j) (volume-moved s π whole t right i h j)
 
-    clearing-refusal : SameRefusal (refusal (clearingRows c p d)) (refusal (clearingRows c′ p′ d))
+    clearing-rows : SameTable (clearingRows c p d) (clearingRows c′ p′ d)
     unfolding clearingRows noLink excess caseOf planOf counted movedCase withVolumes linkUse linkRoom branchRoom zonePrice branchPrice
-    clearing-refusal =
+    clearing-rows =
         let x = volume-moved s π whole t right in
-        same-but-21 π (excess c p) (excess c′ p′) refl excess-moved
+        same-but-21 π (excess c p) (excess c′ p′) excess-moved
         (and-row (same-row (λ j. once 22 (not (isZero ((sym (net-sum moved (caseOf s′) m p′) ∙ net-sum-moved c π p (volumeIn s′ t′) x) j)))))
         (and-row (same-row refl)
-        (and-row (same-each 23 _ _ refl (λ l h. sym (link-broken moved (caseOf s′) m p′ l h)))
-        (and-row (same-each 24 _ _ refl (λ b h. sym (branch-broken moved (caseOf s′) m p′ b h) ∙ ap (overZ (branchRoom c p b)) (branch-use-moved c π p (volumeIn s′ t′) x b)))
-        (and-row (same-each 25 _ _ refl (λ z h. ap (outside limits.zonePrice) (sym (zone-price moved (caseOf s′) m d z h))))
+        (and-row (same-each 23 _ _ (λ l h. sym (link-broken moved (caseOf s′) m p′ l h)))
+        (and-row (same-each 24 _ _ (λ b h. sym (branch-broken moved (caseOf s′) m p′ b h) ∙ ap (overZ (branchRoom c p b)) (branch-use-moved c π p (volumeIn s′ t′) x b)))
+        (and-row (same-each 25 _ _ (λ z h. ap (outside limits.zonePrice) (sym (zone-price moved (caseOf s′) m d z h))))
         (and-row (same-row (λ j. once 26 (overZ (limits.microcentsOf (pos (c .tolerance))) ((sym (gap-same moved (caseOf s′) m d placed p′) ∙ gap-moved c π p (volumeIn s′ t′) x d) j))))
         no-row))))))
 
     -- THE VERDICT IS THE SAME, but for the index of 21
     pub same-verdict : (room : ℕ) → SameVerdict (outcome s t room) (outcome s′ t′ room)
-    unfolding outcome table
+    unfolding outcome table roomRows
     same-verdict room = subst (λ (x : Outcome). SameVerdict (outcome s t room) x) (λ j. answer (refusal (table s′ t′ room (sym case-is j) (sym plan-is j) (sym prices-are j))))
-        (same-answer (subst (λ (x : Option Outcome). SameRefusal x (refusal (table s′ t′ room c′ p′ d))) (sym (parts s t c p d))
-        (subst (λ (x : Option Outcome). SameRefusal (else-refusal (refusal (roomRows room)) (else-refusal (refusal (caseRows s c)) (else-refusal (refusal (proposalRows s t c p d)) (refusal (clearingRows c p d))))) x) (sym (parts s′ t′ c′ p′ d))
-        (same-else (refusal (roomRows room)) refl (same-else (refusal (caseRows s c)) (refusal-same case-rows) (same-else (refusal (proposalRows s t c p d)) (refusal-same proposal-rows) clearing-refusal))))))
-      where
-        parts : (s t : List ℕ) (c : Case) (p : Plan) (d : Prices)
-            → refusal (table s t room c p d) ≡ else-refusal (refusal (roomRows room)) (else-refusal (refusal (caseRows s c)) (else-refusal (refusal (proposalRows s t c p d)) (refusal (clearingRows c p d))))
-        parts s t c p d = refusal-append (roomRows room) _
-            ∙ ap (else-refusal (refusal (roomRows room))) (refusal-append (caseRows s c) _ ∙ ap (else-refusal (refusal (caseRows s c))) (refusal-append (proposalRows s t c p d) (clearingRows c p d)))
+        (same-answer (after-rows (and-row (same-row refl) no-row) (after-rows case-rows (after-rows proposal-rows clearing-rows)) .same))
 
     -- THE INDEX OF 21 is the first place to which an order at fault has gone
     pub index-of-21 : (room : ℕ) → (outcome s t room) .number ≡ 21 → First (ordersIn s) (λ i. excess c p (π .source i)) ((outcome s′ t′ room) .index)
