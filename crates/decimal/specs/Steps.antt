@@ -1,5 +1,6 @@
 -- THE PROOFS' MEANS
 pub mod Places
 pub mod Digits
+pub mod Table
 pub mod Complement
 pub mod Put

@@ -1,44 +1,27 @@
--- `decimal::power` meets its contract. The loop's invariant: p is ten to the turns made; the last turn makes at most 10 ^ 19. Assumes nothing.
-use mathlib.Core.Path.{_≡_, refl, sym, ap, _∙_}
-use Prim.Native.Nat.{ℕ, _+_, _*_, _-_, _≤_, _^_}
-use native.Mathlib.Nat.{pow-suc, pow-le-pow-right}
-use native.Mathlib.Numerals.{add-one}
-use native.Mathlib.Omega.{arith}
+-- `decimal::power` meets its contract: each entry of the table is its power, by one test over the whole table. Assumes nothing.
+use mathlib.Core.List.{List}
+use Prim.Native.Nat.{ℕ, _^_}
+use borrow.Author.Needs.{needs}
+use borrow.Table.Row as row
+use Rattle.decimal.specs.Steps.Table.{entry}
 use Rattle.decimal.proofs.power.Statement.{statement}
 use Rattle.decimal.proofs.power.Tie as tie
+use Rattle.decimal.proofs.power.Reads as reads
+use Rattle.decimal.proofs.power.Lts as lts
 
-abbrev Inv-loop : tie.InvT-loop
-Inv-loop k p₀ counter₀ p counter = (counter ≤ k) × (p ≡ 10 ^ counter)
+mul-result : tie.Need-mul-result
+mul-result c = search needs
 
-abbrev μ-loop : tie.MeasureT-loop
-μ-loop k p₀ counter₀ p counter = k - counter
+array-read-result : tie.Need-array-read-result
+array-read-result c = search needs
 
-next-power : (c : tie.In-loop Inv-loop μ-loop) → c .before .loop .p * 10 ≡ 10 ^ (c .before .loop .counter + 1)
-next-power c =
-    ap (λ (p : ℕ). p * 10) (c .before .loop .inv .1)
-    ∙ sym (pow-suc 10 (c .before .loop .counter))
-    ∙ ap (λ (k : ℕ). 10 ^ k) (sym (add-one (c .before .loop .counter)))
+-- the code's own table
+powers : tie.Start → List ℕ
+powers c = row.get 2 (lts.T3 .locals) (lts.m2 reads.Pre reads.Post (c .args) (c .blocks))
 
-loop-holds : tie.Need-loop-holds Inv-loop μ-loop
-loop-holds c = (omega arith, refl)
-
-mul-p : tie.Need-mul-p Inv-loop μ-loop
-mul-p c = record { fits = omega (arith, next-power c, pow-le-pow-right {n = 10} (omega arith) {i = c .before .loop .counter + 1} {j = 19} (omega arith)) }
-
-add-counter : tie.Need-add-counter Inv-loop μ-loop
-add-counter c = omega arith
-
-loop-less : tie.Need-loop-less Inv-loop μ-loop
-loop-less c = omega arith
-
-loop-again : tie.Need-loop-again Inv-loop μ-loop
-loop-again c = (omega arith, next-power c)
-
-returns : tie.Need-returns Inv-loop μ-loop
-returns c =
-    let all : c .before .loop .counter ≡ c .before .before .args .k = omega arith in
-    c .before .loop .inv .1 ∙ ap (λ (k : ℕ). 10 ^ k) all
+returns : tie.Need-returns
+unfolding powers
+returns c = entry (λ (k : ℕ). 10 ^ k) (powers c) tt (c .args .k) (search needs)
 
 pub power-spec : {M : Type 1} → statement M
-power-spec =
-    tie.close (tie.spec Inv-loop μ-loop loop-holds mul-p add-counter loop-less loop-again returns)
+power-spec = tie.close (tie.spec mul-result array-read-result returns)

@@ -2,7 +2,7 @@
 use mathlib.Core.Path.{_≡_, sym, ap, _∙_}
 use mathlib.Core.Bool.{true, false}
 use mathlib.Core.List.{_∷_}
-use Prim.Native.Nat.{ℕ}
+use Prim.Native.Nat.{ℕ, _/_, _^_}
 use native.Mathlib.Omega.{arith}
 use lib.ListN.{length, length-set}
 use lib.IntN.{natAbs}
@@ -15,13 +15,16 @@ use borrow.Author.Needs.{needs}
 use Rattle.decimal.proofs.put_amount.Statement.{statement}
 use Rattle.decimal.proofs.put_amount.Tie as tie
 
--- the amount's text, by the test's answer
+-- the whole part and the amount's text, by the size and the test's answer
 module _ (c : tie.After-negative) where
   abbrev start : tie.Start
   start = c .before .before .before
 
   size-is : natAbs (toZ w64 (start .args .x .0)) ≡ c .before .size .result
   size-is = sym (c .before .size .ensures)
+
+  whole : start .args .whole ≡ c .before .size .result / 10 ^ start .args .decimals
+  whole = start .pre .0 ∙ ap (λ (n : ℕ). n / 10 ^ start .args .decimals) size-is
 
   signed : c .negative .result ≡ true → amountText (start .args .decimals) (toZ w64 (start .args .x .0)) ≡ 45 ∷ sizeText (start .args .decimals) (c .before .size .result)
   signed e =
@@ -47,7 +50,7 @@ add-put-size c = search needs
 
 put-size-requires : tie.Need-put-size-requires
 put-size-requires c κs =
-    (c .before .before .before .before .before .pre .0, simp length-set (omega (arith, ap length (signed (c .before .before) (c .before .if1 .taken)), c .before .before .before .before .before .pre .1)))
+    (whole (c .before .before), simp length-set (omega (arith, ap length (signed (c .before .before) (c .before .if1 .taken)), c .before .before .before .before .before .pre .1)))
 
 same-length : tie.Need-same-length
 same-length c = put-length (c .before .before .put-size .ensures) ∙ simp length-set
@@ -59,7 +62,7 @@ returns c =
 
 put-size-requires-2 : tie.Need-put-size-requires-2
 put-size-requires-2 c κs =
-    (c .before .before .before .before .before .pre .0, omega (arith, ap length (unsigned (c .before .before) (c .before .if1 .left)), c .before .before .before .before .before .pre .1))
+    (whole (c .before .before), omega (arith, ap length (unsigned (c .before .before) (c .before .if1 .left)), c .before .before .before .before .before .pre .1))
 
 same-length-2 : tie.Need-same-length-2
 same-length-2 c = search needs

@@ -1,43 +1,32 @@
 -- `decimal::put_size` meets its contract: the whole part, the point and the decimals stand one after another, each where the one before ends.
 -- Assumes nothing.
-use mathlib.Core.Path.{_≡_, ap, _∙_}
+use mathlib.Core.Path.{ap, _∙_}
 use mathlib.Core.List.{append-assoc, [], _∷_}
 use Prim.Native.Nat.{ℕ, _+_, _/_, _^_, _≤_}
 use native.Mathlib.Omega.{arith}
 use lib.ListN.{length, length-set}
 use Rattle.decimal.specs.Meaning.Text.{lastDigits, countText, sizeText}
-use Rattle.decimal.specs.Promised.Value.{power-positive}
 use Rattle.decimal.specs.Promised.Sizes.{size-length}
 use Rattle.decimal.specs.Steps.Put.{Put, put-as, put-length, put-then, put-byte}
 use borrow.Author.Needs.{needs}
 use Rattle.decimal.proofs.put_size.Statement.{statement}
 use Rattle.decimal.proofs.put_size.Tie as tie
 
--- the whole part, as the number's own definition has it
-whole : (c : tie.After-power) → c .before .before .before .args .n / c .power .result ≡ c .before .before .before .args .n / 10 ^ c .before .before .before .args .decimals
-whole c = ap (λ (p : ℕ). c .before .before .before .args .n / p) (c .power .ensures)
-
 module _ (c : tie.After-put-count) where
   abbrev start : tie.Start
-  start = c .before .before .before .before
+  start = c .before .before .before
 
   whole-put : Put (start .args .out .now) (start .args .at) (countText (start .args .n / 10 ^ start .args .decimals)) (c .put-count .last .0) (c .put-count .result)
-  whole-put = put-as (ap countText (whole (c .before))) (c .put-count .ensures)
+  whole-put = put-as (ap countText (start .pre .0)) (c .put-count .ensures)
 
   -- room for the point and the decimals
   room : c .put-count .result + 1 + start .args .decimals ≤ length (c .put-count .last .0)
   room = omega (arith, put-length whole-put, whole-put .position, size-length (start .args .decimals) (start .args .n), start .pre .1)
 
-power-requires : tie.Need-power-requires
-power-requires c κs = search needs
-
-div-put-count : tie.Need-div-put-count
-div-put-count c = omega (arith, power-positive (c .before .before .before .args .decimals), c .power .ensures)
-
 put-count-requires : tie.Need-put-count-requires
 put-count-requires c κs =
-    let a = c .before .before .before .args in
-    omega (arith, ap (λ (n : ℕ). length (countText n)) (whole c), size-length (a .decimals) (a .n), c .before .before .before .pre .1)
+    let s = c .before .before in
+    omega (arith, ap (λ (n : ℕ). length (countText n)) (s .pre .0), size-length (s .args .decimals) (s .args .n), s .pre .1)
 
 slice-write-out : tie.Need-slice-write-out
 slice-write-out c = omega (arith, room (c .before .before))
@@ -64,8 +53,6 @@ pub put-size-spec : {M : Type 1} → statement M
 put-size-spec =
     tie.close
     (tie.spec
-    power-requires
-    div-put-count
     put-count-requires
     slice-write-out
     add-put-last

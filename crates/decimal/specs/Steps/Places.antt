@@ -1,7 +1,7 @@
 -- How many digits a number has: the fewest that hold it. Assumes nothing.
 use mathlib.Core.Path.{_≡_, refl, sym, ap, _∙_}
-use Prim.Native.Nat.{ℕ, zero, suc, _/_, _^_, _<_, _≤_}
-use native.Mathlib.Nat.{pow-suc}
+use Prim.Native.Nat.{ℕ, zero, suc, _+_, _/_, _^_, _<_, _≤_}
+use native.Mathlib.Nat.{pow-suc, pow-le-pow-right}
 use native.Mathlib.Decide.{decLt}
 use native.Mathlib.Omega.{arith}
 use borrow.Author.Tests.{lt-ltb, le-ltb}
@@ -68,3 +68,23 @@ fewest-in (suc most) n h = elim (decLt n 10) [
 pub fewest : (n : ℕ) → Fewest n (places n)
 unfolding places
 fewest n = fewest-in n n (omega arith)
+
+-- a number that reaches 10 ^ k has more than k digits
+pub places-past : (k n : ℕ) → 10 ^ k ≤ n → k < places n
+places-past k n h = elim (decLt k (places n)) [
+  | yes l ↦ l
+  | no g ↦ absurd (omega (arith, (fewest n) .holds, pow-le-pow-right {n = 10} (omega arith) {i = places n} {j = k} (omega arith)))
+]
+
+-- four digits at a step
+pub places-myriad : (n : ℕ) → 10 ^ 4 ≤ n → places n ≡ 4 + places (n / 10 ^ 4)
+places-myriad n h =
+    let four : n / 10 / 10 / 10 / 10 ≡ n / 10 ^ 4 = omega arith in
+    omega (
+      arith,
+      places-more n (omega arith),
+      places-more (n / 10) (omega arith),
+      places-more (n / 10 / 10) (omega arith),
+      places-more (n / 10 / 10 / 10) (omega arith),
+      ap places four,
+    )

@@ -1,0 +1,44 @@
+-- A table and its rule: one test, computed over the whole table, and a law that turns it into the rule at each index. Assumes nothing.
+use mathlib.Core.Path.{_≡_, sym, subst, _∙_}
+use mathlib.Core.Bool.{Bool, true, false}
+use mathlib.Core.List.{List, [], _∷_}
+use Prim.Native.Nat.{ℕ, zero, suc, _+_, _<_}
+use native.Mathlib.Omega.{arith}
+use lib.Dec.{T, eqb, eqb→eq}
+use lib.ListN.{length, getD}
+
+abbrev both : Bool → Bool → Bool
+both true b = b
+both false b = false
+
+both-left : (a b : Bool) → T (both a b) → T a
+both-left true b t = tt
+both-left false b t = t
+
+both-right : (a b : Bool) → T (both a b) → T b
+both-right true b t = t
+both-right false b t = absurd t
+
+-- THE TEST: each entry is what the rule says at its index; the first stands at i
+abbrev pub follows : (ℕ → ℕ) → ℕ → List ℕ → Bool
+follows rule i [] = true
+follows rule i (x ∷ xs) = both (eqb x (rule i)) (follows rule (suc i) xs)
+
+from : (rule : ℕ → ℕ) (xs : List ℕ) (i : ℕ) → T (follows rule i xs) → (k : ℕ) → k < length xs → getD xs k 0 ≡ rule (i + k)
+from rule [] i t k h = absurd (omega arith)
+from rule (x ∷ xs) i t zero h = eqb→eq x (rule i) (both-left (eqb x (rule i)) (follows rule (suc i) xs) t) ∙ (λ j. rule (sym (omega-zero i) j))
+  where
+    omega-zero : (i : ℕ) → i + 0 ≡ i
+    omega-zero i = omega arith
+from rule (x ∷ xs) i t (suc k) h =
+    from rule xs (suc i) (both-right (eqb x (rule i)) (follows rule (suc i) xs) t) k (omega arith) ∙ (λ j. rule (later i k j))
+  where
+    later : (i k : ℕ) → suc i + k ≡ i + suc k
+    later i k = omega arith
+
+-- THE RULE at each index of a table that passes
+pub entry : (rule : ℕ → ℕ) (xs : List ℕ) → T (follows rule 0 xs) → (k : ℕ) → k < length xs → getD xs k 0 ≡ rule k
+entry rule xs t k h = from rule xs 0 t k h ∙ (λ j. rule (start k j))
+  where
+    start : (k : ℕ) → 0 + k ≡ k
+    start k = omega arith
