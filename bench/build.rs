@@ -7,7 +7,8 @@ use std::path::PathBuf;
 use std::process::Command;
 
 /// Plain C by the feature that compares with it.
-const PLAIN_C: [(&str, &str); 2] = [
+const PLAIN_C: [(&str, &str); 3] = [
+    ("CARGO_FEATURE_DESK", "plain_desk"),
     ("CARGO_FEATURE_DUMP", "plain_dump"),
     ("CARGO_FEATURE_SHEET", "plain_sheet"),
 ];

@@ -1,9 +1,11 @@
-//! Measures the proved judge against the second one, the margin sheet's and the
-//! dump's entry against plain C, S-3's and S-8's against plain Rust, on the same
-//! inputs; prints only.
+//! Measures the proved judge against the second one, the desk's lines, the margin
+//! sheet's and the dump's entry against plain C, S-3's and S-8's against plain Rust, on the
+//! same inputs; prints only.
 
 #[path = "../../comparison/src/archive.rs"]
 mod archive;
+#[cfg(feature = "desk")]
+mod desk;
 #[cfg(feature = "dump")]
 mod dump;
 #[cfg(feature = "intuitive")]
@@ -14,8 +16,6 @@ mod queue;
 mod sheet;
 
 use second_judge::hours::{contracted_hour, three_zone_hour, Branch, Hour, Link, Version};
-#[cfg(feature = "desk")]
-use second_judge::limits::LEAST_OUTPUT;
 use second_judge::limits::{BUYS, LEAST_BUFFER, SELLS};
 use second_judge::{judge, Row};
 use std::hint::black_box;
@@ -277,31 +277,7 @@ fn main() {
     }
 
     #[cfg(feature = "desk")]
-    {
-        heading("desk lines");
-        let hour = three_zone_hour();
-        let input = [hour.case(), hour.proposal()].concat();
-        let mut out = [0; LEAST_OUTPUT];
-        let length = archive::desk_lines(&input, &mut out).length as usize;
-        assert_eq!(
-            out[..length],
-            second_judge::desk_lines(&input),
-            "the same lines"
-        );
-        let times = measure(
-            || {
-                for _ in 0..100 {
-                    black_box(archive::desk_lines(black_box(&input), black_box(&mut out)));
-                }
-            },
-            || {
-                for _ in 0..100 {
-                    black_box(second_judge::desk_lines(black_box(&input)));
-                }
-            },
-        );
-        print("a day: a hundred of P1's reports", &times);
-    }
+    desk::lines();
 
     #[cfg(feature = "sheet")]
     sheet::sheets();
