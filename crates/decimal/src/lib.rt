@@ -15,7 +15,8 @@ const MONEY_DECIMALS: usize = 8;
 
 const PRICE_DECIMALS: usize = 7;
 
-// Every power of ten that 64 bits hold, the k-th at k.
+// Every power of ten that 64 bits hold, the k-th at k. It is read at indexes that are known when the code is compiled: such a read costs
+// nothing, and any other lays the whole table down first.
 const POWERS: [u64; 20] = [
     1,
     10,
@@ -62,8 +63,8 @@ pub fn put_count(out: &mut [u8], at: usize, n: u64) -> usize
     put_last(out, at, n, count_places(n))
 }
 
-// A minus sign before a negative amount only. The least number has no opposite of its own width, so its size is unsigned. The whole part is the caller's:
-// where the decimals are known as the code is compiled, its division is a product.
+// A minus sign before a negative amount only. The least number has no opposite of its own width, so its size is unsigned. The whole part is
+// the caller's, who knows the decimals: there the division is compiled to a product.
 fn put_amount(out: &mut [u8], at: usize, x: Bits, whole: u64, decimals: usize) -> usize
     requires { ⌜ whole ≡ natAbs (toZ w64 (x .0)) / 10 ^ decimals ⌝ }
     requires { ⌜ at + length (amountText decimals (toZ w64 (x .0))) ≤ length (now out) ⌝ }

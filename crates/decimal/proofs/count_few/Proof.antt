@@ -1,4 +1,4 @@
--- `decimal::count_few` meets its contract: the first power above the number has as many zeros as it has digits. Assumes nothing.
+-- `decimal::count_few` meets its contract: it has k digits where 10 ^ k is the first power above it. Assumes nothing.
 use native.Mathlib.Omega.{arith}
 use Rattle.decimal.specs.Steps.Places.{places-one, places-past, places-at-most}
 use borrow.Author.Needs.{needs}

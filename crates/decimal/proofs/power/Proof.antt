@@ -1,4 +1,5 @@
--- `decimal::power` meets its contract: each entry of the table is its power, by one test over the whole table. Assumes nothing.
+-- `decimal::power` meets its contract: each entry of the table is its power. The table is read off the code's own state, so that the test is
+-- computed over what is compiled and over no copy. Assumes nothing.
 use mathlib.Core.List.{List}
 use Prim.Native.Nat.{ℕ, _^_}
 use borrow.Author.Needs.{needs}
@@ -15,10 +16,10 @@ mul-result c = search needs
 array-read-result : tie.Need-array-read-result
 array-read-result c = search needs
 
--- the code's own table
 powers : tie.Start → List ℕ
 powers c = row.get 2 (lts.T3 .locals) (lts.m2 reads.Pre reads.Post (c .args) (c .blocks))
 
+-- `tt` is the test's answer over all entries
 returns : tie.Need-returns
 unfolding powers
 returns c = entry (λ (k : ℕ). 10 ^ k) (powers c) tt (c .args .k) (search needs)

@@ -1,5 +1,5 @@
--- A table and its rule: one test, computed over the whole table, and a law that turns it into the rule at each index. Assumes nothing.
-use mathlib.Core.Path.{_≡_, sym, subst, _∙_}
+-- A table and its rule: one test, computed over the whole table, and the law that turns it into the rule at each index. Assumes nothing.
+use mathlib.Core.Path.{_≡_, ap, _∙_}
 use mathlib.Core.Bool.{Bool, true, false}
 use mathlib.Core.List.{List, [], _∷_}
 use Prim.Native.Nat.{ℕ, zero, suc, _+_, _<_}
@@ -24,21 +24,17 @@ abbrev pub follows : (ℕ → ℕ) → ℕ → List ℕ → Bool
 follows rule i [] = true
 follows rule i (x ∷ xs) = both (eqb x (rule i)) (follows rule (suc i) xs)
 
-from : (rule : ℕ → ℕ) (xs : List ℕ) (i : ℕ) → T (follows rule i xs) → (k : ℕ) → k < length xs → getD xs k 0 ≡ rule (i + k)
-from rule [] i t k h = absurd (omega arith)
-from rule (x ∷ xs) i t zero h = eqb→eq x (rule i) (both-left (eqb x (rule i)) (follows rule (suc i) xs) t) ∙ (λ j. rule (sym (omega-zero i) j))
-  where
-    omega-zero : (i : ℕ) → i + 0 ≡ i
-    omega-zero i = omega arith
-from rule (x ∷ xs) i t (suc k) h =
-    from rule xs (suc i) (both-right (eqb x (rule i)) (follows rule (suc i) xs) t) k (omega arith) ∙ (λ j. rule (later i k j))
-  where
-    later : (i k : ℕ) → suc i + k ≡ i + suc k
-    later i k = omega arith
+from : (rule : ℕ → ℕ) (i : ℕ) (xs : List ℕ) → T (follows rule i xs) → (k : ℕ) → k < length xs → getD xs k 0 ≡ rule (i + k)
+from rule i [] t k h = absurd (omega arith)
+from rule i (x ∷ xs) t zero h =
+    let here : i ≡ i + 0 = omega arith in
+    eqb→eq x (rule i) (both-left (eqb x (rule i)) (follows rule (suc i) xs) t) ∙ ap rule here
+from rule i (x ∷ xs) t (suc k) h =
+    let later : suc i + k ≡ i + suc k = omega arith in
+    from rule (suc i) xs (both-right (eqb x (rule i)) (follows rule (suc i) xs) t) k (omega arith) ∙ ap rule later
 
 -- THE RULE at each index of a table that passes
 pub entry : (rule : ℕ → ℕ) (xs : List ℕ) → T (follows rule 0 xs) → (k : ℕ) → k < length xs → getD xs k 0 ≡ rule k
-entry rule xs t k h = from rule xs 0 t k h ∙ (λ j. rule (start k j))
-  where
-    start : (k : ℕ) → 0 + k ≡ k
-    start k = omega arith
+entry rule xs t k h =
+    let first : 0 + k ≡ k = omega arith in
+    from rule 0 xs t k h ∙ ap rule first
