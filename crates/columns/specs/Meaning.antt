@@ -1,0 +1,2 @@
+-- THE MEANING, to be read beside request S-10
+pub mod Columns

@@ -1,0 +1,3 @@
+-- WHAT IS PROVED OF THE MEANING, for its reader
+pub mod Causes
+pub mod RoundTrip

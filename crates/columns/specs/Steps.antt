@@ -1,0 +1,7 @@
+-- THE PROOFS' MEANS
+pub mod Listed
+pub mod Transposed
+pub mod Stored
+pub mod Counts
+pub mod Read
+pub mod Answers
