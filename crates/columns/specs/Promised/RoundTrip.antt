@@ -29,15 +29,15 @@ use Rattle.columns.specs.Steps.Counts.{readable-of, unreadable-of, mark-
 module _ (s : List ℕ) where
   pub columned-length : length (columnedOf s) ≡ length s
   unfolding columnedOf
-  columned-length = arranged-length 75 (orderAt s 0) 10 (ordersIn s) s
+  columned-length = arranged-length _ _ _ _ s
 
   pub columned-kept : (k : ℕ) → 3 ≤ k → k < orderAt s 0 → getD (columnedOf s) k 0 ≡ getD s k 0
   unfolding columnedOf
-  columned-kept = arranged-kept 75 (orderAt s 0) 10 (ordersIn s) s
+  columned-kept = arranged-kept _ _ _ _ s
 
   pub columned-mark : (k : ℕ) → k < 3 → k < length s → getD (columnedOf s) k 0 ≡ getD (76 ∷ 84 ∷ 75 ∷ []) k 0
   unfolding columnedOf
-  columned-mark = arranged-mark 75 (orderAt s 0) 10 (ordersIn s) s
+  columned-mark = arranged-mark _ _ _ _ s
 
   pub column : Readable s → (i k : ℕ) → i < ordersIn s → k < 10 → getD (columnedOf s) (orderAt s 0 + (k * ordersIn s + i)) 0 ≡ getD s (orderAt s i + k) 0
   unfolding columnedOf orderAt
