@@ -2,7 +2,12 @@
 
 #[cfg(feature = "intuitive")]
 use second_judge::CarriedAnswer;
-#[cfg(any(feature = "desk", feature = "dump", feature = "sheet"))]
+#[cfg(any(
+    feature = "columns",
+    feature = "desk",
+    feature = "dump",
+    feature = "sheet"
+))]
 use second_judge::OutputAnswer;
 #[cfg(feature = "queue")]
 use second_judge::ServedAnswer;
@@ -45,6 +50,22 @@ extern "C" {
         case_len: usize,
         dump: *const u8,
         dump_len: usize,
+        out: *mut u8,
+        out_len: usize,
+    ) -> Written;
+
+    #[cfg(feature = "columns")]
+    fn lta_case_columned(
+        case_bytes: *const u8,
+        case_len: usize,
+        out: *mut u8,
+        out_len: usize,
+    ) -> Written;
+
+    #[cfg(feature = "columns")]
+    fn lta_case_restored(
+        columned: *const u8,
+        columned_len: usize,
         out: *mut u8,
         out_len: usize,
     ) -> Written;
@@ -113,7 +134,12 @@ struct Surplus {
 }
 
 /// struct lta_written.
-#[cfg(any(feature = "desk", feature = "dump", feature = "sheet"))]
+#[cfg(any(
+    feature = "columns",
+    feature = "desk",
+    feature = "dump",
+    feature = "sheet"
+))]
 #[repr(C)]
 pub struct Written {
     number: u32,
@@ -121,7 +147,12 @@ pub struct Written {
     length: u64,
 }
 
-#[cfg(any(feature = "desk", feature = "dump", feature = "sheet"))]
+#[cfg(any(
+    feature = "columns",
+    feature = "desk",
+    feature = "dump",
+    feature = "sheet"
+))]
 impl From<Written> for OutputAnswer {
     fn from(written: Written) -> OutputAnswer {
         OutputAnswer {
@@ -265,7 +296,7 @@ pub fn sheet_branches(sheet: &[u8], zones: usize, out: &mut [u8], null: bool) ->
 }
 
 /// Where a list begins; `null` gives a null pointer for an empty one.
-#[cfg(any(feature = "dump", feature = "intuitive"))]
+#[cfg(any(feature = "columns", feature = "dump", feature = "intuitive"))]
 fn start<T>(list: &[T], null: bool) -> *const T {
     match list {
         [] if null => std::ptr::null(),
@@ -273,7 +304,7 @@ fn start<T>(list: &[T], null: bool) -> *const T {
     }
 }
 
-#[cfg(any(feature = "dump", feature = "intuitive"))]
+#[cfg(any(feature = "columns", feature = "dump", feature = "intuitive"))]
 fn start_mut<T>(list: &mut [T], null: bool) -> *mut T {
     match list {
         [] if null => std::ptr::null_mut(),
@@ -292,6 +323,37 @@ pub fn dump_proposal(case: &[u8], dump: &[u8], out: &mut [u8], null: bool) -> Ou
             case.len(),
             start(dump, null),
             dump.len(),
+            start_mut(out, null),
+            out.len(),
+        )
+    }
+    .into()
+}
+
+/// A case in columns, written to `out`; `null` gives a null pointer for each empty
+/// slice.
+#[cfg(feature = "columns")]
+pub fn case_columned(case: &[u8], out: &mut [u8], null: bool) -> OutputAnswer {
+    // Safe: each pointer comes with the length of its own slice.
+    unsafe {
+        lta_case_columned(
+            start(case, null),
+            case.len(),
+            start_mut(out, null),
+            out.len(),
+        )
+    }
+    .into()
+}
+
+/// The case of a columned file, in the same way.
+#[cfg(feature = "columns")]
+pub fn case_restored(file: &[u8], out: &mut [u8], null: bool) -> OutputAnswer {
+    // Safe: as above.
+    unsafe {
+        lta_case_restored(
+            start(file, null),
+            file.len(),
             start_mut(out, null),
             out.len(),
         )

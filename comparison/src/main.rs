@@ -9,6 +9,8 @@
 mod archive;
 #[cfg(feature = "book")]
 mod book;
+#[cfg(feature = "columns")]
+mod columns;
 #[cfg(feature = "desk")]
 mod desk;
 #[cfg(feature = "dump")]
@@ -96,6 +98,8 @@ fn main() -> ExitCode {
     intuitive::exchanges(&mut run, &mut Rng::new(seed));
     #[cfg(feature = "dump")]
     dump::dumps(&mut run, &mut Rng::new(seed));
+    #[cfg(feature = "columns")]
+    columns::files(&mut run, &mut Rng::new(seed));
     #[cfg(feature = "queue")]
     queue::queues(&mut run, &mut Rng::new(seed));
 
@@ -128,6 +132,7 @@ fn main() -> ExitCode {
         ("sheet", cfg!(feature = "sheet")),
         ("intuitive", cfg!(feature = "intuitive")),
         ("dump", cfg!(feature = "dump")),
+        ("columns", cfg!(feature = "columns")),
         ("queue", cfg!(feature = "queue")),
     ] {
         if !built {

@@ -7,6 +7,7 @@
 //! The paper is document 01 as the requests after it amend it.
 
 mod book;
+mod columns;
 mod desk;
 mod dump;
 pub mod hours;
@@ -19,6 +20,7 @@ mod read;
 mod sheet;
 
 pub use book::{book_surplus, BookAnswer, Row};
+pub use columns::{case_columned, case_columned_as, case_restored, case_restored_as, ColumnBuild};
 pub use desk::{desk_lines, desk_output};
 pub use dump::{dump_proposal, dump_proposal_as, DumpBuild};
 pub use intuitive::{
