@@ -4,8 +4,9 @@
  * whether the proposal is accepted, or else the first cause for which it is refused. lta_book_surplus values an order book that lies in
  * memory. lta_desk_lines gives a judgement as text. lta_sheet_branches turns a published margin sheet into the branches of a case.
  * lta_hour_intuitive answers whether an accepted hour's exchanges can all go from a lower or equal price to a higher one, and lta_intuitive
- * answers it of net positions and zone prices. lta_dump_proposal turns a solver's dump into a proposal for a case. lta_queue_post and
- * lta_queue_serve keep the queue of a desk that serves four areas.
+ * answers it of net positions and zone prices. lta_dump_proposal turns a solver's dump into a proposal for a case. lta_case_columned
+ * rearranges a case for the archive, and lta_case_restored gives it back. lta_queue_post and lta_queue_serve keep the queue of a desk that
+ * serves four areas.
  *
  * Each promise below is part of a contract in crates/host, and the archive is built only if every function in it is proved to meet its
  * contract. A word in brackets, as [outcome], is the name of the clause that says it.
@@ -22,7 +23,8 @@
  *   - It returns.
  *   - It reads nothing but its arguments. The answer, and what is written, depend on nothing else.
  *   - It writes nothing but what is said below of `report`, `out`, `scratch` and `queue`. The case, the proposal, the input, the orders,
- *     the prices, the sheet, the net positions, the pairs and the dump stay as they were, and no file is read or written.
+ *     the prices, the sheet, the net positions, the pairs, the dump and the columned file stay as they were, and no file is read or
+ *     written.
  *   - It is reentrant: nothing is kept between calls but in the caller's queue, so every entry may be called from several threads at once,
  *     and on one queue by one thread at a time.
  *
@@ -47,8 +49,8 @@ extern "C" {
 
 /* The version of this header and of what it declares. The first number rises where a program that was right may no longer be, the second
  * where something is added. LTA_VERSION_NUMBER is for comparing: 1.2.3 is 10203. */
-#define LTA_VERSION "3.1.0"
-#define LTA_VERSION_NUMBER 30100
+#define LTA_VERSION "3.2.0"
+#define LTA_VERSION_NUMBER 30200
 
 #define LTA_GRAINS_PER_CENT 100000
 #define LTA_GRAINS_PER_EURO 10000000
@@ -423,6 +425,52 @@ struct lta_written lta_dump_proposal(const uint8_t *case_bytes, size_t case_len,
                                      const uint8_t *dump, size_t dump_len,
                                      uint8_t *out, size_t out_len);
 
+/* THE ARCHIVE. The numbers of lta_case_columned and lta_case_restored, in the order in which they are asked; their index is 0. No number is
+ * returned for another cause than its own. */
+enum lta_column_number {
+    LTA_COLUMN_FILE = 71,           /* columning: the case is refused by one of 1 to 8. The way back: the file does not begin with LTK, or
+                                     * no readable case results, be the file too short, of another length than its header demands, or with
+                                     * a field out of range */
+    LTA_COLUMN_NO_ROOM = 72         /* out_len is under the length of the file */
+};
+
+#define LTA_CASE_ROOM 10126         /* room that is enough for every case, and for every columned file */
+
+/* Writes a readable case with its order part column by column, which stores better, and answers with number 0, index 0 [outcome] and the
+ * length in bytes, case_len [length]; or it refuses, with length 0.
+ *
+ *   case_bytes, case_len       a case, as lta_judge takes it, of either version
+ *   out, out_len               room for the columned file, at least case_len bytes; it may not overlap the case
+ *
+ * The columned file has the mark LTK. Its length, and all from the mark to the orders, that is the header, the branches and the links, are
+ * the case's. Then, where the case has n orders of ten bytes one after the other, it has ten columns of n bytes, each with a byte for each
+ * order in file order: the zones, the sides, bytes 0 to 3 of the quantities and bytes 0 to 3 of the prices, byte 0 the least significant.
+ * Byte k of order i, which stands at orders + 10 * i + k in the case, stands at orders + n * k + i.
+ *
+ * The bytes of `out` afterwards [output]: if the number is 0, the first `length` bytes are the columned file, and all past them are as they
+ * were. In a refusal every byte is as it was.
+ *
+ * What holds of an answer:
+ *   [columns]     The columned file is as said here, and no other file is.
+ *   [back]        lta_case_restored takes it, and gives the case again, byte for byte.
+ *   [not_judged]  lta_judge refuses it by LTA_CASE_MARK, whatever the proposal, if there is room for a report.
+ */
+struct lta_written lta_case_columned(const uint8_t *case_bytes, size_t case_len, uint8_t *out, size_t out_len);
+
+/* The way back: writes the case that a columned file was made of, and answers with number 0, index 0 [outcome] and the length in bytes,
+ * columned_len [length]; or it refuses, with length 0.
+ *
+ *   columned, columned_len     a file with the mark LTK, as lta_case_columned writes it
+ *   out, out_len               room for the case, at least columned_len bytes; it may not overlap the file
+ *
+ * The bytes of `out` afterwards [output]: if the number is 0, the first `length` bytes are the case, and all past them are as they were. In
+ * a refusal every byte is as it was.
+ *
+ * What holds of an answer [restored]: none of LTA_CASE_SHORT to LTA_CASE_ORDER has a cause in the case; the file is this case's columns as
+ * said above, and lta_case_columned of the case gives the file again, byte for byte.
+ */
+struct lta_written lta_case_restored(const uint8_t *columned, size_t columned_len, uint8_t *out, size_t out_len);
+
 /* THE DESK QUEUE, of a desk that judges the hours of four areas, up to 25 a day, as their solvers finish. The numbers by which
  * lta_queue_post, 61 to 63, and lta_queue_serve, 64, refuse, in the order in which they are asked. No number is returned for another cause
  * than its own. */
@@ -527,6 +575,8 @@ static inline const char *lta_number_text(uint32_t number)
     case LTA_QUEUE_HOUR: return "hour over 24";
     case LTA_QUEUE_WAITING: return "hour waits in that area already";
     case LTA_QUEUE_NOTHING: return "no hour waits";
+    case LTA_COLUMN_FILE: return "case not readable, or no columned file of one";
+    case LTA_COLUMN_NO_ROOM: return "output shorter than the file";
     case LTA_INTUITIVE_ZONES: return "no zone, over 16, or lists of two lengths";
     case LTA_INTUITIVE_POSITION: return "net position out of range, or their sum is not zero";
     case LTA_INTUITIVE_PRICE: return "price of a zone out of range";

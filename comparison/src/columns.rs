@@ -172,7 +172,7 @@ impl Files<'_> {
         }
     }
 
-    /// Both judges refuse a columned file by 2, with the case's own length of a proposal.
+    /// Both judges refuse a columned file by 2, whatever stands for the proposal.
     fn judged(&mut self, case: &[u8], columned: &[u8]) {
         let (mut report, mut their_report) = ([7; LEAST_BUFFER], [7; LEAST_BUFFER]);
         let verdict = judge(columned, case, &mut report);
