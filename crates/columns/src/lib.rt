@@ -115,7 +115,7 @@ fn restore(file: &[u8], case: &mut [u8]) -> bool
 }
 
 // Room for the longest case.
-fn blank() -> [u8; LONGEST]
+pub fn blank() -> [u8; LONGEST]
     ensures { λ r. ⌜ length r ≡ 10126 ⌝ }
 {
     [0u8; LONGEST]
