@@ -1,6 +1,6 @@
 #!/usr/bin/env python3
-"""Tests of the formats, that is lta.hour and lta.dump and the commands over them, of build_hours.py, build_dumps.py and
-of the stored hours and dumps. The last line counts what passed and failed.
+"""Tests of the formats, that is lta.hour and lta.dump and the commands over them, of build_hours.py, build_dumps.py,
+build_columns.py and of the stored hours and dumps. The last line counts what passed and failed.
 """
 
 import contextlib
@@ -14,10 +14,11 @@ import sys
 import tempfile
 import unittest
 
+import build_columns
 import build_dumps
 import build_hours
 import largest_hour
-from lta import cli, dump, hour
+from lta import cli, columns, dump, hour
 
 ROOT = pathlib.Path(__file__).resolve().parent.parent
 SAMPLES = ROOT / "samples"
@@ -928,6 +929,39 @@ class StoredDumps(unittest.TestCase):
                 self.assertEqual(said, (1, "", f"build_dumps.py: {name} is missing\n"))
                 path.write_bytes(data)
         self.assertEqual(run_tool(build_dumps.main)[0], 2)
+
+
+class StoredColumns(unittest.TestCase):
+    """What crates/column_runs reads and prints, from the stored hours."""
+
+    def test_every_number_is_due_on_both_ways(self):
+        due = [line.split() for room, file in build_columns.files().values() for line in build_columns.lines(room, file)]
+        for name in ("columned", "restored"):
+            self.assertEqual({words[1] for words in due if words[0] == name}, {"0", "71", "72"})
+
+    def test_columns_of_a_case_and_back(self):
+        text = "case version 1 zones 1 tolerance 0\norder 0 buy 513 -2\norder 0 sell 7 66051\n"
+        case = bytes(hour.build(text)[0])
+        made = columns.columned(case)
+        self.assertEqual(made[:14], b"LTK" + case[3:14])
+        self.assertEqual(made[14:].hex(" ", 2), "0000 0001 0107 0200 0000 0000 fe03 ff02 ff01 ff00")
+        self.assertEqual(columns.restored(made), case)
+
+    def test_written_and_checked(self):
+        with tempfile.TemporaryDirectory() as folder:
+            self.assertEqual(run_tool(build_columns.main, folder)[0], 0)
+            self.assertEqual(run_tool(build_columns.main, "--check", folder), (0, "", ""))
+            for name in ("stdin", "stdout"):
+                path = pathlib.Path(folder) / name
+                data = path.read_bytes()
+                path.write_bytes(data[:-1])
+                said = run_tool(build_columns.main, "--check", folder)
+                self.assertEqual(said, (1, "", f"build_columns.py: {name} differs from what the stored hours give\n"))
+                path.unlink()
+                said = run_tool(build_columns.main, "--check", folder)
+                self.assertEqual(said, (1, "", f"build_columns.py: {name} is missing\n"))
+                path.write_bytes(data)
+        self.assertEqual(run_tool(build_columns.main)[0], 2)
 
 
 def main():

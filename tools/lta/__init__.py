@@ -11,12 +11,27 @@
     lta.carried(net_exports, zone_prices, pairs)  the same of tenths, export positive, and grains
     answer = lta.dump_proposal(case, dump)        a case's and a solver's dump's bytes
     answer.number, answer.index, answer.proposal  the proposal's bytes; None where answer.number is not 0
+    answer = lta.case_columned(case)              a case's bytes; lta.case_restored of a columned file's
+    answer.number, answer.index, answer.file      the other file's bytes; None where answer.number is not 0
 
-Verdicts, totals, prices, a yes or no and proposals come from the archive alone. Explanations are computed beside it, are not
-proved, and say so; one that disagrees with the archive is not given.
+Verdicts, totals, prices, a yes or no, proposals and columned files come from the archive alone. Explanations are
+computed beside it, are not proved, and say so; one that disagrees with the archive is not given.
 """
 
-from .archive import BuildError, Carried, Dumped, Judgement, carried, dump_proposal, intuitive, judge, judge_joined
+from .archive import (
+    BuildError,
+    Carried,
+    Columned,
+    Dumped,
+    Judgement,
+    carried,
+    case_columned,
+    case_restored,
+    dump_proposal,
+    intuitive,
+    judge,
+    judge_joined,
+)
 from .causes import Disagreement, Explanation, explain
 from .hour import build, field_at, show
 from .rules import Sums, cut
@@ -24,6 +39,7 @@ from .rules import Sums, cut
 __all__ = [
     "BuildError",
     "Carried",
+    "Columned",
     "Disagreement",
     "Dumped",
     "Explanation",
@@ -31,6 +47,8 @@ __all__ = [
     "Sums",
     "build",
     "carried",
+    "case_columned",
+    "case_restored",
     "cut",
     "dump_proposal",
     "explain",

@@ -97,6 +97,24 @@ class Dumped:
         return {**rules.DUMP_NUMBERS, 0: "written"}.get(self.number, f"number {self.number}")
 
 
+@dataclass(frozen=True)
+class Columned:
+    """What lta_case_columned or lta_case_restored answers, and the file that it wrote; in a refusal that is None."""
+
+    number: int
+    index: int
+    file: bytes | None = None
+
+    @property
+    def written(self):
+        return self.number == 0
+
+    @property
+    def text(self):
+        """What the number means, in words."""
+        return {**rules.COLUMN_NUMBERS, 0: "written"}.get(self.number, f"number {self.number}")
+
+
 # Building.
 
 NOT_LINKED = "the shared object cannot be linked"
@@ -227,6 +245,8 @@ ENTRIES = {
     "lta_intuitive": (CarriedStruct, _AMOUNTS * 2 + _BYTES + _AMOUNTS),
     "lta_hour_intuitive": (CarriedStruct, _BYTES * 3 + _AMOUNTS),
     "lta_dump_proposal": (WrittenStruct, _BYTES * 3),
+    "lta_case_columned": (WrittenStruct, _BYTES * 2),
+    "lta_case_restored": (WrittenStruct, _BYTES * 2),
 }
 
 _loaded = {}
@@ -342,3 +362,25 @@ def dump_proposal(case, dump, room=rules.PROPOSAL_ROOM):
     if written.number:
         return Dumped(written.number, written.index)
     return Dumped(0, written.index, out.raw[: written.length])
+
+
+def rearranged(name, data, room):
+    data = bytes_of(data)
+    room = len(data) if room is None else room
+    if room < 0:
+        raise ValueError(f"the output's room is {room} bytes")
+    out = ctypes.create_string_buffer(max(room, 1))
+    written = entry(name)(data, len(data), out, room)
+    if written.number:
+        return Columned(written.number, written.index)
+    return Columned(0, written.index, out.raw[: written.length])
+
+
+def case_columned(case, room=None):
+    """Has the archive write a case in columns, as bytes, with an output of the room's bytes or of the case's length."""
+    return rearranged("lta_case_columned", case, room)
+
+
+def case_restored(file, room=None):
+    """The way back, of a columned file's bytes."""
+    return rearranged("lta_case_restored", file, room)

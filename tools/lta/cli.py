@@ -32,6 +32,8 @@ Judges, explains, shows, builds and draws hours of the day-ahead coupling.
   lta explain FILE...
   lta intuitive FILE... [--links | --pairs TEXT] [--json] [--joined]
   lta dump CASE DUMP [-o PROPOSAL] [--force]
+  lta column CASE [-o FILE] [--force]
+  lta restore FILE [-o CASE] [--force]
   lta page FILE... [-o PAGE] [--force]
   lta show FILE... [--joined]
   lta field CASE [PROPOSAL] OFFSET
@@ -56,6 +58,9 @@ Flow goes along pairs of zones: the case's links, which --links says too, or tho
 a line, as 0 1, and # before a comment.
 dump writes the proposal that a solver's dump gives for a case; without -o it says how long it would be. A text of a dump
 stands for both files, and show of a case and an X.dump, or of such a text, says what each value becomes.
+column writes a case for the archive, its orders column by column under the mark LTK, and restore the case that such a
+file was made of, byte for byte; without -o they say how long it would be. Where a case is asked for, a columned file is
+refused by 2.
 page writes one page that a browser shows, for an hour or for all hours of a folder; without -o it is named after it.
 show prints the text of a case and a proposal, of a joined file, or of the files that a text gives. Building that text
 gives back the same bytes, however broken.
@@ -63,13 +68,13 @@ field says which field of the last file named stands at OFFSET, a number or hex 
 build writes the files asked for, - being standard output; without one it says the two sizes.
 Nothing that is there is written over without --force.
 
-Verdicts, totals, prices, yes or no and proposals come from the proved archive alone; on first use, and after a change
-in crates/, it is proved and built, which takes some minutes. Explanations, zones cut off and pages are computed beside
-it and say so.
+Verdicts, totals, prices, yes or no, proposals and columned files come from the proved archive alone; on first use, and
+after a change in crates/, it is proved and built, which takes some minutes. Explanations, zones cut off and pages are
+computed beside it and say so.
 
 Status: 0 every hour is accepted, or as its text expects; 1 not so; 2 something could not be read, judged or written,
 and a line says what. intuitive: 0 yes; 1 no, and where the archive refuses the hour or a pair, which is then said; 2.
-dump: 0 written; 1 where the archive refuses the case or the dump, which is then said; 2.
+dump, column and restore: 0 written; 1 where the archive refuses the case, the dump or the file, which is then said; 2.
 page, show, field and build: 0 or 2.
 """
 
@@ -229,16 +234,34 @@ def run_dump(options):
     if options.out is not None:
         refuse_if_there([options.out], options.force)
     told = dumping.ask(case, dump)
+    return written(options, told, "proposal", told.answer.proposal)
+
+
+def written(options, told, name, data):
+    """Writes what the archive gave, or says its length, or why there is nothing."""
     if not told.answer.written:
         put(f"not written; {told.words}\n")
         return 1
     if options.out is None:
-        put(f"proposal {len(told.answer.proposal)} bytes\n")
+        put(f"{name} {len(data)} bytes\n")
         return 0
-    write(options.out, told.answer.proposal, options.force)
+    write(options.out, data, options.force)
     if options.out != "-":
         put(f"wrote {printable(options.out)}\n")
     return 0
+
+
+def run_archive(options):
+    from . import columns
+
+    if len(options.files) > 1:
+        raise Failure(f"{options.files[1]}: {options.command} takes one file")
+    data = read(options.files[0])
+    if options.out is not None:
+        refuse_if_there([options.out], options.force)
+    columning = options.command == "column"
+    told = columns.column(data) if columning else columns.restore(data)
+    return written(options, told, "columned file" if columning else "case", told.answer.file)
 
 
 def run_page(options):
@@ -377,7 +400,8 @@ def parser():
     asked.add_argument("--links", action="store_true")
     asked.add_argument("--pairs")
     intuitive.add_argument("--json", action="store_true")
-    for made in (needing("dump", run_dump), needing("page", run_page, ("pairs", "joined"))):
+    writing = [needing("dump", run_dump), needing("column", run_archive), needing("restore", run_archive)]
+    for made in (*writing, needing("page", run_page, ("pairs", "joined"))):
         made.add_argument("-o", dest="out")
         made.add_argument("--force", action="store_true")
     needing("show", run_show, ("joined",))

@@ -77,6 +77,12 @@ DUMP_NUMBERS = {
     60: "output too short for the proposal",
 }
 
+# The same of request S-10's.
+COLUMN_NUMBERS = {
+    71: "case not readable, or no columned file of one",
+    72: "output shorter than the file",
+}
+
 Branch = namedtuple("Branch", "ram ptdfs shadow")
 Link = namedtuple("Link", "source sink capacity contracted flow")
 Order = namedtuple("Order", "zone buys quantity price volume")

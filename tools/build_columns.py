@@ -1,0 +1,118 @@
+#!/usr/bin/env python3
+"""Writes what the program crates/column_runs reads and what it must print, from the stored hours.
+
+  build_columns.py OUTDIR            writes OUTDIR/stdin and OUTDIR/stdout
+  build_columns.py --check OUTDIR    writes nothing; fails if one of the two is missing or different
+
+stdin has a record for each file: the output's room and the file's length, each 32 bits little-endian, and the file. The
+files are the cases of the stored hours that are short enough, each as it is and with its order part in columns, as far
+as its header tells where that is; and the three-zone case of either version with other marks, lengths and rooms. stdout
+has two lines for each record, columned and restored, with number, index and length and what is written, in hex.
+"""
+
+import pathlib
+import struct
+import sys
+
+from lta import columns, hour
+
+TOP = pathlib.Path(__file__).resolve().parent.parent
+HOURS = TOP / "hours"
+LONGEST = 256  # bytes of a stored hour's case that is taken
+READ_AT_ONCE = 65_536  # bytes of its input that the program keeps
+
+
+def stored_cases():
+    """The cases of the stored hours by name, sorted, each once."""
+    cases = {}
+    for path in sorted(HOURS.glob("*.txt")):
+        case = bytes(hour.build(hour.read_text(path), HOURS)[0])
+        if len(case) <= LONGEST and case not in cases.values():
+            cases[path.stem] = case
+    return cases
+
+
+def in_columns(case):
+    """A case's columns, be it readable or not; where its length is wrong its mark alone is changed."""
+    return columns.MARK + case[3:] if columns.order_part(case) is None else columns.columned(case)
+
+
+def files():
+    """The room and the bytes of each file, by name."""
+    found = {}
+    for name, case in stored_cases().items():
+        for shape, file in (("rows", case), ("columns", in_columns(case))):
+            found[f"{name}, {shape}"] = (len(file), file)
+    for name in ("p01-three-zone-hour", "contracted-below-capacity"):
+        case = stored_cases()[name]
+        for shape, file in (("rows", case), ("columns", in_columns(case))):
+            size = len(file)
+            found[f"{name}, {shape}, a byte of room too many"] = (size + 1, file)
+            found[f"{name}, {shape}, a byte of room too few"] = (size - 1, file)
+            found[f"{name}, {shape}, no room"] = (0, file)
+            found[f"{name}, {shape}, a byte missing"] = (size, file[:-1])
+            found[f"{name}, {shape}, a byte too many"] = (size + 1, file + b"\0")
+            found[f"{name}, {shape}, the header alone"] = (size, file[:14])
+            found[f"{name}, {shape}, thirteen bytes"] = (size, file[:13])
+            for mark in (b"LTc", b"LtK", b"lTC", b"LTP"):
+                found[f"{name}, {shape}, mark {mark.decode()}"] = (size, mark + file[3:])
+        wrong_price = in_columns(case)[:-1] + b"\x7f"
+        found[f"{name}, columns, a price out of range and no room"] = (0, wrong_price)
+    return found
+
+
+def lines(room, file):
+    """What is printed for a file."""
+    for name, beside in (("columned", columns.column_beside), ("restored", columns.restore_beside)):
+        number, _, data = beside(file, room)
+        data = data or b""
+        yield f"{name} {number} 0 {len(data)} {data.hex()}"
+
+
+def run_files():
+    """Standard input and output of the program, by file name."""
+    given, due = bytearray(), []
+    for room, file in files().values():
+        given += struct.pack("<II", room, len(file)) + file
+        due += lines(room, file)
+    if len(given) > READ_AT_ONCE:
+        raise ValueError(f"the files have {len(given)} bytes, and the program keeps {READ_AT_ONCE}")
+    return {"stdin": bytes(given), "stdout": "".join(f"{line}\n" for line in due).encode()}
+
+
+def differences(made, folder):
+    """The files in which the folder is not what would be written, each with why."""
+    for name, data in made.items():
+        path = folder / name
+        if not path.is_file():
+            yield f"{name} is missing"
+        elif path.read_bytes() != data:
+            yield f"{name} differs from what the stored hours give"
+
+
+def main(arguments):
+    check = arguments[:1] == ["--check"]
+    folders = arguments[1:] if check else arguments
+    if len(folders) != 1 or folders[0].startswith("-"):
+        sys.stderr.write(__doc__)
+        return 2
+    folder = pathlib.Path(folders[0])
+    try:
+        made = run_files()
+        if check:
+            wrong = list(differences(made, folder))
+            for line in wrong:
+                print(f"build_columns.py: {line}", file=sys.stderr)
+            return 1 if wrong else 0
+        folder.mkdir(parents=True, exist_ok=True)
+        for name, data in made.items():
+            (folder / name).write_bytes(data)
+            print(f"{name} {len(data)} bytes")
+    except (OSError, ValueError) as fault:
+        print(f"build_columns.py: {fault}", file=sys.stderr)
+        return 1
+    return 0
+
+
+if __name__ == "__main__":
+    sys.exit(main(sys.argv[1:]))
