@@ -4,6 +4,8 @@
 
 #[path = "../../comparison/src/archive.rs"]
 mod archive;
+#[cfg(feature = "columns")]
+mod columns;
 #[cfg(feature = "desk")]
 mod desk;
 #[cfg(feature = "dump")]
@@ -287,6 +289,8 @@ fn main() {
 
     #[cfg(feature = "dump")]
     dump::dumps();
+    #[cfg(feature = "columns")]
+    columns::files();
     #[cfg(feature = "queue")]
     queue::queues();
 }

@@ -841,3 +841,76 @@ fn queue_in_bytes() {
     assert_eq!(bytes[25..32], [3, 5, 0, 0, 0, 0, 0]);
     assert_eq!(bytes[0], 200);
 }
+
+/// The stored files as this judge columns and restores them, two lines for each.
+fn column_runs(build: ColumnBuild, mut input: &[u8]) -> String {
+    let mut printed = String::new();
+    while let Some((numbers, rest)) = input.split_first_chunk::<8>() {
+        let word = |at: usize| u32::from_le_bytes(numbers[at..at + 4].try_into().unwrap()) as usize;
+        let (file, rest) = rest.split_at(word(4));
+        input = rest;
+        let mut out = vec![0; word(0)];
+        let columned = case_columned_as(build, file, &mut out);
+        printed += &column_line("columned", columned, &out);
+        out.fill(0);
+        let restored = case_restored_as(build, file, &mut out);
+        printed += &column_line("restored", restored, &out);
+    }
+    printed
+}
+
+fn column_line(name: &str, answer: OutputAnswer, out: &[u8]) -> String {
+    let length = answer.length as usize;
+    let written = out.get(..length).unwrap_or(&[]);
+    let hex: String = written.iter().map(|byte| format!("{byte:02x}")).collect();
+    format!("{name} {} {} {length} {hex}\n", answer.number, answer.index)
+}
+
+#[test]
+fn stored_columns() {
+    let input = include_bytes!("../../crates/column_runs/stdin");
+    let printed = include_str!("../../crates/column_runs/stdout");
+    assert_eq!(column_runs(ColumnBuild::Right, input), printed);
+    for (build, name) in ColumnBuild::WRONG {
+        assert_ne!(column_runs(build, input), printed, "{name}");
+    }
+}
+
+#[test]
+fn columns_by_hand() {
+    // Two orders of P1's first zone, in a case of nothing else.
+    let hour = Hour {
+        zones: 1,
+        orders: vec![
+            Row {
+                zone: 0,
+                side: 0,
+                quantity: 513,
+                price: -2,
+            },
+            Row {
+                zone: 0,
+                side: 1,
+                quantity: 7,
+                price: 66_051,
+            },
+        ],
+        ..Hour::default()
+    };
+    let case = hour.case();
+    let (mut out, mut back) = ([9; 35], [9; 34]);
+    let written = |length| OutputAnswer {
+        number: 0,
+        index: 0,
+        length,
+    };
+    assert_eq!(case_columned(&case, &mut out), written(34));
+    assert_eq!((&out[..3], &out[3..14]), (&b"LTK"[..], &case[3..14]));
+    assert_eq!(out[14..20], [0, 0, 0, 1, 1, 7]);
+    assert_eq!(out[20..26], [2, 0, 0, 0, 0, 0]);
+    assert_eq!(out[26..35], [0xFE, 3, 0xFF, 2, 0xFF, 1, 0xFF, 0, 9]);
+    assert_eq!(case_restored(&out[..34], &mut back), written(34));
+    assert_eq!(back[..], case[..]);
+    assert_eq!(case_restored(&case, &mut back).number, 71);
+    assert_eq!(case_columned(&case, &mut back[..33]).number, 72);
+}
