@@ -161,6 +161,7 @@ impl Run {
     /// Counts an input that was compared elsewhere.
     #[cfg(any(
         feature = "book",
+        feature = "columns",
         feature = "desk",
         feature = "dump",
         feature = "intuitive",
