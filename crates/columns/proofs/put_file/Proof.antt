@@ -1,6 +1,6 @@
 -- `columns::put_file` meets its contract: the mark, the bytes up to the orders and the orders, stored one after the other. Assumes nothing.
 use mathlib.Core.Path.{_≡_, ap, _∙_}
-use Prim.Native.Nat.{_*_, _-_}
+use Prim.Native.Nat.{_*_}
 use native.Mathlib.Omega.{arith}
 use borrow.Author.Needs.{needs}
 use lib.ListN.{length, length-set}

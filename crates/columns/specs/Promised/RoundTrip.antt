@@ -2,8 +2,7 @@
 -- same file, each entry takes what the other writes, and the judgement refuses a columned file. Assumes nothing.
 use mathlib.Core.Path.{_≡_, refl, sym, ap, subst, _∙_}
 use mathlib.Core.Bool.{Bool, true, false, not, _&&_, _||_}
-use mathlib.Core.List.{List, [], _∷_, _++_}
-use mathlib.Core.Option.{Option, none}
+use mathlib.Core.List.{List, [], _∷_}
 use Prim.Native.Nat.{ℕ, suc, _+_, _*_, _-_, _/_, _%_, _≤_, _<_}
 use native.Mathlib.Nat.{mul-comm, mul-le-mul-right, div-add-mod', div-lt-iff-lt-mul, mod-lt}
 use native.Mathlib.Decide.{decLt}
@@ -13,17 +12,19 @@ use lib.Dec.{T, eqb}
 use lib.ListN.{length, getD, take, drop}
 use lib.Seq.{ext-getD, take-append-seam}
 use Rattle.integers.specs.Ranges.{is-false, not-is}
-use Rattle.rows.specs.declared.Outcome.{Outcome}
-use Rattle.rows.specs.Meaning.Rows.{verdict, refusal, answer}
+use Rattle.rows.specs.Meaning.Rows.{verdict, answer}
 use Rattle.rows.specs.Promised.RowLaws.{all-pass, field-fails, field-passes}
 use Rattle.rules.specs.Meaning.Layout.{u8At, ordersIn, orderAt, caseLength}
 use Rattle.rules.specs.Meaning.Verdict.{notMark, roomRows, caseRows, table, outcome, Readable}
 use Rattle.rules.specs.Steps.Passed.{case-length}
-use Rattle.output.specs.Meaning.Output.{writtenBy, outputAfter}
-use Rattle.columns.specs.Meaning.Columns.{arranged, columnedOf, restoredOf, unreadable, notRestored, columnedRows, restoredRows, columnedOutcome, columnedWritten, columnedOutput, restoredOutcome, restoredWritten, restoredOutput, Columned, ComesBack, NotJudged, Restored}
+use Rattle.columns.specs.Meaning.Columns.{transposed, arranged, columnedOf, restoredOf, unreadable, notRestored, columnedRows, restoredRows, columnedOutcome, columnedWritten, columnedOutput, restoredOutcome, restoredWritten, restoredOutput, Columned, ComesBack, NotJudged, Restored}
 use Rattle.columns.specs.Promised.Causes.{columned-none, columned-writes, restored-none, restored-writes}
-use Rattle.columns.specs.Steps.Transposed.{transposed-at, arranged-length, arranged-mark, arranged-kept, arranged-order, there-and-back}
+use Rattle.columns.specs.Steps.Transposed.{transposed-at, transposed-in, transposed-back, arranged-length, arranged-mark, arranged-kept, arranged-order, there-and-back}
 use Rattle.columns.specs.Steps.Counts.{readable-of, unreadable-of, mark-is, readable-mark, start-past, full-length, start-stays, orders-stay, length-stays}
+
+-- THE PERMUTATION OF OFFSETS stays within the table, and the one with rows and columns exchanged undoes it
+pub offsets-permuted : (rows columns q : ℕ) → q < rows * columns → (transposed rows columns q < columns * rows) × (transposed columns rows (transposed rows columns q) ≡ q)
+offsets-permuted rows columns q h = (transposed-in rows columns q h, transposed-back rows columns q h)
 
 -- COLUMNED: length, the bytes before the orders, the mark, and each byte of an order in its column
 module _ (s : List ℕ) where

@@ -6,7 +6,7 @@ use mathlib.Core.Option.{Option, none, some}
 use Prim.Native.Nat.{ℕ, _+_, _*_, _≤_, _<_}
 use native.Mathlib.Omega.{arith}
 use lib.Dec.{T, eqb, eqb→eq}
-use lib.ListN.{length, getD}
+use lib.ListN.{getD}
 use Rattle.rows.specs.declared.Outcome.{Outcome}
 use Rattle.rules.specs.Meaning.Layout.{u8At, u16At, caseVersion, linkSize, zonesIn, branchesIn, linksIn, ordersIn, branchSize, orderAt, caseLength}
 use Rattle.rules.specs.Meaning.Verdict.{notMark, caseRefusal, Readable}

@@ -7,7 +7,7 @@ use native.Mathlib.Nat.{mul-le-mul}
 use native.Mathlib.Omega.{arith}
 use lib.Dec.{T}
 use lib.ListN.{length, drop, drop-of-length-le}
-use Rattle.rules.specs.Meaning.Layout.{zonesIn, linksIn, caseVersion, linkSize, branchSize, ordersIn, orderAt, caseLength}
+use Rattle.rules.specs.Meaning.Layout.{zonesIn, caseVersion, linkSize, branchSize, ordersIn, orderAt, caseLength}
 use Rattle.rules.specs.Meaning.Hour.{caseOf}
 use Rattle.rules.specs.Meaning.Verdict.{notMark, Readable}
 use Rattle.rules.specs.Steps.Passed.{case-sound, case-length}
@@ -15,7 +15,6 @@ use Rattle.rows.specs.declared.Outcome.{Outcome}
 use Rattle.case_header.specs.declared.Counts.{Counts}
 use Rattle.case_file.specs.declared.CaseAnswer.the-variants as answer
 use Rattle.case_file.specs.Answer.{caseAnswer, refused-of}
-use Rattle.case_header.specs.Answer.{countsOf}
 use Rattle.case_header.specs.Opened.{Opened, contracted-bound}
 use Rattle.columns.specs.Meaning.Columns.{arranged, columnedOf, restoredOf, refuses, unreadable, notRestored}
 use Rattle.columns.specs.Steps.Transposed.{arranged-length}
