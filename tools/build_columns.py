@@ -14,12 +14,12 @@ import pathlib
 import struct
 import sys
 
+import stored_files
 from lta import columns, hour
 
 TOP = pathlib.Path(__file__).resolve().parent.parent
 HOURS = TOP / "hours"
 LONGEST = 256  # bytes of a stored hour's case that is taken
-READ_AT_ONCE = 65_536  # bytes of its input that the program keeps
 
 
 def stored_cases():
@@ -75,43 +75,17 @@ def run_files():
     for room, file in files().values():
         given += struct.pack("<II", room, len(file)) + file
         due += lines(room, file)
-    if len(given) > READ_AT_ONCE:
-        raise ValueError(f"the files have {len(given)} bytes, and the program keeps {READ_AT_ONCE}")
-    return {"stdin": bytes(given), "stdout": "".join(f"{line}\n" for line in due).encode()}
+    return stored_files.of_program(given, due, "the files")
 
 
 def differences(made, folder):
-    """The files in which the folder is not what would be written, each with why."""
-    for name, data in made.items():
-        path = folder / name
-        if not path.is_file():
-            yield f"{name} is missing"
-        elif path.read_bytes() != data:
-            yield f"{name} differs from what the stored hours give"
+    return stored_files.unlike(made, folder, "what the stored hours give")
 
 
 def main(arguments):
-    check = arguments[:1] == ["--check"]
-    folders = arguments[1:] if check else arguments
-    if len(folders) != 1 or folders[0].startswith("-"):
-        sys.stderr.write(__doc__)
-        return 2
-    folder = pathlib.Path(folders[0])
-    try:
-        made = run_files()
-        if check:
-            wrong = list(differences(made, folder))
-            for line in wrong:
-                print(f"build_columns.py: {line}", file=sys.stderr)
-            return 1 if wrong else 0
-        folder.mkdir(parents=True, exist_ok=True)
-        for name, data in made.items():
-            (folder / name).write_bytes(data)
-            print(f"{name} {len(data)} bytes")
-    except (OSError, ValueError) as fault:
-        print(f"build_columns.py: {fault}", file=sys.stderr)
-        return 1
-    return 0
+    return stored_files.run(
+        "build_columns.py", __doc__, arguments, run_files, differences, lambda name, data: f"{name} {len(data)} bytes"
+    )
 
 
 if __name__ == "__main__":

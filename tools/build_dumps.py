@@ -13,10 +13,10 @@ import pathlib
 import struct
 import sys
 
+import stored_files
 from lta import dump, hour
 
 DUMPS = pathlib.Path(__file__).resolve().parent.parent / "dumps"
-READ_AT_ONCE = 65_536  # bytes of its input that the program keeps
 
 
 def stored_dumps():
@@ -37,43 +37,17 @@ def run_files():
             due.append(dump.expected(text).line)
         except ValueError as fault:
             raise ValueError(f"{name}.txt: {fault}") from None
-    if len(given) > READ_AT_ONCE:
-        raise ValueError(f"the stored dumps have {len(given)} bytes, and the program keeps {READ_AT_ONCE}")
-    return {"stdin": bytes(given), "stdout": "".join(f"{line}\n" for line in due).encode()}
+    return stored_files.of_program(given, due, "the stored dumps")
 
 
 def differences(made, folder):
-    """The files in which the folder is not what would be written, each with why."""
-    for name, data in made.items():
-        path = folder / name
-        if not path.is_file():
-            yield f"{name} is missing"
-        elif path.read_bytes() != data:
-            yield f"{name} differs from the stored dumps"
+    return stored_files.unlike(made, folder, "the stored dumps")
 
 
 def main(arguments):
-    check = arguments[:1] == ["--check"]
-    folders = arguments[1:] if check else arguments
-    if len(folders) != 1 or folders[0].startswith("-"):
-        sys.stderr.write(__doc__)
-        return 2
-    folder = pathlib.Path(folders[0])
-    try:
-        made = run_files()
-        if check:
-            wrong = list(differences(made, folder))
-            for line in wrong:
-                print(f"build_dumps.py: {line}", file=sys.stderr)
-            return 1 if wrong else 0
-        folder.mkdir(parents=True, exist_ok=True)
-        for name, data in made.items():
-            (folder / name).write_bytes(data)
-            print(f"{name} {len(data)} bytes")
-    except (OSError, ValueError) as fault:
-        print(f"build_dumps.py: {fault}", file=sys.stderr)
-        return 1
-    return 0
+    return stored_files.run(
+        "build_dumps.py", __doc__, arguments, run_files, differences, lambda name, data: f"{name} {len(data)} bytes"
+    )
 
 
 if __name__ == "__main__":

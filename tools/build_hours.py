@@ -10,6 +10,7 @@ What stands in a stored hour, ./lta help text says.
 import pathlib
 import sys
 
+import stored_files
 from lta import hour
 
 HOURS = pathlib.Path(__file__).resolve().parent.parent / "hours"
@@ -39,27 +40,7 @@ def differences(joined, folder):
 
 
 def main(arguments):
-    check = arguments[:1] == ["--check"]
-    folders = arguments[1:] if check else arguments
-    if len(folders) != 1 or folders[0].startswith("-"):
-        sys.stderr.write(__doc__)
-        return 2
-    folder = pathlib.Path(folders[0])
-    try:
-        joined = joined_hours()
-        if check:
-            wrong = list(differences(joined, folder))
-            for line in wrong:
-                print(f"build_hours.py: {line}", file=sys.stderr)
-            return 1 if wrong else 0
-        folder.mkdir(parents=True, exist_ok=True)
-        for name, data in joined.items():
-            (folder / name).write_bytes(data)
-            print(name)
-    except (OSError, ValueError) as fault:
-        print(f"build_hours.py: {fault}", file=sys.stderr)
-        return 1
-    return 0
+    return stored_files.run("build_hours.py", __doc__, arguments, joined_hours, differences, lambda name, data: name)
 
 
 if __name__ == "__main__":
