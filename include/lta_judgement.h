@@ -18,6 +18,8 @@
  *   - `report`, `out` and `scratch` overlap no other argument, and nothing else writes to an argument during the call.
  *   - `orders`, `zone_prices`, `net_exports` and `scratch` are aligned as their types demand.
  *   - There is stack enough. The proofs are about a machine that cannot run out of it; by test, 16 KiB are enough.
+ *   - In a call of lta_dump_proposal the floating-point environment is that with which a C program starts: rounding to the nearest, and
+ *     subnormals neither taken nor written as zero. A program that is linked with -ffast-math starts with another. No other entry uses it.
  *
  * What holds then, of every call, whatever the bytes are:
  *   - It returns.
