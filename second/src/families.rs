@@ -18,7 +18,7 @@ pub enum FamilyBuild {
     LongerTaken,
     ListBeforeProposal,
     ParentAtTheCount,
-    ParentsPastAllOrders,
+    StraysTaken,
     CirclesFirst,
     IntoCircleRefused,
     SelfParentTaken,
@@ -44,10 +44,7 @@ impl FamilyBuild {
         (FamilyBuild::LongerTaken, "16: a longer list taken"),
         (FamilyBuild::ListBeforeProposal, "16 to 18 before 9"),
         (FamilyBuild::ParentAtTheCount, "17: the order count taken"),
-        (
-            FamilyBuild::ParentsPastAllOrders,
-            "17: no parent up to 65,535",
-        ),
+        (FamilyBuild::StraysTaken, "17 not asked"),
         (FamilyBuild::CirclesFirst, "18 before 17"),
         (FamilyBuild::IntoCircleRefused, "18: into a circle refused"),
         (FamilyBuild::SelfParentTaken, "18: its own parent taken"),
@@ -116,7 +113,7 @@ impl Families {
         let stray = named
             .iter()
             .position(|parent| *parent != NO_PARENT && !exists(parent))
-            .filter(|_| build != FamilyBuild::ParentsPastAllOrders);
+            .filter(|_| build != FamilyBuild::StraysTaken);
         let circle = families.circle(build);
         let refused = match build {
             FamilyBuild::CirclesFirst => {
