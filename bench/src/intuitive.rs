@@ -7,7 +7,7 @@ mod plain;
 #[allow(dead_code)] // some of its draws are not made here
 mod rng;
 
-use crate::{archive, heading_against, measure, print, sized};
+use crate::{accepted, archive, heading_against, measure, print};
 use plain::{by_dinic, by_edmonds_karp};
 use rng::Rng;
 use second_judge::hours::{three_zone_hour, Hour};
@@ -255,6 +255,6 @@ pub fn exchanges() {
 
     heading_against("intuitive hours, links as pairs", "Rust ns");
     of_hour("P1", &three_zone_hour());
-    of_hour("middling: 8, 24, 12, 150", &sized(8, 24, 12, 150));
-    of_hour("largest: 16, 64, 64, 512", &sized(16, 64, 64, 512));
+    of_hour("middling: 8, 24, 12, 150", &accepted(8, 24, 12, 150));
+    of_hour("largest: 16, 64, 64, 512", &accepted(16, 64, 64, 512));
 }
