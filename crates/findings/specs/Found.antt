@@ -25,7 +25,7 @@ use Rattle.findings.specs.declared.Found.{Found}
 
 -- the table from row 1 to row 26, of a case s and a proposal t
 abbrev pub hourRows : List ℕ → List ℕ → List Row
-hourRows s t = caseRows s (caseOf s) ++ (proposalRows s t (caseOf s) (planOf s t) (pricesOf s t) ++ clearingRows (caseOf s) (planOf s t) (pricesOf s t))
+hourRows s t = caseRows s (caseOf s) ++ (proposalRows s t (caseOf s) (planOf s t) (pricesOf s t) ++ clearingRows none (caseOf s) (planOf s t) (pricesOf s t))
 
 pub record Finds (rows : List Row) (s t : List ℕ) (r : Found) : Type 0 where
   pub verdict-is : r .verdict ≡ answer (refusal rows)

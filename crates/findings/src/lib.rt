@@ -107,7 +107,7 @@ fn share_without_link(links: usize, share: Share) -> bool
 fn find_clearing(case: &[u8], k: Counts, proposal: &[u8], opening: Opening) -> Found
     requires { ⌜ Proposed (now «case») k (now proposal) ⌝ }
     requires { ⌜ opening ≡ openingOf (now proposal) ⌝ }
-    ensures { λ r. ⌜ Finds (clearingRows (caseOf (now («case» .entry))) (planOf (now («case» .entry)) (now (proposal .entry))) (pricesOf (now («case» .entry)) (now (proposal .entry)))) (now («case» .entry)) (now (proposal .entry)) r ⌝ }
+    ensures { λ r. ⌜ Finds (clearingRows none (caseOf (now («case» .entry))) (planOf (now («case» .entry)) (now (proposal .entry))) (pricesOf (now («case» .entry)) (now (proposal .entry)))) (now («case» .entry)) (now (proposal .entry)) r ⌝ }
 {
     let zones = k.zones;
     let share = opening.share;

@@ -15,7 +15,7 @@ use Rattle.rules.specs.Promised.Annex.AnnexHour.{annex-demand-3}
 use Rattle.rows.specs.declared.Outcome.{Outcome}
 use Rattle.judgement.specs.Judged.{Judged}
 
-module _ (s t b : List ℕ) (r : Outcome) (b′ : List ℕ) (j : Judged (table s t (length b) (caseOf s) (planOf s t) (pricesOf s t)) s t b r b′) where
+module _ (s t b : List ℕ) (r : Outcome) (b′ : List ℕ) (j : Judged (table none s t (length b) (caseOf s) (planOf s t) (pricesOf s t)) s t b r b′) where
   answered : r ≡ outcome s t (length b)
   unfolding outcome
   answered = j .given

@@ -15,5 +15,7 @@ pub mod Contracted
 pub mod Versions
 -- S-6: hours without links
 pub mod NoLinks
+-- S-11: what a family list changes
+pub mod Families
 -- in the terms of Annex 14.29
 pub mod Annex

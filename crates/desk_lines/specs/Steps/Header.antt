@@ -19,7 +19,7 @@ abbrev pub headerRows : List ℕ → List Row
 headerRows s = caseHeaderRows s (caseOf s)
 
 abbrev pub laterRows : List ℕ → List ℕ → List Row
-laterRows s t = caseBodyRows s (caseOf s) ++ (proposalRows s t (caseOf s) (planOf s t) (pricesOf s t) ++ clearingRows (caseOf s) (planOf s t) (pricesOf s t))
+laterRows s t = caseBodyRows s (caseOf s) ++ (proposalRows s t (caseOf s) (planOf s t) (pricesOf s t) ++ clearingRows none (caseOf s) (planOf s t) (pricesOf s t))
 
 -- with a report buffer of 176 bytes, an hour is refused by its header's rows, else by the later ones
 pub outcome-by-header : (s t : List ℕ) → outcome s t reportRoom ≡ answer (else-refusal (headerRefusal s) (refusal (laterRows s t)))

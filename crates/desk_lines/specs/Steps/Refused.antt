@@ -66,7 +66,7 @@ module _ (s t : List ℕ) (h : proposalLength s < length t) where
       )
     where
       later : List Row
-      later = proposalRows s t (caseOf s) (planOf s t) (pricesOf s t) ++ clearingRows (caseOf s) (planOf s t) (pricesOf s t)
+      later = proposalRows s t (caseOf s) (planOf s t) (pricesOf s t) ++ clearingRows none (caseOf s) (planOf s t) (pricesOf s t)
 
       wrong : differ (length t) (proposalLength s) ≡ true
       wrong = ap not (ne-eqb (length t) (proposalLength s) (λ e. omega arith))

@@ -31,7 +31,7 @@ abbrev of-proposal : tie.Start → List Row
 of-proposal a = proposalRows (file a) (plan a) (caseOf (file a)) (planOf (file a) (plan a)) (pricesOf (file a) (plan a))
 
 abbrev of-clearing : tie.Start → List Row
-of-clearing a = clearingRows (caseOf (file a)) (planOf (file a) (plan a)) (pricesOf (file a) (plan a))
+of-clearing a = clearingRows none (caseOf (file a)) (planOf (file a) (plan a)) (pricesOf (file a) (plan a))
 
 -- 1 TO 8
 read-case-requires : tie.Need-read-case-requires

@@ -47,7 +47,7 @@ abbrev rates : tie.Start → Prices
 rates a = pricesOf (now (a .args .«case»)) (now (a .args .proposal))
 
 abbrev rows : tie.Start → List Row
-rows a = clearingRows (hour a) (plan a) (rates a)
+rows a = clearingRows none (hour a) (plan a) (rates a)
 
 -- the rows up to that of a number pass
 abbrev Past : tie.Start → ℕ → Type 0

@@ -30,7 +30,7 @@ hourNetwork s t pairs = networkOf (hourExports s t) (hourPrices s t) pairs
 
 -- THE TABLE, for a case s, a proposal t, pairs, and a scratch of `room` numbers of which n are asked for
 unfoldable pub askedRows : List ℕ → List ℕ → List ℕ → ℕ → ℕ → List Row
-askedRows s t pairs n room = table s t reportRoom (caseOf s) (planOf s t) (pricesOf s t) ++ intuitiveRows (hourExports s t) (hourPrices s t) pairs n room
+askedRows s t pairs n room = table none s t reportRoom (caseOf s) (planOf s t) (pricesOf s t) ++ intuitiveRows (hourExports s t) (hourPrices s t) pairs n room
 
 unfoldable pub hourOutcome : List ℕ → List ℕ → List ℕ → ℕ → ℕ → Outcome
 hourOutcome s t pairs n room = answer (refusal (askedRows s t pairs n room))

@@ -48,7 +48,7 @@ module _ (s t pairs : List ℕ) (n : ℕ) (scratch : List ℤ) where
   Kept = Clauses (hourOutcome s t pairs n (length scratch)) (hourNetwork s t pairs) (hourScratch s t pairs n scratch)
 
   -- with room enough 30 passes
-  past-room : refusal (table s t reportRoom (caseOf s) (planOf s t) (pricesOf s t)) ≡ refusal (hourRows s t)
+  past-room : refusal (table none s t reportRoom (caseOf s) (planOf s t) (pricesOf s t)) ≡ refusal (hourRows s t)
   unfolding table roomRows
   past-room = field-passes 30 0 (hourRows s t) refl
 

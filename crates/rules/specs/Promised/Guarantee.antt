@@ -22,7 +22,7 @@ use Rattle.rules.specs.Promised.Reported.{reported}
 pub record Accepted (s t : List ℕ) (room : ℕ) : Type 0 where
   pub answer : (outcome s t room) .number ≡ 0
 
-accepted-sound : (s t : List ℕ) (room : ℕ) → Accepted s t room → Sound s t room
+pub accepted-sound : (s t : List ℕ) (room : ℕ) → Accepted s t room → Sound s t room
 unfolding reports
 accepted-sound s t room a = sound s t room (subst (λ (n : ℕ). T (reports n)) (sym (a .answer)) tt)
 

@@ -46,7 +46,7 @@ outcomeBefore s t room =
     let c = caseOf s in
     let p = planOf s t in
     let d = pricesOf s t in
-    answer (refusal (roomRows room ++ (caseRowsBefore s c ++ (proposalRowsBefore s t c p d ++ clearingRows c p d))))
+    answer (refusal (roomRows room ++ (caseRowsBefore s c ++ (proposalRowsBefore s t c p d ++ clearingRows none c p d))))
 
 -- the numbers whose index is another
 abbrev pub indexed : ℕ → Bool
@@ -161,7 +161,7 @@ only-four-changed s t room =
     let c = caseOf s in
     let p = planOf s t in
     let d = pricesOf s t in
-    refusals (roomRows room ++ (caseRows s c ++ (proposalRows s t c p d ++ clearingRows c p d))) (roomRows room ++ (caseRowsBefore s c ++ (proposalRowsBefore s t c p d ++ clearingRows c p d)))
-    (appended (roomRows room) (roomRows room) (caseRows s c ++ (proposalRows s t c p d ++ clearingRows c p d)) (caseRowsBefore s c ++ (proposalRowsBefore s t c p d ++ clearingRows c p d)) (all-same (roomRows room))
-    (appended (caseRows s c) (caseRowsBefore s c) (proposalRows s t c p d ++ clearingRows c p d) (proposalRowsBefore s t c p d ++ clearingRows c p d) (case-alike s t c p d)
-    (appended (proposalRows s t c p d) (proposalRowsBefore s t c p d) (clearingRows c p d) (clearingRows c p d) (proposal-alike s t c p d) (all-same (clearingRows c p d)))))
+    refusals (roomRows room ++ (caseRows s c ++ (proposalRows s t c p d ++ clearingRows none c p d))) (roomRows room ++ (caseRowsBefore s c ++ (proposalRowsBefore s t c p d ++ clearingRows none c p d)))
+    (appended (roomRows room) (roomRows room) (caseRows s c ++ (proposalRows s t c p d ++ clearingRows none c p d)) (caseRowsBefore s c ++ (proposalRowsBefore s t c p d ++ clearingRows none c p d)) (all-same (roomRows room))
+    (appended (caseRows s c) (caseRowsBefore s c) (proposalRows s t c p d ++ clearingRows none c p d) (proposalRowsBefore s t c p d ++ clearingRows none c p d) (case-alike s t c p d)
+    (appended (proposalRows s t c p d) (proposalRowsBefore s t c p d) (clearingRows none c p d) (clearingRows none c p d) (proposal-alike s t c p d) (all-same (clearingRows none c p d)))))

@@ -192,10 +192,10 @@ module _ (s : List ℕ) (version-1 : caseVersion s ≡ 1) (long : 14 ≤ length 
           (more refl (λ m h. refl) (λ m x. ap (verdict 14) (shadow-at m)) no-rows))))) in
           rows .is
 
-      clearing-mapped : Placed c → refusal (clearingRows e p d) ≡ mapped f (refusal (clearingRows c p d))
+      clearing-mapped : Placed c → refusal (clearingRows none e p d) ≡ mapped f (refusal (clearingRows none c p d))
       unfolding clearingRows counted movedIndex noLink
       clearing-mapped ok =
-          let rows : Maps f (clearingRows c p d) (clearingRows e p d) =
+          let rows : Maps f (clearingRows none c p d) (clearingRows none e p d) =
           more refl (λ i h. ap (λ (n : ℕ). ltb n (p .volume i)) (same .quantity-same i h)) (λ k x. refl)
           (more refl (λ k h. ap (λ (x : ℤ). not (isZero x)) (net-sum c (caseOf v) same p)) (λ k x. refl)
           (more refl (λ k h. refl) (λ k x. refl)
@@ -212,12 +212,12 @@ module _ (s : List ℕ) (version-1 : caseVersion s ≡ 1) (long : 14 ≤ length 
       whole-outcome : (room : ℕ) → outcome v t room ≡ moved s (outcome s t room)
       unfolding outcome table roomRows movedIndex
       whole-outcome room =
-          (λ j. answer (refusal (table v t room (case-is j) (plan-same j) (prices-are j))))
-          ∙ ap answer (rows-mapped f (roomRows room) (roomRows room) (caseRows s c ++ (proposalRows s t c p d ++ clearingRows c p d)) (caseRows v e ++ (proposalRows v t e p d ++ clearingRows e p d)) room-mapped
-          (λ x. rows-mapped f (caseRows s c) (caseRows v e) (proposalRows s t c p d ++ clearingRows c p d) (proposalRows v t e p d ++ clearingRows e p d) case-mapped
-          (λ readable. rows-mapped f (proposalRows s t c p d) (proposalRows v t e p d) (clearingRows c p d) (clearingRows e p d) proposal-mapped
+          (λ j. answer (refusal (table none v t room (case-is j) (plan-same j) (prices-are j))))
+          ∙ ap answer (rows-mapped f (roomRows room) (roomRows room) (caseRows s c ++ (proposalRows s t c p d ++ clearingRows none c p d)) (caseRows v e ++ (proposalRows v t e p d ++ clearingRows none e p d)) room-mapped
+          (λ x. rows-mapped f (caseRows s c) (caseRows v e) (proposalRows s t c p d ++ clearingRows none c p d) (proposalRows v t e p d ++ clearingRows none e p d) case-mapped
+          (λ readable. rows-mapped f (proposalRows s t c p d) (proposalRows v t e p d) (clearingRows none c p d) (clearingRows none e p d) proposal-mapped
           (λ y. clearing-mapped ((case-rows-sound s c readable) .placed)))))
-          ∙ answer-mapped s (refusal (table s t room c p d))
+          ∙ answer-mapped s (refusal (table none s t room c p d))
         where
           room-mapped : refusal (roomRows room) ≡ mapped f (refusal (roomRows room))
           room-mapped = let rows : Maps f (roomRows room) (roomRows room) = more refl (λ k h. refl) (λ k x. refl) no-rows in rows .is
@@ -311,10 +311,10 @@ module _ (s : List ℕ) (version-1 : caseVersion s ≡ 1) where
   unfolding outcome table caseRefusal roomRows movedIndex
   refused-outcome t room refused =
       let v = upgraded s in
-      ap answer (rows-mapped (moved s) (roomRows room) (roomRows room) (caseRows s (caseOf s) ++ (proposalRows s t (caseOf s) (planOf s t) (pricesOf s t) ++ clearingRows (caseOf s) (planOf s t) (pricesOf s t))) (caseRows v (caseOf v) ++ (proposalRows v t (caseOf v) (planOf v t) (pricesOf v t) ++ clearingRows (caseOf v) (planOf v t) (pricesOf v t))) room-mapped
-      (λ x. rows-mapped (moved s) (caseRows s (caseOf s)) (caseRows v (caseOf v)) (proposalRows s t (caseOf s) (planOf s t) (pricesOf s t) ++ clearingRows (caseOf s) (planOf s t) (pricesOf s t)) (proposalRows v t (caseOf v) (planOf v t) (pricesOf v t) ++ clearingRows (caseOf v) (planOf v t) (pricesOf v t)) same-refusal
+      ap answer (rows-mapped (moved s) (roomRows room) (roomRows room) (caseRows s (caseOf s) ++ (proposalRows s t (caseOf s) (planOf s t) (pricesOf s t) ++ clearingRows none (caseOf s) (planOf s t) (pricesOf s t))) (caseRows v (caseOf v) ++ (proposalRows v t (caseOf v) (planOf v t) (pricesOf v t) ++ clearingRows none (caseOf v) (planOf v t) (pricesOf v t))) room-mapped
+      (λ x. rows-mapped (moved s) (caseRows s (caseOf s)) (caseRows v (caseOf v)) (proposalRows s t (caseOf s) (planOf s t) (pricesOf s t) ++ clearingRows none (caseOf s) (planOf s t) (pricesOf s t)) (proposalRows v t (caseOf v) (planOf v t) (pricesOf v t) ++ clearingRows none (caseOf v) (planOf v t) (pricesOf v t)) same-refusal
       (λ none-holds. absurd (refused none-holds))))
-      ∙ answer-mapped s (refusal (table s t room (caseOf s) (planOf s t) (pricesOf s t)))
+      ∙ answer-mapped s (refusal (table none s t room (caseOf s) (planOf s t) (pricesOf s t)))
     where
       room-mapped : refusal (roomRows room) ≡ mapped (moved s) (refusal (roomRows room))
       room-mapped = let rows : Maps (moved s) (roomRows room) (roomRows room) = more refl (λ k h. refl) (λ k x. refl) no-rows in rows .is
