@@ -1,2 +1,3 @@
--- What the driver finds
+-- What the driver finds, and what it asks of a family list
 pub mod Found
+pub mod Listed

@@ -48,20 +48,20 @@ module _ (s t pairs : List ℕ) (n : ℕ) (scratch : List ℤ) where
   Kept = Clauses (hourOutcome s t pairs n (length scratch)) (hourNetwork s t pairs) (hourScratch s t pairs n scratch)
 
   -- with room enough 30 passes
-  past-room : refusal (table none s t reportRoom (caseOf s) (planOf s t) (pricesOf s t)) ≡ refusal (hourRows s t)
+  past-room : refusal (table none s t reportRoom (caseOf s) (planOf s t) (pricesOf s t)) ≡ refusal (hourRows none s t)
   unfolding table roomRows
-  past-room = field-passes 30 0 (hourRows s t) refl
+  past-room = field-passes 30 0 (hourRows none s t) refl
 
-  module _ (f : Found) (h : Finds (hourRows s t) s t f) where
+  module _ (f : Found) (h : Finds (hourRows none s t) s t f) where
     -- NOT ACCEPTED
     pub kept-refused : 0 < f .verdict .number → {r : Carried} → r ≡ refusedAs (f .verdict) → Kept r scratch
     unfolding hourOutcome hourScratch
-    kept-refused l e = subst (λ (r : Carried). Kept r scratch) (sym e) (by (refusal (hourRows s t)) refl)
+    kept-refused l e = subst (λ (r : Carried). Kept r scratch) (sym e) (by (refusal (hourRows none s t)) refl)
       where
         apart : {X : Type 0} → f .verdict .number ≡ 0 → X
         apart q = absurd (omega (arith, l))
 
-        by : (o : Option Outcome) → refusal (hourRows s t) ≡ o → Kept (refusedAs (f .verdict)) scratch
+        by : (o : Option Outcome) → refusal (hourRows none s t) ≡ o → Kept (refusedAs (f .verdict)) scratch
         by (some x) q =
             let asked = refused-first s t pairs n (length scratch) x (past-room ∙ q) in (
               h .verdict-is ∙ ap answer (q ∙ sym asked),
