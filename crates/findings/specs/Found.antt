@@ -10,7 +10,7 @@ use lib.Dec.{T, eqb, eqb→eq}
 use lib.IntN.{pos}
 use Rattle.rules.specs.Meaning.Hour.{caseOf, planOf, pricesOf, net}
 use Rattle.rules.specs.Meaning.Report.{totalsOf, reports}
-use Rattle.rules.specs.Meaning.Verdict.{caseRows, proposalRows, familyRows, clearingRows}
+use Rattle.rules.specs.Meaning.Verdict.{caseRows, proposalRows, judgementRows}
 use Rattle.rows.specs.declared.Outcome.{Outcome}
 use Rattle.rows.specs.Meaning.Rows.{Row, verdict, refusal, answer}
 use Rattle.rows.specs.Promised.RowLaws.{else-refusal, refusal-append, lacks, not-refused, Comes}
@@ -30,8 +30,7 @@ listOf false f = none
 
 -- the table from row 1 to row 26, of a case s and a proposal t, with a family list or without
 abbrev pub hourRows : Option (List ℕ) → List ℕ → List ℕ → List Row
-hourRows fs s t = caseRows s (caseOf s)
-    ++ (proposalRows s t (caseOf s) (planOf s t) (pricesOf s t) ++ (familyRows fs (caseOf s) ++ clearingRows fs (caseOf s) (planOf s t) (pricesOf s t)))
+hourRows fs s t = caseRows s (caseOf s) ++ (proposalRows s t (caseOf s) (planOf s t) (pricesOf s t) ++ judgementRows fs (caseOf s) (planOf s t) (pricesOf s t))
 
 pub record Finds (rows : List Row) (s t : List ℕ) (r : Found) : Type 0 where
   pub verdict-is : r .verdict ≡ answer (refusal rows)

@@ -1,7 +1,6 @@
 // THE DRIVER: what the verdict table from row 1 to row 26 finds in an hour. Each stage is asked in the table's order, and may rest on what those before it passed.
 ghost use mathlib.Core.Path.{_≡_};
 ghost use mathlib.Core.Bool.{true, _&&_};
-ghost use mathlib.Core.List.{_++_};
 ghost use mathlib.Core.Option.{none};
 ghost use Prim.Native.Nat.{_<_, _≤_};
 ghost use lib.Dec.{eqb};
@@ -10,7 +9,7 @@ ghost use lib.Signed.{ltZ};
 ghost use Rattle.rules.specs.Meaning.Hour.{caseOf, planOf, pricesOf, net};
 ghost use Rattle.rules.specs.Meaning.Hour as rules;
 ghost use Rattle.rows.specs.Promised.RowLaws.{placeOf};
-ghost use Rattle.rules.specs.Meaning.Verdict.{exchangeRows, familyRows, clearingRows};
+ghost use Rattle.rules.specs.Meaning.Verdict.{exchangeRows, clearingRows, judgementRows};
 ghost use Rattle.proposal_file.specs.Proposed.{Proposed};
 ghost use Rattle.proposal_file.specs.Answer.{openingOf};
 ghost use Rattle.family_list.specs.Steps.Answer.{Known};
@@ -233,8 +232,8 @@ fn read_listed(families: &[u8], orders: usize, listed: bool) -> FamilyAnswer
     FamilyAnswer::Sound
 }
 
-// Rows 16 to 26, of a case and a proposal that were read.
-fn find_families(
+// Rows 15 to 26, of a case and a proposal that were read: a tolerance too wide to be accepted (S-12), the family list, the clearing.
+fn find_judged(
     case: &[u8],
     k: Counts,
     proposal: &[u8],
@@ -244,8 +243,12 @@ fn find_families(
 ) -> Found
     requires { ⌜ Proposed (now «case») k (now proposal) ⌝ }
     requires { ⌜ opening ≡ openingOf (now proposal) ⌝ }
-    ensures { λ r. ⌜ Finds (familyRows (listOf listed (now (families .entry))) (caseOf (now («case» .entry))) ++ clearingRows (listOf listed (now (families .entry))) (caseOf (now («case» .entry))) (planOf (now («case» .entry)) (now (proposal .entry))) (pricesOf (now («case» .entry)) (now (proposal .entry)))) (now («case» .entry)) (now (proposal .entry)) r ⌝ }
+    ensures { λ r. ⌜ Finds (judgementRows (listOf listed (now (families .entry))) (caseOf (now («case» .entry))) (planOf (now («case» .entry)) (now (proposal .entry))) (pricesOf (now («case» .entry)) (now (proposal .entry)))) (now («case» .entry)) (now (proposal .entry)) r ⌝ }
 {
+    let tolerance = k.tolerance;
+    if tolerance.is_wide_tolerance() {
+        return refused(15, 0);
+    }
     match read_listed(families, k.orders, listed) {
         FamilyAnswer::Refused(refusal) => refused_by(refusal),
         FamilyAnswer::Sound => find_clearing(case, k, proposal, opening, families, listed),
@@ -261,7 +264,7 @@ pub fn find_listed(case: &[u8], proposal: &[u8], families: &[u8], listed: bool) 
         CaseAnswer::Readable(k) => match read_proposal(case, k, proposal) {
             ProposalAnswer::Refused(refusal) => refused_by(refusal),
             ProposalAnswer::Sound(opening) => {
-                find_families(case, k, proposal, opening, families, listed)
+                find_judged(case, k, proposal, opening, families, listed)
             }
         },
     }

@@ -17,5 +17,7 @@ pub mod Versions
 pub mod NoLinks
 -- S-11: what a family list changes
 pub mod Families
+-- S-12: wide tolerances
+pub mod Tolerance
 -- in the terms of Annex 14.29
 pub mod Annex

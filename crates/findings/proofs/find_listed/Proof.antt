@@ -6,7 +6,7 @@ use Prim.Native.Nat.{ℕ}
 use borrow.Author.Needs.{needs}
 use denote.Ref.{now}
 use Rattle.rules.specs.Meaning.Hour.{caseOf, planOf, pricesOf}
-use Rattle.rules.specs.Meaning.Verdict.{caseRows, caseRefusal, proposalRows, familyRows, clearingRows, proposalRefusal}
+use Rattle.rules.specs.Meaning.Verdict.{caseRows, caseRefusal, proposalRows, judgementRows, proposalRefusal}
 use Rattle.rows.specs.Meaning.Rows.{Row, refusal}
 use Rattle.rows.specs.Promised.RowLaws.{lacks}
 use Rattle.case_header.specs.Opened.{Opened}
@@ -35,7 +35,7 @@ abbrev list : tie.Start → Option (List ℕ)
 list a = listOf (a .args .listed) (now (a .args .families))
 
 abbrev of-rest : tie.Start → List Row
-of-rest a = familyRows (list a) (caseOf (file a)) ++ clearingRows (list a) (caseOf (file a)) (planOf (file a) (plan a)) (pricesOf (file a) (plan a))
+of-rest a = judgementRows (list a) (caseOf (file a)) (planOf (file a) (plan a)) (pricesOf (file a) (plan a))
 
 -- 1 TO 8
 read-case-requires : tie.Need-read-case-requires
@@ -104,15 +104,15 @@ past-proposal : (c : tie.After-opening) → refusal (hourRows (list (proposal-en
 unfolding proposalRefusal
 past-proposal c = let a = proposal-entry c in past-case (case-of (c .before .before)) ∙ first-passes (of-proposal a) (of-rest a) ((proposed c) .passed)
 
--- FROM 16 ON
-find-families-requires : tie.Need-find-families-requires
-find-families-requires c κs =
+-- FROM 15 ON
+find-judged-requires : tie.Need-find-judged-requires
+find-judged-requires c κs =
     let o = c .before in
     let a = proposal-entry o in
     (proposed o, opening-is (file a) (plan a) (sym (o .before .before .read-proposal .ensures) ∙ o .opening .given .1))
 
 returns-3 : tie.Need-returns-3
-returns-3 c = same-rows (past-proposal (c .before .before)) (c .find-families .ensures)
+returns-3 c = same-rows (past-proposal (c .before .before)) (c .find-judged .ensures)
 
 pub find-listed-spec : {M : Type 1} → statement M
 find-listed-spec =
@@ -126,7 +126,7 @@ find-listed-spec =
     enum-known-refusal-2
     refused-by-requires-2
     enum-known-opening
-    find-families-requires
+    find-judged-requires
     returns
     returns-2
     returns-3)

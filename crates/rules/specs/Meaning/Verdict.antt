@@ -1,4 +1,4 @@
--- The verdict table of document 01, as requests S-2, S-4, S-6 and S-11 amend it: a row for each cause, in the table's own order, and the judgement's outcome.
+-- The verdict table of document 01, as requests S-2, S-4, S-6, S-11 and S-12 amend it: a row for each cause, in the table's own order, and the judgement's outcome.
 -- Every test has a value on any bytes; its value counts only where the rows before it passed. Assumes nothing.
 use mathlib.Core.Path.{_≡_}
 use mathlib.Core.Bool.{Bool, false, not, _&&_, _||_}
@@ -167,6 +167,10 @@ proposalRows s t c p d =
     ∷ shadowAbove s c d
     ∷ []
 
+-- 15 (S-12), asked straight after 14: the tolerance is above 10,000 cents
+abbrev pub wideTolerance : Case → Row
+wideTolerance c = once 15 (outside limits.acceptedTolerance (pos (c .tolerance)))
+
 -- ROWS OF A FAMILY LIST f (S-11), asked after 14. 16: mark is not LTF, version is not 1, or length is wrong for this case. 17: a parent does not exist: the
 -- order that names it. 18: an order leads back to itself
 abbrev pub wrongFamilyList : List ℕ → Case → Row
@@ -233,8 +237,12 @@ exchangeRows c p d =
 unfoldable pub clearingRows : Option (List ℕ) → Case → Plan → Prices → List Row
 clearingRows fs c p d = excessVolume c p ∷ (fractionRows fs c p ++ exchangeRows c p d)
 
+-- of files that were read: the tolerance, the family list, the clearing
+abbrev pub judgementRows : Option (List ℕ) → Case → Plan → Prices → List Row
+judgementRows fs c p d = wideTolerance c ∷ (familyRows fs c ++ clearingRows fs c p d)
+
 unfoldable pub table : Option (List ℕ) → List ℕ → List ℕ → ℕ → Case → Plan → Prices → List Row
-table fs s t room c p d = roomRows room ++ (caseRows s c ++ (proposalRows s t c p d ++ (familyRows fs c ++ clearingRows fs c p d)))
+table fs s t room c p d = roomRows room ++ (caseRows s c ++ (proposalRows s t c p d ++ judgementRows fs c p d))
 
 -- the judgement's answer, without a family list
 unfoldable pub outcome : List ℕ → List ℕ → ℕ → Outcome

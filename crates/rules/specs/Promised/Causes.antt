@@ -16,7 +16,7 @@ use Rattle.rows.specs.declared.Outcome.{Outcome}
 use Rattle.rows.specs.Meaning.Rows.{Row, verdict, refusal, answer, unnamed, at-offset, the-place, a-field, Asked, ask, Asks, ascending, Pass}
 use Rattle.rows.specs.Promised.RowLaws.{empty, Answered, answered, Soonest, soonest, lacks, numbersBelow, number-below, isRow, rowOf, hasRow, before, row-passed, later, Comes, past, clear, none-left, once-passes}
 use Rattle.rules.specs.Meaning.Book.{BookRow, bookRows, bookRefusal, bookSurplus, bookAnswer, bookAnswerBy}
-use Rattle.rules.specs.Meaning.Verdict.{overZ, roomRows, caseRows, proposalRows, clearingRows, table, outcome, familyOutcome}
+use Rattle.rules.specs.Meaning.Verdict.{overZ, roomRows, caseRows, proposalRows, wideTolerance, clearingRows, table, outcome, familyOutcome}
 
 -- 30 is asked first of all, then the others from the smallest number, and of one number from the smallest offset; but 27 between 22 and 23 (S-6)
 unfoldable pub asked : List Asked
@@ -40,6 +40,7 @@ asked =
     ∷ ask 12 unnamed
     ∷ ask 13 unnamed
     ∷ ask 14 a-field
+    ∷ ask 15 unnamed
     ∷ ask 21 the-place
     ∷ ask 22 unnamed
     ∷ ask 27 unnamed
@@ -62,13 +63,13 @@ pub not-in-turn : T (not (ascending (drop 1 asked)))
 unfolding asked ascending
 not-in-turn = tt
 
-pub between-22-and-23 : map (λ (a : Asked). a .number) (take 3 (drop 20 asked)) ≡ 22 ∷ 27 ∷ 23 ∷ []
+pub between-22-and-23 : map (λ (a : Asked). a .number) (take 3 (drop 21 asked)) ≡ 22 ∷ 27 ∷ 23 ∷ []
 unfolding asked
 between-22-and-23 = refl
 
 pub table-order : (s t : List ℕ) (room : ℕ) (c : Case) (p : Plan) (d : Prices) → Asks (table none s t room c p d) asked
 unfolding table roomRows caseRows proposalRows clearingRows asked
-table-order s t room c p d = (refl, (λ k. refl, (refl, (λ k. refl, (refl, (λ k. refl, (refl, (λ k. refl, (refl, (λ k. refl, (refl, (λ k. refl, (refl, (λ k. refl, (refl, (λ k. refl, (refl, (λ k. refl, (refl, (λ k. refl, (refl, (tt, (refl, (tt, (refl, (tt, (refl, (λ k. refl, (refl, (λ k. refl, (refl, (λ k. refl, (refl, (λ k. refl, (refl, (λ k. refl, (refl, (tt, (refl, (λ k. refl, (refl, (λ k. refl, (refl, (λ k. refl, (refl, (λ k. refl, (refl, (λ k. refl, (refl, (λ k. refl, (refl, (λ k. refl, tt))))))))))))))))))))))))))))))))))))))))))))))))))))
+table-order s t room c p d = (refl, (λ k. refl, (refl, (λ k. refl, (refl, (λ k. refl, (refl, (λ k. refl, (refl, (λ k. refl, (refl, (λ k. refl, (refl, (λ k. refl, (refl, (λ k. refl, (refl, (λ k. refl, (refl, (λ k. refl, (refl, (tt, (refl, (tt, (refl, (tt, (refl, (λ k. refl, (refl, (λ k. refl, (refl, (λ k. refl, (refl, (λ k. refl, (refl, (λ k. refl, (refl, (tt, (refl, (λ k. refl, (refl, (λ k. refl, (refl, (λ k. refl, (refl, (λ k. refl, (refl, (λ k. refl, (refl, (λ k. refl, (refl, (λ k. refl, (refl, (λ k. refl, tt))))))))))))))))))))))))))))))))))))))))))))))))))))))
 
 -- the clearing's rows end in 26 only by its own row: were it to pass, with those before it, nothing would be refused
 by-26 : (c : Case) (p : Plan) (d : Prices) → (answer (refusal (clearingRows none c p d))) .number ≡ 26
@@ -127,19 +128,20 @@ module _ (s t : List ℕ) (room : ℕ) where
       let a = later 26 (roomRows room) _ tt e in
       let b = later 26 (caseRows s (caseOf s)) _ tt (a .then-second) in
       let f = later 26 (proposalRows s t (caseOf s) (planOf s t) (pricesOf s t)) _ tt (b .then-second) in
-      ltZ-yes (by-26 (caseOf s) (planOf s t) (pricesOf s t) (f .then-second) (overZ (limits.microcentsOf (pos ((caseOf s) .tolerance))) (gap (caseOf s) (planOf s t) (pricesOf s t))) refl)
+      let g = later 26 (wideTolerance (caseOf s) ∷ []) _ tt (f .then-second) in
+      ltZ-yes (by-26 (caseOf s) (planOf s t) (pricesOf s t) (g .then-second) (overZ (limits.microcentsOf (pos ((caseOf s) .tolerance))) (gap (caseOf s) (planOf s t) (pricesOf s t))) refl)
 
--- WITH A FAMILY LIST (S-11): 16 to 18 after 14, and 28 after 21. In this order too 27 and 28 alone are out of turn
+-- WITH A FAMILY LIST (S-11): 16 to 18 after 14 and 15, and 28 after 21. In this order too 27 and 28 alone are out of turn
 unfoldable pub familyAsked : List Asked
-familyAsked = take 19 asked ++ (ask 16 unnamed ∷ ask 17 the-place ∷ ask 18 the-place ∷ []) ++ take 1 (drop 19 asked) ++ (ask 28 the-place ∷ drop 20 asked)
+familyAsked = take 20 asked ++ (ask 16 unnamed ∷ ask 17 the-place ∷ ask 18 the-place ∷ []) ++ take 1 (drop 20 asked) ++ (ask 28 the-place ∷ drop 21 asked)
 
-pub family-numbers : map (λ (a : Asked). a .number) (drop 18 familyAsked) ≡ 14 ∷ 16 ∷ 17 ∷ 18 ∷ 21 ∷ 28 ∷ 22 ∷ 27 ∷ 23 ∷ 24 ∷ 25 ∷ 26 ∷ []
+pub family-numbers : map (λ (a : Asked). a .number) (drop 18 familyAsked) ≡ 14 ∷ 15 ∷ 16 ∷ 17 ∷ 18 ∷ 21 ∷ 28 ∷ 22 ∷ 27 ∷ 23 ∷ 24 ∷ 25 ∷ 26 ∷ []
 unfolding familyAsked asked
 family-numbers = refl
 
 pub family-order : (s t f : List ℕ) (room : ℕ) (c : Case) (p : Plan) (d : Prices) → Asks (table (some f) s t room c p d) familyAsked
 unfolding table roomRows caseRows proposalRows clearingRows familyAsked asked
-family-order s t f room c p d = (refl, (λ k. refl, (refl, (λ k. refl, (refl, (λ k. refl, (refl, (λ k. refl, (refl, (λ k. refl, (refl, (λ k. refl, (refl, (λ k. refl, (refl, (λ k. refl, (refl, (λ k. refl, (refl, (λ k. refl, (refl, (tt, (refl, (tt, (refl, (tt, (refl, (λ k. refl, (refl, (λ k. refl, (refl, (λ k. refl, (refl, (λ k. refl, (refl, (λ k. refl, (refl, (tt, (refl, (λ k. refl, (refl, (λ k. refl, (refl, (λ k. refl, (refl, (λ k. refl, (refl, (λ k. refl, (refl, (λ k. refl, (refl, (λ k. refl, (refl, (λ k. refl, (refl, (λ k. refl, (refl, (λ k. refl, (refl, (λ k. refl, tt))))))))))))))))))))))))))))))))))))))))))))))))))))))))))))
+family-order s t f room c p d = (refl, (λ k. refl, (refl, (λ k. refl, (refl, (λ k. refl, (refl, (λ k. refl, (refl, (λ k. refl, (refl, (λ k. refl, (refl, (λ k. refl, (refl, (λ k. refl, (refl, (λ k. refl, (refl, (λ k. refl, (refl, (tt, (refl, (tt, (refl, (tt, (refl, (λ k. refl, (refl, (λ k. refl, (refl, (λ k. refl, (refl, (λ k. refl, (refl, (λ k. refl, (refl, (tt, (refl, (λ k. refl, (refl, (λ k. refl, (refl, (λ k. refl, (refl, (λ k. refl, (refl, (λ k. refl, (refl, (λ k. refl, (refl, (λ k. refl, (refl, (λ k. refl, (refl, (λ k. refl, (refl, (λ k. refl, (refl, (λ k. refl, (refl, (λ k. refl, tt))))))))))))))))))))))))))))))))))))))))))))))))))))))))))))))
 
 module _ (s t f : List ℕ) (room : ℕ) where
   abbrev family-rows : List Row

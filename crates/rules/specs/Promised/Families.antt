@@ -13,7 +13,7 @@ use Rattle.rules.specs.Meaning.Families.{parentOf, accepted}
 use Rattle.rows.specs.declared.Outcome.{Outcome}
 use Rattle.rows.specs.Meaning.Rows.{Row, Pass, refusal, answer}
 use Rattle.rows.specs.Promised.RowLaws.{else-refusal, refusal-append, lacks, left-out, row-passed, row-passes, before, hasRow, rowOf, isRow}
-use Rattle.rules.specs.Meaning.Verdict.{roomRows, caseRows, proposalRows, excessVolume, exchangeRows, exceedsParent, excessFraction, fractionRows, familyRows, clearingRows, table, outcome, familyOutcome}
+use Rattle.rules.specs.Meaning.Verdict.{roomRows, caseRows, proposalRows, wideTolerance, excessVolume, exchangeRows, exceedsParent, excessFraction, fractionRows, familyRows, clearingRows, table, outcome, familyOutcome}
 use Rattle.rules.specs.Meaning.Report.{reports, reportBytes, reportSize, written, bufferAfter, familyBufferAfter}
 use Rattle.rules.specs.Meaning.Promise.{FractionAtMost, FamilyTotalsReported}
 use Rattle.rules.specs.Promised.Guarantee.{Accepted, accepted-sound}
@@ -22,7 +22,7 @@ use Rattle.rules.specs.Promised.PlainFacts.{case-facts}
 
 -- WITHOUT A LIST the table is the one that it was before S-11: no row of it is a family's
 pub without-a-list : (s t : List ℕ) (room : ℕ) (c : Case) (p : Plan) (d : Prices)
-    → table none s t room c p d ≡ roomRows room ++ (caseRows s c ++ (proposalRows s t c p d ++ (excessVolume c p ∷ exchangeRows c p d)))
+    → table none s t room c p d ≡ roomRows room ++ (caseRows s c ++ (proposalRows s t c p d ++ (wideTolerance c ∷ (excessVolume c p ∷ exchangeRows c p d))))
 unfolding table clearingRows
 without-a-list s t room c p d = refl
 
@@ -47,7 +47,7 @@ module _ (s t f : List ℕ) (room : ℕ) where
   others : (n : ℕ) → T (lacks n (familyRows (some f) c)) → T (lacks n (fractionRows (some f) c p)) → (familyOutcome s t f room) .number ≡ n → familyOutcome s t f room ≡ outcome s t room
   unfolding familyOutcome outcome table roomRows caseRows proposalRows clearingRows
   others n h k e =
-      let front = roomRows room ++ (caseRows s c ++ proposalRows s t c p d) in
+      let front = roomRows room ++ (caseRows s c ++ (proposalRows s t c p d ++ (wideTolerance c ∷ []))) in
       let first = left-out n front (familyRows (some f) c) (excessVolume c p ∷ (fractionRows (some f) c p ++ exchangeRows c p d)) h e in
       let second = left-out n (front ++ (excessVolume c p ∷ [])) (fractionRows (some f) c p) (exchangeRows c p d) k (ap (λ (o : Option Outcome). (answer o) .number) (sym first) ∙ e) in
       ap answer (first ∙ second)
@@ -84,7 +84,7 @@ module _ (s t f : List ℕ) (room : ℕ) where
       let no-child : Pass (excessFraction f c p) = record { pass = λ k l. subst (λ (o : Option ℕ). T (not (exceedsParent c p k o))) (sym (none-named k l)) tt } in
       let volumes = after (excessVolume c p ∷ []) _ _ (row-passes (excessFraction f c p) (exchangeRows c p d) no-child) in
       let families = refusal-append (familyRows (some f) c) _ ∙ ap (λ (x : Option Outcome). else-refusal x (refusal (clearingRows (some f) c p d))) passed in
-      ap answer (after (roomRows room) _ _ (after (caseRows s c) _ _ (after (proposalRows s t c p d) _ _ (families ∙ volumes))))
+      ap answer (after (roomRows room) _ _ (after (caseRows s c) _ _ (after (proposalRows s t c p d) _ _ (after (wideTolerance c ∷ []) _ _ (families ∙ volumes)))))
 
 -- EVERY BYTE OF THE BUFFER afterwards: that of the judgement without the list where the hour is valued with it, else as it was
 module _ (s t f buffer : List ℕ) where
