@@ -10,6 +10,8 @@ mod columns;
 mod desk;
 #[cfg(feature = "dump")]
 mod dump;
+#[cfg(feature = "families")]
+mod families;
 #[cfg(feature = "intuitive")]
 mod intuitive;
 #[cfg(feature = "queue")]
@@ -291,6 +293,8 @@ fn main() {
     dump::dumps();
     #[cfg(feature = "columns")]
     columns::files();
+    #[cfg(feature = "families")]
+    families::lists();
     #[cfg(feature = "queue")]
     queue::queues();
 }

@@ -24,6 +24,18 @@ extern "C" {
         report_len: usize,
     ) -> u64;
 
+    #[cfg(feature = "families")]
+    fn lta_judge_families(
+        case_bytes: *const u8,
+        case_len: usize,
+        proposal: *const u8,
+        proposal_len: usize,
+        families: *const u8,
+        families_len: usize,
+        report: *mut u8,
+        report_len: usize,
+    ) -> u64;
+
     #[cfg(feature = "book")]
     fn lta_book_surplus(
         orders: *const Order,
@@ -247,6 +259,30 @@ pub fn judge_null(case: &[u8], proposal: &[u8], report: &mut [u8]) -> u64 {
     }
 }
 
+/// As `judge`, with a family list; `null` gives a null pointer for each empty slice.
+#[cfg(feature = "families")]
+pub fn judge_families(
+    case: &[u8],
+    proposal: &[u8],
+    list: &[u8],
+    report: &mut [u8],
+    null: bool,
+) -> u64 {
+    // Safe: each pointer comes with the length of its own slice.
+    unsafe {
+        lta_judge_families(
+            start(case, null),
+            case.len(),
+            start(proposal, null),
+            proposal.len(),
+            start(list, null),
+            list.len(),
+            start_mut(report, null),
+            report.len(),
+        )
+    }
+}
+
 /// The book entry; `null` gives a null pointer for each empty list.
 #[cfg(feature = "book")]
 #[allow(dead_code)]
@@ -296,7 +332,12 @@ pub fn sheet_branches(sheet: &[u8], zones: usize, out: &mut [u8], null: bool) ->
 }
 
 /// Where a list begins; `null` gives a null pointer for an empty one.
-#[cfg(any(feature = "columns", feature = "dump", feature = "intuitive"))]
+#[cfg(any(
+    feature = "columns",
+    feature = "dump",
+    feature = "families",
+    feature = "intuitive"
+))]
 fn start<T>(list: &[T], null: bool) -> *const T {
     match list {
         [] if null => std::ptr::null(),
@@ -304,7 +345,12 @@ fn start<T>(list: &[T], null: bool) -> *const T {
     }
 }
 
-#[cfg(any(feature = "columns", feature = "dump", feature = "intuitive"))]
+#[cfg(any(
+    feature = "columns",
+    feature = "dump",
+    feature = "families",
+    feature = "intuitive"
+))]
 fn start_mut<T>(list: &mut [T], null: bool) -> *mut T {
     match list {
         [] if null => std::ptr::null_mut(),

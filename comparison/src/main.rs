@@ -24,6 +24,8 @@ mod intuitive;
 mod make;
 mod no_links;
 mod offsets;
+#[cfg(feature = "families")]
+mod parents;
 mod places;
 #[cfg(feature = "intuitive")]
 mod planted;
@@ -100,6 +102,8 @@ fn main() -> ExitCode {
     dump::dumps(&mut run, &mut Rng::new(seed));
     #[cfg(feature = "columns")]
     columns::files(&mut run, &mut Rng::new(seed));
+    #[cfg(feature = "families")]
+    parents::lists(&mut run, &mut Rng::new(seed));
     #[cfg(feature = "queue")]
     queue::queues(&mut run, &mut Rng::new(seed));
 
@@ -133,6 +137,7 @@ fn main() -> ExitCode {
         ("intuitive", cfg!(feature = "intuitive")),
         ("dump", cfg!(feature = "dump")),
         ("columns", cfg!(feature = "columns")),
+        ("families", cfg!(feature = "families")),
         ("queue", cfg!(feature = "queue")),
     ] {
         if !built {

@@ -1,5 +1,6 @@
 //! The judgement: the rules in the order of the verdict table, and the report.
 
+use crate::families::{Families, FamilyBuild};
 use crate::limits::*;
 use crate::misnamed::misnamed;
 use crate::read::{Case, Proposal};
@@ -52,11 +53,13 @@ pub enum Build {
     ShareWithLink,
     LargerWithoutLinks,
     NegativeTotalAsZero,
+    // S-11's: a list asked where none is lent, as if it were empty.
+    FamiliesAsked,
 }
 
 impl Build {
     /// Every wrong build, with the name a table gives it.
-    pub const WRONG: [(Build, &'static str); 34] = [
+    pub const WRONG: [(Build, &'static str); 35] = [
         (Build::ExportPositive, "export counted positive"),
         (Build::CapacityWithoutShare, "capacity without the share"),
         (Build::BranchTotalAlone, "branch total alone"),
@@ -94,6 +97,7 @@ impl Build {
         (Build::ShareWithLink, "27 also with a link"),
         (Build::LargerWithoutLinks, "no link: the larger-of kept"),
         (Build::NegativeTotalAsZero, "no link: zero for a negative"),
+        (Build::FamiliesAsked, "families without a list"),
     ];
 }
 
@@ -108,10 +112,32 @@ pub fn judge(case: &[u8], proposal: &[u8], report: &mut [u8]) -> Verdict {
 /// The judgement as one of the builds gives it.
 #[inline]
 pub fn judge_as(build: Build, case: &[u8], proposal: &[u8], report: &mut [u8]) -> Verdict {
-    match decide(build, case, proposal, report) {
+    let list = match build {
+        Build::FamiliesAsked => Some((FamilyBuild::Right, &[][..])),
+        _ => None,
+    };
+    match decide(build, case, proposal, list, report) {
         Ok(verdict) => verdict,
         Err(verdict) => misnamed(build, verdict, case),
     }
+}
+
+/// S-11: the same with a family list beside the case.
+pub fn judge_families(case: &[u8], proposal: &[u8], list: &[u8], report: &mut [u8]) -> Verdict {
+    judge_families_as(FamilyBuild::Right, case, proposal, list, report)
+}
+
+/// The judgement with a list as one of the builds gives it.
+pub fn judge_families_as(
+    build: FamilyBuild,
+    case: &[u8],
+    proposal: &[u8],
+    list: &[u8],
+    report: &mut [u8],
+) -> Verdict {
+    let (Ok(verdict) | Err(verdict)) =
+        decide(Build::Right, case, proposal, Some((build, list)), report);
+    verdict
 }
 
 #[inline]
@@ -119,6 +145,7 @@ fn decide(
     build: Build,
     case: &[u8],
     proposal: &[u8],
+    list: Option<(FamilyBuild, &[u8])>,
     report: &mut [u8],
 ) -> Result<Verdict, Verdict> {
     // Verdict 30 is asked first of all, of the whole length lent.
@@ -130,7 +157,27 @@ fn decide(
         Build::Right => Case::read(case)?,
         _ => Case::read_as(build, case)?,
     };
+    if let Some((build @ FamilyBuild::ListBeforeProposal, list)) = list {
+        Families::read(build, list, case.orders)?;
+    }
     let proposal = Proposal::read(proposal, &case)?; // verdicts 9 to 14
+
+    // S-11: verdicts 16 to 18, of a list that is lent.
+    let families = match list {
+        Some((build, list)) => Some((build, Families::read(build, list, case.orders)?)),
+        None => None,
+    };
+    let accepted = |o: usize| (proposal.volume(o), case.order(o).quantity);
+    let ahead = || match &families {
+        Some((build, families)) => families.ahead(*build, accepted),
+        None => None,
+    };
+    let family_build = list.map_or(FamilyBuild::Right, |(build, _)| build);
+    if family_build == FamilyBuild::FractionsBeforeVolumes {
+        if let Some(child) = ahead() {
+            return Err(Verdict::new(28, child));
+        }
+    }
 
     // Verdict 21, and rule 1: import is positive.
     let mut net = [0i128; MOST_ZONES];
@@ -144,6 +191,13 @@ fn decide(
         net[usize::from(order.zone)] += if import { volume } else { -volume };
     }
 
+    // S-11, verdict 28, asked after 21 and before 22.
+    if family_build != FamilyBuild::FractionsAfterBalance {
+        if let Some(child) = ahead() {
+            return Err(Verdict::new(28, child));
+        }
+    }
+
     // S-6, verdict 27: without links no part of the hour is LTA. It is asked
     // after the balance.
     let share = i128::from(proposal.share);
@@ -155,6 +209,11 @@ fn decide(
     // Rule 3, verdict 22.
     if net.iter().sum::<i128>() != 0 {
         return Err(Verdict::new(22, 0));
+    }
+    if family_build == FamilyBuild::FractionsAfterBalance {
+        if let Some(child) = ahead() {
+            return Err(Verdict::new(28, child));
+        }
     }
     if leans && build != Build::ShareAfterBranches {
         return Err(Verdict::new(27, 0));

@@ -199,13 +199,35 @@ def gap_lines(sums):
     yield from columns(("what falls short", "euros", "of the gap"), rows)
 
 
+def fraction_of(order):
+    """What is accepted of an order, in per cent, cut to a thousandth."""
+    return f"{amounts.scaled(100_000 * order.volume // order.quantity, 3, 1)} %"
+
+
+def family_rows(sums, parents):
+    """Of each order that has a parent: it, its parent, and what is accepted of the two."""
+    for child, parent in enumerate(parents):
+        if parent is not None:
+            one, other = sums.orders[child], sums.orders[parent]
+            ahead = one.volume * other.quantity > other.volume * one.quantity
+            yield f"order {child}", f"order {parent}", fraction_of(one), fraction_of(other), "AHEAD" if ahead else ""
+
+
+def family_lines(sums, parents):
+    rows = list(family_rows(sums, parents))
+    if not rows:
+        yield "  No order has a parent."
+    else:
+        yield from columns(("order", "parent", "accepted", "of its parent", ""), rows, left=2)
+
+
 def titled(title, lines):
     yield ""
     yield title
     yield from lines
 
 
-def hour_lines(judgement, sums):
+def hour_lines(judgement, sums, parents=None):
     if judgement.number in hour.REPORTED:
         yield from titled("Totals", totals_lines(judgement, sums))
     yield from titled(f"Zones, import positive; LTA share {amounts.per_cent(sums.share)}", zone_lines(sums))
@@ -213,6 +235,8 @@ def hour_lines(judgement, sums):
         yield from titled("Branches", branch_lines(sums))
     if sums.links:
         yield from titled("Links", link_lines(sums))
+    if parents is not None:
+        yield from titled("Families", family_lines(sums, parents))
     if judgement.number in hour.REPORTED:
         if sums.gap:
             yield from titled("Gap, largest part first", gap_lines(sums))
@@ -222,13 +246,14 @@ def hour_lines(judgement, sums):
 
 def clearable(number):
     """Whether an hour of this number has volumes, flows and prices that can be looked at."""
-    return number == 0 or 21 <= number <= 27
+    return number == 0 or 21 <= number <= 28
 
 
-def account(case, proposal, judgement, explanation, joined=False):
-    """All that lta explain prints, of two files or of a joined one."""
+def account(case, proposal, judgement, explanation, joined=False, families=None):
+    """All that lta explain prints, of two files or of a joined one, with a family list if there is one."""
     lines = [explanation.words]
-    lines += fault_lines(explanation, {"case": case, "proposal": proposal}, joined)
+    lines += fault_lines(explanation, {"case": case, "proposal": proposal, "families": families}, joined)
     if clearable(judgement.number):
-        lines += hour_lines(judgement, rules.Sums(case, proposal))
+        parents = None if families is None else hour.parents_of(case, families)
+        lines += hour_lines(judgement, rules.Sums(case, proposal), parents)
     return "\n".join([*lines, "", NOT_PROVED]) + "\n"

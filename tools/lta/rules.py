@@ -13,7 +13,7 @@ REPORT_ROOM = 176
 INTUITIVE_SCRATCH = 324
 INTUITIVE_PAIRS = 64
 PROPOSAL_ROOM = 2573  # room that is enough for every proposal
-VERSIONS = {"case": (1, 2), "proposal": (1,)}
+VERSIONS = {"case": (1, 2), "proposal": (1,), "families": (1,)}
 
 # Least and greatest of each field that has limits of its own; an order's zone and a link's zones are held to the count.
 LIMITS = {
@@ -50,6 +50,9 @@ NUMBERS = {
     12: "proposal length is wrong for this case",
     13: "LTA share above 100,000",
     14: "shadow price above 1,000,000",
+    16: "family list of wrong mark, version or length",
+    17: "parent that does not exist",
+    18: "order that leads back to itself",
     21: "volume above its order's quantity",
     22: "net positions do not sum to zero",
     23: "flow above the link's share of its capacity",
@@ -57,6 +60,7 @@ NUMBERS = {
     25: "zone price out of range",
     26: "gap above the tolerance",
     27: "no link, and an LTA share above 0",
+    28: "fraction above its parent's",
     30: "report buffer under 176 bytes",
 }
 # The same of request S-3's.
