@@ -1,6 +1,7 @@
 -- REQUEST S-3, of an hour: its net positions with export positive (ours are turned first), its zone prices, and what is asked of it: the verdict table with
 -- room enough for a report, and then the causes 81 to 85 of its positions and prices. Assumes nothing.
 use mathlib.Core.List.{List, [], _∷_, _++_}
+use mathlib.Core.Option.{none}
 use Prim.Native.Nat.{ℕ, zero, suc}
 use lib.ListN.{length}
 use lib.IntN.{ℤ, pos, _-ℤ_}
