@@ -1,12 +1,16 @@
 // The family list (S-11), which travels beside a case and names a parent for each order: rows 16 to 18 of the verdict table.
 ghost use mathlib.Core.Path.{_≡_};
+ghost use mathlib.Core.Option.{none};
 ghost use Prim.Native.Nat.{_<_, _≤_};
+ghost use lib.ListN.{length};
 ghost use Rattle.rows.specs.Meaning.Rows.{firstBelow};
 ghost use Rattle.rows.specs.Promised.RowLaws.{placeOf};
-ghost use Rattle.rules.specs.Meaning.Families.{parentIn, parentOf, leadsBack, named};
+ghost use Rattle.rules.specs.Meaning.Families.{parentIn, parentOf, leadsBack, LeadsBack, named};
 ghost use Rattle.rules.specs.Meaning.Families as meaning;
-ghost use Rattle.family_list.specs.Steps.Climb.{onceUp, stepFrom, doubled, Far};
-ghost use Rattle.family_list.specs.Steps.Climb as climb;
+ghost use Rattle.family_list.specs.Steps.Round.{Least};
+ghost use Rattle.family_list.specs.Steps.Round as round;
+ghost use Rattle.family_list.specs.Steps.Walk.{held, Trail};
+ghost use Rattle.family_list.specs.Steps.Taken.{Taken};
 ghost use Rattle.family_list.specs.Steps.Answer.{Whole, Known, familyAnswer, wrongList, absent};
 use fields::Cursor;
 use fields::Mark;
@@ -69,70 +73,45 @@ fn missing(orders: usize, parent: usize) -> bool
     orders <= parent
 }
 
-fn first_missing(families: &[u8], orders: usize) -> Place
+// On the way through row 17 the parents are taken into an array, where all of them are there.
+fn take_parents(families: &[u8], orders: usize, up: &mut [usize; 512]) -> Place
     requires { ⌜ Whole (now families) orders ⌝ }
+    requires { ⌜ length (now up) ≡ 512 ⌝ }
     ensures { λ r. ⌜ placeOf r ≡ firstBelow orders (absent (now (families .entry)) orders) ⌝ }
+    ensures { λ r. ⌜ (placeOf r ≡ none → Taken (now (families .entry)) orders (now (up .exit))) ⌝ }
 {
     for i in 0..orders {
-        if missing(orders, parent_at(families, orders, i)) {
+        let parent = parent_at(families, orders, i);
+        if missing(orders, parent) {
             return Place::At(i);
         }
+        up[i] = parent;
     }
     Place::Nowhere
 }
 
-// ROW 18: where steps up lead, for each order, with NO_PARENT for nowhere. One step:
-fn once_up(families: &[u8], orders: usize) -> [usize; 512]
-    requires { ⌜ Whole (now families) orders ⌝ }
-    ensures { λ r. ⌜ r ≡ onceUp (now (families .entry)) orders ⌝ }
-{
-    let mut up = [NO_PARENT; 512];
-    for child in 0..orders {
-        up[child] = parent_at(families, orders, child);
-    }
-    up
-}
+// ROW 18. An order that a walk has been at holds no longer its parent but the walk's number, above that of every order.
+const WALKS: usize = 512;
 
-fn step_from(up: &[usize; 512], orders: usize, to: usize) -> usize
+// Walk i: up from order i, over orders that no walk has been at, to the first that one has been at or that has no parent.
+fn walk_up(up: &mut [usize; 512], orders: usize, i: usize) -> usize
     requires { ⌜ orders ≤ 512 ⌝ }
-    ensures { λ r. ⌜ r ≡ stepFrom orders (now (up .entry)) to ⌝ }
+    requires { ⌜ i < orders ⌝ }
+    requires { ⌜ length (now up) ≡ 512 ⌝ }
+    ensures { λ _. ⌜ length (now (up .exit)) ≡ 512 ⌝ }
+    ensures { λ r. ⌜ Trail orders i (held (now (up .entry))) r (held (now (up .exit))) ⌝ }
 {
-    if to < orders {
-        return up[to];
+    let mut tip = i;
+    while up[tip] < orders {
+        let next = up[tip];
+        up[tip] = WALKS + i;
+        tip = next;
     }
-    NO_PARENT
-}
-
-// Twice as many steps.
-fn doubled(up: [usize; 512], orders: usize) -> [usize; 512]
-    requires { ⌜ orders ≤ 512 ⌝ }
-    ensures { λ r. ⌜ r ≡ doubled orders up ⌝ }
-{
-    let mut next = [NO_PARENT; 512];
-    for i in 0..orders {
-        let to = up[i];
-        next[i] = step_from(&up, orders, to);
-    }
-    next
-}
-
-// At least as many steps as there are orders. What is then reached lies on a circle, and all that lies on one is reached.
-fn far_up(families: &[u8], orders: usize) -> [usize; 512]
-    requires { ⌜ Known (now families) orders ⌝ }
-    ensures { λ r. ⌜ Far (parentOf (now (families .entry))) orders r ⌝ }
-{
-    let mut up = once_up(families, orders);
-    let mut steps = 1;
-    while steps < orders {
-        let next = doubled(up, orders);
-        up = next;
-        steps = steps + steps;
-    }
-    up
+    tip
 }
 
 fn smaller(a: usize, b: usize) -> usize
-    ensures { λ r. ⌜ r ≡ climb.smaller a b ⌝ }
+    ensures { λ r. ⌜ r ≡ round.smaller a b ⌝ }
 {
     if b < a {
         return b;
@@ -140,23 +119,43 @@ fn smaller(a: usize, b: usize) -> usize
     a
 }
 
-fn least(up: [usize; 512], orders: usize) -> usize
-    requires { ⌜ orders ≤ 512 ⌝ }
-    ensures { λ r. ⌜ r ≡ climb.leastBelow orders up ⌝ }
+// The least order of the circle that walk i came upon at the order tip, once around. Where it came back to order i, this is the least: walks have been at every
+// order before it.
+fn least_on_circle(families: &[u8], orders: usize, i: usize, tip: usize) -> usize
+    requires { ⌜ Known (now families) orders ⌝ }
+    requires { ⌜ tip < orders ⌝ }
+    requires { ⌜ LeadsBack (parentOf (now families)) tip ⌝ }
+    ensures { λ r. ⌜ Least (parentOf (now (families .entry))) orders i tip r ⌝ }
 {
-    let mut found = NO_PARENT;
-    for i in 0..orders {
-        found = smaller(found, up[i]);
+    if tip == i {
+        return i;
     }
-    found
+    let mut least = tip;
+    let mut at = parent_at(families, orders, tip);
+    let mut steps: usize = 1;
+    while at != tip {
+        least = smaller(least, at);
+        at = parent_at(families, orders, at);
+        steps = steps + 1;
+    }
+    least
 }
 
-// The first order that leads back to itself: the least that is reached.
-fn first_on_circle(families: &[u8], orders: usize) -> Place
+// The first order that leads back to itself. One that leads into a circle leads back to itself only where it lies on it.
+fn first_on_circle(families: &[u8], orders: usize, up: &mut [usize; 512]) -> Place
     requires { ⌜ Known (now families) orders ⌝ }
+    requires { ⌜ Taken (now families) orders (now up) ⌝ }
     ensures { λ r. ⌜ placeOf r ≡ firstBelow orders (leadsBack orders (parentOf (now (families .entry)))) ⌝ }
 {
-    let first = least(far_up(families, orders), orders);
+    let mut first = orders;
+    let mut i = 0;
+    while i < first {
+        let tip = walk_up(up, orders, i);
+        if up[tip] == WALKS + i {
+            first = smaller(first, least_on_circle(families, orders, i, tip));
+        }
+        i = i + 1;
+    }
     if first < orders {
         return Place::At(first);
     }
@@ -174,13 +173,14 @@ pub fn read_families(families: &[u8], orders: usize) -> FamilyAnswer
             index: 0,
         });
     }
-    if let Place::At(i) = first_missing(families, orders) {
+    let mut up = [NO_PARENT; 512];
+    if let Place::At(i) = take_parents(families, orders, &mut up) {
         return FamilyAnswer::Refused(Outcome {
             number: 17,
             index: i as u32,
         });
     }
-    if let Place::At(i) = first_on_circle(families, orders) {
+    if let Place::At(i) = first_on_circle(families, orders, &mut up) {
         return FamilyAnswer::Refused(Outcome {
             number: 18,
             index: i as u32,

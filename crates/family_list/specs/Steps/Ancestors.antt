@@ -35,6 +35,10 @@ module _ (parent : ℕ → Option ℕ) where
   stays-in x zero {i} {j} h e = omega (arith, Option·some-injective i j e)
   stays-in x (suc k) {i} {j} h e = let w = last-step (ancestor parent k i) e in x .exists (w .0) j (stays-in x k h (w .1)) (w .2)
 
+  pub has-parent : {i : ℕ} → LeadsBack parent i → (k : ℕ) × (parent i ≡ some k)
+  unfolding ancestor
+  has-parent {i} b = let q : 1 + (b .steps - 1) ≡ b .steps = omega (arith, b .one-or-more) in earlier 1 (b .steps - 1) i (ap (λ (s : ℕ). ancestor parent s i) q ∙ b .back)
+
   -- round and round
   pub rounds : (k : ℕ) {i : ℕ} → ancestor parent k i ≡ some i → (m : ℕ) → ancestor parent (k * m) i ≡ some i
   unfolding ancestor
