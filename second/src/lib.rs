@@ -24,7 +24,8 @@ pub use columns::{case_columned, case_columned_as, case_restored, case_restored_
 pub use desk::{desk_lines, desk_output};
 pub use dump::{dump_proposal, dump_proposal_as, DumpBuild};
 pub use intuitive::{
-    hour_intuitive, hour_intuitive_as, intuitive, intuitive_as, CarriedAnswer, IntuitiveBuild,
+    hour_intuitive, hour_intuitive_as, hour_intuitive_small, intuitive, intuitive_as,
+    intuitive_small, Board, CarriedAnswer, IntuitiveBuild,
 };
 pub use judge::{judge, judge_as, Build};
 pub use queue::{
