@@ -4,9 +4,9 @@
  * whether the proposal is accepted, or else the first cause for which it is refused. lta_judge_families answers the same where orders lean
  * on others, as a family list beside the case says. lta_book_surplus values an order book that lies in memory. lta_desk_lines gives a judgement as text. lta_sheet_branches turns a published margin sheet into the branches of a case.
  * lta_hour_intuitive answers whether an accepted hour's exchanges can all go from a lower or equal price to a higher one, and lta_intuitive
- * answers it of net positions and zone prices. lta_dump_proposal turns a solver's dump into a proposal for a case. lta_case_columned
- * rearranges a case for the archive, and lta_case_restored gives it back. lta_queue_post and lta_queue_serve keep the queue of a desk that
- * serves four areas.
+ * answers it of net positions and zone prices; lta_hour_intuitive_small and lta_intuitive_small give the same answers from less scratch.
+ * lta_dump_proposal turns a solver's dump into a proposal for a case. lta_case_columned rearranges a case for the archive, and
+ * lta_case_restored gives it back. lta_queue_post and lta_queue_serve keep the queue of a desk that serves four areas.
  *
  * Each promise below is part of a contract in crates/host, and the archive is built only if every function in it is proved to meet its
  * contract. A word in brackets, as [outcome], is the name of the clause that says it.
@@ -354,11 +354,13 @@ enum lta_intuitive_number {
     LTA_INTUITIVE_PRICE = 83,       /* a price is out of its range, which is LTA_ZONE_PRICE's; index: the zone */
     LTA_INTUITIVE_PAIR = 84,        /* a pair has an unknown zone or equal ones, repeats an earlier one or is past the 64th; index: the
                                      * pair */
-    LTA_INTUITIVE_NO_ROOM = 85      /* scratch_count is under LTA_INTUITIVE_SCRATCH */
+    LTA_INTUITIVE_NO_ROOM = 85      /* scratch_count is under LTA_INTUITIVE_SCRATCH, on the smaller board LTA_INTUITIVE_SMALL_SCRATCH */
 };
 
 #define LTA_INTUITIVE_PAIRS 64      /* pairs at most */
 #define LTA_INTUITIVE_SCRATCH 324   /* numbers that a scratch must have, whatever the zones */
+#define LTA_INTUITIVE_SMALL_SCRATCH 96 /* the same on the smaller board: one per pair, one per zone for export used, one per zone for
+                                        * import used */
 
 /* The answer. */
 struct lta_carried {
@@ -414,6 +416,23 @@ struct lta_carried lta_hour_intuitive(const uint8_t *case_bytes, size_t case_len
                                       const uint8_t *proposal, size_t proposal_len,
                                       const uint8_t *pairs, size_t pairs_len,
                                       int64_t *scratch, size_t scratch_count);
+
+/* The same two on a smaller board. Arguments, answers, numbers and their order are those of lta_intuitive and of lta_hour_intuitive, but
+ * that LTA_INTUITIVE_SMALL_SCRATCH stands for LTA_INTUITIVE_SCRATCH: LTA_INTUITIVE_NO_ROOM is given for a scratch under 96 numbers, and of
+ * an answer the first 96 are zero, and all past them as they were [outcome] [yes] [no] [yes_or_no] [largest] [scratch] [refused].
+ *
+ * On each input that both take, intuitive and total are those of the wide entry; what the wide one takes the smaller takes too, and every
+ * refusal but LTA_INTUITIVE_NO_ROOM is the same, number and index.
+ */
+struct lta_carried lta_intuitive_small(const int64_t *net_exports, size_t net_count,
+                                       const int64_t *zone_prices, size_t price_count,
+                                       const uint8_t *pairs, size_t pairs_len,
+                                       int64_t *scratch, size_t scratch_count);
+
+struct lta_carried lta_hour_intuitive_small(const uint8_t *case_bytes, size_t case_len,
+                                            const uint8_t *proposal, size_t proposal_len,
+                                            const uint8_t *pairs, size_t pairs_len,
+                                            int64_t *scratch, size_t scratch_count);
 
 /* THE SOLVER'S DUMP. The numbers of lta_dump_proposal, in the order in which they are asked, each of the whole dump before the next. 56
  * names the number by which the case is refused; 58 and 59 name the first such value, counted in values from 0, so that it stands 8 * index
@@ -629,7 +648,7 @@ static inline const char *lta_number_text(uint32_t number)
     case LTA_INTUITIVE_POSITION: return "net position out of range, or their sum is not zero";
     case LTA_INTUITIVE_PRICE: return "price of a zone out of range";
     case LTA_INTUITIVE_PAIR: return "pair with an unknown zone, equal zones, repeated or past the 64th";
-    case LTA_INTUITIVE_NO_ROOM: return "scratch under 324 numbers";
+    case LTA_INTUITIVE_NO_ROOM: return "scratch under 324 numbers, or under 96 on the smaller board";
     default: return "unknown number";
     }
 }

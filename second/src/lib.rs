@@ -26,7 +26,8 @@ pub use desk::{desk_lines, desk_output};
 pub use dump::{dump_proposal, dump_proposal_as, DumpBuild};
 pub use families::{list_of, FamilyBuild, LIST_HEADER, NO_PARENT};
 pub use intuitive::{
-    hour_intuitive, hour_intuitive_as, intuitive, intuitive_as, CarriedAnswer, IntuitiveBuild,
+    hour_intuitive, hour_intuitive_as, hour_intuitive_small, intuitive, intuitive_as,
+    intuitive_small, Board, CarriedAnswer, IntuitiveBuild,
 };
 pub use judge::{judge, judge_as, judge_families, judge_families_as, Build};
 pub use queue::{
