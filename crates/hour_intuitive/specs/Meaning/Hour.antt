@@ -29,7 +29,7 @@ hourPrices s t = listTo ((caseOf s) .zones) (λ z. zonePrice (caseOf s) (pricesO
 abbrev pub hourNetwork : List ℕ → List ℕ → List ℕ → Network
 hourNetwork s t pairs = networkOf (hourExports s t) (hourPrices s t) pairs
 
--- THE TABLE, for a case s, a proposal t, pairs, and a scratch of `room` numbers of which n are asked for
+-- THE TABLE, for a case s, a proposal t, pairs, and a scratch of `room` numbers of which n are asked for, 324 or 96 (S-13)
 unfoldable pub askedRows : List ℕ → List ℕ → List ℕ → ℕ → ℕ → List Row
 askedRows s t pairs n room = table none s t reportRoom (caseOf s) (planOf s t) (pricesOf s t) ++ intuitiveRows (hourExports s t) (hourPrices s t) pairs n room
 

@@ -15,7 +15,7 @@ use Rattle.rows.specs.Promised.RowLaws.{else-refusal, refusal-append, field-fai
 use Rattle.rules.specs.Meaning.Verdict.{under}
 use Rattle.net_positions.specs.Meaning.Positions.{positionOutside, unbalanced}
 use Rattle.zone_pairs.specs.Meaning.Pairs.{pairCount, badPair, networkOf}
-use Rattle.transports.specs.Meaning.Network.{Network, Placed, Transport, CarriesAll, Excess}
+use Rattle.transports.specs.Meaning.Network.{Network, Placed, CarriesAll, Excess}
 use Rattle.flow_board.specs.Board.{amountAt, boardOf}
 use Rattle.intuitive.specs.declared.Carried.{Carried}
 use Rattle.intuitive.specs.Meaning.Intuitive.{scratchRoom, unfit, priceOutside, intuitiveRows, intuitiveRefusal, intuitiveOutcome, LargestTotal, intuitiveScratch}
