@@ -18,8 +18,8 @@ const LEAST_HOURS: u64 = 10_000;
 const LEAST_TIMES: u64 = 100;
 const NUMBERS: [u32; 6] = [0, 81, 82, 83, 84, 85];
 /// Those of the judgement but 30, and the two that an accepted hour can have.
-const HOUR_NUMBERS: [usize; 24] = [
-    0, 1, 2, 3, 4, 5, 6, 7, 8, 9, 10, 11, 12, 13, 14, 21, 22, 23, 24, 25, 26, 27, 84, 85,
+const HOUR_NUMBERS: [usize; 25] = [
+    0, 1, 2, 3, 4, 5, 6, 7, 8, 9, 10, 11, 12, 13, 14, 15, 21, 22, 23, 24, 25, 26, 27, 84, 85,
 ];
 
 /// Numbers kept on either side of the lent scratch.
@@ -745,7 +745,7 @@ fn hours(all: &mut Exchanges, rng: &mut Rng) {
         let shape = Shape::any(rng);
         let mut hour = good(rng, shape);
         if rng.one_in(3) {
-            hour.tolerance = rng.pick(&[0, 1_000_000_000]);
+            hour.tolerance = rng.pick(&[0, 10_000, 10_001]);
         }
         feed_hour(all, rng, &hour);
     }

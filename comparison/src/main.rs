@@ -37,6 +37,7 @@ mod run;
 #[cfg(feature = "sheet")]
 mod sheet;
 mod versions;
+mod wide;
 
 use rng::Rng;
 use run::{Check, Run, MET};
@@ -47,8 +48,8 @@ use std::time::Instant;
 const SEED: u64 = 1;
 const INPUTS: u64 = 260_000;
 /// Every number of the verdict table.
-const NUMBERS: [usize; 23] = [
-    0, 1, 2, 3, 4, 5, 6, 7, 8, 9, 10, 11, 12, 13, 14, 21, 22, 23, 24, 25, 26, 27, 30,
+const NUMBERS: [usize; 24] = [
+    0, 1, 2, 3, 4, 5, 6, 7, 8, 9, 10, 11, 12, 13, 14, 15, 21, 22, 23, 24, 25, 26, 27, 30,
 ];
 
 fn main() -> ExitCode {
@@ -86,6 +87,7 @@ fn main() -> ExitCode {
     versions::halves(&mut run);
     versions::laws(&mut run, &mut Rng::new(seed));
     no_links::hours(&mut run, &mut Rng::new(seed));
+    wide::hours(&mut run, &mut Rng::new(seed));
     rearranged::hours(&mut run, &mut Rng::new(seed));
     #[cfg(feature = "desk")]
     {

@@ -9,7 +9,7 @@
 use crate::archive;
 use crate::families::{enough, good, outside};
 use crate::fields::{fields, Field};
-use crate::make::{at_limits, optimal, random, Shape};
+use crate::make::{at_limits, narrow, optimal, random, wide, Shape};
 use crate::rng::Rng;
 use crate::run::Run;
 use second_judge::hours::{three_zone_hour, Hour};
@@ -21,9 +21,9 @@ use second_judge::{
 /// So many inputs at least, and each number at least so many times.
 const LEAST_INPUTS: u64 = 50_000;
 const LEAST_TIMES: u64 = 100;
-const NUMBERS: [u32; 27] = [
-    0, 1, 2, 3, 4, 5, 6, 7, 8, 9, 10, 11, 12, 13, 14, 16, 17, 18, 21, 28, 22, 27, 23, 24, 25, 26,
-    30,
+const NUMBERS: [u32; 28] = [
+    0, 1, 2, 3, 4, 5, 6, 7, 8, 9, 10, 11, 12, 13, 14, 15, 16, 17, 18, 21, 28, 22, 27, 23, 24, 25,
+    26, 30,
 ];
 /// The numbers of the list, in the order in which they are asked among the others.
 const OF_THE_LIST: [u32; 4] = [16, 17, 18, 28];
@@ -34,7 +34,7 @@ const MOST_LENT: usize = 256;
 const MOST_ORDERS: usize = 512;
 
 /// Things a good stream of inputs must come across, counted.
-const MET: [&str; 24] = [
+const MET: [&str; 25] = [
     "accepted, 512 orders in a chain",
     "18, 512 orders in a circle",
     "18, an order its own parent",
@@ -59,6 +59,7 @@ const MET: [&str; 24] = [
     "21, and a child ahead",
     "28, and out of balance",
     "26, with families",
+    "15, and a list refused by 16 to 18",
 ];
 
 /// Counts over all inputs.
@@ -165,10 +166,10 @@ impl Lists<'_> {
             true => space == filled,
             false => verdict == free && space == theirs,
         };
-        // 16 to 18 are asked before all that the sums say, 28 after 21.
+        // 16 to 18 are asked before all that the sums say, 28 after 21; 15 before them.
         let earlier = match verdict.number {
-            28 => (1..=14).contains(&free.number) || [21, 30].contains(&free.number),
-            _ => (1..=14).contains(&free.number) || free.number == 30,
+            28 => (1..=15).contains(&free.number) || [21, 30].contains(&free.number),
+            _ => (1..=15).contains(&free.number) || free.number == 30,
         };
         if !kept || own && earlier {
             self.fault(files, || {
@@ -345,6 +346,27 @@ fn many_orders(rng: &mut Rng) -> Hour {
         if hour.orders.len() == MOST_ORDERS {
             return hour;
         }
+    }
+}
+
+/// The most orders there can be, each accepted in the same fraction and all at the
+/// zone's price: every family holds, and the gap is zero.
+fn even_orders(rng: &mut Rng) -> Hour {
+    let quantity = rng.between_or_end(1, 100_000) as u32;
+    let volume = rng.between_or_end(0, quantity.into()) as u32;
+    let price = rng.between(-50_000, 400_000) as i32;
+    let order = |o: usize| Row {
+        zone: 0,
+        side: if o % 2 == 0 { BUYS } else { SELLS },
+        quantity,
+        price,
+    };
+    Hour {
+        zones: 1,
+        orders: (0..MOST_ORDERS).map(order).collect(),
+        volumes: vec![volume; MOST_ORDERS],
+        system_price: price,
+        ..Hour::default()
     }
 }
 
@@ -538,11 +560,10 @@ fn most_orders(lists: &mut Lists, rng: &mut Rng) {
     lists.run.begin("512 orders");
     let last = MOST_ORDERS - 1;
     for round in 0..60 {
-        let mut hour = many_orders(rng);
-        if round % 2 == 0 {
-            // All accepted in one fraction, none of them: every family holds.
-            hour.volumes.fill(0);
-        }
+        let hour = match round % 2 {
+            0 => even_orders(rng),
+            _ => many_orders(rng),
+        };
         let up = |o: usize| (o < last).then_some(o as u16 + 1);
         let down = |o: usize| o.checked_sub(1).map(|o| o as u16);
         let whole = some_orders(rng, MOST_ORDERS, MOST_ORDERS);
@@ -866,6 +887,24 @@ fn other_causes(lists: &mut Lists, rng: &mut Rng) {
         let lent = enough(rng);
         lists.expect(&files, lent, number, index);
         lists.meet(22, number == 28);
+    }
+    lists.run.end();
+
+    lists.run.begin("a wide tolerance, and families");
+    for _ in 0..2_000 {
+        let mut hour = some_hour(rng);
+        hour.tolerance = wide(rng);
+        let parents = drawn(rng, hour.orders.len());
+        let mut files = Files::new(&hour, list_of(&parents));
+        if rng.one_in(4) {
+            files.list.clear();
+        }
+        let lent = enough(rng);
+        lists.expect(&files, lent, 15, 0);
+        hour.tolerance = narrow(rng);
+        let narrower = Files::new(&hour, files.list);
+        let verdict = lists.feed(&narrower, lent);
+        lists.meet(24, (16..=18).contains(&verdict.number));
     }
     lists.run.end();
 

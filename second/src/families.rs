@@ -33,11 +33,14 @@ pub enum FamilyBuild {
     FractionsBeforeVolumes,
     FractionsAfterBalance,
     FractionsNotAsked,
+    // S-12's.
+    WideAfterList,
+    WideNotAsked,
 }
 
 impl FamilyBuild {
     /// Every wrong build, with the name a table gives it.
-    pub const WRONG: [(FamilyBuild, &'static str); 21] = [
+    pub const WRONG: [(FamilyBuild, &'static str); 23] = [
         (FamilyBuild::EmptyIsNoFamilies, "empty list: no families"),
         (FamilyBuild::MarkNotAsked, "16: any mark"),
         (FamilyBuild::VersionNotAsked, "16: any version"),
@@ -65,6 +68,8 @@ impl FamilyBuild {
         (FamilyBuild::FractionsBeforeVolumes, "28 before 21"),
         (FamilyBuild::FractionsAfterBalance, "28 after 22"),
         (FamilyBuild::FractionsNotAsked, "28 not asked"),
+        (FamilyBuild::WideAfterList, "15 after 18"),
+        (FamilyBuild::WideNotAsked, "15 not asked with a list"),
     ];
 }
 

@@ -55,11 +55,18 @@ pub enum Build {
     NegativeTotalAsZero,
     // S-11's: a list asked where none is lent, as if it were empty.
     FamiliesAsked,
+    // S-12's: where 15 is asked, and what is compared.
+    WideInHeader,
+    WideAtTheLimit,
+    WideBeforeShadowPrices,
+    WideAfterVolumes,
+    WideInMicrocents,
+    WideNotAsked,
 }
 
 impl Build {
     /// Every wrong build, with the name a table gives it.
-    pub const WRONG: [(Build, &'static str); 35] = [
+    pub const WRONG: [(Build, &'static str); 41] = [
         (Build::ExportPositive, "export counted positive"),
         (Build::CapacityWithoutShare, "capacity without the share"),
         (Build::BranchTotalAlone, "branch total alone"),
@@ -98,6 +105,12 @@ impl Build {
         (Build::LargerWithoutLinks, "no link: the larger-of kept"),
         (Build::NegativeTotalAsZero, "no link: zero for a negative"),
         (Build::FamiliesAsked, "families without a list"),
+        (Build::WideInHeader, "15 asked in row 4"),
+        (Build::WideAtTheLimit, "15: 10,000 itself refused"),
+        (Build::WideBeforeShadowPrices, "15 before 14"),
+        (Build::WideAfterVolumes, "15 after 21"),
+        (Build::WideInMicrocents, "15 compared in microcents"),
+        (Build::WideNotAsked, "15 not asked"),
     ];
 }
 
@@ -160,19 +173,39 @@ fn decide(
     if let Some((build @ FamilyBuild::ListBeforeProposal, list)) = list {
         Families::read(build, list, case.orders)?;
     }
+    // S-12, verdict 15, asked straight after 14: narrower hours alone are judged.
+    let tolerance = match build {
+        Build::WideInMicrocents => u64::from(case.tolerance) * MICROCENTS as u64,
+        Build::WideAtTheLimit => u64::from(case.tolerance) + 1,
+        _ => case.tolerance.into(),
+    };
+    let family_build = list.map_or(FamilyBuild::Right, |(build, _)| build);
+    let wide = tolerance > WIDEST_TOLERANCE.into()
+        && build != Build::WideNotAsked
+        && family_build != FamilyBuild::WideNotAsked;
+    if wide && build == Build::WideBeforeShadowPrices {
+        Proposal::read_but_shadow_prices(proposal, &case)?;
+        return Err(Verdict::new(15, 0));
+    }
     let proposal = Proposal::read(proposal, &case)?; // verdicts 9 to 14
+    let late = build == Build::WideAfterVolumes || family_build == FamilyBuild::WideAfterList;
+    if wide && !late {
+        return Err(Verdict::new(15, 0));
+    }
 
     // S-11: verdicts 16 to 18, of a list that is lent.
     let families = match list {
         Some((build, list)) => Some((build, Families::read(build, list, case.orders)?)),
         None => None,
     };
+    if wide && family_build == FamilyBuild::WideAfterList {
+        return Err(Verdict::new(15, 0));
+    }
     let accepted = |o: usize| (proposal.volume(o), case.order(o).quantity);
     let ahead = || match &families {
         Some((build, families)) => families.ahead(*build, accepted),
         None => None,
     };
-    let family_build = list.map_or(FamilyBuild::Right, |(build, _)| build);
     if family_build == FamilyBuild::FractionsBeforeVolumes {
         if let Some(child) = ahead() {
             return Err(Verdict::new(28, child));
@@ -191,6 +224,9 @@ fn decide(
         net[usize::from(order.zone)] += if import { volume } else { -volume };
     }
 
+    if wide {
+        return Err(Verdict::new(15, 0));
+    }
     // S-11, verdict 28, asked after 21 and before 22.
     if family_build != FamilyBuild::FractionsAfterBalance {
         if let Some(child) = ahead() {

@@ -8,6 +8,8 @@ pub const LINKS: RangeInclusive<u8> = 0..=64;
 pub const ORDERS: RangeInclusive<u16> = 0..=512;
 /// Cents.
 pub const TOLERANCE: RangeInclusive<u32> = 0..=1_000_000_000;
+/// Cents; S-12: a tolerance above it is read, and refused with 15.
+pub const WIDEST_TOLERANCE: u32 = 10_000;
 /// Tenths.
 pub const RAM: RangeInclusive<i32> = -500_000..=500_000;
 /// Hundred-thousandths.
