@@ -29,7 +29,7 @@ module _ (s t pairs : List ℕ) where
   Contract n scratch = Clauses (hourOutcome s t pairs n (length scratch)) (hourNetwork s t pairs) (hourScratch s t pairs n scratch)
 
   abbrev judged : List Row
-  judged = table s t reportRoom (caseOf s) (planOf s t) (pricesOf s t)
+  judged = table none s t reportRoom (caseOf s) (planOf s t) (pricesOf s t)
 
   -- an hour that is answered is one whose exports, prices and pairs are
   answered : (n room : ℕ) → (hourOutcome s t pairs n room) .number ≡ 0 → intuitiveRefusal (hourExports s t) (hourPrices s t) pairs n room ≡ none
