@@ -1,7 +1,7 @@
 // The family list (S-11), which travels beside a case and names a parent for each order: rows 16 to 18 of the verdict table.
 ghost use mathlib.Core.Path.{_≡_};
 ghost use mathlib.Core.Option.{none};
-ghost use Prim.Native.Nat.{_<_, _≤_};
+ghost use Prim.Native.Nat.{_+_, _<_, _≤_};
 ghost use lib.ListN.{length};
 ghost use Rattle.rows.specs.Meaning.Rows.{firstBelow};
 ghost use Rattle.rows.specs.Promised.RowLaws.{placeOf};
@@ -10,7 +10,7 @@ ghost use Rattle.rules.specs.Meaning.Families as meaning;
 ghost use Rattle.family_list.specs.Steps.Round.{Least};
 ghost use Rattle.family_list.specs.Steps.Round as round;
 ghost use Rattle.family_list.specs.Steps.Walk.{held, Trail};
-ghost use Rattle.family_list.specs.Steps.Taken.{Taken};
+ghost use Rattle.family_list.specs.Steps.Taken.{Taken, Search};
 ghost use Rattle.family_list.specs.Steps.Answer.{Whole, Known, familyAnswer, wrongList, absent};
 use fields::Cursor;
 use fields::Mark;
@@ -141,7 +141,30 @@ fn least_on_circle(families: &[u8], orders: usize, i: usize, tip: usize) -> usiz
     least
 }
 
-// The first order that leads back to itself. One that leads into a circle leads back to itself only where it lies on it.
+// Order i in its turn, with a walk up from it where none has been at it: the first order that leads back to itself, of those that the walks have been at.
+fn first_after(
+    families: &[u8],
+    orders: usize,
+    up: &mut [usize; 512],
+    i: usize,
+    first: usize,
+) -> usize
+    requires { ⌜ Known (now families) orders ⌝ }
+    requires { ⌜ i < orders ⌝ }
+    requires { ⌜ Search (now families) orders i first (now up) ⌝ }
+    ensures { λ r. ⌜ Search (now (families .entry)) orders (i + 1) r (now (up .exit)) ⌝ }
+{
+    if orders <= up[i] {
+        return first;
+    }
+    let tip = walk_up(up, orders, i);
+    if up[tip] != WALKS + i {
+        return first;
+    }
+    smaller(first, least_on_circle(families, orders, i, tip))
+}
+
+// The first order that leads back to itself. One that leads into a circle does so only where it lies on it.
 fn first_on_circle(families: &[u8], orders: usize, up: &mut [usize; 512]) -> Place
     requires { ⌜ Known (now families) orders ⌝ }
     requires { ⌜ Taken (now families) orders (now up) ⌝ }
@@ -150,10 +173,7 @@ fn first_on_circle(families: &[u8], orders: usize, up: &mut [usize; 512]) -> Pla
     let mut first = orders;
     let mut i = 0;
     while i < first {
-        let tip = walk_up(up, orders, i);
-        if up[tip] == WALKS + i {
-            first = smaller(first, least_on_circle(families, orders, i, tip));
-        }
+        first = first_after(families, orders, up, i, first);
         i = i + 1;
     }
     if first < orders {
