@@ -5,8 +5,7 @@ ghost use Prim.Native.Nat.{_+_, _<_, _≤_};
 ghost use lib.ListN.{length};
 ghost use Rattle.rows.specs.Meaning.Rows.{firstBelow};
 ghost use Rattle.rows.specs.Promised.RowLaws.{placeOf};
-ghost use Rattle.rules.specs.Meaning.Families.{parentIn, parentOf, leadsBack, LeadsBack, named};
-ghost use Rattle.rules.specs.Meaning.Families as meaning;
+ghost use Rattle.rules.specs.Meaning.Families.{parentIn, parentOf, leadsBack, LeadsBack};
 ghost use Rattle.family_list.specs.Steps.Round.{Least};
 ghost use Rattle.family_list.specs.Steps.Round as round;
 ghost use Rattle.family_list.specs.Steps.Walk.{held, Trail};
@@ -63,17 +62,7 @@ pub fn parent_at(families: &[u8], orders: usize, i: usize) -> usize
     half_at(families, HEADER + 2 * i) as usize
 }
 
-// ROW 17: a parent that does not exist.
-fn missing(orders: usize, parent: usize) -> bool
-    ensures { λ r. ⌜ r ≡ meaning.missing orders (named parent) ⌝ }
-{
-    if parent == NO_PARENT {
-        return false;
-    }
-    orders <= parent
-}
-
-// On the way through row 17 the parents are taken into an array, where all of them are there.
+// ROW 17: the first order whose parent does not exist. Where there is none, the numbers of all parents have been taken into the array.
 fn take_parents(families: &[u8], orders: usize, up: &mut [usize; 512]) -> Place
     requires { ⌜ Whole (now families) orders ⌝ }
     requires { ⌜ length (now up) ≡ 512 ⌝ }
@@ -82,8 +71,10 @@ fn take_parents(families: &[u8], orders: usize, up: &mut [usize; 512]) -> Place
 {
     for i in 0..orders {
         let parent = parent_at(families, orders, i);
-        if missing(orders, parent) {
-            return Place::At(i);
+        if orders <= parent {
+            if parent != NO_PARENT {
+                return Place::At(i);
+            }
         }
         up[i] = parent;
     }
