@@ -1,16 +1,15 @@
 // The family list (S-11), which travels beside a case and names a parent for each order: rows 16 to 18 of the verdict table.
 ghost use mathlib.Core.Path.{_≡_};
 ghost use mathlib.Core.Option.{none};
-ghost use Prim.Native.Nat.{_<_, _≤_};
+ghost use Prim.Native.Nat.{_+_, _<_, _≤_};
 ghost use lib.ListN.{length};
 ghost use Rattle.rows.specs.Meaning.Rows.{firstBelow};
 ghost use Rattle.rows.specs.Promised.RowLaws.{placeOf};
-ghost use Rattle.rules.specs.Meaning.Families.{parentIn, parentOf, leadsBack, LeadsBack, named};
-ghost use Rattle.rules.specs.Meaning.Families as meaning;
+ghost use Rattle.rules.specs.Meaning.Families.{parentIn, parentOf, leadsBack, LeadsBack};
 ghost use Rattle.family_list.specs.Steps.Round.{Least};
 ghost use Rattle.family_list.specs.Steps.Round as round;
 ghost use Rattle.family_list.specs.Steps.Walk.{held, Trail};
-ghost use Rattle.family_list.specs.Steps.Taken.{Taken};
+ghost use Rattle.family_list.specs.Steps.Taken.{Taken, Search};
 ghost use Rattle.family_list.specs.Steps.Answer.{Whole, Known, familyAnswer, wrongList, absent};
 use fields::Cursor;
 use fields::Mark;
@@ -63,17 +62,7 @@ pub fn parent_at(families: &[u8], orders: usize, i: usize) -> usize
     half_at(families, HEADER + 2 * i) as usize
 }
 
-// ROW 17: a parent that does not exist.
-fn missing(orders: usize, parent: usize) -> bool
-    ensures { λ r. ⌜ r ≡ meaning.missing orders (named parent) ⌝ }
-{
-    if parent == NO_PARENT {
-        return false;
-    }
-    orders <= parent
-}
-
-// On the way through row 17 the parents are taken into an array, where all of them are there.
+// ROW 17: the first order whose parent does not exist. Where there is none, the numbers of all parents have been taken into the array.
 fn take_parents(families: &[u8], orders: usize, up: &mut [usize; 512]) -> Place
     requires { ⌜ Whole (now families) orders ⌝ }
     requires { ⌜ length (now up) ≡ 512 ⌝ }
@@ -82,8 +71,10 @@ fn take_parents(families: &[u8], orders: usize, up: &mut [usize; 512]) -> Place
 {
     for i in 0..orders {
         let parent = parent_at(families, orders, i);
-        if missing(orders, parent) {
-            return Place::At(i);
+        if orders <= parent {
+            if parent != NO_PARENT {
+                return Place::At(i);
+            }
         }
         up[i] = parent;
     }
@@ -141,7 +132,30 @@ fn least_on_circle(families: &[u8], orders: usize, i: usize, tip: usize) -> usiz
     least
 }
 
-// The first order that leads back to itself. One that leads into a circle leads back to itself only where it lies on it.
+// Order i in its turn, with a walk up from it where none has been at it: the first order that leads back to itself, of those that the walks have been at.
+fn first_after(
+    families: &[u8],
+    orders: usize,
+    up: &mut [usize; 512],
+    i: usize,
+    first: usize,
+) -> usize
+    requires { ⌜ Known (now families) orders ⌝ }
+    requires { ⌜ i < orders ⌝ }
+    requires { ⌜ Search (now families) orders i first (now up) ⌝ }
+    ensures { λ r. ⌜ Search (now (families .entry)) orders (i + 1) r (now (up .exit)) ⌝ }
+{
+    if orders <= up[i] {
+        return first;
+    }
+    let tip = walk_up(up, orders, i);
+    if up[tip] != WALKS + i {
+        return first;
+    }
+    smaller(first, least_on_circle(families, orders, i, tip))
+}
+
+// The first order that leads back to itself. One that leads into a circle does so only where it lies on it.
 fn first_on_circle(families: &[u8], orders: usize, up: &mut [usize; 512]) -> Place
     requires { ⌜ Known (now families) orders ⌝ }
     requires { ⌜ Taken (now families) orders (now up) ⌝ }
@@ -150,10 +164,7 @@ fn first_on_circle(families: &[u8], orders: usize, up: &mut [usize; 512]) -> Pla
     let mut first = orders;
     let mut i = 0;
     while i < first {
-        let tip = walk_up(up, orders, i);
-        if up[tip] == WALKS + i {
-            first = smaller(first, least_on_circle(families, orders, i, tip));
-        }
+        first = first_after(families, orders, up, i, first);
         i = i + 1;
     }
     if first < orders {

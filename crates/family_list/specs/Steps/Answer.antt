@@ -1,19 +1,19 @@
 -- What reading a family list answers, by rows 16 to 18 of the verdict table, and what these rows leave where they pass. Assumes nothing.
 use mathlib.Core.Path.{_≡_, refl, sym, ap, _∙_}
-use mathlib.Core.Bool.{Bool, true, false, not, _||_}
+use mathlib.Core.Bool.{Bool, true, false, not, cond, _||_}
 use mathlib.Core.List.{List, [], _∷_}
 use mathlib.Core.Option.{Option, none, some, Option·none-ne-some}
 use Prim.Native.Nat.{ℕ, _≤_, _<_}
 use native.Mathlib.Omega.{arith}
 use lib.ListN.{length}
-use borrow.Author.Tests.{eqb-true, ne-eqb}
+use borrow.Author.Tests.{eqb-true, eq-eqb, ne-eqb, le-leb, lt-leb}
 use lib.Dec.{T, eqb, nleb→lt}
 use Rattle.integers.specs.Ranges.{not-is}
 use Rattle.rows.specs.declared.Outcome.{Outcome}
 use Rattle.rows.specs.Meaning.Rows.{Row, verdict, firstBelow, refusal, once, each}
 use Rattle.rows.specs.Promised.RowLaws.{not-below, field-fails, field-passes, row-found, row-clear, number-passes, rowNumbered}
 use Rattle.rules.specs.Meaning.Hour.{Case}
-use Rattle.rules.specs.Meaning.Families.{familyHeader, familyVersion, familyLength, parentOf, missing, leadsBack}
+use Rattle.rules.specs.Meaning.Families.{familyHeader, noParent, familyVersion, familyLength, named, parentIn, parentOf, missing, leadsBack}
 use Rattle.rules.specs.Meaning.Verdict.{differ, notMark, familyRows}
 use Rattle.family_list.specs.declared.FamilyAnswer.{FamilyAnswer}
 use Rattle.family_list.specs.declared.FamilyAnswer.the-variants.{Sound, Refused}
@@ -77,7 +77,21 @@ whole-of f orders h e = record { few = h; long = by (notMark 76 84 70 f || diffe
     by true false q e = cc
     by false false q e = cc
 
--- ROW 17
+-- ROW 17, by the number that an order gives
+module _ (f : List ℕ) (orders i : ℕ) {v : ℕ} (is : v ≡ parentIn f i) where
+  by-number : (b : Bool) → eqb v noParent ≡ b → absent f orders i ≡ missing orders (cond b none (some v))
+  unfolding parentOf
+  by-number b e = ap (λ (x : ℕ). missing orders (named x)) (sym is) ∙ ap (λ (c : Bool). missing orders (cond c none (some v))) e
+
+  pub is-absent : orders ≤ v → (v ≡ noParent → ⊥) → absent f orders i ≡ true
+  is-absent h d = by-number false (ne-eqb v noParent d) ∙ le-leb orders v h
+
+  pub no-parent : v ≡ noParent → absent f orders i ≡ false
+  no-parent e = by-number true (eq-eqb v noParent e)
+
+  pub is-order : orders ≤ 512 → v < orders → absent f orders i ≡ false
+  is-order few h = by-number false (ne-eqb v noParent (λ e. omega arith)) ∙ lt-leb orders v h
+
 pub exist-of : (f : List ℕ) (orders : ℕ) → ((i : ℕ) → i < orders → T (not (absent f orders i))) → Exist orders (parentOf f)
 exist-of f orders h = record { exists = λ i j l e. by (parentOf f i) j e (h i l) }
   where

@@ -47,6 +47,11 @@ take-more f up n x h t e =
       entries = λ j l. elim (ℕ-discrete j n) [ yes q ↦ ap (held (set up n x)) q ∙ p .here ∙ e ∙ ap (parentIn f) (sym q) | no d ↦ p .others j d ∙ t .entries j (omega arith) ];
     }
 
+-- THE SEARCH OVER THEM, under way at order i
+pub record Search (f : List ℕ) (n i first : ℕ) (up : List ℕ) : Type 0 where
+  pub long : length up ≡ 512
+  pub found : Searched (parentOf f) n i first (held up)
+
 -- BEFORE THE FIRST WALK
 module _ (f : List ℕ) (n : ℕ) (few : n ≤ 512) (x : Exist n (parentOf f)) (up : List ℕ) (t : Taken f n up) where
   is-parent : (j : ℕ) → j < n → held up j < noParent → parentOf f j ≡ some (held up j)
@@ -56,8 +61,8 @@ module _ (f : List ℕ) (n : ℕ) (few : n ≤ 512) (x : Exist n (parentOf f)) (
   is-held : (j k : ℕ) → j < n → parentOf f j ≡ some k → held up j ≡ k
   is-held j k h e = t .entries j h ∙ parent-is f j k e
 
-  pub none-walked : Searched (parentOf f) n 0 n (held up)
-  none-walked = record {
+  none-found : Searched (parentOf f) n 0 n (held up)
+  none-found = record {
     walked = record {
       holds-parent = λ j h l. is-parent j h (omega arith);
       closed = λ j k h g e. absurd (omega (arith, is-held j k h e, x .exists j k h e));
@@ -68,3 +73,6 @@ module _ (f : List ℕ) (n : ℕ) (few : n ≤ 512) (x : Exist n (parentOf f)) (
     back = λ l. absurd (omega arith);
     none-less = λ j h g b. let p = has-parent (parentOf f) b in absurd (omega (arith, is-held j (p .0) h (p .1), x .exists j (p .0) h (p .1)));
   }
+
+  pub none-walked : Search f n 0 n up
+  none-walked = record { long = t .long; found = none-found }

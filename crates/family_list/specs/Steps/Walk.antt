@@ -246,6 +246,20 @@ module _ (parent : ℕ → Option ℕ) {n : ℕ} (few : n ≤ 512) (x : Exist n 
           let a = around parent w b in
           absurd (omega (arith, f, closed-up parent n x i u (s .walked) (a .0) tip j (t .tip-in) (known (walk .each tip (t .tip-in))) (a .1)))
 
+-- AN ORDER THAT A WALK HAS BEEN AT, or that has no parent, needs none of its own
+pub next-been : (parent : ℕ → Option ℕ) {n i first : ℕ} {v : ℕ → ℕ} → Searched parent n i first v → n ≤ v i → Searched parent n (i + 1) first v
+next-been parent {n} {i} {first} {v} s g = record {
+  walked = record {
+    holds-parent = s .walked .holds-parent;
+    closed = s .walked .closed;
+    before = λ j h l. elim (ℕ-discrete j i) [ yes e ↦ subst (λ (k : ℕ). n ≤ v k) (sym e) g | no d ↦ s .walked .before j h (omega arith) ];
+    ahead = λ j k h l m e. s .walked .ahead j k h (omega arith) m e;
+  };
+  first-in = s .first-in;
+  back = s .back;
+  none-less = s .none-less;
+}
+
 -- THE SEARCH AT ITS END
 module _ (parent : ℕ → Option ℕ) {n : ℕ} (x : Exist n parent) {i first : ℕ} {v : ℕ → ℕ} (s : Searched parent n i first v) (all : first ≤ i) where
   none-before : (j : ℕ) → j < n → j < first → LeadsBack parent j → ⊥
