@@ -6,7 +6,7 @@ ghost use Prim.Native.Nat.{_<_, _≤_};
 ghost use lib.Dec.{eqb};
 ghost use lib.IntN.{pos};
 ghost use lib.Signed.{ltZ};
-ghost use Rattle.rules.specs.Meaning.Hour.{caseOf, planOf, pricesOf, net};
+ghost use Rattle.rules.specs.Meaning.Hour.{caseOf, planOf, pricesOf, net, fbPart};
 ghost use Rattle.rules.specs.Meaning.Hour as rules;
 ghost use Rattle.rows.specs.Promised.RowLaws.{placeOf};
 ghost use Rattle.rules.specs.Meaning.Verdict.{exchangeRows, clearingRows, judgementRows};
@@ -14,8 +14,8 @@ ghost use Rattle.proposal_file.specs.Proposed.{Proposed};
 ghost use Rattle.proposal_file.specs.Answer.{openingOf};
 ghost use Rattle.family_list.specs.Steps.Answer.{Known};
 ghost use Rattle.clearing.specs.Held.{Holds};
-ghost use Rattle.clearing.specs.Stages.{VolumesIn};
-ghost use Rattle.findings.specs.Found.{Finds, hourRows, listOf, refusedAs, valuedAs};
+ghost use Rattle.clearing.specs.Stages.{VolumesIn, FlowsIn};
+ghost use Rattle.findings.specs.Found.{Finds, networkRows, hourRows, listOf, refusedAs, valuedAs};
 ghost use Rattle.findings.specs.Listed.{listedAnswer, fractionPlace};
 use case_branches::ptdf_table;
 use case_file::CaseAnswer;
@@ -112,38 +112,27 @@ fn share_without_link(links: usize, share: Share) -> bool
     false
 }
 
-// Rows 22 to 26, of files that were read and volumes that were taken.
-fn find_exchange(
+// Rows 24 to 26, of files that were read, volumes and flows that were taken.
+fn find_network(
     case: &[u8],
     k: Counts,
     proposal: &[u8],
     opening: Opening,
     nets: [Tenths; 16],
+    parts: [Tenths; 16],
     welfare: Microcents,
 ) -> Found
     requires { ⌜ Proposed (now «case») k (now proposal) ⌝ }
     requires { ⌜ opening ≡ openingOf (now proposal) ⌝ }
     requires { ⌜ VolumesIn (caseOf (now «case»)) (planOf (now «case») (now proposal)) ⌝ }
+    requires { ⌜ FlowsIn (caseOf (now «case»)) (planOf (now «case») (now proposal)) ⌝ }
     requires { ⌜ Holds (net (caseOf (now «case»)) (planOf (now «case») (now proposal))) nets ⌝ }
+    requires { ⌜ Holds (fbPart (caseOf (now «case»)) (planOf (now «case») (now proposal))) parts ⌝ }
     requires { ⌜ welfare .0 ≡ rules.welfare (caseOf (now «case»)) (planOf (now «case») (now proposal)) ⌝ }
-    ensures { λ r. ⌜ Finds (exchangeRows (caseOf (now («case» .entry))) (planOf (now («case» .entry)) (now (proposal .entry))) (pricesOf (now («case» .entry)) (now (proposal .entry)))) (now («case» .entry)) (now (proposal .entry)) r ⌝ }
+    ensures { λ r. ⌜ Finds (networkRows (caseOf (now («case» .entry))) (planOf (now («case» .entry)) (now (proposal .entry))) (pricesOf (now («case» .entry)) (now (proposal .entry)))) (now («case» .entry)) (now (proposal .entry)) r ⌝ }
 {
     let zones = k.zones;
     let share = opening.share;
-    let unbalanced = !net_sum(nets, zones).is_zero();
-    let no_domain = share_without_link(k.links, share);
-    if unbalanced {
-        return refused(22, 0);
-    }
-    if no_domain {
-        return refused(27, 0);
-    }
-    let exchange = link_sums(case, k, proposal, share, nets);
-    let overused = exchange.overused;
-    if let Place::At(l) = overused {
-        return refused(23, l);
-    }
-    let parts = exchange.parts;
     let table = ptdf_table(case, k);
     let branches = branch_sums(
         case,
@@ -179,6 +168,41 @@ fn find_exchange(
         return valued(26, zones, nets, prices, totals);
     }
     valued(0, zones, nets, prices, totals)
+}
+
+// Rows 22 to 26, of files that were read and volumes that were taken.
+fn find_exchange(
+    case: &[u8],
+    k: Counts,
+    proposal: &[u8],
+    opening: Opening,
+    nets: [Tenths; 16],
+    welfare: Microcents,
+) -> Found
+    requires { ⌜ Proposed (now «case») k (now proposal) ⌝ }
+    requires { ⌜ opening ≡ openingOf (now proposal) ⌝ }
+    requires { ⌜ VolumesIn (caseOf (now «case»)) (planOf (now «case») (now proposal)) ⌝ }
+    requires { ⌜ Holds (net (caseOf (now «case»)) (planOf (now «case») (now proposal))) nets ⌝ }
+    requires { ⌜ welfare .0 ≡ rules.welfare (caseOf (now «case»)) (planOf (now «case») (now proposal)) ⌝ }
+    ensures { λ r. ⌜ Finds (exchangeRows (caseOf (now («case» .entry))) (planOf (now («case» .entry)) (now (proposal .entry))) (pricesOf (now («case» .entry)) (now (proposal .entry)))) (now («case» .entry)) (now (proposal .entry)) r ⌝ }
+{
+    let zones = k.zones;
+    let share = opening.share;
+    let unbalanced = !net_sum(nets, zones).is_zero();
+    let no_domain = share_without_link(k.links, share);
+    if unbalanced {
+        return refused(22, 0);
+    }
+    if no_domain {
+        return refused(27, 0);
+    }
+    let exchange = link_sums(case, k, proposal, share, nets);
+    let overused = exchange.overused;
+    if let Place::At(l) = overused {
+        return refused(23, l);
+    }
+    let parts = exchange.parts;
+    find_network(case, k, proposal, opening, nets, parts, welfare)
 }
 
 // Row 28, where there is a family list.

@@ -1,5 +1,5 @@
 -- `findings::find_clearing` meets its contract: row 21, row 28 where there is a family list, and what is found behind them. Assumes nothing.
-use mathlib.Core.Path.{_≡_, refl, ap, sym, _∙_}
+use mathlib.Core.Path.{_≡_, refl, ap, _∙_}
 use mathlib.Core.List.{List, _++_}
 use mathlib.Core.Option.{Option, none, some}
 use Prim.Native.Nat.{ℕ, _≤_}
@@ -12,7 +12,7 @@ use Rattle.rows.specs.Promised.RowLaws.{placeOf, row-found, row-clear, at-place
 use Rattle.rules.specs.Meaning.Verdict.{excessVolume, exchangeRows, fractionRows, clearingRows}
 use Rattle.rules.specs.Meaning.Report.{reports}
 use Rattle.rules.specs.Steps.Passed.{case-sound}
-use Rattle.clearing.specs.Stages.{VolumesIn, volumes-in}
+use Rattle.clearing.specs.Stages.{volumes-in}
 use Rattle.findings.specs.Found.{listOf, finds-refused, same-rows}
 use Rattle.findings.specs.Listed.{fractionPlace, place-few, fraction-over, fractions-within}
 use Rattle.findings.proofs.find_clearing.Statement.{statement}
