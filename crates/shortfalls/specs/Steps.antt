@@ -1,0 +1,2 @@
+-- THE PROOFS' MEANS
+pub mod Parts
