@@ -9,9 +9,9 @@ use native.Mathlib.Omega.{arith}
 use native.Mathlib.Decide.{decLt}
 use lib.Dec.{T, ltb→lt}
 use lib.IntN.{ℤ, pos, negsuc, _+ℤ_, _-ℤ_, _*ℤ_}
-use lib.Signed.{_≤ℤ_, _<ℤ_, ltZ, ltZ-no}
+use lib.Signed.{_≤ℤ_, _<ℤ_}
 use Rattle.integers.specs.Difference.{up, dn, at, _⊕_, _⊖_, _⊗_, le-by, eq-by, le-fact, eq-fact}
-use Rattle.integers.specs.Order.{positive, cond-ind, le-antisym, add-nonneg, larger-left, larger-right}
+use Rattle.integers.specs.Order.{positive, positive-nat, le-antisym, add-nonneg, larger-left, larger-right}
 use Rattle.integers.specs.Sums.{sumTo, sum-ext, sum-nonneg}
 use Rattle.measures.specs.Meaning.Limits.{partsInOne}
 use Rattle.rules.specs.Meaning.Hour.{Case, Plan, Prices, caseOf, planOf, pricesOf, buys, above, fbPart, branchUse, branchRoom, zonePrice, surplusOf, orderSurplus, branchValue, branchTotal, spread, linkTotal, welfare, bound, gap}
@@ -59,14 +59,11 @@ used-up s r u h e = by (r -ℤ u) refl e
     by (negsuc n) q e = let one : 0 < n + 1 = omega arith in absurd (omega (arith, mul-pos h one, eq-fact (at (pos partsInOne) ⊗ (at (pos s) ⊗ at (negsuc n))) (at (pos 0)) e))
 
 -- a link: k its capacity, a the LTA share, f its flow, t its spread
-positive-is : (n : ℕ) → positive (pos n) ≡ pos n
-positive-is n = cond-ind (ltZ (pos 0) (pos n)) (pos n) (pos 0) (λ z. z ≡ pos n) (λ t. refl) (λ t. le-antisym (le-by (at (pos 0)) (at (pos n)) (omega arith)) (ltZ-no t))
-
 capacity-full : (k a f : ℕ) (t : ℤ) → pos 0 <ℤ positive t → pos k *ℤ pos a *ℤ positive t -ℤ pos partsInOne *ℤ (pos f *ℤ t) ≡ pos 0 → pos partsInOne *ℤ pos f ≡ pos a *ℤ pos k
 capacity-full k a f (negsuc n) h e = absurd (h .lt)
 capacity-full k a f (pos n) h e =
-    let above : 0 < n = ltb→lt 0 n (subst (λ (x : ℤ). pos 0 <ℤ x) (positive-is n) h .lt) in
-    let flat : pos k *ℤ pos a *ℤ pos n -ℤ pos partsInOne *ℤ (pos f *ℤ pos n) ≡ pos 0 = subst (λ (x : ℤ). pos k *ℤ pos a *ℤ x -ℤ pos partsInOne *ℤ (pos f *ℤ pos n) ≡ pos 0) (positive-is n) e in
+    let above : 0 < n = ltb→lt 0 n (subst (λ (x : ℤ). pos 0 <ℤ x) (positive-nat n) h .lt) in
+    let flat : pos k *ℤ pos a *ℤ pos n -ℤ pos partsInOne *ℤ (pos f *ℤ pos n) ≡ pos 0 = subst (λ (x : ℤ). pos k *ℤ pos a *ℤ x -ℤ pos partsInOne *ℤ (pos f *ℤ pos n) ≡ pos 0) (positive-nat n) e in
     let same : k * a * n ≡ partsInOne * (f * n) = omega (arith, eq-fact (at (pos k) ⊗ at (pos a) ⊗ at (pos n) ⊖ at (pos partsInOne) ⊗ (at (pos f) ⊗ at (pos n))) (at (pos 0)) flat) in
     elim (decLt (partsInOne * f) (a * k)) [
       | yes l ↦ let one : partsInOne * f + 1 ≤ a * k = omega arith in absurd (omega (arith, same, above, mul-le-mul-right n one))

@@ -2,14 +2,13 @@
 -- Assumes nothing.
 use mathlib.Core.Path.{_≡_, sym, ap, _∙_}
 use mathlib.Core.Bool.{Bool, true, false, cond}
-use Prim.Native.Nat.{ℕ, _*_, _-_, _≤_, _<_}
+use Prim.Native.Nat.{ℕ, _*_, _-_, _<_}
 use native.Mathlib.Omega.{arith}
 use native.Mathlib.Decide.{decLt}
 use borrow.Author.Tests.{eq-eqb, ne-eqb}
 use lib.IntN.{ℤ, pos, _+ℤ_, _-ℤ_, _*ℤ_}
-use lib.Signed.{_≤ℤ_, ltZ}
-use Rattle.integers.specs.Difference.{up, dn, at, _⊕_, _⊖_, _⊗_, ⊝_, le-by, eq-by, le-fact, eq-fact}
-use Rattle.integers.specs.Order.{larger, positive, cond-ind, larger-left, larger-right, le-trans, le-antisym, diff-nonneg}
+use Rattle.integers.specs.Difference.{up, dn, at, _⊕_, _⊖_, _⊗_, ⊝_, eq-by}
+use Rattle.integers.specs.Order.{positive, larger-less-left, larger-less-right}
 use Rattle.measures.specs.Meaning.Limits.{partsInOne}
 use Rattle.rules.specs.Meaning.Hour.{Case, Plan, Prices, signed, buys, above, orderNet, branchUse, branchRoom, zonePrice, orderWelfare, orderSurplus, branchValue, branchTotal, spread, linkValue, linkTotal, noLink, networkBound}
 use Rattle.rules.specs.Meaning.Clearing.{Clearing}
@@ -34,23 +33,6 @@ branch-plain k s m u = eq-by (at (pos partsInOne) ⊗ (at (pos s) ⊗ (at (pos k
 -- ONE LINK: k its capacity, a the LTA share, t its positive spread, x its flow at the spread
 link-plain : (k a : ℕ) (t x : ℤ) → pos k *ℤ pos a *ℤ t -ℤ x ≡ pos a *ℤ (pos k *ℤ t) -ℤ x
 link-plain k a t x = eq-by (at (pos k) ⊗ at (pos a) ⊗ at t ⊖ at x) (at (pos a) ⊗ (at (pos k) ⊗ at t) ⊖ at x) (omega arith)
-
--- THE LARGER OF TWO less the one and less the other
-pub larger-less-left : (a b : ℤ) → larger a b -ℤ a ≡ positive (b -ℤ a)
-larger-less-left a b = le-antisym
-    (cond-ind (ltZ a b) b a (λ z. (z -ℤ a) ≤ℤ positive (b -ℤ a)) (λ t. larger-right (pos 0) (b -ℤ a)) (λ t. le-trans (le-by (at a ⊖ at a) (at (pos 0)) (omega arith)) (larger-left (pos 0) (b -ℤ a))))
-    (cond-ind (ltZ (pos 0) (b -ℤ a)) (b -ℤ a) (pos 0) (λ z. z ≤ℤ (larger a b -ℤ a)) (λ t. less b (larger a b) a (larger-right a b)) (λ t. diff-nonneg (larger-left a b)))
-  where
-    less : (x y k : ℤ) → x ≤ℤ y → (x -ℤ k) ≤ℤ (y -ℤ k)
-    less x y k h = le-by (at x ⊖ at k) (at y ⊖ at k) (omega (arith, le-fact (at x) (at y) h))
-
-pub larger-less-right : (a b : ℤ) → larger a b -ℤ b ≡ positive (a -ℤ b)
-larger-less-right a b = le-antisym
-    (cond-ind (ltZ a b) b a (λ z. (z -ℤ b) ≤ℤ positive (a -ℤ b)) (λ t. le-trans (le-by (at b ⊖ at b) (at (pos 0)) (omega arith)) (larger-left (pos 0) (a -ℤ b))) (λ t. larger-right (pos 0) (a -ℤ b)))
-    (cond-ind (ltZ (pos 0) (a -ℤ b)) (a -ℤ b) (pos 0) (λ z. z ≤ℤ (larger a b -ℤ b)) (λ t. less a (larger a b) b (larger-left a b)) (λ t. diff-nonneg (larger-right a b)))
-  where
-    less : (x y k : ℤ) → x ≤ℤ y → (x -ℤ k) ≤ℤ (y -ℤ k)
-    less x y k h = le-by (at x ⊖ at k) (at y ⊖ at k) (omega (arith, le-fact (at x) (at y) h))
 
 -- WHAT IS LEFT, with a link and without
 pub left-without : (c : Case) (p : Plan) (d : Prices) → c .links ≡ 0 → leadLeft c p d ≡ pos 0
