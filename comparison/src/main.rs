@@ -34,6 +34,8 @@ mod rng;
 mod run;
 #[cfg(feature = "sheet")]
 mod sheet;
+#[cfg(feature = "shortfalls")]
+mod shortfalls;
 mod versions;
 
 use rng::Rng;
@@ -100,6 +102,8 @@ fn main() -> ExitCode {
     dump::dumps(&mut run, &mut Rng::new(seed));
     #[cfg(feature = "columns")]
     columns::files(&mut run, &mut Rng::new(seed));
+    #[cfg(feature = "shortfalls")]
+    shortfalls::hours(&mut run, &mut Rng::new(seed));
     #[cfg(feature = "queue")]
     queue::queues(&mut run, &mut Rng::new(seed));
 
@@ -133,6 +137,7 @@ fn main() -> ExitCode {
         ("intuitive", cfg!(feature = "intuitive")),
         ("dump", cfg!(feature = "dump")),
         ("columns", cfg!(feature = "columns")),
+        ("shortfalls", cfg!(feature = "shortfalls")),
         ("queue", cfg!(feature = "queue")),
     ] {
         if !built {

@@ -166,7 +166,8 @@ impl Run {
         feature = "dump",
         feature = "intuitive",
         feature = "queue",
-        feature = "sheet"
+        feature = "sheet",
+        feature = "shortfalls"
     ))]
     pub fn count(&mut self) {
         self.family_inputs += 1;

@@ -19,6 +19,7 @@ pub enum ShortfallBuild {
     ContractedForCapacity,
     FlowWithoutShare,
     SpreadTurned,
+    PartDropped,
     // The shares.
     SharesExchanged,
     LinkByFlowBasedShare,
@@ -44,7 +45,7 @@ pub enum ShortfallBuild {
 
 impl ShortfallBuild {
     /// Every wrong build, with the name a table gives it.
-    pub const WRONG: [(ShortfallBuild, &'static str); 22] = [
+    pub const WRONG: [(ShortfallBuild, &'static str); 23] = [
         (ShortfallBuild::SpreadNotCut, "spread not cut at zero"),
         (
             ShortfallBuild::SpreadCutOnTheFlow,
@@ -59,6 +60,7 @@ impl ShortfallBuild {
             "capacity without the share",
         ),
         (ShortfallBuild::SpreadTurned, "spread turned"),
+        (ShortfallBuild::PartDropped, "part of a microcent dropped"),
         (ShortfallBuild::SharesExchanged, "shares exchanged"),
         (
             ShortfallBuild::LinkByFlowBasedShare,
@@ -168,6 +170,7 @@ pub fn shortfalls_as(
         });
         match build {
             ShortfallBuild::HundredThousandthsFirst => [rest, whole],
+            ShortfallBuild::PartDropped => [whole, 0],
             _ => [whole, rest],
         }
     });

@@ -185,12 +185,9 @@ fn a_link_not_full() {
     assert_eq!(found.sum(), gap / 8 * 7);
 }
 
-#[test]
-fn a_part_of_a_microcent() {
-    // Capacity 1, share 1, and the price of zone 1 a grain above that of zone 0: the
-    // link falls short by a hundred-thousandth of a microcent. The link total of a
-    // microcent leads by 99,999 of them.
-    let hour = Hour {
+/// Capacity 1, share 1, and the price of zone 1 a grain above that of zone 0.
+fn grain_hour() -> Hour {
+    Hour {
         zones: 2,
         tolerance: 1,
         branches: vec![crate::hours::Branch {
@@ -207,7 +204,14 @@ fn a_part_of_a_microcent() {
         flows: vec![0],
         shadow_prices: vec![1],
         ..Hour::default()
-    };
+    }
+}
+
+#[test]
+fn a_part_of_a_microcent() {
+    // The link falls short by a hundred-thousandth of a microcent. The link total of a
+    // microcent leads by 99,999 of them.
+    let hour = grain_hour();
     let (gap, found) = accepted(&hour);
     assert_eq!(found.links, [1]);
     assert_eq!((gap, found.sum()), (MICROCENT, 1));
@@ -361,7 +365,7 @@ fn each_wrong_build_is_told_by_some_hour() {
     negative.branches[0].ram = -999;
     let mut refused = free.clone();
     refused.tolerance = 1;
-    let hours = [small_hour(), free, against, negative, refused];
+    let hours = [small_hour(), free, against, negative, refused, grain_hour()];
     for (build, name) in ShortfallBuild::WRONG {
         let told = hours.iter().any(|hour| {
             let (case, proposal) = (hour.case(), hour.proposal());
