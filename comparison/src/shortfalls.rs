@@ -11,7 +11,8 @@ use crate::archive;
 use crate::families::{good, outside};
 use crate::fields::fields;
 use crate::make::{
-    at_limits, flow_based_parts, least_ram, most_flow, optimal, random, used, zone_price, Shape,
+    at_limits, flow_based_parts, least_ram, most_flow, optimal, pairs, random, used, version,
+    zone_price, Shape,
 };
 use crate::rng::Rng;
 use crate::run::Run;
@@ -502,6 +503,66 @@ fn exchange(rng: &mut Rng, hour: &mut Hour) {
     }
 }
 
+/// A small hour with links whose numbers are round nowhere, so that shares and spreads leave parts
+/// of a microcent, and flows go either way.
+fn odd(rng: &mut Rng) -> Hour {
+    loop {
+        let zones = 2 + rng.below(3);
+        let branches = 1 + rng.below(3);
+        let count = 1 + rng.below(zones * (zones - 1)).min(4);
+        let share = rng.between_or_end(0, 100_000) as u32;
+        let ptdf = |rng: &mut Rng| rng.between(-99_999, 99_999) as i32;
+        let mut hour = Hour {
+            version: version(rng),
+            zones: zones as u8,
+            tolerance: TOLERANCE,
+            branches: (0..branches)
+                .map(|_| Branch {
+                    ram: rng.between(-9, 9) as i32,
+                    ptdfs: (0..zones).map(|_| ptdf(rng)).collect(),
+                })
+                .collect(),
+            share,
+            system_price: rng.between(1_000, 9_000) as i32,
+            shadow_prices: (0..branches)
+                .map(|_| rng.between_or_end(0, 700) as u32)
+                .collect(),
+            ..Hour::default()
+        };
+        for (from, to) in pairs(rng, zones, count) {
+            let capacity = rng.between_or_end(0, 12) as u32;
+            hour.links.push(Link {
+                from,
+                to,
+                capacity,
+                contracted: rng.between(0, capacity.into()) as u32,
+            });
+            let most = most_flow(share, capacity);
+            hour.flows.push(rng.between_or_end(0, most) as u32);
+        }
+        // What one zone sells another buys, each near its own price.
+        for _ in 0..1 + rng.below(4) {
+            let volume = rng.between(1, 9) as u32;
+            for side in [SELLS, BUYS] {
+                let zone = rng.below(zones);
+                let cents = zone_price(&hour, zone).div_euclid(100_000);
+                let away = rng.between(-3, 40);
+                let price = cents + if side == BUYS { away } else { -away };
+                hour.orders.push(Row {
+                    zone: zone as u8,
+                    side,
+                    quantity: volume + rng.pick(&[0, 0, 1, 5]),
+                    price: price as i32,
+                });
+                hour.volumes.push(volume);
+            }
+        }
+        if fitted(&mut hour) {
+            return hour;
+        }
+    }
+}
+
 /// Widens the margins that are too small; no where that cannot be, or a price is out.
 fn fitted(hour: &mut Hour) -> bool {
     let parts = flow_based_parts(hour);
@@ -530,6 +591,7 @@ pub fn hours(run: &mut Run, rng: &mut Rng) {
     paper(&mut hours);
     gap_zero(&mut hours, rng);
     gaps(&mut hours, rng);
+    of_links(&mut hours, rng);
     without_links(&mut hours, rng);
     contracted(&mut hours, rng);
     by_hand(&mut hours, rng);
@@ -626,6 +688,16 @@ fn gaps(hours: &mut Hours, rng: &mut Rng) {
                 hours.expect(&hour, room, number);
             }
         }
+    }
+    hours.run.end();
+}
+
+fn of_links(hours: &mut Hours, rng: &mut Rng) {
+    hours.run.begin("links, nothing round");
+    for _ in 0..8_000 {
+        let hour = odd(rng);
+        let room = enough(rng, &hour);
+        hours.hour(&hour, room);
     }
     hours.run.end();
 }
