@@ -507,12 +507,11 @@ enum lta_shortfall_number {
  * each link, in file order: whole microcents, and hundred-thousandths of a microcent, 0 to 99,999. All past them are as they were. In a
  * refusal every number is as it was.
  *
- * What holds of an answer, with and without links:
- *   [none_negative]  No shortfall is negative. Of an order or a branch the hundred-thousandths are 0.
- *   [within_gap]     All together are at most 100,000 times the gap that lta_judge reports. So none is more than the gap.
- *   [rest]           What is left of 100,000 times the gap is (100,000 - share) * (larger - branch total) + share * (larger - link total),
- *                    larger being the larger of the two totals. Without links it is 0.
- *   [at_zero]        At gap 0 each is 0.
+ * What holds of an answer, with and without links [shortfalls]: each two numbers are the shortfall as said here, and of an order or a
+ * branch the second is 0; no shortfall is negative; all together are at most 100,000 times the gap that lta_judge reports, so that none is
+ * more than the gap; at gap 0 each is 0.
+ * What is left, 100,000 times the gap less all shortfalls, is (100,000 - share) * (larger - branch total) + share * (larger - link total),
+ * larger being the larger of the two totals; without links it is 0. It is proved in crates/shortfalls.
  */
 struct lta_written lta_shortfalls(const uint8_t *case_bytes, size_t case_len,
                                   const uint8_t *proposal, size_t proposal_len,

@@ -6,9 +6,9 @@
 
 stdin has a record for each hour: the output's room in numbers, the case's length and the proposal's, each 32 bits
 little-endian, the case and the proposal. The hours are the stored ones that are short enough, each with as much room as
-its counts ask for; and those that say what falls short with a number of room too few, more than enough and none. stdout
-has a line for each record: number, index and length, and the numbers that are written. It is found here from the files,
-beside the archive; tests/stored_shortfalls holds it to the archive and to the second judge.
+its counts ask for; those that say what falls short with a number of room too few, more than enough and none; and some
+that are refused, with no room. stdout has a line for each record: number, index and length, and the numbers that are
+written. It is found here from the files, beside the archive; tests/stored_shortfalls holds it to both judges.
 """
 
 import pathlib
@@ -21,6 +21,8 @@ from lta import causes, gap, hour, rules
 HOURS = pathlib.Path(__file__).resolve().parent.parent / "hours"
 LONGEST = 256  # bytes of a stored hour's case that is taken
 MORE = 7  # numbers of room past the last
+# Refused by the judgement, which is asked before the room.
+REFUSED = ("p03-link-unused-tolerance-0", "p05-volume-above-quantity", "p09-share-one-above", "refused-13-share-above")
 
 
 def stored_hours():
@@ -51,6 +53,7 @@ def records():
         if told:
             found[f"{name},one-too-few"] = (room - 1, case, proposal)
             found[f"{name},more-than-enough"] = (room + MORE, case, proposal)
+        if told or name in REFUSED:
             found[f"{name},no-room"] = (0, case, proposal)
     return found
 

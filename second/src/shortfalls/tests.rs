@@ -378,3 +378,32 @@ fn each_wrong_build_is_told_by_some_hour() {
         assert!(told, "{name}");
     }
 }
+
+/// What crates/shortfall_runs prints for its input, as one of the builds has it.
+fn shortfall_runs(build: ShortfallBuild, input: &[u8]) -> String {
+    let (mut printed, mut rest) = (String::new(), input);
+    let word = |bytes: &[u8]| u32::from_le_bytes(bytes[..4].try_into().unwrap()) as usize;
+    while !rest.is_empty() {
+        let (room, case, proposal) = (word(rest), word(&rest[4..]), word(&rest[8..]));
+        let (files, next) = rest[12..].split_at(case + proposal);
+        let mut out = vec![0; room];
+        let answer = shortfalls_as(build, &files[..case], &files[case..], &mut out);
+        printed += &format!("{} {} {}", answer.number, answer.index, answer.length);
+        for number in out.iter().take(answer.length as usize) {
+            printed += &format!(" {number}");
+        }
+        printed += "\n";
+        rest = next;
+    }
+    printed
+}
+
+#[test]
+fn stored_shortfalls() {
+    let input = include_bytes!("../../../crates/shortfall_runs/stdin");
+    let printed = include_str!("../../../crates/shortfall_runs/stdout");
+    assert_eq!(shortfall_runs(ShortfallBuild::Right, input), printed);
+    for (build, name) in ShortfallBuild::WRONG {
+        assert_ne!(shortfall_runs(build, input), printed, "{name}");
+    }
+}
