@@ -998,6 +998,15 @@ fn refused(hours: &mut Hours, rng: &mut Rng) {
         hours.hour(&hour, room);
     }
     hours.run.end();
+    hours.run.begin("tolerances above 100 euros");
+    for _ in 0..600 {
+        let shape = Shape::small(rng);
+        let mut hour = good(rng, shape);
+        hour.tolerance = rng.between_or_end(i64::from(TOLERANCE) + 1, 1_000_000_000) as u32;
+        let room = rng.pick(&[0, length(&hour), length(&hour) + 3]);
+        hours.hour(&hour, room);
+    }
+    hours.run.end();
     hours.run.begin("bytes flipped");
     for _ in 0..4_000 {
         let shape = Shape::small(rng);
