@@ -1,5 +1,6 @@
-/* A host of the judgement, complete: `example CASE PROPOSAL` reads two files, has them judged and prints the answer.
- * The status is 0 if the hour is accepted, 1 if it is refused, 2 if it could not be judged or the answer not be printed.
+/* A host of the judgement, complete: `example CASE PROPOSAL` reads two files, has them judged and prints the answer, and
+ * `example CASE PROPOSAL FAMILIES` does so with a family list. The status is 0 if the hour is accepted, 1 if it is refused, 2 if it could not be judged or the
+ * answer not be printed.
  *
  *     cc -Iinclude host/example.c target/staticlib/libhost.a -o example
  */
@@ -7,6 +8,7 @@
 
 #include <errno.h>
 #include <inttypes.h>
+#include <stdbool.h>
 #include <stdio.h>
 #include <stdlib.h>
 #include <string.h>
@@ -58,22 +60,28 @@ static void print_report(const uint8_t *report)
 
 int main(int count, char **words)
 {
-    if (count != 3) {
-        fprintf(stderr, "usage: example CASE PROPOSAL\n");
+    if (count != 3 && count != 4) {
+        fprintf(stderr, "usage: example CASE PROPOSAL [FAMILIES]\n");
         return NOT_JUDGED;
     }
-    size_t case_length = 0, proposal_length = 0;
+    /* An empty list is refused: without families it is the other entry that is called. */
+    bool with_families = count == 4;
+    size_t case_length = 0, proposal_length = 0, families_length = 0;
     uint8_t *case_bytes = file_bytes(words[1], &case_length);
     uint8_t *proposal = case_bytes == NULL ? NULL : file_bytes(words[2], &proposal_length);
-    if (proposal == NULL) {
-        free(case_bytes);
-        return NOT_JUDGED;
-    }
-
+    uint8_t *families = proposal == NULL || !with_families ? NULL : file_bytes(words[3], &families_length);
     uint8_t report[LTA_REPORT_ROOM];
-    uint64_t verdict = lta_judge(case_bytes, case_length, proposal, proposal_length, report, sizeof report);
+    uint64_t verdict = 0;
+    bool judged = proposal != NULL && (families != NULL || !with_families);
+    if (judged && with_families)
+        verdict = lta_judge_families(case_bytes, case_length, proposal, proposal_length, families, families_length, report, sizeof report);
+    else if (judged)
+        verdict = lta_judge(case_bytes, case_length, proposal, proposal_length, report, sizeof report);
+    free(families);
     free(proposal);
     free(case_bytes);
+    if (!judged)
+        return NOT_JUDGED;
 
     uint32_t number = LTA_NUMBER(verdict);
     printf("verdict %" PRIu32 " %" PRIu32 "\n", number, LTA_INDEX(verdict));

@@ -1,12 +1,13 @@
 /* The judgement of one day-ahead hour, for C and C++. To be linked with target/staticlib/libhost.a.
  *
  * An hour is a case (zones, branches, links and orders) and a proposal for its clearing (volumes, flows and prices). lta_judge answers
- * whether the proposal is accepted, or else the first cause for which it is refused. lta_book_surplus values an order book that lies in
- * memory. lta_desk_lines gives a judgement as text. lta_sheet_branches turns a published margin sheet into the branches of a case.
+ * whether the proposal is accepted, or else the first cause for which it is refused. lta_judge_families answers the same where orders lean
+ * on others, as a family list beside the case says. lta_book_surplus values an order book that lies in memory. lta_desk_lines gives a judgement as text. lta_sheet_branches turns a published margin sheet into the branches of a case.
  * lta_hour_intuitive answers whether an accepted hour's exchanges can all go from a lower or equal price to a higher one, and lta_intuitive
- * answers it of net positions and zone prices. lta_dump_proposal turns a solver's dump into a proposal for a case. lta_case_columned
- * rearranges a case for the archive, and lta_case_restored gives it back. lta_shortfalls says of an accepted hour by how much each order,
- * branch and link may be out. lta_queue_post and lta_queue_serve keep the queue of a desk that serves four areas.
+ * answers it of net positions and zone prices; lta_hour_intuitive_small and lta_intuitive_small give the same answers from less scratch.
+ * lta_dump_proposal turns a solver's dump into a proposal for a case. lta_case_columned rearranges a case for the archive, and
+ * lta_case_restored gives it back. lta_shortfalls says of an accepted hour by how much each order, branch and link may be out.
+ * lta_queue_post and lta_queue_serve keep the queue of a desk that serves four areas.
  *
  * Each promise below is part of a contract in crates/host, and the archive is built only if every function in it is proved to meet its
  * contract. A word in brackets, as [outcome], is the name of the clause that says it.
@@ -24,9 +25,9 @@
  * What holds then, of every call, whatever the bytes are:
  *   - It returns.
  *   - It reads nothing but its arguments. The answer, and what is written, depend on nothing else.
- *   - It writes nothing but what is said below of `report`, `out`, `scratch` and `queue`. The case, the proposal, the input, the orders,
- *     the prices, the sheet, the net positions, the pairs, the dump and the columned file stay as they were, and no file is read or
- *     written.
+ *   - It writes nothing but what is said below of `report`, `out`, `scratch` and `queue`. The case, the proposal, the family list, the
+ *     input, the orders, the prices, the sheet, the net positions, the pairs, the dump and the columned file stay as they were, and no file
+ *     is read or written.
  *   - It is reentrant: nothing is kept between calls but in the caller's queue, so every entry may be called from several threads at once,
  *     and on one queue by one thread at a time.
  *
@@ -59,16 +60,17 @@ extern "C" {
 #define LTA_MICROCENTS_PER_CENT 1000000
 #define LTA_MICROCENTS_PER_EURO 100000000
 
-/* THE VERDICT. Number and index of what lta_judge returns. [number] [index] */
+/* THE VERDICT. Number and index of what lta_judge and lta_judge_families return. [number] [index] */
 #define LTA_NUMBER(verdict) ((uint32_t)((verdict) % 256))
 #define LTA_INDEX(verdict) ((uint32_t)((verdict) / 256))
 
 /* The numbers. LTA_NO_ROOM is asked first of all; among the others the smallest number that has a cause wins, and then the smallest
- * index. But 27 is asked between 22 and 23: the order is 22, 27, 23. No number is returned for another cause than its own.
+ * index. But 28 is asked between 21 and 22, and 27 between 22 and 23: the order is 21, 28, 22, 27, 23. No number is returned for another
+ * cause than its own. 16, 17, 18 and 28 are of family lists: lta_judge_families asks them, and no other entry does.
  *
  * The index is 0 where none is named, else a place counted from 0. For 4, 6, 7, 8 and 14 it is an offset: how many bytes stand in the
  * file, the case or for 14 the proposal, before the field that is refused. That is the first field in file order that is at fault: row by
- * row, and within a row in the order named here. For 21 and 23 to 25 it is the row or the zone. */
+ * row, and within a row in the order named here. For 17, 18, 21, 28 and 23 to 25 it is the row or the zone. */
 enum lta_number {
     LTA_ACCEPTED = 0,               /* none of these causes */
     LTA_CASE_SHORT = 1,             /* case shorter than 14 bytes */
@@ -87,7 +89,14 @@ enum lta_number {
     LTA_PROPOSAL_LENGTH = 12,       /* proposal length is wrong for this case */
     LTA_SHARE = 13,                 /* LTA share above 100,000 */
     LTA_SHADOW_PRICE = 14,          /* shadow price above 1,000,000; index: its offset in the proposal */
+    LTA_FAMILY_LIST = 16,           /* family list: its mark is not LTF, its version not 1, or its length not LTA_FAMILIES_SIZE(orders); an
+                                     * empty list too */
+    LTA_FAMILY_PARENT = 17,         /* a parent that does not exist: not below the case's orders, and not LTA_NO_PARENT; index: the order */
+    LTA_FAMILY_CIRCLE = 18,         /* an order leads back to itself: some number of steps up, at least one, ends where it began; index: the
+                                     * order. One that only leads into a circle is on none, and is not named */
     LTA_VOLUME = 21,                /* volume above its order's quantity; index: the order */
+    LTA_FAMILY_FRACTION = 28,       /* a child's fraction exceeds its parent's: volume * parent's quantity > parent's volume * quantity;
+                                     * index: the child; asked here, between 21 and 22 */
     LTA_BALANCE = 22,               /* rule 3 fails: the net positions do not sum to zero */
     LTA_SHARE_WITHOUT_LINK = 27,    /* the case has no link, and the LTA share is above 0; asked here, between 22 and 23 */
     LTA_LINK_RULE = 23,             /* rule 4 fails: flow * 100,000 > share * capacity; index: the link */
@@ -199,6 +208,40 @@ static inline int64_t lta_report_price(const uint8_t *report, size_t zone)
 uint64_t lta_judge(const uint8_t *case_bytes, size_t case_len,
                    const uint8_t *proposal, size_t proposal_len,
                    uint8_t *report, size_t report_len);
+
+/* FAMILIES. An order may name another as its parent, which must be accepted in at least the same fraction. The family list is
+ * LTA_FAMILIES_SIZE(orders) bytes, little-endian: mark LTF; version, 16 bits, 1; then for each order of the case, in file order, its
+ * parent's number counted from 0, 16 bits, or LTA_NO_PARENT. */
+#define LTA_NO_PARENT 65535
+#define LTA_FAMILIES_SIZE(orders) (5 + 2 * (orders)) /* bytes of a family list for a case */
+#define LTA_FAMILIES_ROOM 1029      /* bytes of the longest, that of 512 orders */
+
+/* Judges a proposal for a case with families, and returns number + 256 * index. [outcome]
+ *
+ *   case_bytes, case_len       a case, as lta_judge takes it, of either version
+ *   proposal, proposal_len     a proposal for it
+ *   families, families_len     the family list for the case's orders. An empty one is refused by 16: where there are no families every
+ *                              order has LTA_NO_PARENT, or lta_judge is called
+ *   report, report_len         room for the report, at least LTA_REPORT_ROOM bytes
+ *
+ * The numbers are those of lta_judge and four more: 16, 17 and 18, asked of the list after 14, in this order and each of the whole list
+ * before the next, and 28, asked after 21. Where none of the four has a cause the answer, and every byte of the report buffer, are
+ * lta_judge's of the same case and proposal.
+ *
+ * The bytes of the report buffer afterwards [report], and what stands in a report [totals]: as with lta_judge.
+ *
+ * What holds of an accepted hour, that is if lta_judge_families returns 0: all that holds of one that lta_judge accepts, word for word,
+ * and
+ *   [families]  Each order that has a parent is accepted in no larger fraction than its parent: volume * parent's quantity <= parent's
+ *               volume * quantity.
+ * THE BOUND IS NOT TIGHTENED: [accuracy] compares with all clearings of the case, those included in which a child is ahead of its parent,
+ * so that the best clearing with families may have less welfare than welfare + gap, and an hour whose families cost more than the
+ * tolerance is refused by 26.
+ */
+uint64_t lta_judge_families(const uint8_t *case_bytes, size_t case_len,
+                            const uint8_t *proposal, size_t proposal_len,
+                            const uint8_t *families, size_t families_len,
+                            uint8_t *report, size_t report_len);
 
 /* THE LENT ORDER BOOK. A row; its fields have the ranges of an order of a case. */
 #define LTA_BUYS 0
@@ -313,11 +356,13 @@ enum lta_intuitive_number {
     LTA_INTUITIVE_PRICE = 83,       /* a price is out of its range, which is LTA_ZONE_PRICE's; index: the zone */
     LTA_INTUITIVE_PAIR = 84,        /* a pair has an unknown zone or equal ones, repeats an earlier one or is past the 64th; index: the
                                      * pair */
-    LTA_INTUITIVE_NO_ROOM = 85      /* scratch_count is under LTA_INTUITIVE_SCRATCH */
+    LTA_INTUITIVE_NO_ROOM = 85      /* scratch_count is under LTA_INTUITIVE_SCRATCH, on the smaller board LTA_INTUITIVE_SMALL_SCRATCH */
 };
 
 #define LTA_INTUITIVE_PAIRS 64      /* pairs at most */
 #define LTA_INTUITIVE_SCRATCH 324   /* numbers that a scratch must have, whatever the zones */
+#define LTA_INTUITIVE_SMALL_SCRATCH 96 /* the same on the smaller board: one per pair, one per zone for export used, one per zone for
+                                        * import used */
 
 /* The answer. */
 struct lta_carried {
@@ -373,6 +418,23 @@ struct lta_carried lta_hour_intuitive(const uint8_t *case_bytes, size_t case_len
                                       const uint8_t *proposal, size_t proposal_len,
                                       const uint8_t *pairs, size_t pairs_len,
                                       int64_t *scratch, size_t scratch_count);
+
+/* The same two on a smaller board. Arguments, answers, numbers and their order are those of lta_intuitive and of lta_hour_intuitive, but
+ * that LTA_INTUITIVE_SMALL_SCRATCH stands for LTA_INTUITIVE_SCRATCH: LTA_INTUITIVE_NO_ROOM is given for a scratch under 96 numbers, and of
+ * an answer the first 96 are zero, and all past them as they were [outcome] [yes] [no] [yes_or_no] [largest] [scratch] [refused].
+ *
+ * On each input that both take, intuitive and total are those of the wide entry; what the wide one takes the smaller takes too, and every
+ * refusal but LTA_INTUITIVE_NO_ROOM is the same, number and index.
+ */
+struct lta_carried lta_intuitive_small(const int64_t *net_exports, size_t net_count,
+                                       const int64_t *zone_prices, size_t price_count,
+                                       const uint8_t *pairs, size_t pairs_len,
+                                       int64_t *scratch, size_t scratch_count);
+
+struct lta_carried lta_hour_intuitive_small(const uint8_t *case_bytes, size_t case_len,
+                                            const uint8_t *proposal, size_t proposal_len,
+                                            const uint8_t *pairs, size_t pairs_len,
+                                            int64_t *scratch, size_t scratch_count);
 
 /* THE SOLVER'S DUMP. The numbers of lta_dump_proposal, in the order in which they are asked, each of the whole dump before the next. 56
  * names the number by which the case is refused; 58 and 59 name the first such value, counted in values from 0, so that it stands 8 * index
@@ -597,7 +659,11 @@ static inline const char *lta_number_text(uint32_t number)
     case LTA_PROPOSAL_LENGTH: return "proposal length is wrong for this case";
     case LTA_SHARE: return "LTA share above 100,000";
     case LTA_SHADOW_PRICE: return "shadow price above 1,000,000";
+    case LTA_FAMILY_LIST: return "family list of wrong mark, version or length";
+    case LTA_FAMILY_PARENT: return "parent that does not exist";
+    case LTA_FAMILY_CIRCLE: return "order that leads back to itself";
     case LTA_VOLUME: return "volume above its order's quantity";
+    case LTA_FAMILY_FRACTION: return "fraction above its parent's";
     case LTA_BALANCE: return "net positions do not sum to zero";
     case LTA_SHARE_WITHOUT_LINK: return "no link, and an LTA share above 0";
     case LTA_LINK_RULE: return "flow above the link's share of its capacity";
@@ -627,7 +693,7 @@ static inline const char *lta_number_text(uint32_t number)
     case LTA_INTUITIVE_POSITION: return "net position out of range, or their sum is not zero";
     case LTA_INTUITIVE_PRICE: return "price of a zone out of range";
     case LTA_INTUITIVE_PAIR: return "pair with an unknown zone, equal zones, repeated or past the 64th";
-    case LTA_INTUITIVE_NO_ROOM: return "scratch under 324 numbers";
+    case LTA_INTUITIVE_NO_ROOM: return "scratch under 324 numbers, or under 96 on the smaller board";
     case LTA_SHORTFALL_NO_ROOM: return "output too short for the shortfalls";
     default: return "unknown number";
     }

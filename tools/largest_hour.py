@@ -1,10 +1,10 @@
 #!/usr/bin/env python3
-"""Prints the stored hours of full size, 16 zones, 64 branches, 64 links and 512 orders, from how they are made, and the
-stored dumps of such hours.
+"""Prints the stored hours of full size, 16 zones, 64 branches, 64 links and 512 orders, from how they are made, the
+stored dumps of such hours, and the stored hours of 512 orders in one family.
 
   largest_hour.py NAME        NAME is largest-varied, largest-contracted, largest-welfare, largest-welfare-contracted,
                               largest-loss, largest-loss-no-link or largest-bound; of a dump refused-60-largest or
-                              largest-less-an-order
+                              largest-less-an-order; with families largest-chain, largest-circle or largest-tail
 
 The two contracted ones are of case version 2 and have the greatest length of all. largest-loss-no-link has no link.
 """
@@ -240,6 +240,49 @@ DUMPS = {
     "largest-less-an-order": largest_less_an_order,
 }
 
+def family_hour(comment, parents):
+    """512 orders of one zone at its price, a buy and a sell by turns. Each pair is accepted in a tenth less than the one
+    before.
+    """
+    lines = [f"# {line}" for line in comment]
+    lines += ["# Printed by tools/largest_hour.py, which says how it is made.", "case version 1 zones 1 tolerance 0"]
+    lines += [f"order 0 {('buy', 'sell')[order % 2]} 1000 0" for order in range(ORDERS)]
+    lines += ["proposal version 1 share 0 system 0"] + [f"volume {1000 - order // 2}" for order in range(ORDERS)]
+    lines += ["families version 1"] + [f"parent {parent}" for parent in parents]
+    return "\n".join(lines) + "\n"
+
+
+NO_TOTALS = "totals welfare 0 bound 0 gap 0 rent 0 owed 0"
+
+
+def largest_chain():
+    comment = ("512 orders in one chain, each leaning on the one before it.", "expect 0 0", NO_TOTALS)
+    return family_hour(comment, ["none", *range(ORDERS - 1)])
+
+
+def largest_circle():
+    comment = (
+        "512 orders in one circle: the chain, with the first leaning on the last. 512 steps lead back to where they began.",
+        "expect 18 0",
+        "expect-without 0 0",
+        NO_TOTALS,
+    )
+    return family_hour(comment, [ORDERS - 1, *range(ORDERS - 1)])
+
+
+def largest_tail():
+    comment = (
+        "Each order leans on the one behind it and the last but one on the last, which is its own parent: 511 orders lead",
+        "into a circle, and the last alone is on it.",
+        "expect 18 511",
+        "expect-without 0 0",
+        NO_TOTALS,
+    )
+    return family_hour(comment, [*range(1, ORDERS), ORDERS - 1])
+
+
+FAMILIES = {"largest-chain": largest_chain, "largest-circle": largest_circle, "largest-tail": largest_tail}
+
 HOURS = {
     "largest-varied": largest_varied,
     "largest-contracted": largest_contracted,
@@ -252,7 +295,7 @@ HOURS = {
 
 
 def main(arguments):
-    makers = {**HOURS, **DUMPS}
+    makers = {**HOURS, **DUMPS, **FAMILIES}
     if len(arguments) != 1 or arguments[0] not in makers:
         sys.stderr.write(__doc__)
         return 2

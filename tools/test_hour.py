@@ -1,6 +1,7 @@
 #!/usr/bin/env python3
 """Tests of the formats, that is lta.hour and lta.dump and the commands over them, of build_hours.py, build_dumps.py,
-build_columns.py, build_shortfalls.py and of the stored hours and dumps. The last line counts what passed and failed.
+build_columns.py, build_families.py, build_shortfalls.py and of the stored hours and dumps. The last line counts what passed
+and failed.
 """
 
 import contextlib
@@ -16,6 +17,7 @@ import unittest
 
 import build_columns
 import build_dumps
+import build_families
 import build_hours
 import build_shortfalls
 import largest_hour
@@ -458,8 +460,8 @@ class BadText(unittest.TestCase):
             "mark 4c545": "mark '4c545' is not three characters or six hex digits",
             "mark L\u00c4C": "mark 'L\u00c4C' is not three characters or six hex digits",
             "mark": "mark takes 1 value, not 0",
-            "cut 3": "cut takes case or proposal first, not '3'",
-            "cut": "cut takes case or proposal first, not ''",
+            "cut 3": "cut takes case, proposal or families first, not '3'",
+            "cut": "cut takes case, proposal or families first, not ''",
             "cut case": "cut case takes 1 values, not 0",
             "cut case 15": "cut 15 does not fit the case of 14 bytes",
             "append case 0": "'0' is not pairs of hex digits",
@@ -468,6 +470,11 @@ class BadText(unittest.TestCase):
             "byte case 0 256": "byte 256 is not from 0 to 255",
             "byte case 14 0": "byte 14 does not fit the case of 14 bytes",
             "byte proposal 0 0": "byte 0 does not fit the proposal of 0 bytes",
+            "parent 0": "parent before the families line",
+            "families": "the families line lacks version",
+            "families version 65536": "version 65536 is not from 0 to 65535",
+            "families version 1 zones 1": "'zones' is not one of version",
+            "cut families 1": "cut 1 does not fit the families of 0 bytes",
         }
         for line, message in refusals.items():
             with self.subTest(line[:40]):
@@ -802,7 +809,7 @@ class DumpText(unittest.TestCase):
         ):
             with self.subTest(text), self.assertRaisesRegex(hour.TextError, rf"\A{message}\Z"):
                 dump.build(CASE_LINES + text)
-        with self.assertRaisesRegex(hour.TextError, "line 2: cut takes case or proposal first, not 'dump'"):
+        with self.assertRaisesRegex(hour.TextError, "line 2: cut takes case, proposal or families first, not 'dump'"):
             hour.build(CASE_LINES + "cut dump 1")
 
     def test_every_cut_and_what_follows(self):
@@ -824,6 +831,151 @@ class DumpText(unittest.TestCase):
     def test_a_text_of_a_dump_is_told_by_its_line(self):
         self.assertTrue(dump.is_text(CASE_LINES + "  dump share 0 system 0 # x\n"))
         self.assertFalse(dump.is_text(P1_TEXT + "# dump share 0 system 0\n"))
+
+
+P1_FAMILIES = bytes.fromhex("4c5446 0100 ffff 0000 ffff 0200 0200")  # LTF, version 1, none, 0, none, 2, 2
+FAMILY_LINES = "\nfamilies version 1\nparent none\nparent 0\nparent none\nparent 2\nparent 2\n"
+
+
+class Families(unittest.TestCase):
+    """The family list as text and bytes, and that whatever it has comes back."""
+
+    def assert_round_trip(self, case, proposal, families):
+        self.assertEqual(hour.build_families(hour.show(case, proposal, families)), (case, proposal, families))
+
+    def test_text_and_sample_give_the_bytes_by_hand(self):
+        files = (P1_CASE, P1_PROPOSAL, P1_FAMILIES)
+        self.assertEqual(hour.build_families(P1_TEXT + FAMILY_LINES), files)
+        self.assertEqual(hour.build(P1_TEXT + FAMILY_LINES), files[:2])
+        self.assertEqual((SAMPLES / "three-zone.families").read_bytes(), P1_FAMILIES)
+        self.assertEqual(hour.build_families(build_families.stored_families()["accepted-sample"]), files)
+
+    def test_no_list_is_none_and_an_empty_one_is_empty(self):
+        self.assertEqual(hour.build_families(P1_TEXT)[2], None)
+        self.assertEqual(hour.build_families(P1_TEXT + "\nappend families\n")[2], b"")
+        self.assertNotIn("families", hour.show(P1_CASE, P1_PROPOSAL))
+        self.assertIn("\nappend families  # The family list has no bytes.\n", hour.show(P1_CASE, P1_PROPOSAL, b""))
+
+    def test_shown_with_its_offsets(self):
+        text = hour.show(P1_CASE, P1_PROPOSAL, P1_FAMILIES)
+        self.assertIn("\nfamilies version 1  # at 3\n", text)
+        self.assertIn("\nparent none  # at 5, order 0: 0 sell 4000 1000\n", text)
+        self.assertIn("\nparent    2  # at 13, order 4: 2 buy 10000 5000\n", text)
+
+    def test_fields_at_their_offsets(self):
+        for offset, field in (
+            (0, "mark LTF, bytes 4c 54 46 at 0"),
+            (4, "version 1, bytes 01 00 at 3"),
+            (5, "order 0, parent none, bytes ff ff at 5"),
+            (8, "order 1, parent 0, bytes 00 00 at 7"),
+            (14, "order 4, parent 2, bytes 02 00 at 13"),
+        ):
+            said = hour.field_at(offset, P1_CASE, None, P1_FAMILIES)
+            self.assertIn(f"of the family list: {field} ", said)
+            self.assertEqual(hour.field_at(offset, P1_CASE, P1_PROPOSAL, P1_FAMILIES), said)
+        self.assertIn("in parent 4, which is not whole", hour.field_at(13, P1_CASE, None, P1_FAMILIES[:-1]))
+        self.assertIn("past the last field", hour.field_at(15, P1_CASE, None, P1_FAMILIES + b"\0"))
+        with self.assertRaisesRegex(hour.OffsetError, "not in the family list of 15 bytes"):
+            hour.field_at(15, P1_CASE, None, P1_FAMILIES)
+
+    def test_every_cut_and_what_follows(self):
+        for size in range(len(P1_FAMILIES)):
+            self.assert_round_trip(P1_CASE, P1_PROPOSAL, P1_FAMILIES[:size])
+        for size in (1, 2, 3, 80):
+            self.assert_round_trip(P1_CASE, P1_PROPOSAL, P1_FAMILIES + b"\xff" * size)
+        for size in range(len(P1_CASE)):
+            self.assert_round_trip(P1_CASE[:size], b"", P1_FAMILIES)
+
+    def test_bytes_of_any_kind(self):
+        numbers = random.Random(11)
+        for turn in range(600):
+            case = bytearray((P1_CASE, CONTRACTED_CASE)[turn % 2])
+            for _ in range(numbers.randrange(3)):
+                case[numbers.randrange(len(case))] = numbers.randrange(256)
+            self.assert_round_trip(bytes(case), P1_PROPOSAL, numbers.randbytes(numbers.choice((15, 15, 5, numbers.randrange(60)))))
+
+    def test_refused_lines(self):
+        for text, message in (
+            ("parent 65536", "parent 65536 is not from 0 to 65535"),
+            ("parent -1", "parent -1 is not from 0 to 65535"),
+            ("parent nobody", "parent 'nobody' is not none or a number"),
+            ("parent 1 2", "parent takes 1 values (parent), not 2"),
+            ("parent", "parent takes 1 values (parent), not 0"),
+            ("families version 1", "a second families line"),
+        ):
+            with self.subTest(text), self.assertRaisesRegex(hour.TextError, rf"\Aline 3: {re.escape(message)}\Z"):
+                hour.build_families(f"{CASE_LINES}families version 1\n{text}\n")
+        self.assertEqual(hour.build_families(f"{CASE_LINES}families version 1\nparent 65535\n")[2][5:], b"\xff\xff")
+        for line in ("families version 1", "parent 0"):
+            with self.assertRaisesRegex(hour.TextError, rf"line 2: {line.split()[0]} in the text of a dump"):
+                dump.build(CASE_LINES + line)
+
+    def test_the_mark_of_the_list(self):
+        for word, mark in (("LTP", b"LTP"), ("000102", b"\0\1\2")):
+            self.assertEqual(hour.build_families(f"{CASE_LINES}families version 1\nmark {word}\n")[2][:3], mark)
+
+    def test_expectations(self):
+        text = "# expect 28 4\n# expect-without 0 0\n# totals welfare 1 bound 2 gap 1 rent 0 owed 0\n"
+        due, without, totals = hour.expected(text, "expect-without")
+        self.assertEqual((due, without, totals["bound"]), ((28, 4), (0, 0), 200_000_000))
+        for text, other, message in (
+            (text, "expect-apart", "line 2: expect-without stands where expect-apart would"),
+            ("# expect 5 0\n# expect-apart 9 0", "expect-without", "line 2: expect-apart stands where expect-without would"),
+            ("# expect 17 0\n# expect-without 17 0", "expect-without", "expect-without says what expect does"),
+            ("# expect 17 0\n# expect-without 0 0", "expect-without", "a totals line stands where .*"),
+        ):
+            with self.subTest(message), self.assertRaisesRegex(ValueError, rf"\A{message}\Z"):
+                hour.expected(text, other)
+
+
+class StoredFamilies(unittest.TestCase):
+    """Every number of the list is expected somewhere, each by its name, and what crates/family_runs reads is as made."""
+
+    def test_every_number_is_expected_somewhere(self):
+        texts = build_families.stored_families()
+        due = {name: hour.expected(text, "expect-without")[0] for name, text in texts.items()}
+        self.assertLess({0, 16, 17, 18, 26, 28}, {number for number, _ in due.values()})
+        for name, (number, _) in due.items():
+            if name.startswith("refused-"):
+                self.assertEqual(int(name.split("-")[1]), number)
+            if name.startswith("accepted-"):
+                self.assertEqual(number, 0)
+
+    def test_largest_families_are_as_made(self):
+        for name, make in largest_hour.FAMILIES.items():
+            with self.subTest(name):
+                self.assertEqual(build_families.stored_families()[name], make())
+
+    def test_written_and_checked(self):
+        with tempfile.TemporaryDirectory() as folder:
+            status, out, _ = run_tool(build_families.main, folder)
+            self.assertEqual((status, out.count("\n")), (0, 2))
+            self.assertEqual(run_tool(build_families.main, "--check", folder), (0, "", ""))
+            given = (pathlib.Path(folder) / "stdin").read_bytes()
+            lines = (pathlib.Path(folder) / "stdout").read_text().splitlines()
+            for text, line in zip(build_families.stored_families().values(), lines, strict=True):
+                sizes, given = struct.unpack_from("<III", given), given[12:]
+                files = []
+                for size in sizes:
+                    files.append(given[:size])
+                    given = given[size:]
+                self.assertEqual((tuple(files), line), (build_families.files_of(text), build_families.line(text)))
+            self.assertEqual(given, b"")
+            for name in ("stdin", "stdout"):
+                path = pathlib.Path(folder) / name
+                data = path.read_bytes()
+                path.write_bytes(data[:-1])
+                said = run_tool(build_families.main, "--check", folder)
+                self.assertEqual(said, (1, "", f"build_families.py: {name} differs from the stored hours with families\n"))
+                path.unlink()
+                said = run_tool(build_families.main, "--check", folder)
+                self.assertEqual(said, (1, "", f"build_families.py: {name} is missing\n"))
+                path.write_bytes(data)
+        self.assertEqual(run_tool(build_families.main)[0], 2)
+
+    def test_a_text_without_a_list(self):
+        with self.assertRaisesRegex(ValueError, "it has no family list"):
+            build_families.files_of(P1_TEXT)
 
 
 class DumpValues(unittest.TestCase):

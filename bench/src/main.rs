@@ -10,6 +10,8 @@ mod columns;
 mod desk;
 #[cfg(feature = "dump")]
 mod dump;
+#[cfg(feature = "families")]
+mod families;
 #[cfg(feature = "intuitive")]
 mod intuitive;
 #[cfg(feature = "queue")]
@@ -293,6 +295,8 @@ fn main() {
     dump::dumps();
     #[cfg(feature = "columns")]
     columns::files();
+    #[cfg(feature = "families")]
+    families::lists();
     #[cfg(feature = "shortfalls")]
     shortfalls::hours();
     #[cfg(feature = "queue")]

@@ -25,6 +25,18 @@ extern "C" {
         report_len: usize,
     ) -> u64;
 
+    #[cfg(feature = "families")]
+    fn lta_judge_families(
+        case_bytes: *const u8,
+        case_len: usize,
+        proposal: *const u8,
+        proposal_len: usize,
+        families: *const u8,
+        families_len: usize,
+        report: *mut u8,
+        report_len: usize,
+    ) -> u64;
+
     #[cfg(feature = "book")]
     fn lta_book_surplus(
         orders: *const Order,
@@ -95,6 +107,30 @@ extern "C" {
 
     #[cfg(feature = "intuitive")]
     fn lta_hour_intuitive(
+        case_bytes: *const u8,
+        case_len: usize,
+        proposal: *const u8,
+        proposal_len: usize,
+        pairs: *const u8,
+        pairs_len: usize,
+        scratch: *mut i64,
+        scratch_count: usize,
+    ) -> Carried;
+
+    #[cfg(feature = "intuitive")]
+    fn lta_intuitive_small(
+        net_exports: *const i64,
+        net_count: usize,
+        zone_prices: *const i64,
+        price_count: usize,
+        pairs: *const u8,
+        pairs_len: usize,
+        scratch: *mut i64,
+        scratch_count: usize,
+    ) -> Carried;
+
+    #[cfg(feature = "intuitive")]
+    fn lta_hour_intuitive_small(
         case_bytes: *const u8,
         case_len: usize,
         proposal: *const u8,
@@ -260,6 +296,30 @@ pub fn judge_null(case: &[u8], proposal: &[u8], report: &mut [u8]) -> u64 {
     }
 }
 
+/// As `judge`, with a family list; `null` gives a null pointer for each empty slice.
+#[cfg(feature = "families")]
+pub fn judge_families(
+    case: &[u8],
+    proposal: &[u8],
+    list: &[u8],
+    report: &mut [u8],
+    null: bool,
+) -> u64 {
+    // Safe: each pointer comes with the length of its own slice.
+    unsafe {
+        lta_judge_families(
+            start(case, null),
+            case.len(),
+            start(proposal, null),
+            proposal.len(),
+            start(list, null),
+            list.len(),
+            start_mut(report, null),
+            report.len(),
+        )
+    }
+}
+
 /// The book entry; `null` gives a null pointer for each empty list.
 #[cfg(feature = "book")]
 #[allow(dead_code)]
@@ -312,6 +372,7 @@ pub fn sheet_branches(sheet: &[u8], zones: usize, out: &mut [u8], null: bool) ->
 #[cfg(any(
     feature = "columns",
     feature = "dump",
+    feature = "families",
     feature = "intuitive",
     feature = "shortfalls"
 ))]
@@ -325,6 +386,7 @@ fn start<T>(list: &[T], null: bool) -> *const T {
 #[cfg(any(
     feature = "columns",
     feature = "dump",
+    feature = "families",
     feature = "intuitive",
     feature = "shortfalls"
 ))]
@@ -402,8 +464,47 @@ pub fn shortfalls(case: &[u8], proposal: &[u8], out: &mut [i64], null: bool) -> 
     .into()
 }
 
-/// Whether net positions are intuitive at these prices; `null` gives a null
-/// pointer for each empty list.
+/// An entry of S-3 or S-13 over two lists, pairs and a scratch: net positions and
+/// prices, or a case and a proposal.
+#[cfg(feature = "intuitive")]
+type CarriedEntry<T> = unsafe extern "C" fn(
+    *const T,
+    usize,
+    *const T,
+    usize,
+    *const u8,
+    usize,
+    *mut i64,
+    usize,
+) -> Carried;
+
+/// What such an entry answers; `null` gives a null pointer for each empty list.
+#[cfg(feature = "intuitive")]
+fn carried_by<T>(
+    entry: CarriedEntry<T>,
+    first: &[T],
+    second: &[T],
+    pairs: &[u8],
+    scratch: &mut [i64],
+    null: bool,
+) -> CarriedAnswer {
+    // Safe: each pointer comes with the length of its own list.
+    unsafe {
+        entry(
+            start(first, null),
+            first.len(),
+            start(second, null),
+            second.len(),
+            start(pairs, null),
+            pairs.len(),
+            start_mut(scratch, null),
+            scratch.len(),
+        )
+    }
+    .into()
+}
+
+/// Whether net positions are intuitive at these prices.
 #[cfg(feature = "intuitive")]
 #[allow(dead_code)]
 pub fn intuitive(
@@ -413,20 +514,7 @@ pub fn intuitive(
     scratch: &mut [i64],
     null: bool,
 ) -> CarriedAnswer {
-    // Safe: each pointer comes with the length of its own list.
-    unsafe {
-        lta_intuitive(
-            start(net, null),
-            net.len(),
-            start(prices, null),
-            prices.len(),
-            start(pairs, null),
-            pairs.len(),
-            start_mut(scratch, null),
-            scratch.len(),
-        )
-    }
-    .into()
+    carried_by(lta_intuitive, net, prices, pairs, scratch, null)
 }
 
 /// The same of an hour.
@@ -439,20 +527,39 @@ pub fn hour_intuitive(
     scratch: &mut [i64],
     null: bool,
 ) -> CarriedAnswer {
-    // Safe: each pointer comes with the length of its own list.
-    unsafe {
-        lta_hour_intuitive(
-            start(case, null),
-            case.len(),
-            start(proposal, null),
-            proposal.len(),
-            start(pairs, null),
-            pairs.len(),
-            start_mut(scratch, null),
-            scratch.len(),
-        )
-    }
-    .into()
+    carried_by(lta_hour_intuitive, case, proposal, pairs, scratch, null)
+}
+
+/// Both on the smaller board.
+#[cfg(feature = "intuitive")]
+#[allow(dead_code)]
+pub fn intuitive_small(
+    net: &[i64],
+    prices: &[i64],
+    pairs: &[u8],
+    scratch: &mut [i64],
+    null: bool,
+) -> CarriedAnswer {
+    carried_by(lta_intuitive_small, net, prices, pairs, scratch, null)
+}
+
+#[cfg(feature = "intuitive")]
+#[allow(dead_code)]
+pub fn hour_intuitive_small(
+    case: &[u8],
+    proposal: &[u8],
+    pairs: &[u8],
+    scratch: &mut [i64],
+    null: bool,
+) -> CarriedAnswer {
+    carried_by(
+        lta_hour_intuitive_small,
+        case,
+        proposal,
+        pairs,
+        scratch,
+        null,
+    )
 }
 
 /// Posts an hour to the queue that these bytes are.

@@ -7,11 +7,11 @@
 
 use crate::archive;
 use crate::families::good;
-use crate::make::Shape;
+use crate::make::{tolerance, Shape};
 use crate::rng::Rng;
 use crate::run::Run;
 use second_judge::hours::{contracted_hour, three_zone_hour, Branch, Hour, Link, Version};
-use second_judge::limits::{LEAST_BUFFER, SELLS};
+use second_judge::limits::{LEAST_BUFFER, SELLS, WIDEST_TOLERANCE};
 use second_judge::{dump_proposal_as, judge, DumpBuild, OutputAnswer, Row};
 
 /// So many dumps at least, and each number at least so many times.
@@ -229,7 +229,7 @@ impl Dumps<'_> {
     }
 
     /// A proposal that was written is read by both judges: none of 9 to 14 has a
-    /// cause, nor has 21.
+    /// cause, nor has 21; 15 if the case's tolerance is wide (S-12), and then alone.
     fn judge(&mut self, case: &[u8], dump: &[u8], proposal: &[u8]) {
         let (mut report, mut their_report) = ([0; LEAST_BUFFER], [0; LEAST_BUFFER]);
         let verdict = judge(case, proposal, &mut report);
@@ -240,7 +240,9 @@ impl Dumps<'_> {
                 format!("judged: archive {answer}, second judge {number} {index}, or their reports")
             });
         }
-        if !matches!(number, 0 | 22..=27) {
+        let tolerance = case[10..14].try_into().map(u32::from_le_bytes);
+        let wide = tolerance.expect("four bytes") > WIDEST_TOLERANCE;
+        if !matches!(number, 0 | 15 | 22..=27) || wide != (number == 15) {
             self.fault(case, dump, proposal.len(), || {
                 format!("the proposal written is refused by {number} {index}")
             });
@@ -379,7 +381,9 @@ impl Made {
             0 => Shape::any(rng),
             _ => Shape::small(rng),
         };
-        let hour = good(rng, shape);
+        let mut hour = good(rng, shape);
+        // S-12: a wide tolerance is read, and the proposal not judged.
+        hour.tolerance = tolerance(rng);
         Made::good(rng, hour)
     }
 

@@ -24,6 +24,8 @@ mod intuitive;
 mod make;
 mod no_links;
 mod offsets;
+#[cfg(feature = "families")]
+mod parents;
 mod places;
 #[cfg(feature = "intuitive")]
 mod planted;
@@ -37,6 +39,7 @@ mod sheet;
 #[cfg(feature = "shortfalls")]
 mod shortfalls;
 mod versions;
+mod wide;
 
 use rng::Rng;
 use run::{Check, Run, MET};
@@ -47,8 +50,8 @@ use std::time::Instant;
 const SEED: u64 = 1;
 const INPUTS: u64 = 260_000;
 /// Every number of the verdict table.
-const NUMBERS: [usize; 23] = [
-    0, 1, 2, 3, 4, 5, 6, 7, 8, 9, 10, 11, 12, 13, 14, 21, 22, 23, 24, 25, 26, 27, 30,
+const NUMBERS: [usize; 24] = [
+    0, 1, 2, 3, 4, 5, 6, 7, 8, 9, 10, 11, 12, 13, 14, 15, 21, 22, 23, 24, 25, 26, 27, 30,
 ];
 
 fn main() -> ExitCode {
@@ -86,6 +89,7 @@ fn main() -> ExitCode {
     versions::halves(&mut run);
     versions::laws(&mut run, &mut Rng::new(seed));
     no_links::hours(&mut run, &mut Rng::new(seed));
+    wide::hours(&mut run, &mut Rng::new(seed));
     rearranged::hours(&mut run, &mut Rng::new(seed));
     #[cfg(feature = "desk")]
     {
@@ -102,6 +106,8 @@ fn main() -> ExitCode {
     dump::dumps(&mut run, &mut Rng::new(seed));
     #[cfg(feature = "columns")]
     columns::files(&mut run, &mut Rng::new(seed));
+    #[cfg(feature = "families")]
+    parents::lists(&mut run, &mut Rng::new(seed));
     #[cfg(feature = "shortfalls")]
     shortfalls::hours(&mut run, &mut Rng::new(seed));
     #[cfg(feature = "queue")]
@@ -137,6 +143,7 @@ fn main() -> ExitCode {
         ("intuitive", cfg!(feature = "intuitive")),
         ("dump", cfg!(feature = "dump")),
         ("columns", cfg!(feature = "columns")),
+        ("families", cfg!(feature = "families")),
         ("shortfalls", cfg!(feature = "shortfalls")),
         ("queue", cfg!(feature = "queue")),
     ] {

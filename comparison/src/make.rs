@@ -61,6 +61,31 @@ impl Shape {
     }
 }
 
+/// S-12, in cents: a tolerance that is judged, often either end of what is.
+pub fn narrow(rng: &mut Rng) -> u32 {
+    match rng.below(4) {
+        0 | 1 => 0,
+        2 => rng.pick(&[1, 9_999, 10_000]),
+        _ => rng.between(0, 10_000) as u32,
+    }
+}
+
+/// One that is read and not judged.
+pub fn wide(rng: &mut Rng) -> u32 {
+    match rng.below(4) {
+        0 | 1 => 10_001,
+        _ => rng.between_or_end(10_001, 1_000_000_000) as u32,
+    }
+}
+
+/// Either; wide ones are rare, for nothing past 15 is asked of them.
+pub fn tolerance(rng: &mut Rng) -> u32 {
+    match rng.one_in(10) {
+        true => wide(rng),
+        false => narrow(rng),
+    }
+}
+
 /// S-4: either version.
 pub fn version(rng: &mut Rng) -> Version {
     rng.pick(&[Version::One, Version::Two])
@@ -270,11 +295,7 @@ fn try_optimal(rng: &mut Rng, shape: Shape, halvings: u32) -> Option<Hour> {
     Some(Hour {
         version: version(rng),
         zones: shape.zones as u8,
-        tolerance: if rng.one_in(2) {
-            0
-        } else {
-            rng.between_or_end(0, 1_000_000_000) as u32
-        },
+        tolerance: narrow(rng),
         branches,
         links,
         orders: orders.iter().map(|(row, _)| *row).collect(),
@@ -430,10 +451,11 @@ fn fit_margins(rng: &mut Rng, hour: &mut Hour) -> bool {
 /// An hour with every field in range, taken so far along the rules by chance.
 pub fn random(rng: &mut Rng, shape: Shape) -> Hour {
     let zones = shape.zones;
+    let tolerance = tolerance(rng);
     let mut field = |least, greatest| rng.between_or_end(least, greatest);
     let mut hour = Hour {
         zones: zones as u8,
-        tolerance: field(0, 1_000_000_000) as u32,
+        tolerance,
         branches: (0..shape.branches)
             .map(|_| Branch {
                 ram: field(-500_000, 500_000) as i32,
@@ -530,7 +552,7 @@ pub fn at_limits(rng: &mut Rng, shape: Shape) -> Hour {
     let mut hour = random(rng, shape);
     let share = rng.pick(&[0, 100_000]);
     hour.share = share;
-    hour.tolerance = rng.pick(&[0, 1_000_000_000]);
+    hour.tolerance = rng.pick(&[0, 0, 10_000, 10_000, 10_001, 1_000_000_000]);
     hour.system_price = rng.pick(&[i32::MIN, -50_000, -50_000, 400_000, 400_000, i32::MAX]);
     for branch in &mut hour.branches {
         branch.ram = rng.pick(&[-500_000, 500_000]);

@@ -79,7 +79,7 @@ fn share_of_nothing(run: &mut Run, rng: &mut Rng, met: &mut [[u64; 2]; CAUSES.le
         return;
     }
     let mut hour = good(rng, shape);
-    hour.tolerance = 1_000_000_000;
+    hour.tolerance = 10_000;
     let n = rng.below(CAUSES.len());
     let (cause, _, without, with) = CAUSES[n];
     if !brought(rng, &mut hour, cause) {

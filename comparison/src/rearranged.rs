@@ -20,7 +20,7 @@ const BOOKS: u64 = 20_000;
 const MOST_LENT: usize = 256;
 
 /// Every number that a readable case with a proposal of the right length can get.
-const NUMBERS: [usize; 13] = [0, 10, 11, 13, 14, 21, 22, 23, 24, 25, 26, 27, 30];
+const NUMBERS: [usize; 14] = [0, 10, 11, 13, 14, 15, 21, 22, 23, 24, 25, 26, 27, 30];
 
 #[derive(Default)]
 struct Met {

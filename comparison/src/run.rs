@@ -164,6 +164,7 @@ impl Run {
         feature = "columns",
         feature = "desk",
         feature = "dump",
+        feature = "families",
         feature = "intuitive",
         feature = "queue",
         feature = "sheet",

@@ -13,8 +13,8 @@ use second_judge::Verdict;
 /// Of each of the two laws.
 const INPUTS: u64 = 24_000;
 /// The numbers that a case of version 2 can get: all but 3.
-const NUMBERS: [usize; 22] = [
-    0, 1, 2, 4, 5, 6, 7, 8, 9, 10, 11, 12, 13, 14, 21, 22, 23, 24, 25, 26, 27, 30,
+const NUMBERS: [usize; 23] = [
+    0, 1, 2, 4, 5, 6, 7, 8, 9, 10, 11, 12, 13, 14, 15, 21, 22, 23, 24, 25, 26, 27, 30,
 ];
 
 pub fn laws(run: &mut Run, rng: &mut Rng) {

@@ -25,11 +25,13 @@ pub enum ColumnBuild {
     ReadableOfColumns,
     RoomFirst,
     RefusalHasLength,
+    // S-12's.
+    WideRefused,
 }
 
 impl ColumnBuild {
     /// Every wrong build, with the name a table gives it.
-    pub const WRONG: [(ColumnBuild, &'static str); 12] = [
+    pub const WRONG: [(ColumnBuild, &'static str); 13] = [
         (ColumnBuild::RowByRow, "columns by order of rows"),
         (ColumnBuild::PriceHighestFirst, "price's highest byte first"),
         (
@@ -48,6 +50,7 @@ impl ColumnBuild {
         ),
         (ColumnBuild::RoomFirst, "72 before 71"),
         (ColumnBuild::RefusalHasLength, "length of a refusal by 72"),
+        (ColumnBuild::WideRefused, "wide tolerances refused"),
     ];
 }
 
@@ -111,6 +114,9 @@ fn orders_at(build: ColumnBuild, case: &Case) -> usize {
 
 fn columned(build: ColumnBuild, bytes: &[u8]) -> Option<Vec<u8>> {
     let case = Case::read(bytes).ok()?;
+    if build == ColumnBuild::WideRefused && case.tolerance > WIDEST_TOLERANCE {
+        return None;
+    }
     let mut file = match build {
         ColumnBuild::MarkKept => b"LTC".to_vec(),
         _ => b"LTK".to_vec(),
@@ -184,6 +190,9 @@ fn restored(build: ColumnBuild, file: &[u8]) -> Option<Vec<u8>> {
     header[..3].copy_from_slice(b"LTC");
     // The counts are the case's, and say how long it is.
     let counts = Case::header(&header).ok()?;
+    if build == ColumnBuild::WideRefused && counts.tolerance > WIDEST_TOLERANCE {
+        return None;
+    }
     if file.len() != counts.demanded() {
         return None;
     }

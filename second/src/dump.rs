@@ -27,11 +27,13 @@ pub enum DumpBuild {
     MinusZeroRefused,
     SubnormalsZero,
     QuantityBefore,
+    // S-12's.
+    WideRefused,
 }
 
 impl DumpBuild {
     /// Every wrong build, with the name a table gives it.
-    pub const WRONG: [(DumpBuild, &'static str); 16] = [
+    pub const WRONG: [(DumpBuild, &'static str); 17] = [
         (DumpBuild::VolumeToNearest, "volume to the nearest"),
         (DumpBuild::FlowToNearest, "flow to the nearest"),
         (DumpBuild::LtaShareToNearest, "LTA share to the nearest"),
@@ -54,6 +56,7 @@ impl DumpBuild {
         (DumpBuild::MinusZeroRefused, "minus zero refused"),
         (DumpBuild::SubnormalsZero, "subnormals are zero"),
         (DumpBuild::QuantityBefore, "quantity of the order before"),
+        (DumpBuild::WideRefused, "wide tolerances refused"),
     ];
 }
 
@@ -97,6 +100,9 @@ fn proposal(
         DumpBuild::CaseIndexNamed => (56, verdict.index as usize),
         _ => (56, verdict.number as usize),
     })?;
+    if build == DumpBuild::WideRefused && case.tolerance > WIDEST_TOLERANCE {
+        return Err((56, 4));
+    }
     let rows = case.orders + case.links + case.branches;
     if dump.len() != 8 * (2 + rows) {
         return Err((57, 0));

@@ -248,7 +248,7 @@ pub fn stored() -> Vec<Stored> {
     hour("P3", 26, 0, &p3);
     hour(
         "P3, tolerance 299,999",
-        26,
+        15,
         0,
         &Hour {
             tolerance: 299_999,
@@ -257,7 +257,7 @@ pub fn stored() -> Vec<Stored> {
     );
     hour(
         "P4",
-        0,
+        15,
         0,
         &Hour {
             tolerance: 300_000,
@@ -416,7 +416,7 @@ pub fn stored() -> Vec<Stored> {
                 };
                 stored.prices = vec![500_000_000, 400_000_000];
             }
-            "P3" | "P3, tolerance 299,999" | "P4" => {
+            "P3" => {
                 stored.totals.gap = Some(3_000 * EURO);
                 stored.totals.owed = Some(18_000 * EURO);
             }

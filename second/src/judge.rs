@@ -1,5 +1,6 @@
 //! The judgement: the rules in the order of the verdict table, and the report.
 
+use crate::families::{Families, FamilyBuild};
 use crate::limits::*;
 use crate::misnamed::misnamed;
 use crate::read::{Case, Proposal};
@@ -52,11 +53,20 @@ pub enum Build {
     ShareWithLink,
     LargerWithoutLinks,
     NegativeTotalAsZero,
+    // S-11's: a list asked where none is lent, as if it were empty.
+    FamiliesAsked,
+    // S-12's: where 15 is asked, and what is compared.
+    WideInHeader,
+    WideAtTheLimit,
+    WideBeforeShadowPrices,
+    WideAfterVolumes,
+    WideInMicrocents,
+    WideNotAsked,
 }
 
 impl Build {
     /// Every wrong build, with the name a table gives it.
-    pub const WRONG: [(Build, &'static str); 34] = [
+    pub const WRONG: [(Build, &'static str); 41] = [
         (Build::ExportPositive, "export counted positive"),
         (Build::CapacityWithoutShare, "capacity without the share"),
         (Build::BranchTotalAlone, "branch total alone"),
@@ -94,6 +104,13 @@ impl Build {
         (Build::ShareWithLink, "27 also with a link"),
         (Build::LargerWithoutLinks, "no link: the larger-of kept"),
         (Build::NegativeTotalAsZero, "no link: zero for a negative"),
+        (Build::FamiliesAsked, "families without a list"),
+        (Build::WideInHeader, "15 asked in row 4"),
+        (Build::WideAtTheLimit, "15: 10,000 itself refused"),
+        (Build::WideBeforeShadowPrices, "15 before 14"),
+        (Build::WideAfterVolumes, "15 after 21"),
+        (Build::WideInMicrocents, "15 compared in microcents"),
+        (Build::WideNotAsked, "15 not asked"),
     ];
 }
 
@@ -108,10 +125,32 @@ pub fn judge(case: &[u8], proposal: &[u8], report: &mut [u8]) -> Verdict {
 /// The judgement as one of the builds gives it.
 #[inline]
 pub fn judge_as(build: Build, case: &[u8], proposal: &[u8], report: &mut [u8]) -> Verdict {
-    match decide(build, case, proposal, report) {
+    let list = match build {
+        Build::FamiliesAsked => Some((FamilyBuild::Right, &[][..])),
+        _ => None,
+    };
+    match decide(build, case, proposal, list, report) {
         Ok(verdict) => verdict,
         Err(verdict) => misnamed(build, verdict, case),
     }
+}
+
+/// S-11: the same with a family list beside the case.
+pub fn judge_families(case: &[u8], proposal: &[u8], list: &[u8], report: &mut [u8]) -> Verdict {
+    judge_families_as(FamilyBuild::Right, case, proposal, list, report)
+}
+
+/// The judgement with a list as one of the builds gives it.
+pub fn judge_families_as(
+    build: FamilyBuild,
+    case: &[u8],
+    proposal: &[u8],
+    list: &[u8],
+    report: &mut [u8],
+) -> Verdict {
+    let (Ok(verdict) | Err(verdict)) =
+        decide(Build::Right, case, proposal, Some((build, list)), report);
+    verdict
 }
 
 #[inline]
@@ -119,6 +158,7 @@ fn decide(
     build: Build,
     case: &[u8],
     proposal: &[u8],
+    list: Option<(FamilyBuild, &[u8])>,
     report: &mut [u8],
 ) -> Result<Verdict, Verdict> {
     // Verdict 30 is asked first of all, of the whole length lent.
@@ -130,7 +170,47 @@ fn decide(
         Build::Right => Case::read(case)?,
         _ => Case::read_as(build, case)?,
     };
+    if let Some((build @ FamilyBuild::ListBeforeProposal, list)) = list {
+        Families::read(build, list, case.orders)?;
+    }
+    // S-12, verdict 15, asked straight after 14: narrower hours alone are judged.
+    let tolerance = match build {
+        Build::WideInMicrocents => u64::from(case.tolerance) * MICROCENTS as u64,
+        Build::WideAtTheLimit => u64::from(case.tolerance) + 1,
+        _ => case.tolerance.into(),
+    };
+    let family_build = list.map_or(FamilyBuild::Right, |(build, _)| build);
+    let wide = tolerance > WIDEST_TOLERANCE.into()
+        && build != Build::WideNotAsked
+        && family_build != FamilyBuild::WideNotAsked;
+    if wide && build == Build::WideBeforeShadowPrices {
+        Proposal::read_but_shadow_prices(proposal, &case)?;
+        return Err(Verdict::new(15, 0));
+    }
     let proposal = Proposal::read(proposal, &case)?; // verdicts 9 to 14
+    let late = build == Build::WideAfterVolumes || family_build == FamilyBuild::WideAfterList;
+    if wide && !late {
+        return Err(Verdict::new(15, 0));
+    }
+
+    // S-11: verdicts 16 to 18, of a list that is lent.
+    let families = match list {
+        Some((build, list)) => Some((build, Families::read(build, list, case.orders)?)),
+        None => None,
+    };
+    if wide && family_build == FamilyBuild::WideAfterList {
+        return Err(Verdict::new(15, 0));
+    }
+    let accepted = |o: usize| (proposal.volume(o), case.order(o).quantity);
+    let ahead = || match &families {
+        Some((build, families)) => families.ahead(*build, accepted),
+        None => None,
+    };
+    if family_build == FamilyBuild::FractionsBeforeVolumes {
+        if let Some(child) = ahead() {
+            return Err(Verdict::new(28, child));
+        }
+    }
 
     // Verdict 21, and rule 1: import is positive.
     let mut net = [0i128; MOST_ZONES];
@@ -144,6 +224,16 @@ fn decide(
         net[usize::from(order.zone)] += if import { volume } else { -volume };
     }
 
+    if wide {
+        return Err(Verdict::new(15, 0));
+    }
+    // S-11, verdict 28, asked after 21 and before 22.
+    if family_build != FamilyBuild::FractionsAfterBalance {
+        if let Some(child) = ahead() {
+            return Err(Verdict::new(28, child));
+        }
+    }
+
     // S-6, verdict 27: without links no part of the hour is LTA. It is asked
     // after the balance.
     let share = i128::from(proposal.share);
@@ -155,6 +245,11 @@ fn decide(
     // Rule 3, verdict 22.
     if net.iter().sum::<i128>() != 0 {
         return Err(Verdict::new(22, 0));
+    }
+    if family_build == FamilyBuild::FractionsAfterBalance {
+        if let Some(child) = ahead() {
+            return Err(Verdict::new(28, child));
+        }
     }
     if leans && build != Build::ShareAfterBranches {
         return Err(Verdict::new(27, 0));

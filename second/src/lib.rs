@@ -10,6 +10,7 @@ mod book;
 mod columns;
 mod desk;
 mod dump;
+mod families;
 pub mod hours;
 mod intuitive;
 mod judge;
@@ -24,10 +25,12 @@ pub use book::{book_surplus, BookAnswer, Row};
 pub use columns::{case_columned, case_columned_as, case_restored, case_restored_as, ColumnBuild};
 pub use desk::{desk_lines, desk_output};
 pub use dump::{dump_proposal, dump_proposal_as, DumpBuild};
+pub use families::{list_of, FamilyBuild, LIST_HEADER, NO_PARENT};
 pub use intuitive::{
-    hour_intuitive, hour_intuitive_as, intuitive, intuitive_as, CarriedAnswer, IntuitiveBuild,
+    hour_intuitive, hour_intuitive_as, hour_intuitive_small, intuitive, intuitive_as,
+    intuitive_small, Board, CarriedAnswer, IntuitiveBuild,
 };
-pub use judge::{judge, judge_as, Build};
+pub use judge::{judge, judge_as, judge_families, judge_families_as, Build};
 pub use queue::{
     queue_post, queue_post_as, queue_serve, queue_serve_as, Queue, QueueBuild, ServedAnswer,
     QUEUE_BYTES,

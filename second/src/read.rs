@@ -84,7 +84,9 @@ impl<'a> Case<'a> {
         if !ORDERS.contains(&u16_at(bytes, 8)) {
             return Err(Verdict::new(4, 8));
         }
-        if !TOLERANCE.contains(&u32_at(bytes, 10)) {
+        let tolerance = u32_at(bytes, 10);
+        let wide = build == Build::WideInHeader && tolerance > WIDEST_TOLERANCE;
+        if !TOLERANCE.contains(&tolerance) || wide {
             return Err(Verdict::new(4, 10));
         }
         Ok(Case {
@@ -98,7 +100,7 @@ impl<'a> Case<'a> {
             branches: bytes[6].into(),
             links: bytes[7].into(),
             orders: u16_at(bytes, 8).into(),
-            tolerance: u32_at(bytes, 10),
+            tolerance,
         })
     }
 
@@ -266,6 +268,17 @@ pub struct Proposal<'a> {
 impl<'a> Proposal<'a> {
     /// The whole proposal: verdicts 9 to 14.
     pub fn read(bytes: &'a [u8], case: &Case) -> Result<Proposal<'a>, Verdict> {
+        let proposal = Proposal::read_but_shadow_prices(bytes, case)?;
+        let shadow_price = |b| {
+            let allowed = SHADOW_PRICE.contains(&proposal.shadow_price(b));
+            (proposal.shadow_price_at(b), allowed)
+        };
+        each_allowed(14, (0..case.branches).map(shadow_price))?;
+        Ok(proposal)
+    }
+
+    /// Verdicts 9 to 13.
+    pub fn read_but_shadow_prices(bytes: &'a [u8], case: &Case) -> Result<Proposal<'a>, Verdict> {
         if bytes.len() < PROPOSAL_HEADER {
             return Err(Verdict::new(9, 0));
         }
@@ -288,11 +301,6 @@ impl<'a> Proposal<'a> {
         if !SHARE.contains(&proposal.share) {
             return Err(Verdict::new(13, 0));
         }
-        let shadow_price = |b| {
-            let allowed = SHADOW_PRICE.contains(&proposal.shadow_price(b));
-            (proposal.shadow_price_at(b), allowed)
-        };
-        each_allowed(14, (0..case.branches).map(shadow_price))?;
         Ok(proposal)
     }
 

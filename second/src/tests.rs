@@ -623,9 +623,6 @@ fn a_link_brings_back_the_zero_exchange() {
     hour.flows = vec![0];
     let right = (26, 0, 0.0, 0.0);
     told_apart_by_totals(Build::LargerWithoutLinks, &hour, right, right);
-    hour.tolerance = 100_000;
-    let right = (0, 0, 0.0, 0.0);
-    told_apart_by_totals(Build::LargerWithoutLinks, &hour, right, right);
     hour.share = 100_000;
     hour.volumes = vec![0, 0];
     told_apart(Build::ShareNotAsked, &hour, (0, 0), (0, 0));
@@ -635,7 +632,7 @@ fn a_link_brings_back_the_zero_exchange() {
 fn two_way_hour() -> Stored {
     let p1 = three_zone_hour();
     let hour = Hour {
-        tolerance: 1_000_000_000,
+        tolerance: 10_000,
         links: vec![link(0, 1, 4_000), link(1, 0, 1_000)],
         flows: vec![3_500, 0],
         ..p1
@@ -913,4 +910,127 @@ fn columns_by_hand() {
     assert_eq!(back[..], case[..]);
     assert_eq!(case_restored(&case, &mut back).number, 71);
     assert_eq!(case_columned(&case, &mut back[..33]).number, 72);
+}
+
+/// P1 with a family list: what is answered, and whether the report is P1's.
+fn with_list(hour: &Hour, list: &[u8]) -> (u32, u32) {
+    let (mut report, mut free) = ([0xA5; 200], [0xA5; 200]);
+    let verdict = judge_families(&hour.case(), &hour.proposal(), list, &mut report);
+    let without = judge(&hour.case(), &hour.proposal(), &mut free);
+    match verdict.number {
+        0 | 26 => assert_eq!((verdict, report), (without, free)),
+        _ => assert_eq!(report, [0xA5; 200]),
+    }
+    (verdict.number, verdict.index)
+}
+
+#[test]
+fn families_of_the_three_zone_hour() {
+    // Accepted are 4,000 of 4,000, 1,375 of 6,000, 1,000 of 1,000, 0 of 9,000 and 4,375 of 10,000.
+    let hour = three_zone_hour();
+    let none = [None; 5];
+    assert_eq!(with_list(&hour, &list_of(&none)), (0, 0));
+    let of = |pairs: &[(usize, u16)]| {
+        let mut parents = none;
+        pairs
+            .iter()
+            .for_each(|&(o, parent)| parents[o] = Some(parent));
+        list_of(&parents)
+    };
+    assert_eq!(with_list(&hour, &of(&[(1, 0), (4, 2), (3, 1)])), (0, 0));
+    // Equal fractions of other quantities.
+    assert_eq!(with_list(&hour, &of(&[(0, 2)])), (0, 0));
+    assert_eq!(with_list(&hour, &of(&[(2, 0)])), (0, 0));
+    // 43.75 % and 22.9 %: 4,375 is more than 1,375, and 1,000 of 1,000 is more though it is less.
+    assert_eq!(with_list(&hour, &of(&[(4, 1)])), (28, 4));
+    assert_eq!(with_list(&hour, &of(&[(2, 1), (4, 1)])), (28, 2));
+    // 16 to 18.
+    assert_eq!(with_list(&hour, &[]), (16, 0));
+    assert_eq!(with_list(&hour, &list_of(&none[..4])), (16, 0));
+    assert_eq!(with_list(&hour, &of(&[(1, 5)])), (17, 1));
+    assert_eq!(with_list(&hour, &of(&[(0, 4), (4, 0), (3, 5)])), (17, 3));
+    assert_eq!(with_list(&hour, &of(&[(0, 4), (4, 1), (1, 4)])), (18, 1));
+    assert_eq!(with_list(&hour, &of(&[(4, 4)])), (18, 4));
+}
+
+#[test]
+fn families_asked_out_of_their_turn() {
+    let list = |o: usize, parent: u16| {
+        let mut parents = [None; 5];
+        parents[o] = Some(parent);
+        list_of(&parents)
+    };
+    let p1 = three_zone_hour();
+    // A volume above its quantity: 21, though the order exceeds its parent too.
+    let mut hour = p1.clone();
+    hour.volumes[1] = 6_001;
+    assert_eq!(with_list(&hour, &list(1, 0)), (21, 1));
+    assert_eq!(with_list(&hour, &list(2, 4)), (21, 1));
+    assert_eq!(with_list(&hour, &list(1, 1)), (18, 1));
+    // The balance fails: 28 is asked before it.
+    hour = p1.clone();
+    hour.volumes[4] += 1;
+    assert_eq!(with_list(&hour, &list(4, 1)), (28, 4));
+    assert_eq!(with_list(&hour, &list(1, 4)), (22, 0));
+    // A shadow price too high: 14 is asked before all of them.
+    hour = p1.clone();
+    hour.shadow_prices[1] = 1_000_001;
+    let at = 13 + 4 * (5 + 1 + 1);
+    assert_eq!(with_list(&hour, &[]), (14, at));
+    assert_eq!(with_list(&hour, &list(1, 1)), (14, at));
+    // No room for a report: asked first of all.
+    let (case, proposal) = (p1.case(), p1.proposal());
+    assert_eq!(
+        judge_families(&case, &proposal, &[], &mut [0; 175]).number,
+        30
+    );
+}
+
+#[test]
+fn wide_tolerances_are_read_and_not_judged() {
+    let told = |build, hour: &Hour, right: (u32, u32), wrong: (u32, u32)| {
+        for (build, due) in [(Build::Right, right), (build, wrong)] {
+            let mut report = [0xA5; 200];
+            let verdict = judge_as(build, &hour.case(), &hour.proposal(), &mut report);
+            assert_eq!((verdict.number, verdict.index), due, "{build:?}");
+            let written = due.0 == 0 || due.0 == 26;
+            assert_eq!(report != [0xA5; 200], written, "{build:?}");
+        }
+    };
+    let p1 = three_zone_hour();
+    let at = |tolerance| Hour {
+        tolerance,
+        ..p1.clone()
+    };
+    told(Build::WideAtTheLimit, &at(10_000), (0, 0), (15, 0));
+    told(Build::WideNotAsked, &at(10_001), (15, 0), (0, 0));
+    told(Build::WideInHeader, &at(10_001), (15, 0), (4, 10));
+    told(Build::WideInHeader, &at(1_000_000_000), (15, 0), (4, 10));
+    told(Build::WideNotAsked, &at(1_000_000_001), (4, 10), (4, 10));
+    told(Build::WideInMicrocents, &at(1), (0, 0), (15, 0));
+    told(Build::WideInMicrocents, &at(0), (0, 0), (0, 0));
+    let mut hour = at(10_001);
+    hour.shadow_prices[1] = 1_000_001;
+    told(Build::WideBeforeShadowPrices, &hour, (14, 41), (15, 0));
+    hour.share = 100_001;
+    told(Build::WideBeforeShadowPrices, &hour, (13, 0), (13, 0));
+    let mut hour = at(10_001);
+    hour.volumes[1] = 6_001;
+    told(Build::WideAfterVolumes, &hour, (15, 0), (21, 1));
+    // With a list it is asked before 16.
+    let (case, proposal) = (at(10_001).case(), p1.proposal());
+    let number =
+        |build, list: &[u8]| judge_families_as(build, &case, &proposal, list, &mut [0; 176]).number;
+    assert_eq!(number(FamilyBuild::Right, &[]), 15);
+    assert_eq!(number(FamilyBuild::WideAfterList, &[]), 16);
+    assert_eq!(number(FamilyBuild::WideNotAsked, &list_of(&[None; 5])), 0);
+    // Such files are columned, restored, and their dumps made proposals.
+    let mut out = vec![0; case.len()];
+    assert_eq!(case_columned(&case, &mut out).number, 0);
+    let columned = out.clone();
+    assert_eq!(case_restored(&columned, &mut out).number, 0);
+    assert_eq!(out, case);
+    let dump = include_bytes!("../../samples/three-zone.dump");
+    assert_eq!(dump_proposal(&case, dump, &mut [0; 45]).number, 0);
+    assert_eq!(desk_lines(&[case, proposal].concat()), b"verdict 15 0\n");
 }

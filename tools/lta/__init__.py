@@ -5,6 +5,7 @@
     answer.number, answer.index, answer.accepted
     answer.welfare, answer.gap, answer.totals     microcents, and None or empty without a report
     answer.prices                                 grains, one per zone
+    lta.judge(case, proposal, families)           the same with a family list's bytes; without one it is None, not empty
     print(lta.explain(case, proposal).words)
     answer = lta.intuitive(case, proposal, [(0, 1), (1, 0)])    pairs of zones; without them the case's links
     answer.intuitive, answer.total                True or False, and tenths; None where answer.number is not 0
@@ -37,7 +38,7 @@ from .archive import (
     shortfalls,
 )
 from .causes import Disagreement, Explanation, explain
-from .hour import build, field_at, show
+from .hour import build, build_families, field_at, show
 from .rules import Sums, cut
 
 __all__ = [
@@ -51,6 +52,7 @@ __all__ = [
     "Shortfalls",
     "Sums",
     "build",
+    "build_families",
     "carried",
     "case_columned",
     "case_restored",

@@ -191,6 +191,28 @@ def part_name(sums, kind, place):
     return f"left: {link_total_name(sums)} below branch total, by the LTA share of {amounts.per_cent(sums.share)}"
 
 
+def fraction_of(order):
+    """What is accepted of an order, in per cent, cut to a thousandth."""
+    return f"{amounts.scaled(100_000 * order.volume // order.quantity, 3, 1)} %"
+
+
+def family_rows(sums, parents):
+    """Of each order that has a parent: it, its parent, and what is accepted of the two."""
+    for child, parent in enumerate(parents):
+        if parent is not None:
+            one, other = sums.orders[child], sums.orders[parent]
+            ahead = one.volume * other.quantity > other.volume * one.quantity
+            yield f"order {child}", f"order {parent}", fraction_of(one), fraction_of(other), "AHEAD" if ahead else ""
+
+
+def family_lines(sums, parents):
+    rows = list(family_rows(sums, parents))
+    if not rows:
+        yield "  No order has a parent."
+    else:
+        yield from columns(("order", "parent", "accepted", "of its parent", ""), rows, left=2)
+
+
 def titled(title, lines):
     yield ""
     yield title
@@ -220,7 +242,7 @@ def gap_lines(sums, parts):
     return titled("Gap", ["  0.00: no order, branch or link falls short."])
 
 
-def hour_lines(judgement, sums, parts):
+def hour_lines(judgement, sums, parts, parents=None):
     if judgement.number in hour.REPORTED:
         yield from titled("Totals", totals_lines(judgement, sums))
     yield from titled(f"Zones, import positive; LTA share {amounts.per_cent(sums.share)}", zone_lines(sums))
@@ -228,21 +250,24 @@ def hour_lines(judgement, sums, parts):
         yield from titled("Branches", branch_lines(sums))
     if sums.links:
         yield from titled("Links", link_lines(sums))
+    if parents is not None:
+        yield from titled("Families", family_lines(sums, parents))
     if judgement.number in hour.REPORTED:
         yield from gap_lines(sums, parts)
 
 
 def clearable(number):
     """Whether an hour of this number has volumes, flows and prices that can be looked at."""
-    return number == 0 or 21 <= number <= 27
+    return number == 0 or 21 <= number <= 28
 
 
-def account(case, proposal, judgement, explanation, joined=False):
-    """All that lta explain prints, of two files or of a joined one."""
+def account(case, proposal, judgement, explanation, joined=False, families=None):
+    """All that lta explain prints, of two files or of a joined one, with a family list if there is one."""
     lines = [explanation.words]
-    lines += fault_lines(explanation, {"case": case, "proposal": proposal}, joined)
+    lines += fault_lines(explanation, {"case": case, "proposal": proposal, "families": families}, joined)
     if clearable(judgement.number):
         sums = rules.Sums(case, proposal)
         parts = gap.parts(case, proposal, judgement, sums) if judgement.number in hour.REPORTED else None
-        lines += hour_lines(judgement, sums, parts)
+        parents = None if families is None else hour.parents_of(case, families)
+        lines += hour_lines(judgement, sums, parts, parents)
     return "\n".join([*lines, "", NOT_PROVED_ACCEPTED if judgement.accepted else NOT_PROVED]) + "\n"

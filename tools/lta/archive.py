@@ -29,7 +29,7 @@ class BuildError(Exception):
 
 @dataclass(frozen=True)
 class Judgement:
-    """What lta_judge answers. Totals are in microcents and prices in grains; without a report they are None and ()."""
+    """What lta_judge or lta_judge_families answers. Totals are in microcents and prices in grains; without a report they are None and ()."""
 
     number: int
     index: int
@@ -265,6 +265,7 @@ _AMOUNTS = [ctypes.POINTER(ctypes.c_int64), ctypes.c_size_t]
 # What each entry gives, and takes.
 ENTRIES = {
     "lta_judge": (ctypes.c_uint64, _BYTES * 3),
+    "lta_judge_families": (ctypes.c_uint64, _BYTES * 4),
     "lta_intuitive": (CarriedStruct, _AMOUNTS * 2 + _BYTES + _AMOUNTS),
     "lta_hour_intuitive": (CarriedStruct, _BYTES * 3 + _AMOUNTS),
     "lta_dump_proposal": (WrittenStruct, _BYTES * 3),
@@ -301,13 +302,16 @@ def bytes_of(data):
         raise TypeError(f"bytes are judged, not a path or a number: {type(data).__name__}") from None
 
 
-def judge(case, proposal, room=rules.REPORT_ROOM):
-    """Has a case and a proposal, as bytes, judged by the archive, with a report buffer of the room's bytes."""
-    case, proposal = bytes_of(case), bytes_of(proposal)
+def judge(case, proposal, families=None, room=rules.REPORT_ROOM):
+    """Has a case and a proposal, as bytes, judged by the archive, with a family list if there is one, and with a report
+    buffer of the room's bytes. An empty list is a list, and refused; None is none.
+    """
+    files = [bytes_of(case), bytes_of(proposal)] + ([] if families is None else [bytes_of(families)])
     if room < 0:
         raise ValueError(f"the report's room is {room} bytes")
     report = ctypes.create_string_buffer(max(room, 1))
-    verdict = entry()(case, len(case), proposal, len(proposal), report, room)
+    call = entry() if families is None else entry("lta_judge_families")
+    verdict = call(*(part for file in files for part in (file, len(file))), report, room)
     number, index = verdict % 256, verdict // 256
     if number not in REPORTED:
         return Judgement(number, index)
@@ -316,9 +320,9 @@ def judge(case, proposal, room=rules.REPORT_ROOM):
     return Judgement(number, index, *amounts[:5], tuple(amounts[5:]))
 
 
-def judge_joined(joined):
+def judge_joined(joined, families=None):
     """The same of a joined file, the case and at once the proposal, cut as the desk cuts it."""
-    return judge(*rules.cut(bytes_of(joined)))
+    return judge(*rules.cut(bytes_of(joined)), families)
 
 
 def amounts_of(numbers, name):
@@ -351,6 +355,7 @@ def answer_of(carried):
 
 
 def new_scratch():
+    """Room for the wide board, on which the command and lta.carried ask; the smaller board's entries answer the same."""
     return (ctypes.c_int64 * rules.INTUITIVE_SCRATCH)()
 
 

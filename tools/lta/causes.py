@@ -36,7 +36,7 @@ class Field:
     limit: str = ""
 
     def place(self):
-        return f"offset {self.offset} (0x{self.offset:x}) of the {self.file}"
+        return f"offset {self.offset} (0x{self.offset:x}) of the {called(self.file)}"
 
 
 @dataclass(frozen=True)
@@ -52,6 +52,11 @@ class Explanation:
     @property
     def words(self):
         return f"{self.number}{', ' + self.place if self.place else ''}: {self.cause}"
+
+
+def called(file):
+    """What people call a file."""
+    return hour.CALLED.get(file, file)
 
 
 def field_of(file, kind, index, position, counts, value, limit=""):
@@ -103,16 +108,16 @@ SHOWN = {
 }
 
 
-# Whole files: 1 to 3, 5, 9 to 12.
+# Whole files: 1 to 3, 5, 9 to 12, and 16.
 
 
 def short_file(number, file, data):
     size = hour.header_layout(file).size
     if len(data) >= size:
         return None
-    cause = f"the {file} has {counted(len(data), 'byte')}, and its header alone takes {size}"
+    cause = f"the {called(file)} has {counted(len(data), 'byte')}, and its header alone takes {size}"
     if not data:
-        cause = f"the {file} is empty, and its header alone takes {size} bytes"
+        cause = f"the {called(file)} is empty, and its header alone takes {size} bytes"
     end = Field(file, len(data), 0, "end of the file", counted(len(data), "byte"), f"at least {size} bytes")
     return Explanation(number, 0, "", cause, (end,))
 
@@ -123,9 +128,9 @@ def wrong_mark(number, file, data):
         return None
     other = {mark: name for name, mark in hour.MARKS.items()}.get(mark)
     shown = mark.decode("ascii") if all(0x21 <= byte <= 0x7E for byte in mark) else f"the bytes {mark.hex(' ')}"
-    cause = f"the {file} begins with {shown}, not {due.decode()}"
+    cause = f"the {called(file)} begins with {shown}, not {due.decode()}"
     if other is not None:
-        cause += f"; {shown} is a {other}'s mark"
+        cause += f"; {shown} is a {called(other)}'s mark"
     return Explanation(
         number, 0, "", cause, (header_field(file, "mark", mark.hex(" "), f"{due.hex(' ')}, {due.decode()}"),)
     )
@@ -138,7 +143,7 @@ def wrong_version(number, file, data):
         return None
     none_of = f"neither {' nor '.join(map(str, due))}" if len(due) > 1 else f"not {due[0]}"
     field = header_field(file, "version", f"{version:,}", " or ".join(map(str, due)))
-    return Explanation(number, 0, "", f"the {file}'s version is {version:,}, {none_of}", (field,))
+    return Explanation(number, 0, "", f"the {called(file)}'s version is {version:,}, {none_of}", (field,))
 
 
 def length_sum(file, counts):
@@ -157,7 +162,7 @@ def wrong_length(number, file, data, counts):
         return None
     missing = hour.whole_records(file, data, counts)[1]
     demanding = "its header demands" if file == "case" else "the case demands"
-    cause = f"the {file} has {counted(len(data), 'byte')}, and {demanding} {due:,} = {length_sum(file, counts)}: "
+    cause = f"the {called(file)} has {counted(len(data), 'byte')}, and {demanding} {due:,} = {length_sum(file, counts)}: "
     if len(data) > due:
         cause += f"{len(data) - due:,} too many"
     else:
@@ -301,17 +306,91 @@ def wrong_shadow_price(proposal, counts):
     return None
 
 
-# 21 to 27: the clearing.
+# 16 to 18: the family list, request S-11.
+
+MOST_STEPS = 16  # of a circle that words name
+
+
+def wrong_list(families, counts):
+    found = short_file(16, "families", families) or wrong_mark(16, "families", families)
+    found = found or wrong_version(16, "families", families) or wrong_length(16, "families", families, counts)
+    if found:
+        return found
+    rows = [parent for (parent,) in hour.whole_records("families", families, counts)[0]["parent"]]
+    return wrong_parent(rows, counts) or circle(rows, counts)
+
+
+def parent_field(child, parent, counts, limit=""):
+    return field_of("families", "parent", child, 0, counts, f"{parent:,}", limit)
+
+
+def wrong_parent(rows, counts):
+    for child, parent in enumerate(rows):
+        if parent >= counts["orders"] and parent != hour.NO_PARENT:
+            known = f"0 to {counts['orders'] - 1}"
+            cause = f"its parent, order {parent:,}, does not exist: the case has "
+            cause += f"{counted(counts['orders'], 'order')}, {known}"
+            field = parent_field(child, parent, counts, f"{known}, or {hour.NO_PARENT:,} for none")
+            return Explanation(17, child, f"order {child}", cause, (field,))
+    return None
+
+
+def steps_up(rows, order):
+    """The orders from one up to itself, it last too; None where no steps lead back."""
+    steps = [order]
+    while rows[steps[-1]] != hour.NO_PARENT and len(steps) <= len(rows):
+        steps.append(rows[steps[-1]])
+        if steps[-1] == order:
+            return steps
+    return None
+
+
+def circle(rows, counts):
+    for order in range(len(rows)):
+        steps = steps_up(rows, order)
+        if steps:
+            named = ", ".join(map(str, steps))
+            if len(steps) > MOST_STEPS:
+                named = ", ".join(map(str, steps[: MOST_STEPS - 2])) + f", .. {steps[-2]}, {order}"
+                named += f", after {len(steps) - 1} steps"
+            fields = tuple(parent_field(child, rows[child], counts) for child in steps[:-1])
+            return Explanation(18, order, "", f"order {order} leads back to itself: {named}", fields)
+    return None
+
+
+# 21 to 28: the clearing.
+
+MOST_DECIMALS = 9  # of a per cent in which two fractions of quantities up to 100,000 differ
+
+
+def fractions_apart(one, other):
+    """Two fractions, each a volume and a quantity, in per cent with as many decimals as tell them apart."""
+    for decimals in range(3, MOST_DECIMALS + 1):
+        shown = [amounts.scaled(100 * 10**decimals * volume // quantity, decimals, 1) for volume, quantity in (one, other)]
+        if shown[0] != shown[1]:
+            break
+    return [f"{number} %" for number in shown]
 
 
 class ClearingCauses:
-    """The rows of the table from 21 on, over an hour that passed those before."""
+    """The rows of the table from 21 on, over an hour that passed those before. Parents are those of a family list, by
+    order, and None for none.
+    """
 
-    def __init__(self, sums, counts):
-        self.sums, self.counts = sums, counts
+    def __init__(self, sums, counts, parents=()):
+        self.sums, self.counts, self.parents = sums, counts, parents
 
     def first(self):
-        asked = (self.volume, self.balance, self.no_link, self.link, self.branch, self.zone_price, self.gap)
+        asked = (
+            self.volume,
+            self.fraction,
+            self.balance,
+            self.no_link,
+            self.link,
+            self.branch,
+            self.zone_price,
+            self.gap,
+        )
         return next((found for found in (ask() for ask in asked) if found), None)
 
     def in_case(self, kind, index, position, value, limit=""):
@@ -332,6 +411,27 @@ class ClearingCauses:
                 volume = self.in_proposal("volume", index, stored(order.volume, amounts.mwh(order.volume)), limit)
                 quantity = self.in_case("order", index, 2, stored(order.quantity, amounts.mwh(order.quantity)))
                 return Explanation(21, index, f"order {index}", cause, (volume, quantity))
+        return None
+
+    def fraction(self):
+        """Request S-11: 28, asked between 21 and 22."""
+        for child, parent in enumerate(self.parents):
+            if parent is None:
+                continue
+            one, other = self.sums.orders[child], self.sums.orders[parent]
+            if one.volume * other.quantity <= other.volume * one.quantity:
+                continue
+            ahead, behind = fractions_apart((one.volume, one.quantity), (other.volume, other.quantity))
+            cause = f"order {child}: {ahead} of {amounts.mwh(one.quantity)} is accepted, and of its parent, "
+            cause += f"order {parent}: {behind} of {amounts.mwh(other.quantity)}"
+            # The most that the parent allows, cut to a tenth.
+            most = amounts.mwh(other.volume * one.quantity // other.quantity)
+            fields = [self.in_proposal("volume", child, stored(one.volume, amounts.mwh(one.volume)), f"at most {most}")]
+            fields.append(self.in_case("order", child, 2, stored(one.quantity, amounts.mwh(one.quantity))))
+            fields.append(parent_field(child, parent, self.counts))
+            fields.append(self.in_proposal("volume", parent, stored(other.volume, amounts.mwh(other.volume))))
+            fields.append(self.in_case("order", parent, 2, stored(other.quantity, amounts.mwh(other.quantity))))
+            return Explanation(28, child, "", cause, tuple(fields))
         return None
 
     def balance(self):
@@ -430,8 +530,8 @@ class ClearingCauses:
         )
 
 
-def own_reading(case, proposal, room=rules.REPORT_ROOM):
-    """The outcome as it is read here, row by row as the table stands."""
+def own_reading(case, proposal, room=rules.REPORT_ROOM, families=None):
+    """The outcome as it is read here, row by row as the table stands; the list's rows where there is a list."""
     if room < rules.REPORT_ROOM:
         return Explanation(
             30, 0, "", f"the report buffer has {counted(room, 'byte')}, and a report may take {rules.REPORT_ROOM}"
@@ -446,10 +546,12 @@ def own_reading(case, proposal, room=rules.REPORT_ROOM):
     found = short_file(9, "proposal", proposal) or wrong_mark(10, "proposal", proposal)
     found = found or wrong_version(11, "proposal", proposal) or wrong_length(12, "proposal", proposal, counts)
     found = found or wrong_share(proposal) or wrong_shadow_price(proposal, counts)
+    if found is None and families is not None:
+        found = wrong_list(families, counts)
     if found:
         return found
-    sums = rules.Sums(case, proposal)
-    return ClearingCauses(sums, counts).first() or accepted(sums)
+    sums, parents = rules.Sums(case, proposal), () if families is None else hour.parents_of(case, families)
+    return ClearingCauses(sums, counts, parents).first() or accepted(sums)
 
 
 def accepted(sums):
@@ -477,9 +579,12 @@ def agreed(judgement, case, proposal, found):
     return found
 
 
-def explain(case, proposal, judgement=None, room=rules.REPORT_ROOM):
-    """The archive's verdict in words. Without a judgement the archive is asked for one."""
+def explain(case, proposal, judgement=None, room=rules.REPORT_ROOM, families=None):
+    """The archive's verdict in words, with a family list if there is one. Without a judgement the archive is asked for
+    one.
+    """
     case, proposal = bytes(case), bytes(proposal)
+    families = None if families is None else bytes(families)
     if judgement is None:
-        judgement = archive.judge(case, proposal, room)
-    return agreed(judgement, case, proposal, own_reading(case, proposal, room))
+        judgement = archive.judge(case, proposal, families, room)
+    return agreed(judgement, case, proposal, own_reading(case, proposal, room, families))

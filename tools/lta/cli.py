@@ -11,11 +11,13 @@ from .causes import Disagreement, explain
 from .inputs import (
     CASE,
     DUMP,
+    FAMILIES,
     JOINED,
     PROPOSAL,
     TEXT,
     InputError,
     gather,
+    is_list,
     kind_of,
     one_hour,
     printable,
@@ -37,23 +39,26 @@ Judges, explains, shows, builds and draws hours of the day-ahead coupling.
   lta restore FILE [-o CASE] [--force]
   lta page FILE... [-o PAGE] [--force]
   lta show FILE... [--joined]
-  lta field CASE [PROPOSAL] OFFSET
-  lta build TEXT [--case FILE] [--proposal FILE] [--joined FILE] [--dump FILE] [--force]
+  lta field CASE [PROPOSAL] [FAMILIES] OFFSET
+  lta build TEXT [--case FILE] [--proposal FILE] [--joined FILE] [--families FILE] [--dump FILE] [--force]
   lta help [text]
 
 A FILE is one of these:
   X.case with a proposal        X.proposal if that is named, else the next FILE, else the X.proposal beside it
   X.bin, X.joined or -          a case and at once its proposal, cut as the desk cuts it; - is standard input
   X.txt                         the text of an hour, as in hours/; its expect lines are compared
+  X.families                    the family list of the hour before it, or of the X.case, X.bin or X.joined that is named
   a folder                      all of these in it and in its folders
 Two files of other names are a case and its proposal. Of more, one of another name is a case if a proposal follows it,
-and else a text or a joined file. --pairs and --joined say that all are so.
+and else a text or a joined file. --pairs and --joined say that all are so. A file of another name that begins with LTF,
+behind two others or behind a proposal or a joined file, is a family list. An hour is judged with its families only where
+they are named: by their file, by their folder, or in the text.
 
 judge prints a table: file, verdict, index, welfare, gap, rent and owed in euros. --csv and --json are for machines and
 have every decimal. Without a FILE it reads a joined hour from standard input.
 explain says the verdict in words: the field, its offset in decimal and hex, its value and its limit; and of an hour
-whose files are in order its zones, branches and links, and the gap's parts: of an accepted hour the archive's shortfalls,
-largest first, and what is left.
+whose files are in order its zones, branches, links and families, and the gap's parts: of an accepted hour the archive's
+shortfalls, largest first, and what is left.
 shortfalls says of an accepted hour by how much each order, branch and link falls short of its best at the zone prices,
 largest first, to a hundred-thousandth of a microcent, and what is left of the gap. --csv and --json have all of them, in
 file order: the archive's two numbers, whole microcents and hundred-thousandths, and euros.
@@ -67,10 +72,10 @@ column writes a case for the archive, its orders column by column under the mark
 file was made of, byte for byte; without -o they say how long it would be. Where a case is asked for, a columned file is
 refused by 2.
 page writes one page that a browser shows, for an hour or for all hours of a folder; without -o it is named after it.
-show prints the text of a case and a proposal, of a joined file, or of the files that a text gives. Building that text
-gives back the same bytes, however broken.
+show prints the text of a case, a proposal and a family list, of a joined file, or of the files that a text gives.
+Building that text gives back the same bytes, however broken.
 field says which field of the last file named stands at OFFSET, a number or hex digits after 0x.
-build writes the files asked for, - being standard output; without one it says the two sizes.
+build writes the files asked for, - being standard output; without one it says the sizes.
 Nothing that is there is written over without --force.
 
 Verdicts, totals, prices, shortfalls, yes or no, proposals and columned files come from the proved archive alone; on first
@@ -86,7 +91,7 @@ page, show, field and build: 0 or 2.
 
 
 # What build can write.
-BUILT = ("case", "proposal", "joined", "dump")
+BUILT = ("case", "proposal", "joined", "families", "dump")
 
 
 class Failure(Exception):
@@ -193,9 +198,10 @@ def run_judge(options):
 def run_explain(options):
     source = one_hour(options.files, options.way)
     read_hour = source.read()
-    files = (read_hour.case, read_hour.proposal)
-    judgement = archive.judge(*files)
-    put(account.account(*files, judgement, explain(*files, judgement), source.kind == JOINED))
+    files, families = (read_hour.case, read_hour.proposal), read_hour.families
+    judgement = archive.judge(*files, families)
+    found = explain(*files, judgement, families=families)
+    put(account.account(*files, judgement, found, source.kind == JOINED, families))
     return 0 if judgement.accepted else 1
 
 
@@ -221,6 +227,8 @@ def run_intuitive(options):
         name = "standard input" if options.pairs == "-" else options.pairs
         given = exchanges.read_pairs(name, read(options.pairs))
     read_hour = source.read()
+    if read_hour.families is not None:
+        raise InputError(source.families or source.name, "intuitive takes no family list")
     pairs = exchanges.links(read_hour.case) if given is None else given
     told = exchanges.ask(source.name, read_hour.case, read_hour.proposal, pairs)
     put(exchanges.as_json(told) if options.json else exchanges.as_text(told))
@@ -308,13 +316,15 @@ def page_name(files, sources):
 
 def refuse_to_show(files, way):
     """Files whose names say that they are not what show would take them for."""
-    takes = "show takes a case and a proposal or a dump, one joined file, or one text"
-    if len(files) > 2:
+    takes = "show takes a case, a proposal or a dump, and perhaps a family list, one joined file, or one text"
+    if len(files) > 3 or (len(files) == 3 and not is_list(files[2])):
         raise Failure(f"{files[2]}: {takes}")
-    if way is None and kind_of(files[0]) in (PROPOSAL, DUMP):
-        raise InputError(files[0], f"a {kind_of(files[0])} is shown after its case")
-    if len(files) == 2:
-        for path, kinds in zip(files, ((CASE, None), (PROPOSAL, DUMP, None))):
+    if way is None and kind_of(files[0]) in (PROPOSAL, DUMP, FAMILIES):
+        name = hour.CALLED.get(kind_of(files[0]), kind_of(files[0]))
+        raise InputError(files[0], f"a {name} is shown after its case")
+    if len(files) >= 2:
+        second = (PROPOSAL, None) if len(files) == 3 else (PROPOSAL, FAMILIES, DUMP, None)
+        for path, kinds in zip(files, ((CASE, None), second)):
             if path != "-" and kind_of(path) not in kinds:
                 raise InputError(path, takes)
 
@@ -329,14 +339,17 @@ def run_show(options):
             put(dumping.ask(*dumping.text_dump(options.files[0], data)).shown)
             return 0
         built = text_hour(options.files[0], data)
-        put(hour.show(built.case, built.proposal))
+        put(hour.show(built.case, built.proposal, built.families))
         return 0
     first = read(options.files[0])
     if len(options.files) == 2 and kind_of(options.files[1]) == DUMP:
         put(dumping.ask(first, read(options.files[1])).shown)
         return 0
-    if len(options.files) == 2:
-        put(hour.show(first, read(options.files[1])))
+    if len(options.files) == 2 and kind_of(options.files[1]) == FAMILIES:
+        put(hour.show(first, b"", read(options.files[1])))
+        return 0
+    if len(options.files) >= 2:
+        put(hour.show(first, *map(read, options.files[1:])))
         return 0
     case, proposal = archive.rules.cut(first)
     # One file is a case, unless what follows the case in it is a proposal.
@@ -346,12 +359,14 @@ def run_show(options):
 
 
 def run_field(options):
-    if not 2 <= len(options.files) <= 3:
-        raise Failure("field takes a case, perhaps a proposal, and an offset")
+    if not 2 <= len(options.files) <= 4:
+        raise Failure("field takes a case, perhaps a proposal and a family list, and an offset")
     *files, word = options.files
-    offset = hour.offset_of(word)
+    offset, given = hour.offset_of(word), list(map(read, files))
+    if len(files) == 2 and is_list(files[1]):
+        given.insert(1, None)
     try:
-        put(hour.field_at(offset, *map(read, files)) + "\n")
+        put(hour.field_at(offset, *given) + "\n")
     except hour.OffsetError as fault:
         raise InputError(files[-1], fault) from None
     return 0
@@ -366,6 +381,8 @@ def run_build(options):
     else:
         built = text_hour(options.text, data)
         made = {"case": built.case, "proposal": built.proposal, "joined": built.joined}
+        if built.families is not None:
+            made["families"] = built.families
     asked = {name: getattr(options, name) for name in BUILT if getattr(options, name) is not None}
     for name in asked:
         if name not in made:

@@ -124,7 +124,7 @@ class Dump(hour.Hour):
             self.take_opening(rest)
         elif keyword in self.values:
             self.take_value(keyword, rest)
-        elif keyword in ("proposal", "volume"):
+        elif keyword in ("proposal", "volume", "families", "parent"):
             raise ValueError(f"{keyword} in the text of a dump")
         else:
             super().take(line, words)
@@ -158,7 +158,7 @@ def is_text(text):
 
 def build(text, folder=""):
     """The case and the dump of a text. The files that it names count from the folder."""
-    return hour.build(text, folder, Dump)
+    return hour.built(text, folder, Dump)
 
 
 # What a stored dump expects.

@@ -1,6 +1,6 @@
-"""An hour between readable text and its two binary files, the case and the proposal, both ways: the one reading of the
-formats that every tool here has. Wrong hours can be written too. Whatever two files are shown, building the text gives
-back their bytes.
+"""An hour between readable text and its binary files, the case, the proposal and perhaps a family list, both ways: the
+one reading of the formats that every tool here has. Wrong hours can be written too. Whatever files are shown, building
+the text gives back their bytes.
 """
 
 import os
@@ -21,9 +21,12 @@ The text of an hour: one item per line; blank lines and what follows a # are pas
   volume V                                 accepted volume in tenths of a MWh, one per order
   flow F                                   flow in tenths of a MW, one per link
   shadow S                                 shadow price in cents per MWh, one per branch
+  families version V                       opens the family list, in an hour that has one
+  parent N                                 the order on which an order leans, counted from 0, or none; one per order
 
 The header counts the branches, links and orders of the text. A text without a proposal has one of no bytes. In a case
 of version 1 all of a link's capacity is contracted. Links of every version but 2 are written and shown as version 1's.
+A text without families has no list; for a list of no bytes it has append families, with nothing behind it.
 
 A margin sheet has a line per branch, its fields with commas between them: the margin in MW to one decimal, then one
 PTDF per zone to five. Sheets count export positive, so the PTDFs change sign. A sheet's FILE counts from the text's
@@ -33,7 +36,7 @@ For wrong hours any value that fits its bits is taken, a side as a number too, a
 
   mark XYZ                                 the mark of the file opened last: three characters or six hex digits
   counts zones N branches N links N orders N    any of the header's counts; the records stay as they are
-  cut FILE N                               takes the last N bytes off; FILE is case or proposal
+  cut FILE N                               takes the last N bytes off; FILE is case, proposal or families
   append FILE HEX ...                      adds bytes at the end
   byte FILE OFFSET VALUE                   puts VALUE in place of one byte
 
@@ -47,7 +50,13 @@ A stored hour, hours/NAME.txt, opens with what it protects and says in comments 
   # shortfall KIND N EUROS                 by how much order, branch or link N falls short; all others do not. One of:
   # shortfall none                         nothing does
 
-tests/stored_hours holds the first three to both judges, tests/stored_shortfalls the last.
+tests/stored_hours holds the first three to both judges, tests/stored_shortfalls the last. A stored hour with families, families/NAME.txt, has in their place
+
+  # expect N I                             number and index with the list
+  # expect-without N I                     those without it, where they are others
+  # totals ..                              as above
+
+and tests/stored_families holds these to both.
 """
 
 UNITS = """\
@@ -60,18 +69,20 @@ UNITS = """\
 # Least and greatest value of each struct code.
 RANGES = {"B": (0, 2**8 - 1), "H": (0, 2**16 - 1), "I": (0, 2**32 - 1), "i": (-(2**31), 2**31 - 1)}
 
-MARKS = {"case": b"LTC", "proposal": b"LTP"}
+MARKS = {"case": b"LTC", "proposal": b"LTP", "families": b"LTF"}
 
 # Header fields after the mark, in file order.
 HEADERS = {
     "case": (("version", "H"), ("zones", "B"), ("branches", "B"), ("links", "B"), ("orders", "H"), ("tolerance", "I")),
     "proposal": (("version", "H"), ("share", "I"), ("system", "i")),
+    "families": (("version", "H"),),
 }
 
 # Records of each file in file order, each with the header field that counts it.
 RECORDS = {
     "case": (("branch", "branches"), ("link", "links"), ("order", "orders")),
     "proposal": (("volume", "orders"), ("flow", "links"), ("shadow", "branches")),
+    "families": (("parent", "orders"),),
 }
 FILE_OF = {kind: file for file, kinds in RECORDS.items() for kind, _ in kinds}
 COUNTS = ("branches", "links", "orders")
@@ -84,16 +95,21 @@ FIELDS = {
     "volume": (("volume", "I"),),
     "flow": (("flow", "I"),),
     "shadow": (("shadow price", "I"),),
+    "parent": (("parent", "H"),),
 }
 
 PTDF = (("PTDF", "i"),)
 CONTRACTED = (("contracted", "I"),)
 CONTRACTED_VERSION = 2
 
-# Records of a proposal: the record of the case that each belongs to.
-OWNERS = {"volume": "order", "flow": "link", "shadow": "branch"}
+# Records of a proposal and of a family list: the record of the case that each belongs to.
+OWNERS = {"volume": "order", "flow": "link", "shadow": "branch", "parent": "order"}
 
 SIDES = ("buy", "sell")
+NO_PARENT, NO_PARENT_WORD = 65_535, "none"
+
+# What people call a file.
+CALLED = {"families": "family list"}
 
 # Fields of a margin sheet's line, each with the decimals of our unit and its greatest size in it.
 SHEET_MARGIN = ("margin", 1, 500_000)
@@ -106,14 +122,14 @@ SHEET_NUMBER = re.compile(rb"(-?)([0-9]+)(?:\.([0-9]+))?")
 HEX_PAIRS = re.compile(r"([0-9a-fA-F]{2})*")
 MARK = re.compile(r"[!-~]{3}|[0-9a-fA-F]{6}")
 OFFSET = re.compile(r"[0-9]+|0[xX][0-9a-fA-F]+")
-EXPECTATION = re.compile(r"#\s*(expect-apart|expect|totals)\b(.*)")
+EXPECTATION = re.compile(r"#\s*(expect-apart|expect-without|expect|totals)\b(.*)")
 VERDICT = re.compile(r" ([0-9]+) ([0-9]+)")
 TOTALS = ("welfare", "bound", "gap", "rent", "owed")
 EUROS = re.compile("".join(rf" {name} (-?[0-9]+(?:\.[0-9]{{1,8}})?)" for name in TOTALS))
 MICROCENT_DECIMALS = 8
 REPORTED = (0, 26)
 HEX_BYTES_PER_LINE = 32
-LONGEST = 64 * 2**20  # bytes that are read of a file; a legal hour has at most 12,699
+LONGEST = 64 * 2**20  # bytes that are read of a file; a legal hour has at most 12,699, and 1,029 of families
 CHUNK = 2**20
 MOST_QUOTED = 40  # characters of a wrong word that a message repeats
 
@@ -188,7 +204,11 @@ def number(word, name, code):
 
 
 def value(word, name, code):
-    """A record's field: a side by its word, all else as a number."""
+    """A record's field: a side by its word, no parent too, all else as a number."""
+    if name == "parent" and word == NO_PARENT_WORD:
+        return NO_PARENT
+    if name == "parent" and not WHOLE_NUMBER.fullmatch(word):
+        raise ValueError(f"parent {short(word)!r} is not none or a number")
     if name == "side" and word in SIDES:
         return SIDES.index(word)
     if name == "side" and not WHOLE_NUMBER.fullmatch(word):
@@ -368,7 +388,8 @@ class Hour:
     def take_edit(self, line, edit, words):
         file, *words = words or [""]
         if file not in self.FILES:
-            raise ValueError(f"{edit} takes {' or '.join(self.FILES)} first, not {short(file)!r}")
+            *others, last = self.FILES
+            raise ValueError(f"{edit} takes {', '.join(others)} or {last} first, not {short(file)!r}")
         wanted = {"cut": 1, "byte": 2}.get(edit, len(words))
         if len(words) != wanted:
             raise ValueError(f"{edit} {file} takes {wanted} values, not {len(words)}")
@@ -401,6 +422,7 @@ class Hour:
 
     def files(self):
         out = {file: self.file_bytes(file) for file in self.FILES}
+        edited = {file for _, _, file, _ in self.edits}
         for line, edit, file, values in self.edits:
             data = out[file]
             if edit == "append":
@@ -411,11 +433,15 @@ class Hour:
                 del data[len(data) - values[0] :]
             else:
                 data[values[0]] = values[1]
-        return tuple(bytes(out[file]) for file in self.FILES)
+        if "families" in out and "families" not in edited and "families" not in self.headers:
+            del out["families"]
+        return tuple(bytes(data) for data in out.values())
 
 
-def build(text, folder="", taker=Hour):
-    """The case and the proposal of a text, or what else its taker gives. The files that it names count from the folder."""
+def built(text, folder="", taker=Hour):
+    """The files of a text: the case, the proposal and the family list if it has one, or what else its taker gives. The
+    files that it names count from the folder.
+    """
     hour = taker(folder)
     for line, content in enumerate(text.split("\n"), 1):
         words = content.split("#", 1)[0].split()
@@ -427,11 +453,24 @@ def build(text, folder="", taker=Hour):
     return hour.files()
 
 
+def build(text, folder=""):
+    """The case and the proposal of a text, be there a family list or not."""
+    return built(text, folder)[:2]
+
+
+def build_families(text, folder=""):
+    """The case, the proposal and the family list of a text; None where it has no list."""
+    case, proposal, *families = built(text, folder)
+    return case, proposal, families[0] if families else None
+
+
 # What a stored hour expects.
 
 
-def expected(text):
-    """The verdict of the joined file, that of the two files apart, and the totals in microcents by name."""
+def expected(text, other="expect-apart"):
+    """The verdict of the joined file, that of the two files apart, and the totals in microcents by name. Of an hour with
+    families the two are the verdicts with the list and without it, and the other line is expect-without.
+    """
     found = {}
     for line, content in enumerate(text.split("\n"), 1):
         content = content.rstrip("\r")
@@ -439,6 +478,8 @@ def expected(text):
         if match is None:
             continue
         name, rest = match.groups()
+        if name not in ("expect", other, "totals"):
+            raise TextError(line, f"{name} stands where {other} would")
         values = (EUROS if name == "totals" else VERDICT).fullmatch(rest)
         if values is None:
             raise TextError(line, f"{short(content, 2 * MOST_QUOTED)!r} is no {name} line")
@@ -448,9 +489,9 @@ def expected(text):
     if "expect" not in found:
         raise ValueError("no expect line")
     joined = tuple(map(int, found["expect"]))
-    apart = tuple(map(int, found.get("expect-apart", joined)))
-    if "expect-apart" in found and apart == joined:
-        raise ValueError("expect-apart says what expect does")
+    apart = tuple(map(int, found.get(other, joined)))
+    if other in found and apart == joined:
+        raise ValueError(f"{other} says what expect does")
     if ("totals" in found) != (joined[0] in REPORTED or apart[0] in REPORTED):
         raise ValueError("a totals line stands where a number is 0 or 26, and nowhere else")
     totals = [int(Decimal(euros).scaleb(MICROCENT_DECIMALS)) for euros in found.get("totals", ())]
@@ -470,6 +511,8 @@ def show_row(kind, row):
     words = [str(number) for number in row]
     if kind == "order" and row[1] < len(SIDES):
         words[1] = SIDES[row[1]]
+    if kind == "parent" and row[0] == NO_PARENT:
+        words[0] = NO_PARENT_WORD
     return words
 
 
@@ -512,7 +555,8 @@ def show_short_header(file, data):
         if position + field.size <= len(data):
             whole.append(f"{name} {field.unpack_from(data, position)[0]}")
         position += field.size
-    yield f"# The {file} ends after {len(data)} bytes, inside its header: {', '.join(whole) or 'no whole field'}."
+    name = CALLED.get(file, file)
+    yield f"# The {name} ends after {len(data)} bytes, inside its header: {', '.join(whole) or 'no whole field'}."
     yield from show_hex(file, data)
 
 
@@ -547,10 +591,13 @@ def whole_records(file, data, counts):
 
 def show_file(file, data, counts, case_rows):
     """The lines of one file. Counts and case_rows are those of the case; showing the case fills them."""
-    layout = header_layout(file)
+    layout, called = header_layout(file), CALLED.get(file, file)
     if len(data) < layout.size:
         if data:
             yield from show_short_header(file, data)
+        elif file == "families":
+            # No list would be no line at all.
+            yield "append families  # The family list has no bytes."
         return
     mark, *values = layout.unpack_from(data)
     header = dict(zip((name for name, _ in HEADERS[file]), values))
@@ -568,16 +615,17 @@ def show_file(file, data, counts, case_rows):
         start += len(rows) * record_layout(kind, counts).size
     rest = data[position:]
     if missing is not None:
-        yield f"# The {file} ends before the end of {missing}; bytes left: {len(rest)}."
+        yield f"# The {called} ends before the end of {missing}; bytes left: {len(rest)}."
     elif rest:
-        yield f"# The {file} goes on past its last field; bytes left: {len(rest)}."
+        yield f"# The {called} goes on past its last field; bytes left: {len(rest)}."
     yield from show_hex(file, rest)
 
 
-def show(case, proposal=b""):
-    """The text of a case and a proposal, whatever their bytes."""
+def show(case, proposal=b"", families=None):
+    """The text of a case, a proposal and, if there is one, a family list, whatever their bytes."""
     counts, case_rows = {}, {}
-    shown = [list(show_file(file, data, counts, case_rows)) for file, data in (("case", case), ("proposal", proposal))]
+    files = [("case", case), ("proposal", proposal)] + [("families", families)] * (families is not None)
+    shown = [list(show_file(file, data, counts, case_rows)) for file, data in files]
     return UNITS + "".join("\n" + "\n".join(lines) + "\n" for lines in shown if lines)
 
 
@@ -616,13 +664,22 @@ def whole_fields(file, data, counts):
                 yield places[n], struct.calcsize("<" + code), f"{OWNERS.get(kind, kind)} {index}, {name} {word}"
 
 
-def field_at(offset, case, proposal=None):
-    """What stands at an offset of the proposal, or without one of the case."""
+def parents_of(case, families):
+    """The parent of each order of a case by its list, None for none; as far as both go."""
+    rows = whole_records("families", families, case_counts(case))[0]["parent"]
+    return [None if parent == NO_PARENT else parent for (parent,) in rows]
+
+
+def field_at(offset, case, proposal=None, families=None):
+    """What stands at an offset of the family list, without one of the proposal, and without that of the case."""
     file, data = ("case", case) if proposal is None else ("proposal", proposal)
+    if families is not None:
+        file, data = "families", families
+    called = CALLED.get(file, file)
     if offset >= len(data):
-        raise OffsetError(f"offset {offset} (0x{offset:x}) is not in the {file} of {len(data)} bytes")
+        raise OffsetError(f"offset {offset} (0x{offset:x}) is not in the {called} of {len(data)} bytes")
     counts = case_counts(case)
-    place = f"offset {offset} (0x{offset:x}) of the {file}"
+    place = f"offset {offset} (0x{offset:x}) of the {called}"
     for start, size, content in whole_fields(file, data, counts):
         if start <= offset < start + size:
             return f"{place}: {content}, bytes {data[start : start + size].hex(' ')} at {start} (0x{start:x})"

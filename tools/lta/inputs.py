@@ -1,4 +1,4 @@
-"""The hours that a command line names: pairs of files, joined files, texts, and folders of them."""
+"""The hours that a command line names: pairs of files, joined files, texts, family lists beside them, and folders."""
 
 from __future__ import annotations
 
@@ -10,7 +10,16 @@ from dataclasses import dataclass
 from . import dump, hour, rules
 
 JOINED, TEXT, CASE, PROPOSAL, DUMP, UNREAD = "joined", "text", "case", "proposal", "dump", "unread"
-SUFFIXES = {".txt": TEXT, ".case": CASE, ".proposal": PROPOSAL, ".bin": JOINED, ".joined": JOINED, ".dump": DUMP}
+FAMILIES = "families"
+SUFFIXES = {
+    ".txt": TEXT,
+    ".case": CASE,
+    ".proposal": PROPOSAL,
+    ".families": FAMILIES,
+    ".bin": JOINED,
+    ".joined": JOINED,
+    ".dump": DUMP,
+}
 
 
 class InputError(Exception):
@@ -60,31 +69,36 @@ def mark_of(path):
 
 @dataclass(frozen=True)
 class Hour:
-    """An hour's two files, and if it came joined or as text its joined bytes and what the text expects."""
+    """An hour's two files, if it came joined or as text its joined bytes and what the text expects, and its family list
+    if it has one.
+    """
 
     case: bytes
     proposal: bytes
     joined: bytes | None = None
     expected: tuple | None = None
+    families: bytes | None = None
 
 
 @dataclass(frozen=True)
 class Input:
-    """Where an hour is to be read from: the paths, or why it cannot be read."""
+    """Where an hour is to be read from: the paths, or why it cannot be read, and the path of its family list."""
 
     name: str
     kind: str
     paths: tuple
+    families: str | None = None
 
     def read(self):
         if self.kind == UNREAD:
             raise InputError(self.name, self.paths[0])
-        if self.kind == CASE:
-            return Hour(*map(read, self.paths))
-        data = read(self.paths[0])
+        data = list(map(read, self.paths))
+        if self.kind == TEXT:
+            return text_hour(self.paths[0], data[0])
+        families = None if self.families is None else read(self.families)
         if self.kind == JOINED:
-            return Hour(*rules.cut(data), data)
-        return text_hour(self.paths[0], data)
+            return Hour(*rules.cut(data[0]), data[0], families=families)
+        return Hour(*data, families=families)
 
 
 def text_hour(path, data):
@@ -93,12 +107,13 @@ def text_hour(path, data):
         text = data.decode()
         if dump.is_text(text):
             raise ValueError("the text of a solver's dump, of which lta dump makes a proposal")
-        case, proposal = hour.build(text, os.path.dirname(path))
+        case, proposal, families = hour.build_families(text, os.path.dirname(path))
         lines = (hour.EXPECTATION.match(line) for line in text.split("\n"))
-        expected = hour.expected(text) if any(lines) else None
+        other = "expect-apart" if families is None else "expect-without"
+        expected = hour.expected(text, other) if any(lines) else None
     except ValueError as fault:
         raise InputError(path, why_not(fault)) from None
-    return Hour(case, proposal, case + proposal, expected)
+    return Hour(case, proposal, case + proposal, expected, families)
 
 
 def lonely(path, why):
@@ -110,8 +125,23 @@ def lonely(path, why):
     return Input(path, UNREAD, (why,))
 
 
-def paired(case, proposal):
-    return Input(case, CASE, (case, proposal))
+def paired(case, proposal, families=None):
+    return Input(case, CASE, (case, proposal), families)
+
+
+def list_beside(stem, paths):
+    """The family list of a stem among some paths, by its name."""
+    named = stem + ".families"
+    return named if named in paths else None
+
+
+def has_hour(path, paths):
+    """Whether a family list's hour, which takes it by its name, is among some paths."""
+    stem = os.path.splitext(path)[0]
+    return any(stem + suffix in paths for suffix, kind in SUFFIXES.items() if kind in (CASE, JOINED))
+
+
+LISTLESS = "a family list without its hour"
 
 
 # Folders.
@@ -123,20 +153,24 @@ def hours_of_files(paths):
     for path in paths:
         stem, suffix = os.path.splitext(path)
         kind = SUFFIXES.get(suffix)
-        if kind in (TEXT, JOINED):
+        if kind == TEXT:
             yield Input(path, kind, (path,))
+        elif kind == JOINED:
+            yield Input(path, kind, (path,), list_beside(stem, paths))
         elif kind == CASE:
-            yield paired(path, stem + ".proposal")
+            yield paired(path, stem + ".proposal", list_beside(stem, paths))
+        elif kind == FAMILIES and not has_hour(path, paths):
+            yield lonely(path, LISTLESS)
         elif kind == PROPOSAL and not os.path.exists(stem + ".case"):
             yield paired(stem + ".case", path)
         elif kind is None:
             others.setdefault(stem, {}).setdefault(mark_of(path), path)
     for marks in others.values():
-        case, proposal = marks.get(hour.MARKS["case"]), marks.get(hour.MARKS["proposal"])
+        case, proposal, families = (marks.get(hour.MARKS[file]) for file in ("case", "proposal", "families"))
         if case and proposal:
-            yield paired(case, proposal)
+            yield paired(case, proposal, families)
         elif case:
-            yield Input(case, JOINED, (case,))
+            yield Input(case, JOINED, (case,), families)
 
 
 def regular(path):
@@ -189,18 +223,40 @@ class Named:
         if proposal is None:
             return lonely(self.words[at], "its proposal does not follow it")
         self.taken.add(place)
-        return paired(self.words[at], proposal)
+        return paired(self.words[at], proposal, self.list_after(at, at if place is None else place))
+
+    def list_after(self, at, last):
+        """The family list of the hour at a place, the last of whose files stands at another: by name, else the next word.
+        One that only lies beside it is not taken: what is judged with families is named so.
+        """
+        named = list_beside(os.path.splitext(self.words[at])[0], self.places)
+        if named is not None:
+            self.taken.add(self.places[named])
+            return named
+        following = last + 1
+        if following < len(self.words) and following not in self.taken and is_list(self.words[following]):
+            if not has_hour(self.words[following], self.places):
+                self.taken.add(following)
+                return self.words[following]
+        return None
+
+    def joined(self, at):
+        return Input(self.words[at], JOINED, (self.words[at],), self.list_after(at, at))
 
     def hour_at(self, at):
         word, kind = self.words[at], kind_of(self.words[at])
-        if kind in (TEXT, JOINED):
+        if kind == TEXT:
             return Input(word, kind, (word,))
+        if kind == JOINED:
+            return self.joined(at)
         if kind == DUMP:
             return lonely(word, "a solver's dump, of which lta dump makes a proposal")
+        if is_list(word):
+            return lonely(word, LISTLESS + " before it")
         proposal, _ = self.proposal_of(at)
         if kind == CASE or (proposal is not None and mark_of(proposal) == hour.MARKS["proposal"]):
             return self.pair(at)
-        return Input(word, text_or_joined(word), (word,))
+        return Input(word, TEXT, (word,)) if text_or_joined(word) == TEXT else self.joined(at)
 
     def hours(self):
         for at, word in enumerate(self.words):
@@ -208,6 +264,9 @@ class Named:
                 continue
             if os.path.isdir(word):
                 yield from hours_of_folder(word)
+            elif kind_of(word) == FAMILIES and has_hour(word, self.places):
+                # Its hour takes it by its name.
+                continue
             elif kind_of(word) != PROPOSAL:
                 yield self.hour_at(at)
             elif os.path.splitext(word)[0] + ".case" not in self.places:
@@ -217,7 +276,13 @@ class Named:
 
 def may_follow(word):
     """Whether a word can be the proposal of the case before it."""
-    return kind_of(word) in (PROPOSAL, None) and not os.path.isdir(word)
+    return kind_of(word) in (PROPOSAL, None) and not os.path.isdir(word) and not is_list(word)
+
+
+def is_list(word):
+    """Whether a word is a family list: by its name, and where that says nothing by its mark."""
+    kind = kind_of(word)
+    return kind == FAMILIES or (kind is None and mark_of(word) == hour.MARKS["families"])
 
 
 def kind_of(word):
@@ -238,21 +303,38 @@ def gather(words, way=None):
         return [Input("standard input", JOINED, ("-",))]
     folder = next((word for word in words if os.path.isdir(word)), None)
     if way is None:
-        return [paired(*words)] if folder is None and two_files(words) else list(Named(words).hours())
+        return [paired(*words)] if folder is None and two_or_three(words) else list(Named(words).hours())
     if folder is not None:
         raise InputError(folder, f"a folder does not go with --{way}")
-    if way == "joined":
-        return [Input(word, JOINED, (word,)) for word in words]
-    if len(words) % 2:
-        raise InputError(words[-1], "a case without its proposal after it")
-    return [paired(case, proposal) for case, proposal in zip(words[::2], words[1::2])]
+    return list(all_so(words, way))
+
+
+def all_so(words, way):
+    """The hours of words that are all joined, or all in pairs; a family list goes with the hour before it."""
+    count, at = 1 if way == "joined" else 2, 0
+    while at < len(words):
+        files, at = words[at : at + count], at + count
+        stray = next((word for word in files if kind_of(word) == FAMILIES), None)
+        if stray is not None:
+            raise InputError(stray, LISTLESS + " before it")
+        if len(files) < count:
+            raise InputError(files[-1], "a case without its proposal after it")
+        families = None
+        if at < len(words) and kind_of(words[at]) == FAMILIES:
+            families, at = words[at], at + 1
+        yield Input(files[0], JOINED if way == "joined" else CASE, tuple(files), families)
+
+
+def two_or_three(words):
+    """Whether the words are a case and its proposal, and perhaps their family list, and no more."""
+    return two_files(words[:2]) and (len(words) == 2 or (len(words) == 3 and is_list(words[2])))
 
 
 def two_files(words):
     """Whether two words, and no more, are a case and its proposal. Broken files are, unless they say otherwise."""
     if [kind_of(word) for word in words] == [None, None]:
         return mark_of(words[1]) != hour.MARKS["case"] and TEXT not in map(text_or_joined, words)
-    return len(words) == 2 and kind_of(words[0]) in (CASE, None) and kind_of(words[1]) in (PROPOSAL, None)
+    return len(words) == 2 and kind_of(words[0]) in (CASE, None) and may_follow(words[1])
 
 
 def one_hour(words, way=None):

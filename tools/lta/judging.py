@@ -59,9 +59,14 @@ class Row:
 
 
 def rows_of(name, read):
-    """The rows of an hour. A joined file and its two parts can be answered otherwise; then a text has two, apart last."""
+    """The rows of an hour. A joined file and its two parts can be answered otherwise; then a text has two, apart last. A
+    text with families is held to what it expects of all three files.
+    """
     if read.expected is None:
-        return [Row(name, archive.judge(read.case, read.proposal))]
+        return [Row(name, archive.judge(read.case, read.proposal, read.families))]
+    if read.families is not None:
+        due, _, totals = read.expected
+        return [Row(name, archive.judge(read.case, read.proposal, read.families), (due, totals))]
     due, apart_due, totals = read.expected
     joined, apart = archive.judge_joined(read.joined), archive.judge(read.case, read.proposal)
     if due == apart_due and joined == apart:

@@ -35,6 +35,7 @@ NOTES = {
     "branch is full and has a shadow price.",
     "Links": "Flow against the LTA share of the capacity. A binding link is full, to a tenth of a MW, and has a positive spread. "
     "Contracted volumes, where the case has them, are what is owed for; they limit no flow.",
+    "Families": "An order is accepted in no larger fraction than the order on which it leans. The bound takes no notice of families.",
     "The gap's parts": "Shortfalls, largest first: what each order, branch or link could have earned more at the zone prices. What "
     "is left is the larger total's lead, weighed by the two shares; it is computed beside the archive.",
     "Prices through the hours": "In the table's order; an hour that is refused leaves a hole.",
@@ -63,6 +64,7 @@ class Drawn:
     explanation: Explanation | None
     fault: str = ""
     joined: bool = False
+    families: bytes | None = None
     parts: gap.Parts | None = None
 
     @property
@@ -100,12 +102,12 @@ def drawn_hour(source, folder=None):
     rows, found, parts, fault = judging.rows_of(name, read), None, None, ""
     files, judgement = (read.case, read.proposal), rows[-1].judgement
     try:
-        found = explain(*files, judgement)
+        found = explain(*files, judgement, families=read.families)
         if judgement.number in hour.REPORTED:
             parts = gap.parts(*files, judgement, rules.Sums(*files))
     except Disagreement as said:
         found, fault = None, str(said)
-    return Drawn(name, *files, rows, found, fault, source.kind == JOINED, parts)
+    return Drawn(name, *files, rows, found, fault, source.kind == JOINED, read.families, parts)
 
 
 def text(words):
@@ -139,6 +141,8 @@ def fact_words(one, sums):
     """The sizes, the counts where the header is good, and of a clearing the share and the tolerance."""
     yield f"case {amounts.counted(len(one.case), 'byte')}"
     yield f"proposal {amounts.counted(len(one.proposal), 'byte')}"
+    if one.families is not None:
+        yield f"family list {amounts.counted(len(one.families), 'byte')}"
     if rules.header_good(one.case):
         counts = hour.case_counts(one.case)
         yield amounts.counted(counts["zones"], "zone")
@@ -199,7 +203,8 @@ def where(one):
     if one.joined and any(field.file == "proposal" for field in one.explanation.fields):
         rows.append(("joined", account.joined_words(one.case)))
     body = "".join(element("dt", name) + element("dd", text(words)) for name, words in rows if words)
-    shown = marked_bytes({"case": one.case, "proposal": one.proposal}[first.file], first) if first.size else ""
+    files = {"case": one.case, "proposal": one.proposal, "families": one.families}
+    shown = marked_bytes(files[first.file], first) if first.size else ""
     return element("div", element("dl", body, "where") + shown, "card")
 
 
@@ -347,6 +352,24 @@ def link_cards(sums):
     return element("div", cards, "cards") if cards else ""
 
 
+# Families.
+
+
+def family_table(one, sums):
+    """The orders that have a parent, where a family list is given."""
+    if one.families is None:
+        return ""
+    rows = list(account.family_rows(sums, hour.parents_of(one.case, one.families)))
+    if not rows:
+        return element("p", "no order has a parent", "soft")
+    head = element("th", "order", "left") + element("th", "parent", "left")
+    head += "".join(element("th", name) for name in ("accepted", "of its parent", ""))
+    made = (
+        "".join(element("td", text(cell), "left" if at < 2 else "") for at, cell in enumerate(cells)) for cells in rows
+    )
+    return table(head, (element("tr", cells, "refused" if "AHEAD" in cells else "") for cells in made))
+
+
 # The gap.
 
 
@@ -397,6 +420,7 @@ def hour_body(one, level, named):
         body += part(level, "Gap, rent and owed", totals(one.judgement, sums), totals_note(one.judgement))
     body += part(level, "Zones", zone_table(sums)) + part(level, "Order curves", zone_cards(sums, named))
     body += part(level, "Branches", branch_cards(sums)) + part(level, "Links", link_cards(sums))
+    body += part(level, "Families", family_table(one, sums))
     return body + (part(level, "The gap's parts", gap_table(sums, one.parts), gap_note(one.parts)) if reported else "")
 
 

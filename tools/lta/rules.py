@@ -14,7 +14,7 @@ INTUITIVE_SCRATCH = 324
 INTUITIVE_PAIRS = 64
 PROPOSAL_ROOM = 2573  # room that is enough for every proposal
 SHORTFALL_ROOM = 1280  # numbers that are enough for the shortfalls of every hour
-VERSIONS = {"case": (1, 2), "proposal": (1,)}
+VERSIONS = {"case": (1, 2), "proposal": (1,), "families": (1,)}
 
 # Least and greatest of each field that has limits of its own; an order's zone and a link's zones are held to the count.
 LIMITS = {
@@ -51,6 +51,9 @@ NUMBERS = {
     12: "proposal length is wrong for this case",
     13: "LTA share above 100,000",
     14: "shadow price above 1,000,000",
+    16: "family list of wrong mark, version or length",
+    17: "parent that does not exist",
+    18: "order that leads back to itself",
     21: "volume above its order's quantity",
     22: "net positions do not sum to zero",
     23: "flow above the link's share of its capacity",
@@ -58,6 +61,7 @@ NUMBERS = {
     25: "zone price out of range",
     26: "gap above the tolerance",
     27: "no link, and an LTA share above 0",
+    28: "fraction above its parent's",
     30: "report buffer under 176 bytes",
 }
 # The same of request S-3's.
@@ -66,7 +70,7 @@ INTUITIVE_NUMBERS = {
     82: "net position out of range, or their sum is not zero",
     83: "price of a zone out of range",
     84: "pair with an unknown zone, equal zones, repeated or past the 64th",
-    85: "scratch under 324 numbers",
+    85: "scratch under 324 numbers, or under 96 on the smaller board",
 }
 
 # The same of request S-5's.
