@@ -52,8 +52,8 @@ extern "C" {
 
 /* The version of this header and of what it declares. The first number rises where a program that was right may no longer be, the second
  * where something is added. LTA_VERSION_NUMBER is for comparing: 1.2.3 is 10203. */
-#define LTA_VERSION "3.3.0"
-#define LTA_VERSION_NUMBER 30300
+#define LTA_VERSION "4.0.0"
+#define LTA_VERSION_NUMBER 40000
 
 #define LTA_GRAINS_PER_CENT 100000
 #define LTA_GRAINS_PER_EURO 10000000
@@ -89,6 +89,7 @@ enum lta_number {
     LTA_PROPOSAL_LENGTH = 12,       /* proposal length is wrong for this case */
     LTA_SHARE = 13,                 /* LTA share above 100,000 */
     LTA_SHADOW_PRICE = 14,          /* shadow price above 1,000,000; index: its offset in the proposal */
+    LTA_WIDE_TOLERANCE = 15,        /* tolerance above LTA_WIDEST_TOLERANCE, 10,000 cents */
     LTA_FAMILY_LIST = 16,           /* family list: its mark is not LTF, its version not 1, or its length not LTA_FAMILIES_SIZE(orders); an
                                      * empty list too */
     LTA_FAMILY_PARENT = 17,         /* a parent that does not exist: not below the case's orders, and not LTA_NO_PARENT; index: the order */
@@ -105,6 +106,8 @@ enum lta_number {
     LTA_GAP_ABOVE_TOLERANCE = 26,   /* gap above the tolerance */
     LTA_NO_ROOM = 30                /* report buffer under LTA_REPORT_ROOM bytes */
 };
+
+#define LTA_WIDEST_TOLERANCE 10000  /* cents; a case with a wider tolerance is read by every entry, and judged by none */
 
 /* THE REPORT, written for LTA_ACCEPTED and LTA_GAP_ABOVE_TOLERANCE: the offset of each field. Numbers are little-endian. */
 #define LTA_REPORT_MARK 0           /* 3 bytes, LTR */
@@ -165,7 +168,7 @@ static inline int64_t lta_report_price(const uint8_t *report, size_t zone)
  *   [allowed]   The proposal is a clearing of the case.
  *   [accuracy]  No clearing of the case has a welfare above welfare + gap. [best] At gap 0 none has more than the proposal.
  *               WITHOUT LINKS the clearings are the flow-based ones alone, those of LTA share 0.
- *   [gap]       The gap is at least 0 and at most 1,000,000 * tolerance.
+ *   [gap]       The gap is at least 0 and at most 1,000,000 * tolerance, where the tolerance is at most LTA_WIDEST_TOLERANCE cents.
  *   [coverage]  IF THE CASE HAS A LINK the rent is at least owed - gap, owed being by contracted volumes. [covered_in_full] At gap 0 it
  *               then covers all that is owed. Without links nothing is promised of the rent, and it may be below owed, which is 0.
  *   [annex]     In the terms of Annex 14.29: the proposal solves (60) to (72), no solution has an objective (59) above welfare + gap, the
@@ -193,7 +196,8 @@ static inline int64_t lta_report_price(const uint8_t *report, size_t zone)
  *
  * The case, little-endian, each field with its least and greatest value:
  *   header, 14 bytes   mark LTC; version, 16 bits, 1 or 2; zones, 8 bits, 1 to 16; branches, 8 bits, 0 to 64; links, 8 bits, 0 to 64;
- *                      orders, 16 bits, 0 to 512; tolerance in cents, 32 bits, 0 to 1,000,000,000
+ *                      orders, 16 bits, 0 to 512; tolerance in cents, 32 bits, 0 to 1,000,000,000, above LTA_WIDEST_TOLERANCE refused
+ *                      by 15 once the proposal is read
  *   each branch        margin, signed 32 bits, -500,000 to 500,000; a PTDF per zone, signed 32 bits each, -200,000 to 200,000
  *   each link          from zone, to zone, 8 bits each, not equal, each ordered pair once; capacity, 32 bits, 0 to 100,000; in version 2
  *                      then contracted, 32 bits, 0 to the capacity, so that a link has 10 bytes there and 6 in version 1. Version 1 is
@@ -224,7 +228,7 @@ uint64_t lta_judge(const uint8_t *case_bytes, size_t case_len,
  *                              order has LTA_NO_PARENT, or lta_judge is called
  *   report, report_len         room for the report, at least LTA_REPORT_ROOM bytes
  *
- * The numbers are those of lta_judge and four more: 16, 17 and 18, asked of the list after 14, in this order and each of the whole list
+ * The numbers are those of lta_judge and four more: 16, 17 and 18, asked of the list after 15, in this order and each of the whole list
  * before the next, and 28, asked after 21. Where none of the four has a cause the answer, and every byte of the report buffer, are
  * lta_judge's of the same case and proposal.
  *
@@ -659,6 +663,7 @@ static inline const char *lta_number_text(uint32_t number)
     case LTA_PROPOSAL_LENGTH: return "proposal length is wrong for this case";
     case LTA_SHARE: return "LTA share above 100,000";
     case LTA_SHADOW_PRICE: return "shadow price above 1,000,000";
+    case LTA_WIDE_TOLERANCE: return "tolerance above 10,000 cents";
     case LTA_FAMILY_LIST: return "family list of wrong mark, version or length";
     case LTA_FAMILY_PARENT: return "parent that does not exist";
     case LTA_FAMILY_CIRCLE: return "order that leads back to itself";

@@ -133,10 +133,25 @@ def euros(amount):
     return f"{amount // 1000}.{amount % 1000:03}"
 
 
+def met_total(links, price, total):
+    """The links with capacities, even ones, by which their total is just below another."""
+    spreads = [max(0, price[sink] - price[source]) for source, sink, _ in links]
+    whole = sum(capacity * spread for (_, _, capacity), spread in zip(links, spreads))
+    capacities = [capacity * total // whole // 2 * 2 if spread else capacity for (*_, capacity), spread in zip(links, spreads)]
+    rest = total - sum(capacity * spread for capacity, spread in zip(capacities, spreads))
+    for _, link in sorted(((spread, link) for link, spread in enumerate(spreads) if spread), reverse=True):
+        more = rest // (2 * spreads[link]) * 2
+        capacities[link] += more
+        rest -= more * spreads[link]
+    return [(source, sink, capacity) for (source, sink, _), capacity in zip(links, capacities)]
+
+
 def largest_varied(contracting=False):
     """LTA share one half. The flow-based part is chosen first and each RAM is twice the load it makes, so that
     every branch is full; each link is full where its spread is positive and empty elsewhere. With all orders right
-    at the zone prices, rent is half of branch total plus half of owed, and the gap half of what lies between them.
+    at the zone prices, rent is half of branch total plus half of owed, and the gap half of what lies between them. The
+    capacities are drawn, and then cut and topped up so that this is little (S-12): less than what two tenths of the
+    link with the least positive spread come to.
 
     PTDFs are multiples of 500, shadow prices of 200, flow-based parts of 100 and capacities of 2: all halves are whole.
 
@@ -152,10 +167,10 @@ def largest_varied(contracting=False):
         branches.append((ram, ptdfs, 200 * numbers(51)))
     price = [system + sum(ptdfs[zone] * shadow for _, ptdfs, shadow in branches) // 100000 for zone in range(ZONES)]
     pairs = [(source, sink) for source in range(ZONES) for sink in range(ZONES) if source != sink]
+    branch_total = sum(ram * shadow for ram, _, shadow in branches)
+    drawn = [(*pairs.pop(numbers(len(pairs))), 2 * numbers(2501)) for _ in range(LINKS)]
     links, position = [], list(part)
-    for _ in range(LINKS):
-        source, sink = pairs.pop(numbers(len(pairs)))
-        capacity = 2 * numbers(2501)
+    for source, sink, capacity in met_total(drawn, price, branch_total):
         flow = capacity // 2 if price[sink] > price[source] else 0
         position[sink] += flow
         position[source] -= flow
@@ -165,7 +180,6 @@ def largest_varied(contracting=False):
     sides = {1: "buy", -1: "sell"}
     orders = [(f"{zone} {sides[sign]} {quantity} {limit}", volume) for zone, sign, quantity, limit, volume in rows]
     welfare = sum(sign * volume * limit for _, sign, _, limit, volume in rows)
-    branch_total = sum(ram * shadow for ram, _, shadow in branches)
     spreads = [max(0, price[sink] - price[source]) for source, sink, *_ in links]
     capacities = [capacity for _, _, capacity, _ in links]
     link_total = owed = sum(capacity * spread for capacity, spread in zip(capacities, spreads))

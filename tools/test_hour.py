@@ -728,7 +728,7 @@ class StoredHours(unittest.TestCase):
 
     def test_every_number_and_header_offset_is_expected_somewhere(self):
         expected = {hour.expected(text)[0] for text in stored_hours().values()}
-        self.assertEqual({number for number, _ in expected}, {0, *range(1, 15), *range(21, 28)})
+        self.assertEqual({number for number, _ in expected}, {0, *range(1, 16), *range(21, 28)})
         self.assertEqual({index for number, index in expected if number == 4}, {5, 6, 7, 8, 10})
 
     def test_largest_hours_are_as_made(self):
@@ -1157,7 +1157,7 @@ class StoredShortfalls(unittest.TestCase):
 
     def test_every_number_is_due(self):
         numbers = {int(line.split()[0]) for line in build_shortfalls.run_files()["stdout"].decode().splitlines()}
-        self.assertLessEqual({*range(15), *range(21, 28), 86}, numbers)
+        self.assertLessEqual({*range(16), *range(21, 28), 86}, numbers)
 
     def test_lines_that_are_refused(self):
         for lines, words in (

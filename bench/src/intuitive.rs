@@ -8,7 +8,7 @@ mod plain;
 #[allow(dead_code)] // some of its draws are not made here
 mod rng;
 
-use crate::{archive, heading_against, measure, print, sized};
+use crate::{accepted, archive, heading_against, measure, print};
 use plain::{by_dinic, by_edmonds_karp};
 use rng::Rng;
 use second_judge::hours::{three_zone_hour, Hour};
@@ -319,8 +319,8 @@ pub fn exchanges() {
     asked.push((format!("slowest found, {paths} paths"), vec![slowest]));
     let hours = [
         ("P1", three_zone_hour()),
-        ("middling: 8, 24, 12, 150", sized(8, 24, 12, 150)),
-        ("largest: 16, 64, 64, 512", sized(16, 64, 64, 512)),
+        ("middling: 8, 24, 12, 150", accepted(8, 24, 12, 150)),
+        ("largest: 16, 64, 64, 512", accepted(16, 64, 64, 512)),
     ];
 
     heading_against("intuitive, against plain Rust", "Rust ns");

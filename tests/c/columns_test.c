@@ -128,6 +128,14 @@ static void hours(void)
         about("hour %zu and back", n);
         there_and_back(&all[n]);
     }
+    /* request S-12: wide tolerances are columned and restored, and judged no more */
+    static const uint32_t tolerances[] = {10000, 10001, 1000000000};
+    for (size_t n = 0; n < sizeof tolerances / sizeof *tolerances; n++) {
+        struct hour h = three_zone_hour();
+        h.tolerance = tolerances[n];
+        about("a tolerance of %" PRIu32, tolerances[n]);
+        there_and_back(&h);
+    }
     /* every byte of an order different, so that none is right by luck; one order, two and three */
     for (uint16_t version = 1; version <= 2; version++)
         for (uint16_t orders = 1; orders <= 3; orders++) {

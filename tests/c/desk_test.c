@@ -123,6 +123,11 @@ static void hours(void)
             "price 1 65.0000000\n"
             "price 2 50.0000000\n");
 
+    h.tolerance = 300000;
+    input = input_of(&h);
+    about("P4, whose tolerance is wide, cut at the length that its header demands");
+    printed(&input, "verdict 15 0\n");
+
     h = negative_hour();
     input = input_of(&h);
     about("negative amounts");

@@ -295,6 +295,18 @@ static void order_of_causes(void)
     refused(&h, stray, LTA_SHADOW_PRICE, 41);
     refused(&h, circle, LTA_SHADOW_PRICE, 41);
     refused(&h, ahead, LTA_SHADOW_PRICE, 41);
+    about("15 before 16, 17, 18 and 28, and after 14");
+    h.tolerance = 10001;
+    refused_list(&h, &empty, LTA_SHADOW_PRICE, 41);
+    h.shadow[1] = 250;
+    refused_list(&h, &empty, LTA_WIDE_TOLERANCE, 0);
+    refused(&h, stray, LTA_WIDE_TOLERANCE, 0);
+    refused(&h, circle, LTA_WIDE_TOLERANCE, 0);
+    refused(&h, ahead, LTA_WIDE_TOLERANCE, 0);
+    refused(&h, none, LTA_WIDE_TOLERANCE, 0);
+    h.tolerance = 10000;
+    about("the widest tolerance with a list");
+    reported(&h, none, LTA_ACCEPTED, three_zone_totals());
     h = three_zone_hour();
     h.order[4].price = 400001;
     about("8 before 16");

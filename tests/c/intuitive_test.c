@@ -486,6 +486,10 @@ static void refused_hours(void)
     hour_is(&h, 2, (uint8_t[]){0, 1}, ROOM, (struct lta_carried){LTA_GAP_ABOVE_TOLERANCE, 0, 0, 0});
     about("P3 with bad pairs and no scratch");
     hour_is(&h, sizeof bad, bad, 0, (struct lta_carried){LTA_GAP_ABOVE_TOLERANCE, 0, 0, 0});
+    h.tolerance = 300000;
+    about("P4, whose tolerance is wide, with bad pairs and no scratch");
+    hour_is(&h, 2, (uint8_t[]){0, 1}, ROOM, (struct lta_carried){LTA_WIDE_TOLERANCE, 0, 0, 0});
+    hour_is(&h, sizeof bad, bad, 0, (struct lta_carried){LTA_WIDE_TOLERANCE, 0, 0, 0});
     h = three_zone_hour();
     h.volume[1] = 6001;
     about("P5, with bad pairs and no scratch");

@@ -94,10 +94,10 @@ static void paper(void)
     reported(&h, LTA_GAP_ABOVE_TOLERANCE, unused_link_totals());
     h.tolerance = 299999;
     about("P3, tolerance 299,999");
-    reported(&h, LTA_GAP_ABOVE_TOLERANCE, unused_link_totals());
+    refused(&h, LTA_WIDE_TOLERANCE, 0);
     h.tolerance = 300000;
     about("P4, tolerance 300,000");
-    reported(&h, LTA_ACCEPTED, unused_link_totals());
+    refused(&h, LTA_WIDE_TOLERANCE, 0);
 
     h = three_zone_hour();
     h.volume[1] = 6001;
@@ -307,10 +307,19 @@ static void contracted(void)
     t.owed = 0;
     about("P3 with nothing contracted: the gap of 3,000 euros is missed where the bound is by contracted volumes");
     reported(&h, LTA_GAP_ABOVE_TOLERANCE, t);
-    h.tolerance = 300000;
-    h.link[0].contracted = 3000;
-    t.owed = euros(13500);
-    about("P4 with 3,000 of 4,000 contracted: the rent covers what is owed, and not what is offered");
+    /* at a hundredth of its size, so that the gap is 30 euros */
+    for (size_t b = 0; b < h.branches; b++)
+        h.branch[b].ram /= 100;
+    for (size_t i = 0; i < h.orders; i++) {
+        h.order[i].quantity /= 100;
+        h.volume[i] /= 100;
+    }
+    h.tolerance = 3000;
+    h.link[0].capacity = 40;
+    h.link[0].contracted = 30;
+    t = (struct totals){euros(195), euros(225), euros(30), euros(150), euros(135), {0}};
+    memcpy(t.price, unused_link_totals().price, sizeof t.price);
+    about("P4 at a hundredth, with 30 of 40 contracted: the rent covers what is owed, and not what is offered");
     reported(&h, LTA_ACCEPTED, t);
 
     h = flow_based_hour();
@@ -491,6 +500,82 @@ static void causes(void)
     h.tolerance = 0;
     about("the same at tolerance 0");
     reported(&h, LTA_GAP_ABOVE_TOLERANCE, t);
+}
+
+/* A link's spread left unused: the gap is its capacity times the spread, which is a PTDF times a shadow price in grains. */
+static struct hour unused_spread(uint32_t tolerance, uint32_t capacity, int32_t ptdf, uint32_t shadow)
+{
+    return (struct hour){
+        .version = 1,
+        .zones = 2,
+        .tolerance = tolerance,
+        .branches = 1,
+        .branch = {{0, {ptdf, 0}}},
+        .links = 1,
+        .link = {{1, 0, capacity, capacity}},
+        .shadow = {shadow},
+    };
+}
+
+/* Request S-12: 15 above 10,000 cents, asked straight after 14. */
+static void wide_tolerances(void)
+{
+    const int64_t widest = INT64_C(10000) * LTA_MICROCENTS_PER_CENT;
+    struct hour h = unused_spread(10000, 100000, 100000, 1);
+    about("the widest tolerance, and a gap of 10,000 cents");
+    reported(&h, LTA_ACCEPTED, (struct totals){.bound = widest, .gap = widest, .owed = widest, .price = {cents(1)}});
+    h.tolerance = 10001;
+    about("a tolerance of 10,001 cents, and the same gap");
+    refused(&h, LTA_WIDE_TOLERANCE, 0);
+    h = unused_spread(10000, 27961, 3541, 101);
+    about("the widest tolerance, and a gap a microcent above it");
+    struct totals t = {.bound = widest + 1, .gap = widest + 1, .owed = widest + 1, .price = {3541 * 101}};
+    reported(&h, LTA_GAP_ABOVE_TOLERANCE, t);
+    h.tolerance = 9999;
+    about("a tolerance of 9,999 cents");
+    reported(&h, LTA_GAP_ABOVE_TOLERANCE, t);
+
+    static const uint32_t wide[] = {10001, 65536, 300000, 16777216, 999999999, 1000000000};
+    for (size_t k = 0; k < sizeof wide / sizeof *wide; k++) {
+        h = three_zone_hour();
+        h.tolerance = wide[k];
+        about("P1 at a tolerance of %" PRIu32, wide[k]);
+        refused(&h, LTA_WIDE_TOLERANCE, 0);
+        h.shadow[1] = 1000001;
+        about("14 before 15, at a tolerance of %" PRIu32, wide[k]);
+        refused(&h, LTA_SHADOW_PRICE, 41);
+    }
+    static const uint32_t narrow[] = {0, 1, 255, 256, 9999, 10000};
+    for (size_t k = 0; k < sizeof narrow / sizeof *narrow; k++) {
+        h = three_zone_hour();
+        h.tolerance = narrow[k];
+        about("P1 at a tolerance of %" PRIu32, narrow[k]);
+        reported(&h, LTA_ACCEPTED, three_zone_totals());
+    }
+    h = three_zone_hour();
+    h.tolerance = 1000000001;
+    about("P1 at a tolerance of 1,000,000,001: row 4");
+    refused(&h, LTA_CASE_HEADER, 10);
+    h.tolerance = 10001;
+    h.volume[1] = 6001;
+    about("15 before 21");
+    refused(&h, LTA_WIDE_TOLERANCE, 0);
+    h = three_zone_hour();
+    h.tolerance = 10001;
+    h.volume[4]++;
+    about("15 before 22");
+    refused(&h, LTA_WIDE_TOLERANCE, 0);
+    h = flow_based_hour();
+    h.tolerance = 10001;
+    h.share = 1;
+    about("15 before 27");
+    refused(&h, LTA_WIDE_TOLERANCE, 0);
+    struct file c = case_file(&h), p = proposal_file(&h);
+    p.length--;
+    about("12 before 15");
+    refused_files(&c, &p, LTA_PROPOSAL_LENGTH, 0);
+    about("30 before 15");
+    judged(&c, &p, LTA_REPORT_ROOM - 1, LTA_NO_ROOM, 0, &(struct file){0});
 }
 
 /* S-6: no link, and a margin of -1,000 tenths by which the second zone must buy for 40 euros what the first sells for 50. */
@@ -861,6 +946,7 @@ int main(int count, char **words)
     group("contracted volumes that are refused", contracted_refused);
     group("the first field in file order", first_in_file_order);
     group("which cause and which index", causes);
+    group("wide tolerances", wide_tolerances);
     group("hours without links", without_links);
     group("cases of 0 to 200 bytes", case_lengths);
     group("cases of version 2, of 0 to 200 bytes", contracted_case_lengths);

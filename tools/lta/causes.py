@@ -306,6 +306,20 @@ def wrong_shadow_price(proposal, counts):
     return None
 
 
+# 15: the tolerance, which row 4 took, request S-12.
+
+
+def wide_tolerance(counts):
+    tolerance, shown = counts["tolerance"], SHOWN["tolerance"]
+    if tolerance <= rules.WIDEST_TOLERANCE:
+        return None
+    widest = shown(rules.WIDEST_TOLERANCE)
+    cause = f"the tolerance of {shown(tolerance)} is over {widest}, the widest that is judged, "
+    cause += f"by {shown(tolerance - rules.WIDEST_TOLERANCE)}"
+    field = header_field("case", "tolerance", stored(tolerance, shown(tolerance)), f"at most {widest}")
+    return Explanation(15, 0, "", cause, (field,))
+
+
 # 16 to 18: the family list, request S-11.
 
 MOST_STEPS = 16  # of a circle that words name
@@ -546,6 +560,7 @@ def own_reading(case, proposal, room=rules.REPORT_ROOM, families=None):
     found = short_file(9, "proposal", proposal) or wrong_mark(10, "proposal", proposal)
     found = found or wrong_version(11, "proposal", proposal) or wrong_length(12, "proposal", proposal, counts)
     found = found or wrong_share(proposal) or wrong_shadow_price(proposal, counts)
+    found = found or wide_tolerance(counts)
     if found is None and families is not None:
         found = wrong_list(families, counts)
     if found:

@@ -11,7 +11,7 @@ from decimal import Decimal
 TEXT_HELP = """\
 The text of an hour: one item per line; blank lines and what follows a # are passed over. Numbers are whole.
 
-  case version V zones Z tolerance T       opens the case; tolerance in cents
+  case version V zones Z tolerance T       opens the case; tolerance in cents, of which 10000 are judged
   branch RAM PTDF ...                      RAM in tenths of a MW; one PTDF per zone, 100000 is 1
   sheet FILE                               all branches, from a published margin sheet, in place of branch lines
   link FROM TO CAPACITY                    zones from 0; capacity in tenths of a MW

@@ -32,6 +32,8 @@ LIMITS = {
     "share": (0, WHOLE),
     "shadow price": (0, 1_000_000),
 }
+# Request S-12, in cents: a wider tolerance is read, and the hour not judged.
+WIDEST_TOLERANCE = 10_000
 ZONE_PRICE = tuple(GRAINS_PER_CENT * limit for limit in LIMITS["price"])
 
 # What each number means, as lta_number_text of the C header says it.
@@ -51,6 +53,7 @@ NUMBERS = {
     12: "proposal length is wrong for this case",
     13: "LTA share above 100,000",
     14: "shadow price above 1,000,000",
+    15: "tolerance above 10,000 cents",
     16: "family list of wrong mark, version or length",
     17: "parent that does not exist",
     18: "order that leads back to itself",
