@@ -6,7 +6,8 @@ use second_judge::CarriedAnswer;
     feature = "columns",
     feature = "desk",
     feature = "dump",
-    feature = "sheet"
+    feature = "sheet",
+    feature = "shortfalls"
 ))]
 use second_judge::OutputAnswer;
 #[cfg(feature = "queue")]
@@ -80,6 +81,16 @@ extern "C" {
         columned_len: usize,
         out: *mut u8,
         out_len: usize,
+    ) -> Written;
+
+    #[cfg(feature = "shortfalls")]
+    fn lta_shortfalls(
+        case_bytes: *const u8,
+        case_len: usize,
+        proposal: *const u8,
+        proposal_len: usize,
+        out: *mut i64,
+        out_count: usize,
     ) -> Written;
 
     #[cfg(feature = "intuitive")]
@@ -174,7 +185,8 @@ struct Surplus {
     feature = "columns",
     feature = "desk",
     feature = "dump",
-    feature = "sheet"
+    feature = "sheet",
+    feature = "shortfalls"
 ))]
 #[repr(C)]
 pub struct Written {
@@ -187,7 +199,8 @@ pub struct Written {
     feature = "columns",
     feature = "desk",
     feature = "dump",
-    feature = "sheet"
+    feature = "sheet",
+    feature = "shortfalls"
 ))]
 impl From<Written> for OutputAnswer {
     fn from(written: Written) -> OutputAnswer {
@@ -360,7 +373,8 @@ pub fn sheet_branches(sheet: &[u8], zones: usize, out: &mut [u8], null: bool) ->
     feature = "columns",
     feature = "dump",
     feature = "families",
-    feature = "intuitive"
+    feature = "intuitive",
+    feature = "shortfalls"
 ))]
 fn start<T>(list: &[T], null: bool) -> *const T {
     match list {
@@ -373,7 +387,8 @@ fn start<T>(list: &[T], null: bool) -> *const T {
     feature = "columns",
     feature = "dump",
     feature = "families",
-    feature = "intuitive"
+    feature = "intuitive",
+    feature = "shortfalls"
 ))]
 fn start_mut<T>(list: &mut [T], null: bool) -> *mut T {
     match list {
@@ -424,6 +439,24 @@ pub fn case_restored(file: &[u8], out: &mut [u8], null: bool) -> OutputAnswer {
         lta_case_restored(
             start(file, null),
             file.len(),
+            start_mut(out, null),
+            out.len(),
+        )
+    }
+    .into()
+}
+
+/// The shortfalls of an accepted hour, written to `out`; `null` gives a null pointer
+/// for each empty slice.
+#[cfg(feature = "shortfalls")]
+pub fn shortfalls(case: &[u8], proposal: &[u8], out: &mut [i64], null: bool) -> OutputAnswer {
+    // Safe: each pointer comes with the length of its own slice.
+    unsafe {
+        lta_shortfalls(
+            start(case, null),
+            case.len(),
+            start(proposal, null),
+            proposal.len(),
             start_mut(out, null),
             out.len(),
         )
