@@ -2,12 +2,13 @@
  *
  * An hour is a case (zones, branches, links and orders) and a proposal for its clearing (volumes, flows and prices). lta_judge answers
  * whether the proposal is accepted, or else the first cause for which it is refused. lta_judge_families answers the same where orders lean
- * on others, as a family list beside the case says. lta_book_surplus values an order book that lies in memory. lta_desk_lines gives a judgement as text. lta_sheet_branches turns a published margin sheet into the branches of a case.
- * lta_hour_intuitive answers whether an accepted hour's exchanges can all go from a lower or equal price to a higher one, and lta_intuitive
- * answers it of net positions and zone prices; lta_hour_intuitive_small and lta_intuitive_small give the same answers from less scratch.
- * lta_dump_proposal turns a solver's dump into a proposal for a case. lta_case_columned rearranges a case for the archive, and
- * lta_case_restored gives it back. lta_shortfalls says of an accepted hour by how much each order, branch and link may be out.
- * lta_queue_post and lta_queue_serve keep the queue of a desk that serves four areas.
+ * on others, as a family list beside the case says. lta_book_surplus values an order book that lies in memory. lta_desk_lines gives a
+ * judgement as text. lta_sheet_branches turns a published margin sheet into the branches of a case. lta_hour_intuitive answers whether an
+ * accepted hour's exchanges can all go from a lower or equal price to a higher one, and lta_intuitive answers it of net positions and zone
+ * prices; lta_hour_intuitive_small and lta_intuitive_small give the same answers from less scratch. lta_dump_proposal turns a solver's
+ * dump into a proposal for a case. lta_case_columned rearranges a case for the archive, and lta_case_restored gives it back.
+ * lta_shortfalls says of an accepted hour by how much each order, branch and link may be out. lta_queue_post and lta_queue_serve keep the
+ * queue of a desk that serves four areas.
  *
  * Each promise below is part of a contract in crates/host, and the archive is built only if every function in it is proved to meet its
  * contract. A word in brackets, as [outcome], is the name of the clause that says it.
@@ -52,8 +53,8 @@ extern "C" {
 
 /* The version of this header and of what it declares. The first number rises where a program that was right may no longer be, the second
  * where something is added. LTA_VERSION_NUMBER is for comparing: 1.2.3 is 10203. */
-#define LTA_VERSION "4.0.0"
-#define LTA_VERSION_NUMBER 40000
+#define LTA_VERSION "4.2.0"
+#define LTA_VERSION_NUMBER 40200
 
 #define LTA_GRAINS_PER_CENT 100000
 #define LTA_GRAINS_PER_EURO 10000000
