@@ -2,11 +2,13 @@
  *
  * An hour is a case (zones, branches, links and orders) and a proposal for its clearing (volumes, flows and prices). lta_judge answers
  * whether the proposal is accepted, or else the first cause for which it is refused. lta_judge_families answers the same where orders lean
- * on others, as a family list beside the case says. lta_book_surplus values an order book that lies in memory. lta_desk_lines gives a judgement as text. lta_sheet_branches turns a published margin sheet into the branches of a case.
- * lta_hour_intuitive answers whether an accepted hour's exchanges can all go from a lower or equal price to a higher one, and lta_intuitive
- * answers it of net positions and zone prices. lta_dump_proposal turns a solver's dump into a proposal for a case. lta_case_columned
- * rearranges a case for the archive, and lta_case_restored gives it back. lta_queue_post and lta_queue_serve keep the queue of a desk that
- * serves four areas.
+ * on others, as a family list beside the case says. lta_book_surplus values an order book that lies in memory. lta_desk_lines gives a
+ * judgement as text. lta_sheet_branches turns a published margin sheet into the branches of a case. lta_hour_intuitive answers whether an
+ * accepted hour's exchanges can all go from a lower or equal price to a higher one, and lta_intuitive answers it of net positions and zone
+ * prices; lta_hour_intuitive_small and lta_intuitive_small give the same answers from less scratch. lta_dump_proposal turns a solver's
+ * dump into a proposal for a case. lta_case_columned rearranges a case for the archive, and lta_case_restored gives it back.
+ * lta_shortfalls says of an accepted hour by how much each order, branch and link may be out. lta_queue_post and lta_queue_serve keep the
+ * queue of a desk that serves four areas.
  *
  * Each promise below is part of a contract in crates/host, and the archive is built only if every function in it is proved to meet its
  * contract. A word in brackets, as [outcome], is the name of the clause that says it.
@@ -16,7 +18,7 @@
  *     written. A null pointer is allowed where the length or count is 0. A queue has no length: it is LTA_QUEUE_SIZE bytes that may be read
  *     and written, never null.
  *   - `report`, `out` and `scratch` overlap no other argument, and nothing else writes to an argument during the call.
- *   - `orders`, `zone_prices`, `net_exports` and `scratch` are aligned as their types demand.
+ *   - `orders`, `zone_prices`, `net_exports`, `scratch`, and the `out` of lta_shortfalls are aligned as their types demand.
  *   - There is stack enough. The proofs are about a machine that cannot run out of it; by test, 16 KiB are enough.
  *   - In a call of lta_dump_proposal the floating-point environment is that with which a C program starts: rounding to the nearest, and
  *     subnormals neither taken nor written as zero. A program that is linked with -ffast-math starts with another. No other entry uses it.
@@ -51,8 +53,8 @@ extern "C" {
 
 /* The version of this header and of what it declares. The first number rises where a program that was right may no longer be, the second
  * where something is added. LTA_VERSION_NUMBER is for comparing: 1.2.3 is 10203. */
-#define LTA_VERSION "4.0.0"
-#define LTA_VERSION_NUMBER 40000
+#define LTA_VERSION "4.2.0"
+#define LTA_VERSION_NUMBER 40200
 
 #define LTA_GRAINS_PER_CENT 100000
 #define LTA_GRAINS_PER_EURO 10000000
@@ -281,11 +283,12 @@ struct lta_surplus {
 struct lta_surplus lta_book_surplus(const struct lta_order *orders, size_t order_count,
                                     const int64_t *zone_prices, size_t price_count);
 
-/* WRITTEN INTO AN OUTPUT. What lta_desk_lines, lta_sheet_branches and lta_dump_proposal answer. */
+/* WRITTEN INTO AN OUTPUT. What lta_desk_lines, lta_sheet_branches, lta_dump_proposal, lta_case_columned, lta_case_restored and
+ * lta_shortfalls answer. */
 struct lta_written {
     uint32_t number; /* 0, or that of the refusal */
     uint64_t index;
-    uint64_t length; /* bytes written; 0 in a refusal */
+    uint64_t length; /* bytes written, of lta_shortfalls numbers; 0 in a refusal */
 };
 
 /* THE DESK'S TEXT. The number by which lta_desk_lines refuses. It is of the call and not of the hour, whose verdict is the text's first
@@ -358,11 +361,13 @@ enum lta_intuitive_number {
     LTA_INTUITIVE_PRICE = 83,       /* a price is out of its range, which is LTA_ZONE_PRICE's; index: the zone */
     LTA_INTUITIVE_PAIR = 84,        /* a pair has an unknown zone or equal ones, repeats an earlier one or is past the 64th; index: the
                                      * pair */
-    LTA_INTUITIVE_NO_ROOM = 85      /* scratch_count is under LTA_INTUITIVE_SCRATCH */
+    LTA_INTUITIVE_NO_ROOM = 85      /* scratch_count is under LTA_INTUITIVE_SCRATCH, on the smaller board LTA_INTUITIVE_SMALL_SCRATCH */
 };
 
 #define LTA_INTUITIVE_PAIRS 64      /* pairs at most */
 #define LTA_INTUITIVE_SCRATCH 324   /* numbers that a scratch must have, whatever the zones */
+#define LTA_INTUITIVE_SMALL_SCRATCH 96 /* the same on the smaller board: one per pair, one per zone for export used, one per zone for
+                                        * import used */
 
 /* The answer. */
 struct lta_carried {
@@ -418,6 +423,23 @@ struct lta_carried lta_hour_intuitive(const uint8_t *case_bytes, size_t case_len
                                       const uint8_t *proposal, size_t proposal_len,
                                       const uint8_t *pairs, size_t pairs_len,
                                       int64_t *scratch, size_t scratch_count);
+
+/* The same two on a smaller board. Arguments, answers, numbers and their order are those of lta_intuitive and of lta_hour_intuitive, but
+ * that LTA_INTUITIVE_SMALL_SCRATCH stands for LTA_INTUITIVE_SCRATCH: LTA_INTUITIVE_NO_ROOM is given for a scratch under 96 numbers, and of
+ * an answer the first 96 are zero, and all past them as they were [outcome] [yes] [no] [yes_or_no] [largest] [scratch] [refused].
+ *
+ * On each input that both take, intuitive and total are those of the wide entry; what the wide one takes the smaller takes too, and every
+ * refusal but LTA_INTUITIVE_NO_ROOM is the same, number and index.
+ */
+struct lta_carried lta_intuitive_small(const int64_t *net_exports, size_t net_count,
+                                       const int64_t *zone_prices, size_t price_count,
+                                       const uint8_t *pairs, size_t pairs_len,
+                                       int64_t *scratch, size_t scratch_count);
+
+struct lta_carried lta_hour_intuitive_small(const uint8_t *case_bytes, size_t case_len,
+                                            const uint8_t *proposal, size_t proposal_len,
+                                            const uint8_t *pairs, size_t pairs_len,
+                                            int64_t *scratch, size_t scratch_count);
 
 /* THE SOLVER'S DUMP. The numbers of lta_dump_proposal, in the order in which they are asked, each of the whole dump before the next. 56
  * names the number by which the case is refused; 58 and 59 name the first such value, counted in values from 0, so that it stands 8 * index
@@ -518,6 +540,49 @@ struct lta_written lta_case_columned(const uint8_t *case_bytes, size_t case_len,
  * said above, and lta_case_columned of the case gives the file again, byte for byte.
  */
 struct lta_written lta_case_restored(const uint8_t *columned, size_t columned_len, uint8_t *out, size_t out_len);
+
+/* SHORTFALLS of an accepted hour. The number by which lta_shortfalls refuses beside the judgement's own. */
+enum lta_shortfall_number {
+    LTA_SHORTFALL_NO_ROOM = 86      /* out_count is under LTA_SHORTFALL_COUNT of the case's orders, branches and links; index 0. It is asked
+                                     * last: the hour is accepted */
+};
+
+#define LTA_SHORTFALL_COUNT(orders, branches, links) (2 * ((orders) + (branches) + (links))) /* numbers that are written for a case */
+#define LTA_SHORTFALL_ROOM 1280     /* room in numbers that is enough for every case: 512 orders, 64 branches and 64 links */
+#define LTA_SHORTFALLS_PER_MICROCENT 100000
+
+/* Writes by how much each order, branch and link of an accepted hour falls short of its best at the zone prices, two numbers for each, and
+ * answers with number 0, index 0 [outcome] and how many numbers are written, LTA_SHORTFALL_COUNT(orders, branches, links) [length]; or it
+ * refuses, with length 0.
+ *
+ *   case_bytes, case_len       a case, as lta_judge takes it, of either version
+ *   proposal, proposal_len     a proposal for it
+ *   out, out_count             room for the numbers, at least LTA_SHORTFALL_COUNT(orders, branches, links) of them
+ *
+ * The hour is judged first, as lta_judge does with room for the report. If it is not accepted, LTA_GAP_ABOVE_TOLERANCE too, the answer has
+ * the judgement's number and index. LTA_NO_ROOM cannot occur.
+ *
+ * The shortfalls, in whole hundred-thousandths of a microcent, with the rules' words above:
+ *   an order    100,000 * (order surplus - volume * (order price - zone price)) for a buy,
+ *               100,000 * (order surplus - volume * (zone price - order price)) for a sell, prices in grains
+ *   a branch    100,000 * shadow price * ((100,000 - share) * margin - load)
+ *   a link      capacity * share * spread where the spread is positive, else 0, less 100,000 * flow * spread, the spread being the price
+ *               at `to` - the price at `from`
+ * What is contracted of a link does not enter. On P1, link 0 to 1: 4,000 * 87,500 * 437,500,000 - 100,000 * 3,500 * 437,500,000 = 0.
+ *
+ * The numbers of `out` afterwards [output]: if the number is 0, the first `length` are two for each order, then for each branch, then for
+ * each link, in file order: whole microcents, and hundred-thousandths of a microcent, 0 to 99,999. All past them are as they were. In a
+ * refusal every number is as it was.
+ *
+ * What holds of an answer, with and without links [shortfalls]: each two numbers are the shortfall as said here, and of an order or a
+ * branch the second is 0; no shortfall is negative; all together are at most 100,000 times the gap that lta_judge reports, so that none is
+ * more than the gap; at gap 0 each is 0.
+ * What is left, 100,000 times the gap less all shortfalls, is (100,000 - share) * (larger - branch total) + share * (larger - link total),
+ * larger being the larger of the two totals; without links it is 0. It is proved in crates/shortfalls.
+ */
+struct lta_written lta_shortfalls(const uint8_t *case_bytes, size_t case_len,
+                                  const uint8_t *proposal, size_t proposal_len,
+                                  int64_t *out, size_t out_count);
 
 /* THE DESK QUEUE, of a desk that judges the hours of four areas, up to 25 a day, as their solvers finish. The numbers by which
  * lta_queue_post, 61 to 63, and lta_queue_serve, 64, refuse, in the order in which they are asked. No number is returned for another cause
@@ -634,7 +699,8 @@ static inline const char *lta_number_text(uint32_t number)
     case LTA_INTUITIVE_POSITION: return "net position out of range, or their sum is not zero";
     case LTA_INTUITIVE_PRICE: return "price of a zone out of range";
     case LTA_INTUITIVE_PAIR: return "pair with an unknown zone, equal zones, repeated or past the 64th";
-    case LTA_INTUITIVE_NO_ROOM: return "scratch under 324 numbers";
+    case LTA_INTUITIVE_NO_ROOM: return "scratch under 324 numbers, or under 96 on the smaller board";
+    case LTA_SHORTFALL_NO_ROOM: return "output too short for the shortfalls";
     default: return "unknown number";
     }
 }

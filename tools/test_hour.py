@@ -1,6 +1,7 @@
 #!/usr/bin/env python3
 """Tests of the formats, that is lta.hour and lta.dump and the commands over them, of build_hours.py, build_dumps.py,
-build_columns.py, build_families.py and of the stored hours and dumps. The last line counts what passed and failed.
+build_columns.py, build_families.py, build_shortfalls.py and of the stored hours and dumps. The last line counts what passed
+and failed.
 """
 
 import contextlib
@@ -18,8 +19,9 @@ import build_columns
 import build_dumps
 import build_families
 import build_hours
+import build_shortfalls
 import largest_hour
-from lta import cli, columns, dump, hour
+from lta import cli, columns, dump, gap, hour, rules
 
 ROOT = pathlib.Path(__file__).resolve().parent.parent
 SAMPLES = ROOT / "samples"
@@ -1113,6 +1115,80 @@ class StoredColumns(unittest.TestCase):
                 self.assertEqual(said, (1, "", f"build_columns.py: {name} is missing\n"))
                 path.write_bytes(data)
         self.assertEqual(run_tool(build_columns.main)[0], 2)
+
+
+class StoredShortfalls(unittest.TestCase):
+    """What crates/shortfall_runs reads and prints, and what the stored hours say of shortfalls (S-14)."""
+
+    def test_by_hand_from_the_three_zone_hour(self):
+        """P1 falls short nowhere, and room is asked after the judgement."""
+        self.assertEqual(build_shortfalls.answered(16, P1_CASE, P1_PROPOSAL), (0, 0, [0] * 16))
+        self.assertEqual(build_shortfalls.answered(15, P1_CASE, P1_PROPOSAL), (86, 0, []))
+        # Volume 6,001 of order 1, P5, whatever the room.
+        p5 = P1_PROPOSAL[:17] + bytes.fromhex("71170000") + P1_PROPOSAL[21:]
+        self.assertEqual(build_shortfalls.answered(0, P1_CASE, p5), (21, 1, []))
+
+    def test_every_kind_is_the_largest_somewhere(self):
+        largest = set()
+        for name, text in stored_hours().items():
+            found = gap.expected(text)
+            if found:
+                kind = max(found, key=found.get)
+                spread_down = kind[0] == "link" and name.endswith("against-spread")
+                largest.add((kind[0], found[kind] % rules.WHOLE > 0, spread_down))
+        due = {("order", False, False), ("branch", False, False), ("link", False, False)}
+        self.assertEqual(largest, due | {("link", True, False), ("link", False, True)})
+
+    def test_what_a_text_says_is_what_is_due(self):
+        told = 0
+        for name, text in stored_hours().items():
+            found = gap.expected(text)
+            if found is None:
+                continue
+            with self.subTest(name):
+                told += 1
+                sums = rules.Sums(*hour.build(text, build_hours.HOURS))
+                parts, left = gap.beside(sums)
+                self.assertEqual({(part.kind, part.place): part.amount for part in parts if part.amount}, found)
+                together = sum(found.values()) + sum(part.amount for part in left)
+                self.assertEqual(together, rules.WHOLE * hour.expected(text)[2]["gap"])
+                self.assertLessEqual(sums.tolerance, 100 * 10**8)
+        self.assertGreaterEqual(told, 12)
+
+    def test_every_number_is_due(self):
+        numbers = {int(line.split()[0]) for line in build_shortfalls.run_files()["stdout"].decode().splitlines()}
+        self.assertLessEqual({*range(16), *range(21, 28), 86}, numbers)
+
+    def test_lines_that_are_refused(self):
+        for lines, words in (
+            ("# shortfall order 0", "line 1: '# shortfall order 0' is no shortfall line"),
+            ("# shortfall order 0 -1", "line 1: '# shortfall order 0 -1' is no shortfall line"),
+            ("# shortfall zone 0 1", "line 1: '# shortfall zone 0 1' is no shortfall line"),
+            ("# shortfall link 0 0.00000000000001", ".* is no shortfall line"),
+            ("# shortfall link 0 0.0", ".* is zero, or a second one"),
+            ("# shortfall link 0 1\n# shortfall link 0 2", "line 2: .* is zero, or a second one"),
+            ("# shortfall none\n# shortfall link 0 2", "a line says that nothing falls short, and another what does"),
+            ("# shortfall none\n# shortfall none", "a line says that nothing falls short, and another what does"),
+        ):
+            with self.subTest(lines), self.assertRaisesRegex(ValueError, f"^{words}$"):
+                gap.expected(lines)
+        self.assertIsNone(gap.expected("# Shortfalls are told.\n# shortfalls too\n"))
+        self.assertEqual(gap.expected("# shortfall none\n"), {})
+        self.assertEqual(gap.expected("# shortfall link 2 0.0000000000001\n"), {("link", 2): 1})
+
+    def test_written_and_checked(self):
+        with tempfile.TemporaryDirectory() as folder:
+            folder = pathlib.Path(folder)
+            self.assertEqual(run_tool(build_shortfalls.main, "--check", str(folder))[0], 1)
+            status, out, err = run_tool(build_shortfalls.main, str(folder))
+            self.assertEqual((status, err), (0, ""))
+            self.assertRegex(out, r"\Astdin \d+ bytes\nstdout \d+ bytes\n\Z")
+            self.assertEqual(run_tool(build_shortfalls.main, "--check", str(folder)), (0, "", ""))
+            (folder / "stdout").write_text("0 0 0\n")
+            status, out, err = run_tool(build_shortfalls.main, "--check", str(folder))
+            self.assertEqual((status, out), (1, ""))
+            self.assertIn("stdout differs from what the stored hours give", err)
+        self.assertEqual(run_tool(build_shortfalls.main)[0], 2)
 
 
 def main():

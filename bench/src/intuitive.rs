@@ -1,5 +1,6 @@
 //! S-3's entries against plain Rust on the same inputs: annex 5.1's two price
 //! sets, no pairs, random exchanges, the worst that a search finds, and hours.
+//! Then S-13's, on the smaller board, against them on the same.
 
 #[path = "plain_flow.rs"]
 mod plain;
@@ -17,6 +18,7 @@ use std::hint::black_box;
 use std::time::Instant;
 
 const SCRATCH: usize = 324;
+const SMALL_SCRATCH: usize = 96;
 const ZONES: usize = 16;
 const PAIRS: usize = 64;
 const SEED: u64 = 3;
@@ -38,6 +40,10 @@ const PLAIN: [(&str, Plain); 2] = [("Edmonds-Karp", by_edmonds_karp), ("Dinic", 
 impl Exchange {
     fn proved(&self, scratch: &mut [i64]) -> CarriedAnswer {
         archive::intuitive(&self.net, &self.prices, &self.pairs, scratch, false)
+    }
+
+    fn small(&self, scratch: &mut [i64]) -> CarriedAnswer {
+        archive::intuitive_small(&self.net, &self.prices, &self.pairs, scratch, false)
     }
 
     fn plain(&self, by: Plain, scratch: &mut [i64]) -> (CarriedAnswer, usize) {
@@ -86,6 +92,62 @@ fn of(name: &str, exchanges: &[Exchange]) {
         );
         print(&format!("{name}, {other}"), &times);
     }
+}
+
+/// Measures both boards on the same exchanges.
+fn of_boards(name: &str, exchanges: &[Exchange]) {
+    let (mut small, mut wide) = ([1; SMALL_SCRATCH], [2; SCRATCH]);
+    for given in exchanges {
+        assert_eq!(given.small(&mut small), given.proved(&mut wide), "{name}");
+    }
+    let times = measure(
+        || {
+            for given in exchanges {
+                black_box(black_box(given).small(black_box(&mut small)));
+            }
+        },
+        || {
+            for given in exchanges {
+                black_box(black_box(given).proved(black_box(&mut wide)));
+            }
+        },
+    );
+    print(name, &times);
+}
+
+/// The same on one hour.
+fn hour_of_boards(name: &str, hour: &Hour) {
+    let (case, proposal) = (hour.case(), hour.proposal());
+    let pairs = links(hour);
+    let (mut small, mut wide) = ([1; SMALL_SCRATCH], [2; SCRATCH]);
+    assert_eq!(
+        archive::hour_intuitive_small(&case, &proposal, &pairs, &mut small, false),
+        archive::hour_intuitive(&case, &proposal, &pairs, &mut wide, false),
+        "{name}"
+    );
+    let times = measure(
+        || {
+            let (case, scratch) = (black_box(&case), black_box(&mut small));
+            black_box(archive::hour_intuitive_small(
+                case, &proposal, &pairs, scratch, false,
+            ));
+        },
+        || {
+            let (case, scratch) = (black_box(&case), black_box(&mut wide));
+            black_box(archive::hour_intuitive(
+                case, &proposal, &pairs, scratch, false,
+            ));
+        },
+    );
+    print(name, &times);
+}
+
+/// An hour's links as pairs.
+fn links(hour: &Hour) -> Vec<u8> {
+    hour.links
+        .iter()
+        .flat_map(|link| [link.from, link.to])
+        .collect()
 }
 
 fn annex(euros: [i64; 5]) -> Exchange {
@@ -197,11 +259,7 @@ fn plain_hour(hour: &Hour, case: &[u8], proposal: &[u8], pairs: &[u8], scratch: 
 
 fn of_hour(name: &str, hour: &Hour) {
     let (case, proposal) = (hour.case(), hour.proposal());
-    let pairs: Vec<u8> = hour
-        .links
-        .iter()
-        .flat_map(|link| [link.from, link.to])
-        .collect();
+    let pairs = links(hour);
     let (mut one, mut two) = ([0; SCRATCH], [0; SCRATCH]);
     let due = hour_intuitive(&case, &proposal, &pairs, &mut two);
     assert_eq!(due.number, 0, "{name} is accepted");
@@ -225,18 +283,25 @@ fn of_hour(name: &str, hour: &Hour) {
 }
 
 pub fn exchanges() {
-    heading_against("intuitive, against plain Rust", "Rust ns");
-    of("001, first prices", &[annex([10, 20, 40, 50, 30])]);
-    of("001, second prices", &[annex([20, 10, 40, 50, 30])]);
     let mut rng = Rng::new(SEED);
+    let mut asked: Vec<(String, Vec<Exchange>)> = vec![
+        (
+            "001, first prices".into(),
+            vec![annex([10, 20, 40, 50, 30])],
+        ),
+        (
+            "001, second prices".into(),
+            vec![annex([20, 10, 40, 50, 30])],
+        ),
+    ];
     let none = Exchange {
         pairs: vec![],
         ..random(&mut rng, ZONES, PAIRS)
     };
-    of("16 zones, no pairs", &[none]);
+    asked.push(("16 zones, no pairs".into(), vec![none]));
     for (zones, pairs) in [(5, 10), (16, 64)] {
-        let some: Vec<Exchange> = (0..32).map(|_| random(&mut rng, zones, pairs)).collect();
-        of(&format!("32 random, {zones} and {pairs}"), &some);
+        let some = (0..32).map(|_| random(&mut rng, zones, pairs)).collect();
+        asked.push((format!("32 random, {zones} and {pairs}"), some));
     }
     let most_paths = (0..STARTS)
         .map(|_| {
@@ -247,14 +312,24 @@ pub fn exchanges() {
         })
         .max_by_key(Exchange::paths)
         .expect("some starts");
-    let paths = most_paths.paths();
     let (slowest, _) = worst(&mut rng, most_paths.clone(), TIMED_STEPS, Exchange::time);
-    of(&format!("most paths found, {paths}"), &[most_paths]);
+    let paths = most_paths.paths();
+    asked.push((format!("most paths found, {paths}"), vec![most_paths]));
     let paths = slowest.paths();
-    of(&format!("slowest found, {paths} paths"), &[slowest]);
+    asked.push((format!("slowest found, {paths} paths"), vec![slowest]));
+    let hours = [
+        ("P1", three_zone_hour()),
+        ("middling: 8, 24, 12, 150", accepted(8, 24, 12, 150)),
+        ("largest: 16, 64, 64, 512", accepted(16, 64, 64, 512)),
+    ];
 
+    heading_against("intuitive, against plain Rust", "Rust ns");
+    asked.iter().for_each(|(name, some)| of(name, some));
     heading_against("intuitive hours, links as pairs", "Rust ns");
-    of_hour("P1", &three_zone_hour());
-    of_hour("middling: 8, 24, 12, 150", &accepted(8, 24, 12, 150));
-    of_hour("largest: 16, 64, 64, 512", &accepted(16, 64, 64, 512));
+    hours.iter().for_each(|(name, hour)| of_hour(name, hour));
+    heading_against("the smaller board, against the wide one", "wide ns");
+    asked.iter().for_each(|(name, some)| of_boards(name, some));
+    hours
+        .iter()
+        .for_each(|(name, hour)| hour_of_boards(name, hour));
 }

@@ -1,6 +1,6 @@
 //! Measures the proved judge against the second one, the desk's lines, the margin
-//! sheet's and the dump's entry against plain C, S-3's and S-8's against plain Rust, on the
-//! same inputs; prints only.
+//! sheet's and the dump's entry against plain C, S-3's and S-8's against plain Rust, S-14's
+//! against the judgement too, on the same inputs; prints only.
 
 #[path = "../../comparison/src/archive.rs"]
 mod archive;
@@ -18,6 +18,8 @@ mod intuitive;
 mod queue;
 #[cfg(feature = "sheet")]
 mod sheet;
+#[cfg(feature = "shortfalls")]
+mod shortfalls;
 
 use second_judge::hours::{contracted_hour, three_zone_hour, Branch, Hour, Link, Version};
 use second_judge::limits::{BUYS, LEAST_BUFFER, SELLS};
@@ -328,6 +330,8 @@ fn main() {
     columns::files();
     #[cfg(feature = "families")]
     families::lists();
+    #[cfg(feature = "shortfalls")]
+    shortfalls::hours();
     #[cfg(feature = "queue")]
     queue::queues();
 }

@@ -6,7 +6,8 @@ use second_judge::CarriedAnswer;
     feature = "columns",
     feature = "desk",
     feature = "dump",
-    feature = "sheet"
+    feature = "sheet",
+    feature = "shortfalls"
 ))]
 use second_judge::OutputAnswer;
 #[cfg(feature = "queue")]
@@ -82,6 +83,16 @@ extern "C" {
         out_len: usize,
     ) -> Written;
 
+    #[cfg(feature = "shortfalls")]
+    fn lta_shortfalls(
+        case_bytes: *const u8,
+        case_len: usize,
+        proposal: *const u8,
+        proposal_len: usize,
+        out: *mut i64,
+        out_count: usize,
+    ) -> Written;
+
     #[cfg(feature = "intuitive")]
     fn lta_intuitive(
         net_exports: *const i64,
@@ -96,6 +107,30 @@ extern "C" {
 
     #[cfg(feature = "intuitive")]
     fn lta_hour_intuitive(
+        case_bytes: *const u8,
+        case_len: usize,
+        proposal: *const u8,
+        proposal_len: usize,
+        pairs: *const u8,
+        pairs_len: usize,
+        scratch: *mut i64,
+        scratch_count: usize,
+    ) -> Carried;
+
+    #[cfg(feature = "intuitive")]
+    fn lta_intuitive_small(
+        net_exports: *const i64,
+        net_count: usize,
+        zone_prices: *const i64,
+        price_count: usize,
+        pairs: *const u8,
+        pairs_len: usize,
+        scratch: *mut i64,
+        scratch_count: usize,
+    ) -> Carried;
+
+    #[cfg(feature = "intuitive")]
+    fn lta_hour_intuitive_small(
         case_bytes: *const u8,
         case_len: usize,
         proposal: *const u8,
@@ -150,7 +185,8 @@ struct Surplus {
     feature = "columns",
     feature = "desk",
     feature = "dump",
-    feature = "sheet"
+    feature = "sheet",
+    feature = "shortfalls"
 ))]
 #[repr(C)]
 pub struct Written {
@@ -163,7 +199,8 @@ pub struct Written {
     feature = "columns",
     feature = "desk",
     feature = "dump",
-    feature = "sheet"
+    feature = "sheet",
+    feature = "shortfalls"
 ))]
 impl From<Written> for OutputAnswer {
     fn from(written: Written) -> OutputAnswer {
@@ -336,7 +373,8 @@ pub fn sheet_branches(sheet: &[u8], zones: usize, out: &mut [u8], null: bool) ->
     feature = "columns",
     feature = "dump",
     feature = "families",
-    feature = "intuitive"
+    feature = "intuitive",
+    feature = "shortfalls"
 ))]
 fn start<T>(list: &[T], null: bool) -> *const T {
     match list {
@@ -349,7 +387,8 @@ fn start<T>(list: &[T], null: bool) -> *const T {
     feature = "columns",
     feature = "dump",
     feature = "families",
-    feature = "intuitive"
+    feature = "intuitive",
+    feature = "shortfalls"
 ))]
 fn start_mut<T>(list: &mut [T], null: bool) -> *mut T {
     match list {
@@ -407,8 +446,65 @@ pub fn case_restored(file: &[u8], out: &mut [u8], null: bool) -> OutputAnswer {
     .into()
 }
 
-/// Whether net positions are intuitive at these prices; `null` gives a null
-/// pointer for each empty list.
+/// The shortfalls of an accepted hour, written to `out`; `null` gives a null pointer
+/// for each empty slice.
+#[cfg(feature = "shortfalls")]
+pub fn shortfalls(case: &[u8], proposal: &[u8], out: &mut [i64], null: bool) -> OutputAnswer {
+    // Safe: each pointer comes with the length of its own slice.
+    unsafe {
+        lta_shortfalls(
+            start(case, null),
+            case.len(),
+            start(proposal, null),
+            proposal.len(),
+            start_mut(out, null),
+            out.len(),
+        )
+    }
+    .into()
+}
+
+/// An entry of S-3 or S-13 over two lists, pairs and a scratch: net positions and
+/// prices, or a case and a proposal.
+#[cfg(feature = "intuitive")]
+type CarriedEntry<T> = unsafe extern "C" fn(
+    *const T,
+    usize,
+    *const T,
+    usize,
+    *const u8,
+    usize,
+    *mut i64,
+    usize,
+) -> Carried;
+
+/// What such an entry answers; `null` gives a null pointer for each empty list.
+#[cfg(feature = "intuitive")]
+fn carried_by<T>(
+    entry: CarriedEntry<T>,
+    first: &[T],
+    second: &[T],
+    pairs: &[u8],
+    scratch: &mut [i64],
+    null: bool,
+) -> CarriedAnswer {
+    // Safe: each pointer comes with the length of its own list.
+    unsafe {
+        entry(
+            start(first, null),
+            first.len(),
+            start(second, null),
+            second.len(),
+            start(pairs, null),
+            pairs.len(),
+            start_mut(scratch, null),
+            scratch.len(),
+        )
+    }
+    .into()
+}
+
+/// Whether net positions are intuitive at these prices.
 #[cfg(feature = "intuitive")]
 #[allow(dead_code)]
 pub fn intuitive(
@@ -418,20 +514,7 @@ pub fn intuitive(
     scratch: &mut [i64],
     null: bool,
 ) -> CarriedAnswer {
-    // Safe: each pointer comes with the length of its own list.
-    unsafe {
-        lta_intuitive(
-            start(net, null),
-            net.len(),
-            start(prices, null),
-            prices.len(),
-            start(pairs, null),
-            pairs.len(),
-            start_mut(scratch, null),
-            scratch.len(),
-        )
-    }
-    .into()
+    carried_by(lta_intuitive, net, prices, pairs, scratch, null)
 }
 
 /// The same of an hour.
@@ -444,20 +527,39 @@ pub fn hour_intuitive(
     scratch: &mut [i64],
     null: bool,
 ) -> CarriedAnswer {
-    // Safe: each pointer comes with the length of its own list.
-    unsafe {
-        lta_hour_intuitive(
-            start(case, null),
-            case.len(),
-            start(proposal, null),
-            proposal.len(),
-            start(pairs, null),
-            pairs.len(),
-            start_mut(scratch, null),
-            scratch.len(),
-        )
-    }
-    .into()
+    carried_by(lta_hour_intuitive, case, proposal, pairs, scratch, null)
+}
+
+/// Both on the smaller board.
+#[cfg(feature = "intuitive")]
+#[allow(dead_code)]
+pub fn intuitive_small(
+    net: &[i64],
+    prices: &[i64],
+    pairs: &[u8],
+    scratch: &mut [i64],
+    null: bool,
+) -> CarriedAnswer {
+    carried_by(lta_intuitive_small, net, prices, pairs, scratch, null)
+}
+
+#[cfg(feature = "intuitive")]
+#[allow(dead_code)]
+pub fn hour_intuitive_small(
+    case: &[u8],
+    proposal: &[u8],
+    pairs: &[u8],
+    scratch: &mut [i64],
+    null: bool,
+) -> CarriedAnswer {
+    carried_by(
+        lta_hour_intuitive_small,
+        case,
+        proposal,
+        pairs,
+        scratch,
+        null,
+    )
 }
 
 /// Posts an hour to the queue that these bytes are.

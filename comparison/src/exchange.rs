@@ -1,5 +1,5 @@
-//! Makes exchanges for the entries of S-3: net positions, prices and pairs. Of
-//! some it is known from their making whether all can be carried.
+//! Makes exchanges for the entries of S-3 and S-13: net positions, prices and
+//! pairs. Of some it is known from their making whether all can be carried.
 
 use crate::make::pairs;
 use crate::rng::Rng;
@@ -9,6 +9,8 @@ pub const MOST_PAIRS: usize = 64;
 pub const MOST_EXPORT: i64 = 51_200_000;
 /// Numbers of scratch that are enough.
 pub const SCRATCH: usize = 324;
+/// The same on the smaller board.
+pub const SMALL_SCRATCH: usize = 96;
 pub const LOWEST: i64 = -50_000 * 100_000;
 pub const HIGHEST: i64 = 400_000 * 100_000;
 

@@ -1,5 +1,6 @@
 //! The entries of S-3 of both, over exchanges and over hours: yes and no, each
-//! cause alone and beside others, every limit, and all small exchanges.
+//! cause alone and beside others, every limit, and all small exchanges. Each
+//! input goes to S-13's entries too, whose answers must be the wide ones'.
 
 use crate::archive;
 use crate::exchange::*;
@@ -9,7 +10,7 @@ use crate::planted::{Cause, Planted, CAUSES};
 use crate::rng::Rng;
 use crate::run::Run;
 use second_judge::hours::{stored, three_zone_hour, Hour};
-use second_judge::{hour_intuitive_as, intuitive_as, CarriedAnswer, IntuitiveBuild};
+use second_judge::{hour_intuitive_as, intuitive_as, Board, CarriedAnswer, IntuitiveBuild};
 
 /// So many inputs at least, and each number at least so many times.
 const LEAST_INPUTS: u64 = 50_000;
@@ -60,18 +61,36 @@ enum Asked<'a> {
 }
 
 impl Asked<'_> {
-    fn second(self, build: IntuitiveBuild, pairs: &[u8], scratch: &mut [i64]) -> CarriedAnswer {
+    fn second(
+        self,
+        build: IntuitiveBuild,
+        board: Board,
+        pairs: &[u8],
+        scratch: &mut [i64],
+    ) -> CarriedAnswer {
         match self {
-            Asked::Positions(net, prices) => intuitive_as(build, net, prices, pairs, scratch),
-            Asked::Hour(case, proposal) => hour_intuitive_as(build, case, proposal, pairs, scratch),
+            Asked::Positions(net, prices) => {
+                intuitive_as(build, board, net, prices, pairs, scratch)
+            }
+            Asked::Hour(case, proposal) => {
+                hour_intuitive_as(build, board, case, proposal, pairs, scratch)
+            }
         }
     }
 
-    fn archive(self, pairs: &[u8], scratch: &mut [i64], null: bool) -> CarriedAnswer {
-        match self {
-            Asked::Positions(net, prices) => archive::intuitive(net, prices, pairs, scratch, null),
-            Asked::Hour(case, proposal) => {
+    fn archive(self, board: Board, pairs: &[u8], scratch: &mut [i64], null: bool) -> CarriedAnswer {
+        match (self, board) {
+            (Asked::Positions(net, prices), Board::Wide) => {
+                archive::intuitive(net, prices, pairs, scratch, null)
+            }
+            (Asked::Positions(net, prices), Board::Small) => {
+                archive::intuitive_small(net, prices, pairs, scratch, null)
+            }
+            (Asked::Hour(case, proposal), Board::Wide) => {
                 archive::hour_intuitive(case, proposal, pairs, scratch, null)
+            }
+            (Asked::Hour(case, proposal), Board::Small) => {
+                archive::hour_intuitive_small(case, proposal, pairs, scratch, null)
             }
         }
     }
@@ -103,15 +122,47 @@ impl Asked<'_> {
     }
 }
 
-/// Counts over all inputs.
-struct Exchanges<'a> {
-    run: &'a mut Run,
+/// What one board met.
+struct Tally {
     inputs: u64,
     hours: u64,
     numbers: [u64; 86],
     hour_numbers: [u64; 86],
+    second_wrong: Vec<u64>,
+}
+
+impl Tally {
+    fn new(wrong: &[(IntuitiveBuild, &str)]) -> Tally {
+        Tally {
+            inputs: 0,
+            hours: 0,
+            numbers: [0; 86],
+            hour_numbers: [0; 86],
+            second_wrong: vec![0; wrong.len()],
+        }
+    }
+
+    fn count(&mut self, asked: Asked, answer: CarriedAnswer, wrong: &[bool]) {
+        let (inputs, numbers) = match asked {
+            Asked::Positions(..) => (&mut self.inputs, &mut self.numbers),
+            Asked::Hour(..) => (&mut self.hours, &mut self.hour_numbers),
+        };
+        *inputs += 1;
+        numbers[answer.number as usize] += 1;
+        for (times, found) in self.second_wrong.iter_mut().zip(wrong) {
+            *times += u64::from(*found);
+        }
+    }
+}
+
+/// Counts over all inputs.
+struct Exchanges<'a> {
+    run: &'a mut Run,
+    inputs: u64,
+    wide: Tally,
+    small: Tally,
+    both_took: u64,
     met: [u64; MET.len()],
-    second_wrong: [u64; IntuitiveBuild::WRONG.len()],
 }
 
 impl Exchanges<'_> {
@@ -121,60 +172,91 @@ impl Exchanges<'_> {
     }
 
     fn feed_as(&mut self, asked: Asked, pairs: &[u8], room: usize, null: bool) -> CarriedAnswer {
+        self.inputs += 1;
+        let (wide, wrong) = self.compare(asked, Board::Wide, pairs, room, null);
+        self.meet(asked, pairs, wide, &wrong);
+
+        // The smaller board has by turns the same scratch and one that is as much
+        // too long or too short for it.
+        let small_room = match room.checked_sub(SCRATCH) {
+            _ if self.inputs % 3 == 0 => room,
+            Some(past) => SMALL_SCRATCH + past,
+            None => room * SMALL_SCRATCH / SCRATCH,
+        };
+        let (small, _) = self.compare(asked, Board::Small, pairs, small_room, null);
+        let enough = (small_room >= SMALL_SCRATCH, room >= SCRATCH);
+        let due = match wide.number {
+            // Asked last, so that there is no other cause.
+            0 | 85 if !enough.0 => small.number == 85,
+            0 => small == wide,
+            85 => small.number == 0,
+            _ => small == wide,
+        };
+        if !due {
+            self.fault(asked, pairs, room, || {
+                format!("wide board {wide:?}, smaller {small:?} with scratch {small_room}")
+            });
+        }
+        self.both_took += u64::from(enough == (true, true) && wide.number == 0);
+        wide
+    }
+
+    /// One board's entry against the second judge's: the right answer, and which
+    /// of the wrong builds were told from it.
+    fn compare(
+        &mut self,
+        asked: Asked,
+        board: Board,
+        pairs: &[u8],
+        room: usize,
+        null: bool,
+    ) -> (CarriedAnswer, Vec<bool>) {
         self.run.count();
-        let of_an_hour = matches!(asked, Asked::Hour(..));
-        *(if of_an_hour {
-            &mut self.hours
-        } else {
-            &mut self.inputs
-        }) += 1;
         let copies = (asked.copied(), pairs.to_vec());
         // A pattern of its own for each input and no zero in it, so that no
         // number is right by luck.
-        let salt = (self.inputs + self.hours) as i64;
+        let salt = self.inputs as i64;
         let filled: Vec<i64> = (0..GUARD + room + GUARD)
             .map(|n| (n as i64 * 0x1_0001_0003 + salt * 0x51_7CC1) | 1)
             .collect();
         let lent = GUARD..GUARD + room;
         let mut their_space = filled.clone();
-        let theirs = asked.archive(pairs, &mut their_space[lent.clone()], null);
+        let theirs = asked.archive(board, pairs, &mut their_space[lent.clone()], null);
         let mut space = filled.clone();
         let right = IntuitiveBuild::Right;
-        let ours = asked.second(right, pairs, &mut space[lent.clone()]);
+        let ours = asked.second(right, board, pairs, &mut space[lent.clone()]);
 
         if theirs != ours {
             self.fault(asked, pairs, room, || {
-                format!("archive {theirs:?}, second judge {ours:?}")
+                format!("{board:?}: archive {theirs:?}, second judge {ours:?}")
             });
         } else if let Some(at) = (0..space.len()).find(|&n| their_space[n] != space[n]) {
             let (one, other) = (their_space[at], space[at]);
             let at = at as i64 - GUARD as i64;
             self.fault(asked, pairs, room, || {
-                format!("number {at} of the scratch: archive {one}, second judge {other}")
+                format!(
+                    "{board:?}: number {at} of the scratch: archive {one}, second judge {other}"
+                )
             });
         }
         if copies != (asked.copied(), pairs.to_vec()) {
             self.fault(asked, pairs, room, || "an argument was written".into());
         }
 
-        let numbers = match of_an_hour {
-            true => &mut self.hour_numbers,
-            false => &mut self.numbers,
+        let (builds, tally) = match board {
+            Board::Wide => (&IntuitiveBuild::WRONG[..], &mut self.wide),
+            Board::Small => (&IntuitiveBuild::SMALL_WRONG[..], &mut self.small),
         };
-        numbers[ours.number as usize] += 1;
-        let wrong: Vec<bool> = IntuitiveBuild::WRONG
+        let wrong: Vec<bool> = builds
             .iter()
             .map(|(build, _)| {
                 let mut wrong_space = filled.clone();
-                let wrong = asked.second(*build, pairs, &mut wrong_space[lent.clone()]);
+                let wrong = asked.second(*build, board, pairs, &mut wrong_space[lent.clone()]);
                 wrong != theirs || wrong_space != their_space
             })
             .collect();
-        for (times, found) in self.second_wrong.iter_mut().zip(&wrong) {
-            *times += u64::from(*found);
-        }
-        self.meet(asked, pairs, ours, &wrong);
-        ours
+        tally.count(asked, ours, &wrong);
+        (ours, wrong)
     }
 
     fn fault(&mut self, asked: Asked, pairs: &[u8], room: usize, text: impl Fn() -> String) {
@@ -276,11 +358,10 @@ pub fn exchanges(run: &mut Run, rng: &mut Rng) {
     let mut all = Exchanges {
         run,
         inputs: 0,
-        hours: 0,
-        numbers: [0; 86],
-        hour_numbers: [0; 86],
+        wide: Tally::new(&IntuitiveBuild::WRONG),
+        small: Tally::new(&IntuitiveBuild::SMALL_WRONG),
+        both_took: 0,
         met: Default::default(),
-        second_wrong: Default::default(),
     };
     answered(&mut all, rng);
     small_ones(&mut all);
@@ -290,37 +371,64 @@ pub fn exchanges(run: &mut Run, rng: &mut Rng) {
 
     let Exchanges {
         run,
-        inputs,
-        hours,
-        numbers,
-        hour_numbers,
+        wide,
+        small,
+        both_took,
         met,
-        second_wrong,
+        ..
     } = all;
-    run.section("intuitive hours, numbers of lta_intuitive, times met");
+    let sections = [
+        "intuitive hours, numbers of lta_intuitive, times met",
+        "intuitive hours, numbers of lta_hour_intuitive, times met",
+        "intuitive hours, the second judge's wrong builds, times told from the archive",
+    ];
+    told(run, sections, &wide, &IntuitiveBuild::WRONG);
+    run.section("intuitive hours, met, times");
+    for (name, times) in MET.iter().zip(met) {
+        run.check(name.to_string(), times > 0, format!("{times}"));
+    }
+    let sections = [
+        "the smaller board, numbers of lta_intuitive_small, times met",
+        "the smaller board, numbers of lta_hour_intuitive_small, times met",
+        "the smaller board, the second judge's wrong builds, times told from the archive",
+    ];
+    told(run, sections, &small, &IntuitiveBuild::SMALL_WRONG);
+    run.section("the smaller board, and the wide one on the same input");
+    run.check(
+        "both took it, and said the same".into(),
+        both_took >= LEAST_INPUTS,
+        format!("{both_took}"),
+    );
+}
+
+/// What one board's entries met: inputs, each number, and the wrong builds.
+fn told(
+    run: &mut Run,
+    sections: [&'static str; 3],
+    tally: &Tally,
+    builds: &[(IntuitiveBuild, &str)],
+) {
+    let Tally { inputs, hours, .. } = *tally;
+    run.section(sections[0]);
     run.check("inputs".into(), inputs >= LEAST_INPUTS, format!("{inputs}"));
     run.check("hours".into(), hours >= LEAST_HOURS, format!("{hours}"));
     for number in NUMBERS {
-        let times = numbers[number as usize];
+        let times = tally.numbers[number as usize];
         run.check(
             format!("{number}"),
             times >= LEAST_TIMES,
             format!("{times}"),
         );
     }
-    run.section("intuitive hours, numbers of lta_hour_intuitive, times met");
+    run.section(sections[1]);
     for number in HOUR_NUMBERS {
-        let times = hour_numbers[number];
+        let times = tally.hour_numbers[number];
         run.check(format!("{number}"), times > 0, format!("{times}"));
     }
-    run.section("intuitive hours, met, times");
-    for (name, times) in MET.iter().zip(met) {
-        run.check(name.to_string(), times > 0, format!("{times}"));
-    }
-    run.section("intuitive hours, the second judge's wrong builds, times told from the archive");
-    for ((_, name), times) in IntuitiveBuild::WRONG.iter().zip(second_wrong) {
+    run.section(sections[2]);
+    for ((_, name), times) in builds.iter().zip(&tally.second_wrong) {
         let of = inputs + hours;
-        run.check(name.to_string(), times > 0, format!("{times} of {of}"));
+        run.check(name.to_string(), *times > 0, format!("{times} of {of}"));
     }
 }
 
@@ -555,7 +663,10 @@ fn at_the_limits(all: &mut Exchanges, rng: &mut Rng) {
     all.run.end();
 
     all.run.begin("lengths of the scratch");
-    for room in (0..=660).filter(|n| *n < 4 || (318..=332).contains(n) || n % 50 == 0) {
+    for room in (0..=660)
+        .filter(|n| *n < 4 || (90..=102).contains(n) || (318..=332).contains(n) || n % 50 == 0)
+    {
+        // By threes, so that each length goes to both boards as it is.
         for zones in [1, 5, MOST_ZONES] {
             let mut made = Planted::good(rng, zones);
             made.room = room;

@@ -36,6 +36,8 @@ mod rng;
 mod run;
 #[cfg(feature = "sheet")]
 mod sheet;
+#[cfg(feature = "shortfalls")]
+mod shortfalls;
 mod versions;
 mod wide;
 
@@ -106,6 +108,8 @@ fn main() -> ExitCode {
     columns::files(&mut run, &mut Rng::new(seed));
     #[cfg(feature = "families")]
     parents::lists(&mut run, &mut Rng::new(seed));
+    #[cfg(feature = "shortfalls")]
+    shortfalls::hours(&mut run, &mut Rng::new(seed));
     #[cfg(feature = "queue")]
     queue::queues(&mut run, &mut Rng::new(seed));
 
@@ -140,6 +144,7 @@ fn main() -> ExitCode {
         ("dump", cfg!(feature = "dump")),
         ("columns", cfg!(feature = "columns")),
         ("families", cfg!(feature = "families")),
+        ("shortfalls", cfg!(feature = "shortfalls")),
         ("queue", cfg!(feature = "queue")),
     ] {
         if !built {

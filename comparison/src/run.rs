@@ -167,7 +167,8 @@ impl Run {
         feature = "families",
         feature = "intuitive",
         feature = "queue",
-        feature = "sheet"
+        feature = "sheet",
+        feature = "shortfalls"
     ))]
     pub fn count(&mut self) {
         self.family_inputs += 1;

@@ -1,5 +1,6 @@
 //! Request S-3, intuitive hours: whether an hour's exchanges can all go from a
-//! lower or equal price to a higher one, by annex 5.1 of document 001.
+//! lower or equal price to a higher one, by annex 5.1 of document 001; and S-13,
+//! the same with a smaller scratch.
 //!
 //! Each answer is found in two ways that share nothing. Exports are pushed from
 //! zone to zone until nothing more gets through, which gives flows; and every
@@ -20,6 +21,25 @@ pub struct CarriedAnswer {
     pub intuitive: u32,
     /// Tenths.
     pub total: i64,
+}
+
+/// The board that an answer takes, by the numbers of scratch that it asks for
+/// and leaves as zeros.
+#[derive(Clone, Copy, Debug, PartialEq, Eq)]
+pub enum Board {
+    /// S-3.
+    Wide,
+    /// S-13.
+    Small,
+}
+
+impl Board {
+    pub fn numbers(self) -> usize {
+        match self {
+            Board::Wide => SCRATCH,
+            Board::Small => SMALL_SCRATCH,
+        }
+    }
 }
 
 /// The right answer and the wrong ones that a comparison must tell from it.
@@ -45,6 +65,11 @@ pub enum IntuitiveBuild {
     PairTooMany,
     LoneByteDropped,
     GapAnswered,
+    // The smaller board.
+    NumberTooFew,
+    WideZeros,
+    WideRoom,
+    ImportUsedKept,
 }
 
 impl IntuitiveBuild {
@@ -75,23 +100,61 @@ impl IntuitiveBuild {
         (IntuitiveBuild::LoneByteDropped, "lone last byte dropped"),
         (IntuitiveBuild::GapAnswered, "26 answered as accepted"),
     ];
+
+    /// Those of the smaller board.
+    pub const SMALL_WRONG: [(IntuitiveBuild, &'static str); 6] = [
+        (IntuitiveBuild::NumberTooFew, "95 numbers let through"),
+        (IntuitiveBuild::WideZeros, "the wide board's zeros written"),
+        (IntuitiveBuild::WideRoom, "85 under 324 numbers"),
+        (IntuitiveBuild::ImportUsedKept, "import used not given back"),
+        (IntuitiveBuild::ScratchNotCleared, "scratch not cleared"),
+        (
+            IntuitiveBuild::ScratchClearedPast,
+            "scratch cleared past 96",
+        ),
+    ];
 }
 
 /// Whether these net positions, export positive and in tenths, can be carried
 /// along counted pairs at these zone prices, and how much of them at most.
 pub fn intuitive(net: &[i64], prices: &[i64], pairs: &[u8], scratch: &mut [i64]) -> CarriedAnswer {
-    intuitive_as(IntuitiveBuild::Right, net, prices, pairs, scratch)
+    intuitive_as(
+        IntuitiveBuild::Right,
+        Board::Wide,
+        net,
+        prices,
+        pairs,
+        scratch,
+    )
 }
 
-/// The same as one of the builds answers.
-pub fn intuitive_as(
-    build: IntuitiveBuild,
+/// The same on the smaller board.
+pub fn intuitive_small(
     net: &[i64],
     prices: &[i64],
     pairs: &[u8],
     scratch: &mut [i64],
 ) -> CarriedAnswer {
-    match carried(build, net, prices, pairs, scratch) {
+    intuitive_as(
+        IntuitiveBuild::Right,
+        Board::Small,
+        net,
+        prices,
+        pairs,
+        scratch,
+    )
+}
+
+/// The same as one of the builds answers.
+pub fn intuitive_as(
+    build: IntuitiveBuild,
+    board: Board,
+    net: &[i64],
+    prices: &[i64],
+    pairs: &[u8],
+    scratch: &mut [i64],
+) -> CarriedAnswer {
+    match carried(build, board, net, prices, pairs, scratch) {
         Ok((intuitive, total)) => CarriedAnswer {
             number: 0,
             index: 0,
@@ -109,12 +172,37 @@ pub fn hour_intuitive(
     pairs: &[u8],
     scratch: &mut [i64],
 ) -> CarriedAnswer {
-    hour_intuitive_as(IntuitiveBuild::Right, case, proposal, pairs, scratch)
+    hour_intuitive_as(
+        IntuitiveBuild::Right,
+        Board::Wide,
+        case,
+        proposal,
+        pairs,
+        scratch,
+    )
+}
+
+/// The same on the smaller board.
+pub fn hour_intuitive_small(
+    case: &[u8],
+    proposal: &[u8],
+    pairs: &[u8],
+    scratch: &mut [i64],
+) -> CarriedAnswer {
+    hour_intuitive_as(
+        IntuitiveBuild::Right,
+        Board::Small,
+        case,
+        proposal,
+        pairs,
+        scratch,
+    )
 }
 
 /// The same as one of the builds answers.
 pub fn hour_intuitive_as(
     build: IntuitiveBuild,
+    board: Board,
     case: &[u8],
     proposal: &[u8],
     pairs: &[u8],
@@ -133,7 +221,7 @@ pub fn hour_intuitive_as(
         .map(|field| i64::from_le_bytes(field.try_into().expect("eight bytes")))
         .collect();
     let exports = net_exports(build, case, proposal, prices.len());
-    intuitive_as(build, &exports, &prices, pairs, scratch)
+    intuitive_as(build, board, &exports, &prices, pairs, scratch)
 }
 
 fn refusal(number: u32, index: u32) -> CarriedAnswer {
@@ -168,6 +256,7 @@ fn net_exports(build: IntuitiveBuild, case: &[u8], proposal: &[u8], zones: usize
 /// Yes or no and the total, or number and index of the refusal.
 fn carried(
     build: IntuitiveBuild,
+    board: Board,
     net: &[i64],
     prices: &[i64],
     pairs: &[u8],
@@ -203,7 +292,12 @@ fn carried(
         return Err((83, z));
     }
     let pairs = listed(build, pairs, zones)?;
-    if scratch.len() < SCRATCH {
+    let least = match build {
+        IntuitiveBuild::NumberTooFew => board.numbers() - 1,
+        IntuitiveBuild::WideRoom => SCRATCH,
+        _ => board.numbers(),
+    };
+    if scratch.len() < least {
         return Err((85, 0));
     }
 
@@ -223,10 +317,12 @@ fn carried(
             graph.leads[to] |= 1 << from;
         }
     }
+    let mut taken = vec![0; zones];
     let total = match build {
         IntuitiveBuild::NoWayBack => graph.carried_forward_only(),
         _ => {
             let flows = graph.pushed();
+            taken = graph.taken_by(&flows);
             let total = graph.carried_by(&flows).expect("flows along counted pairs");
             if build == IntuitiveBuild::Right {
                 let (excess, _) = graph.greatest_excess();
@@ -237,10 +333,15 @@ fn carried(
     };
     let cleared = match build {
         IntuitiveBuild::ScratchNotCleared => 0,
-        IntuitiveBuild::ScratchClearedPast => scratch.len().min(SCRATCH + 1),
-        _ => SCRATCH,
+        IntuitiveBuild::ScratchClearedPast => board.numbers() + 1,
+        IntuitiveBuild::WideZeros => SCRATCH,
+        _ => board.numbers(),
     };
+    let cleared = cleared.min(scratch.len());
     scratch[..cleared].fill(0);
+    if build == IntuitiveBuild::ImportUsedKept {
+        scratch[MOST_PAIRS + MOST_ZONES..][..zones].copy_from_slice(&taken);
+    }
     let yes = total == graph.exports();
     let told = match build {
         IntuitiveBuild::ImportsForANo => graph.exports(),
@@ -376,6 +477,17 @@ impl Graph {
         Some(total)
     }
 
+    /// What flows bring to each zone that imports.
+    fn taken_by(&self, flows: &Flows) -> Vec<i64> {
+        let brought = |z: usize| -> i128 {
+            let into: i128 = flows.iter().map(|row| row[z]).sum();
+            into - flows[z].iter().sum::<i128>()
+        };
+        (0..self.zones())
+            .map(|z| i64::try_from(brought(z).max(0)).expect("within the imports"))
+            .collect()
+    }
+
     /// By how much the exports of a set that no counted pair leaves can exceed
     /// its imports, and such a set. The empty set gives zero.
     fn greatest_excess(&self) -> (i128, u32) {
@@ -459,14 +571,19 @@ mod tests {
         }
     }
 
-    /// The answer of a build, whose scratch must be as it should.
+    /// The answer of a build, whose scratch must be as it should, on both boards.
     fn asked_as(build: IntuitiveBuild, net: &[i64], prices: &[i64], pairs: &[u8]) -> CarriedAnswer {
-        let mut scratch = vec![FILL; SCRATCH + 3];
-        let answer = intuitive_as(build, net, prices, pairs, &mut scratch);
-        let (board, past) = scratch.split_at(SCRATCH);
-        let due = if answer.number == 0 { 0 } else { FILL };
-        assert!(board.iter().all(|number| *number == due), "{answer:?}");
-        assert_eq!(past, [FILL; 3]);
+        let on = |board: Board| {
+            let mut scratch = vec![FILL; board.numbers() + 3];
+            let answer = intuitive_as(build, board, net, prices, pairs, &mut scratch);
+            let (lent, past) = scratch.split_at(board.numbers());
+            let due = if answer.number == 0 { 0 } else { FILL };
+            assert!(lent.iter().all(|number| *number == due), "{answer:?}");
+            assert_eq!(past, [FILL; 3]);
+            answer
+        };
+        let answer = on(Board::Wide);
+        assert_eq!(on(Board::Small), answer);
         answer
     }
 
@@ -626,6 +743,56 @@ mod tests {
     }
 
     #[test]
+    fn small_scratch() {
+        for room in [0, 1, 80, 95] {
+            let mut scratch = vec![FILL; room];
+            let short = intuitive_small(&[0], &[0], &[], &mut scratch);
+            assert_eq!(short, answer(85, 0, 0, 0));
+            assert!(scratch.iter().all(|number| *number == FILL));
+            let pair = intuitive_small(&[0], &[0], &[0, 0], &mut scratch);
+            assert_eq!(pair, answer(84, 0, 0, 0));
+        }
+        for room in [96, 97, 323, 324] {
+            let mut scratch = vec![FILL; room];
+            let yes = intuitive_small(&[9, -9], &[0, 0], &[0, 1], &mut scratch);
+            assert_eq!(yes, answer(0, 0, 1, 9));
+            assert_eq!(scratch[..96], [0; 96]);
+            assert!(scratch[96..].iter().all(|number| *number == FILL));
+        }
+        let p1 = three_zone_hour();
+        for (room, due) in [(95, answer(85, 0, 0, 0)), (96, answer(0, 0, 0, 1_000))] {
+            let mut scratch = vec![FILL; room];
+            let given = hour_intuitive_small(&p1.case(), &p1.proposal(), &[0, 1], &mut scratch);
+            assert_eq!(given, due);
+        }
+    }
+
+    #[test]
+    fn wrong_builds_of_the_smaller_board_do_what_is_said_of_them() {
+        use IntuitiveBuild::*;
+        let wrong = |build, room| {
+            let mut scratch = vec![FILL; room];
+            let small = Board::Small;
+            let answer = intuitive_as(build, small, &[9, -9], &[1, 2], &[0, 1], &mut scratch);
+            (answer.number, scratch)
+        };
+        let zeros = |build, room| wrong(build, room).1.iter().filter(|n| **n == 0).count();
+        assert_eq!(wrong(Right, 95).0, 85);
+        assert_eq!(wrong(NumberTooFew, 95).0, 0);
+        assert_eq!(wrong(NumberTooFew, 94).0, 85);
+        assert_eq!(zeros(Right, 400), 96);
+        assert_eq!(zeros(WideZeros, 400), 324);
+        assert_eq!(zeros(WideZeros, 97), 97);
+        assert_eq!(wrong(WideRoom, 323).0, 85);
+        assert_eq!(wrong(WideRoom, 324), wrong(Right, 324));
+        // Zone 1 imports 9.
+        assert_eq!(zeros(ImportUsedKept, 400), 95);
+        assert_eq!(wrong(ImportUsedKept, 400).1[81], 9);
+        assert_eq!(zeros(ScratchNotCleared, 400), 0);
+        assert_eq!(zeros(ScratchClearedPast, 400), 97);
+    }
+
+    #[test]
     fn hours() {
         let asked = |hour: &Hour, pairs: &[u8], room| {
             let mut scratch = vec![FILL; room];
@@ -658,7 +825,7 @@ mod tests {
         use IntuitiveBuild::*;
         let wrong = |build, net: &[i64], prices: &[i64], pairs: &[u8]| {
             let mut scratch = vec![FILL; SCRATCH + 1];
-            let answer = intuitive_as(build, net, prices, pairs, &mut scratch);
+            let answer = intuitive_as(build, Board::Wide, net, prices, pairs, &mut scratch);
             let cleared = scratch.iter().filter(|number| **number == 0).count();
             (
                 answer.number,
@@ -707,7 +874,8 @@ mod tests {
         let p1 = three_zone_hour();
         let hour = |build, hour: &Hour, pairs: &[u8]| {
             let mut scratch = [FILL; SCRATCH];
-            hour_intuitive_as(build, &hour.case(), &hour.proposal(), pairs, &mut scratch)
+            let (case, proposal) = (hour.case(), hour.proposal());
+            hour_intuitive_as(build, Board::Wide, &case, &proposal, pairs, &mut scratch)
         };
         assert_eq!(hour(NotTurned, &p1, &[0, 1, 0, 2]), answer(0, 0, 0, 0));
         let mut over = p1.clone();

@@ -19,6 +19,7 @@ mod misnamed;
 mod queue;
 mod read;
 mod sheet;
+mod shortfalls;
 
 pub use book::{book_surplus, BookAnswer, Row};
 pub use columns::{case_columned, case_columned_as, case_restored, case_restored_as, ColumnBuild};
@@ -26,7 +27,8 @@ pub use desk::{desk_lines, desk_output};
 pub use dump::{dump_proposal, dump_proposal_as, DumpBuild};
 pub use families::{list_of, FamilyBuild, LIST_HEADER, NO_PARENT};
 pub use intuitive::{
-    hour_intuitive, hour_intuitive_as, intuitive, intuitive_as, CarriedAnswer, IntuitiveBuild,
+    hour_intuitive, hour_intuitive_as, hour_intuitive_small, intuitive, intuitive_as,
+    intuitive_small, Board, CarriedAnswer, IntuitiveBuild,
 };
 pub use judge::{judge, judge_as, judge_families, judge_families_as, Build};
 pub use queue::{
@@ -34,6 +36,7 @@ pub use queue::{
     QUEUE_BYTES,
 };
 pub use sheet::{sheet_branches, sheet_branches_as, SheetBuild};
+pub use shortfalls::{hour_shortfalls, shortfalls, shortfalls_as, ShortfallBuild, Shortfalls};
 
 /// Number and index as the paper's table returns them.
 #[derive(Clone, Copy, Debug, PartialEq, Eq)]
@@ -52,7 +55,8 @@ impl Verdict {
     }
 }
 
-/// What an entry answers that writes into an output; a refusal has length 0.
+/// What an entry answers that writes into an output; a refusal has length 0. It is in
+/// bytes, and of the shortfalls in numbers.
 #[derive(Clone, Copy, Debug, PartialEq, Eq)]
 pub struct OutputAnswer {
     pub number: u32,

@@ -44,6 +44,9 @@ pub const LEAST_OUTPUT: usize = 1_024;
 /// S-3: pairs that are taken, and numbers of scratch, under which it is 85.
 pub const MOST_PAIRS: usize = 64;
 pub const SCRATCH: usize = 324;
+/// S-13: one number per pair, one per zone for export used, one per zone for
+/// import used.
+pub const SMALL_SCRATCH: usize = MOST_PAIRS + MOST_ZONES + MOST_ZONES;
 
 /// The report: offsets in its header, the header's bytes, how many totals
 /// follow it before the zone prices, and the bytes of each total or price.

@@ -51,7 +51,7 @@ static void number_texts(void)
     const char *none = lta_number_text(UINT32_MAX);
     for (uint32_t n = 0; n < 300; n++) {
         const char *words = lta_number_text(n);
-        bool due = n <= 18 || (n >= 21 && n <= 28) || n == 30 || n == 31 || (n >= 50 && n <= 64) || n == 71 || n == 72 || (n >= 81 && n <= 85);
+        bool due = n <= 18 || (n >= 21 && n <= 28) || n == 30 || n == 31 || (n >= 50 && n <= 64) || n == 71 || n == 72 || (n >= 81 && n <= 86);
         bool ok = due == (strcmp(words, none) != 0);
         about("number %" PRIu32 " has the words '%s'", n, words);
         for (uint32_t m = 0; due && m < n; m++)

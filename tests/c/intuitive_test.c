@@ -1,6 +1,7 @@
-/* lta_intuitive and lta_hour_intuitive through the archive: annex 5.1's two price sets, which pairs count, exports that make way for each
- * other, each limit and one past it, each cause and their order, hours accepted and refused, null pointers. Calls are made with every
- * argument at both places between unreadable pages, all but the scratch unwritable, and every number of the scratch is compared. */
+/* lta_intuitive and lta_hour_intuitive through the archive, and the same on the smaller board: annex 5.1's two price sets, which pairs
+ * count, exports that make way for each other, each limit and one past it, each cause and their order, hours accepted and refused, null
+ * pointers. Calls are made with every argument at both places between unreadable pages, all but the scratch unwritable, and every number
+ * of the scratch is compared. */
 #include "harness.h"
 #include "hours.h"
 #include "lta_judgement.h"
@@ -12,10 +13,23 @@
 
 #define ZONES_MOST 16
 #define EXPORT_MOST 51200000
-#define SCRATCH LTA_INTUITIVE_SCRATCH
-/* Numbers past the first 324. */
-#define ROOM (SCRATCH + 40)
 #define PAIR_BYTES_MOST 600
+/* Numbers past those that an answer clears. */
+#define PAST 40
+#define ROOM (board->scratch + PAST)
+
+/* The wide board and the smaller: how much scratch they take, and their entries. */
+struct board {
+    const char *name;
+    size_t scratch;
+    struct lta_carried (*intuitive)(const int64_t *, size_t, const int64_t *, size_t, const uint8_t *, size_t, int64_t *, size_t);
+    struct lta_carried (*hour)(const uint8_t *, size_t, const uint8_t *, size_t, const uint8_t *, size_t, int64_t *, size_t);
+};
+static const struct board boards[] = {
+    {"the wide board", LTA_INTUITIVE_SCRATCH, lta_intuitive, lta_hour_intuitive},
+    {"the smaller board", LTA_INTUITIVE_SMALL_SCRATCH, lta_intuitive_small, lta_hour_intuitive_small},
+};
+static const struct board *board = boards;
 
 /* What is asked, with room for some zones and many pairs too many. */
 struct exchange {
@@ -25,7 +39,7 @@ struct exchange {
 };
 
 static struct arena net_arena, price_arena, pair_arena, scratch_arena, case_arena, proposal_arena;
-static const uint8_t zeros[8 * SCRATCH];
+static const uint8_t zeros[8 * LTA_INTUITIVE_SCRATCH];
 
 static bool is(struct lta_carried a, uint32_t number, uint32_t index, uint32_t intuitive, int64_t total)
 {
@@ -39,7 +53,7 @@ static bool is(struct lta_carried a, uint32_t number, uint32_t index, uint32_t i
 /* The scratch afterwards: zeros in an answer, and else all as it was. */
 static bool scratch_is(enum place place, size_t room, uint32_t number)
 {
-    return holds(scratch_arena, place, 8 * room, zeros, number == 0 ? sizeof zeros : 0);
+    return holds(scratch_arena, place, 8 * room, zeros, number == 0 ? 8 * board->scratch : 0);
 }
 
 /* The answer, and the scratch, with all arguments at each of their places. */
@@ -52,7 +66,7 @@ static void asked(const struct exchange *e, size_t room, uint32_t number, uint32
         const int64_t *price = lend(price_arena, k / 2 % 2, e->price, 8 * e->prices);
         const uint8_t *pair = lend(pair_arena, k / 4 % 2, e->pair, e->bytes);
         int64_t *scratch = (int64_t *)(void *)lend_room(scratch_arena, place, 8 * room);
-        struct lta_carried a = lta_intuitive(net, e->zones, price, e->prices, pair, e->bytes, scratch, room);
+        struct lta_carried a = board->intuitive(net, e->zones, price, e->prices, pair, e->bytes, scratch, room);
         ok = is(a, number, index, intuitive, total);
         ok = scratch_is(place, room, number) && ok;
     }
@@ -96,7 +110,7 @@ static void layout(void)
           && offsetof(struct lta_carried, intuitive) == 8 && offsetof(struct lta_carried, total) == 16);
     about("the numbers, the pairs and the scratch that the header names");
     check(LTA_INTUITIVE_ZONES == 81 && LTA_INTUITIVE_POSITION == 82 && LTA_INTUITIVE_PRICE == 83 && LTA_INTUITIVE_PAIR == 84
-          && LTA_INTUITIVE_NO_ROOM == 85 && LTA_INTUITIVE_PAIRS == 64 && LTA_INTUITIVE_SCRATCH == 324);
+          && LTA_INTUITIVE_NO_ROOM == 85 && LTA_INTUITIVE_PAIRS == 64 && LTA_INTUITIVE_SCRATCH == 324 && LTA_INTUITIVE_SMALL_SCRATCH == 96);
 }
 
 /* Zones A to E of annex 5.1: of 1,400 MW 800 can be carried, and all of them once the prices of A and B are exchanged. */
@@ -337,11 +351,11 @@ static void pairs(void)
 
 static void scratches(void)
 {
-    static const size_t rooms[] = {0, 1, 2, 256, 323, 324, 325, ROOM};
+    static const size_t rooms[] = {0, 1, 2, 80, 95, 96, 97, 256, 323, 324, 325, 364};
     struct exchange e = one_tenth(0, 0, 0, 1);
     for (size_t k = 0; k < sizeof rooms / sizeof *rooms; k++) {
         about("a scratch of %zu numbers", rooms[k]);
-        if (rooms[k] < SCRATCH)
+        if (rooms[k] < board->scratch)
             asked(&e, rooms[k], LTA_INTUITIVE_NO_ROOM, 0, 0, 0);
         else
             asked(&e, rooms[k], 0, 0, 1, 1);
@@ -386,7 +400,7 @@ static void asked_hour(const struct file *c, const struct file *p, size_t bytes,
         const uint8_t *proposal = lend(proposal_arena, k / 2 % 2, p->bytes, p->length);
         const uint8_t *pairs_lent = lend(pair_arena, k / 4 % 2, pair, bytes);
         int64_t *scratch = (int64_t *)(void *)lend_room(scratch_arena, place, 8 * room);
-        struct lta_carried a = lta_hour_intuitive(case_bytes, c->length, proposal, p->length, pairs_lent, bytes, scratch, room);
+        struct lta_carried a = board->hour(case_bytes, c->length, proposal, p->length, pairs_lent, bytes, scratch, room);
         ok = is(a, due.number, due.index, due.intuitive, due.total);
         ok = scratch_is(place, room, due.number) && ok;
     }
@@ -437,10 +451,14 @@ static void hours(void)
     hour_is(&h, 0, NULL, ROOM, none);
     about("P1 with a pair of an unknown zone");
     hour_is(&h, 4, (uint8_t[]){0, 1, 0, 3}, ROOM, (struct lta_carried){LTA_INTUITIVE_PAIR, 1, 0, 0});
-    about("P1 with a scratch of 323 numbers");
-    hour_is(&h, 2, (uint8_t[]){0, 1}, 323, (struct lta_carried){LTA_INTUITIVE_NO_ROOM, 0, 0, 0});
-    about("P1 with a scratch of 324 numbers");
-    hour_is(&h, 2, (uint8_t[]){0, 1}, 324, part);
+    static const size_t rooms[] = {95, 96, 97, 323, 324};
+    for (size_t k = 0; k < sizeof rooms / sizeof *rooms; k++) {
+        about("P1 with a scratch of %zu numbers", rooms[k]);
+        if (rooms[k] < board->scratch)
+            hour_is(&h, 2, (uint8_t[]){0, 1}, rooms[k], (struct lta_carried){LTA_INTUITIVE_NO_ROOM, 0, 0, 0});
+        else
+            hour_is(&h, 2, (uint8_t[]){0, 1}, rooms[k], part);
+    }
 
     for (uint16_t version = 1; version <= 2; version++) {
         h = sold_across(version);
@@ -512,28 +530,28 @@ static void nulls(void)
         const uint8_t *pair = lend(pair_arena, k, (uint8_t[]){0, 1}, 2);
         int64_t *scratch = (int64_t *)(void *)lend_room(scratch_arena, k, 8 * ROOM);
         about("null for all");
-        check(is(lta_intuitive(NULL, 0, NULL, 0, NULL, 0, NULL, 0), LTA_INTUITIVE_ZONES, 0, 0, 0));
+        check(is(board->intuitive(NULL, 0, NULL, 0, NULL, 0, NULL, 0), LTA_INTUITIVE_ZONES, 0, 0, 0));
         about("null for the net positions");
-        check(is(lta_intuitive(NULL, 0, price, 2, pair, 2, scratch, ROOM), LTA_INTUITIVE_ZONES, 0, 0, 0));
+        check(is(board->intuitive(NULL, 0, price, 2, pair, 2, scratch, ROOM), LTA_INTUITIVE_ZONES, 0, 0, 0));
         about("null for the prices");
-        check(is(lta_intuitive(net, 2, NULL, 0, pair, 2, scratch, ROOM), LTA_INTUITIVE_ZONES, 0, 0, 0));
+        check(is(board->intuitive(net, 2, NULL, 0, pair, 2, scratch, ROOM), LTA_INTUITIVE_ZONES, 0, 0, 0));
         about("null for the scratch");
-        check(is(lta_intuitive(net, 2, price, 2, pair, 2, NULL, 0), LTA_INTUITIVE_NO_ROOM, 0, 0, 0));
+        check(is(board->intuitive(net, 2, price, 2, pair, 2, NULL, 0), LTA_INTUITIVE_NO_ROOM, 0, 0, 0));
         about("no refusal wrote to the scratch");
         check(scratch_is(k, ROOM, LTA_INTUITIVE_ZONES));
         about("null for the pairs");
-        check(is(lta_intuitive(net, 2, price, 2, NULL, 0, scratch, ROOM), 0, 0, 1, 0) && scratch_is(k, ROOM, 0));
+        check(is(board->intuitive(net, 2, price, 2, NULL, 0, scratch, ROOM), 0, 0, 1, 0) && scratch_is(k, ROOM, 0));
 
         const uint8_t *case_bytes = lend(case_arena, k, c.bytes, c.length), *proposal = lend(proposal_arena, k, p.bytes, p.length);
         scratch = (int64_t *)(void *)lend_room(scratch_arena, k, 8 * ROOM);
         about("an hour, null for all");
-        check(is(lta_hour_intuitive(NULL, 0, NULL, 0, NULL, 0, NULL, 0), LTA_CASE_SHORT, 0, 0, 0));
+        check(is(board->hour(NULL, 0, NULL, 0, NULL, 0, NULL, 0), LTA_CASE_SHORT, 0, 0, 0));
         about("an hour, null for the proposal");
-        check(is(lta_hour_intuitive(case_bytes, c.length, NULL, 0, pair, 2, scratch, ROOM), LTA_PROPOSAL_SHORT, 0, 0, 0));
+        check(is(board->hour(case_bytes, c.length, NULL, 0, pair, 2, scratch, ROOM), LTA_PROPOSAL_SHORT, 0, 0, 0));
         about("an hour, null for the scratch");
-        check(is(lta_hour_intuitive(case_bytes, c.length, proposal, p.length, pair, 2, NULL, 0), LTA_INTUITIVE_NO_ROOM, 0, 0, 0));
+        check(is(board->hour(case_bytes, c.length, proposal, p.length, pair, 2, NULL, 0), LTA_INTUITIVE_NO_ROOM, 0, 0, 0));
         about("an hour, null for the pairs");
-        check(is(lta_hour_intuitive(case_bytes, c.length, proposal, p.length, NULL, 0, scratch, ROOM), 0, 0, 0, 0)
+        check(is(board->hour(case_bytes, c.length, proposal, p.length, NULL, 0, scratch, ROOM), 0, 0, 0, 0)
               && scratch_is(k, ROOM, 0));
     }
 }
@@ -541,20 +559,20 @@ static void nulls(void)
 static struct {
     struct exchange exchange;
     struct file hour, proposal;
-    int64_t scratch[SCRATCH];
+    int64_t scratch[LTA_INTUITIVE_SCRATCH];
     struct lta_carried answer;
 } call;
 
 static void call_intuitive(void)
 {
     const struct exchange *e = &call.exchange;
-    call.answer = lta_intuitive(e->net, e->zones, e->price, e->prices, e->pair, e->bytes, call.scratch, SCRATCH);
+    call.answer = board->intuitive(e->net, e->zones, e->price, e->prices, e->pair, e->bytes, call.scratch, board->scratch);
 }
 
 static void call_hour(void)
 {
-    call.answer = lta_hour_intuitive(call.hour.bytes, call.hour.length, call.proposal.bytes, call.proposal.length, call.exchange.pair,
-                                     call.exchange.bytes, call.scratch, SCRATCH);
+    call.answer = board->hour(call.hour.bytes, call.hour.length, call.proposal.bytes, call.proposal.length, call.exchange.pair,
+                              call.exchange.bytes, call.scratch, board->scratch);
 }
 
 static void small_stack(void)
@@ -574,28 +592,38 @@ static void small_stack(void)
     check(is(call.answer, 0, 0, 1, 256 * 100000));
 }
 
+static void on_board(const char *name, void (*tests)(void))
+{
+    char text[80];
+    snprintf(text, sizeof text, "%s, on %s", name, board->name);
+    group(text, tests);
+}
+
 int main(void)
 {
     net_arena = arena(sizeof((struct exchange *)0)->net);
     price_arena = arena(sizeof((struct exchange *)0)->price);
     pair_arena = arena(PAIR_BYTES_MOST);
-    scratch_arena = arena(8 * ROOM);
+    scratch_arena = arena(8 * (LTA_INTUITIVE_SCRATCH + PAST));
     case_arena = arena(sizeof((struct file *)0)->bytes);
     proposal_arena = arena(sizeof((struct file *)0)->bytes);
 
     group("layout of the struct", layout);
-    group("annex 5.1", annex);
-    group("which pairs count", counted_pairs);
-    group("what is carried", carried);
-    group("counts of zones", zone_counts);
-    group("net positions", positions);
-    group("prices", prices);
-    group("pairs", pairs);
-    group("scratches", scratches);
-    group("which cause and which place", causes);
-    group("hours", hours);
-    group("hours that are refused", refused_hours);
-    group("null with length 0", nulls);
-    group("a small stack", small_stack);
+    for (size_t k = 0; k < sizeof boards / sizeof *boards; k++) {
+        board = boards + k;
+        on_board("annex 5.1", annex);
+        on_board("which pairs count", counted_pairs);
+        on_board("what is carried", carried);
+        on_board("counts of zones", zone_counts);
+        on_board("net positions", positions);
+        on_board("prices", prices);
+        on_board("pairs", pairs);
+        on_board("scratches", scratches);
+        on_board("which cause and which place", causes);
+        on_board("hours", hours);
+        on_board("hours that are refused", refused_hours);
+        on_board("null with length 0", nulls);
+        on_board("a small stack", small_stack);
+    }
     return closing();
 }

@@ -14,9 +14,11 @@
     answer.number, answer.index, answer.proposal  the proposal's bytes; None where answer.number is not 0
     answer = lta.case_columned(case)              a case's bytes; lta.case_restored of a columned file's
     answer.number, answer.index, answer.file      the other file's bytes; None where answer.number is not 0
+    answer = lta.shortfalls(case, proposal)       an accepted hour's
+    answer.orders, answer.branches, answer.links  hundred-thousandths of a microcent each; None where answer.number is not 0
 
-Verdicts, totals, prices, a yes or no, proposals and columned files come from the archive alone. Explanations are
-computed beside it, are not proved, and say so; one that disagrees with the archive is not given.
+Verdicts, totals, prices, shortfalls, a yes or no, proposals and columned files come from the archive alone. Explanations
+are computed beside it, are not proved, and say so; one that disagrees with the archive is not given.
 """
 
 from .archive import (
@@ -25,6 +27,7 @@ from .archive import (
     Columned,
     Dumped,
     Judgement,
+    Shortfalls,
     carried,
     case_columned,
     case_restored,
@@ -32,6 +35,7 @@ from .archive import (
     intuitive,
     judge,
     judge_joined,
+    shortfalls,
 )
 from .causes import Disagreement, Explanation, explain
 from .hour import build, build_families, field_at, show
@@ -45,6 +49,7 @@ __all__ = [
     "Dumped",
     "Explanation",
     "Judgement",
+    "Shortfalls",
     "Sums",
     "build",
     "build_families",
@@ -58,5 +63,6 @@ __all__ = [
     "intuitive",
     "judge",
     "judge_joined",
+    "shortfalls",
     "show",
 ]

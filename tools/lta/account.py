@@ -1,10 +1,14 @@
 """lta explain: the verdict in words with the field at fault, and of an hour that could be cleared what is in it: zones,
-branches, links, and the gap's parts. The verdict and the totals are the archive's; all else is computed beside it.
+branches, links, and the gap's parts. The verdict, the totals and, of an accepted hour, the shortfalls are the archive's;
+all else is computed beside it.
 """
 
-from . import amounts, hour, rules
+from . import amounts, gap, hour, rules
 
 NOT_PROVED = "Verdict, totals and prices are the archive's. All else is computed beside it and is not proved."
+NOT_PROVED_ACCEPTED = (
+    "Verdict, totals, prices and shortfalls are the archive's. All else is computed beside it and is not proved."
+)
 HEX_ROW = 16
 
 
@@ -183,20 +187,8 @@ def part_name(sums, kind, place):
         return f"link {place}: {free} free at a spread of {amounts.grains(spread)}"
     if kind == "branch total":
         rest = amounts.per_cent(rules.WHOLE - sums.share)
-        return f"branch total below {link_total_name(sums)}, by the {rest} that is flow-based"
-    return f"{link_total_name(sums)} below branch total, by the LTA share of {amounts.per_cent(sums.share)}"
-
-
-def gap_parts(sums):
-    """The parts of the gap that are not zero, largest first: each with its name and amount."""
-    parts = sorted((part for part in sums.gap_parts() if part[2]), key=lambda part: -part[2])
-    return [(part_name(sums, kind, place), amount) for kind, place, amount in parts]
-
-
-def gap_lines(sums):
-    whole = rules.WHOLE * sums.gap
-    rows = [(name, amounts.gap_part(amount), f"{100 * amount / whole:.1f} %") for name, amount in gap_parts(sums)]
-    yield from columns(("what falls short", "euros", "of the gap"), rows)
+        return f"left: branch total below {link_total_name(sums)}, by the {rest} that is flow-based"
+    return f"left: {link_total_name(sums)} below branch total, by the LTA share of {amounts.per_cent(sums.share)}"
 
 
 def fraction_of(order):
@@ -227,7 +219,30 @@ def titled(title, lines):
     yield from lines
 
 
-def hour_lines(judgement, sums, parents=None):
+def part_rows(sums, parts):
+    """The parts that are not zero, the shortfalls largest first: each with its name and amount."""
+    return [(part_name(sums, part.kind, part.place), part.amount) for part in parts.told]
+
+
+def part_lines(sums, parts):
+    whole = rules.WHOLE * parts.gap
+    rows = [(name, amounts.gap_part(amount), f"{100 * amount / whole:.1f} %") for name, amount in part_rows(sums, parts)]
+    yield from columns(("what falls short", "euros", "of the gap"), rows)
+
+
+def gap_title(parts):
+    """On a refusal by 26 the archive gives no shortfalls."""
+    whence = "" if parts.from_archive else ", found beside the archive, which gives none of a refusal"
+    return f"Gap: shortfalls, largest first, and what is left{whence}"
+
+
+def gap_lines(sums, parts):
+    if parts.gap:
+        return titled(gap_title(parts), part_lines(sums, parts))
+    return titled("Gap", ["  0.00: no order, branch or link falls short."])
+
+
+def hour_lines(judgement, sums, parts, parents=None):
     if judgement.number in hour.REPORTED:
         yield from titled("Totals", totals_lines(judgement, sums))
     yield from titled(f"Zones, import positive; LTA share {amounts.per_cent(sums.share)}", zone_lines(sums))
@@ -238,10 +253,7 @@ def hour_lines(judgement, sums, parents=None):
     if parents is not None:
         yield from titled("Families", family_lines(sums, parents))
     if judgement.number in hour.REPORTED:
-        if sums.gap:
-            yield from titled("Gap, largest part first", gap_lines(sums))
-        else:
-            yield from titled("Gap", ["  0.00: no order, branch or link falls short."])
+        yield from gap_lines(sums, parts)
 
 
 def clearable(number):
@@ -254,6 +266,8 @@ def account(case, proposal, judgement, explanation, joined=False, families=None)
     lines = [explanation.words]
     lines += fault_lines(explanation, {"case": case, "proposal": proposal, "families": families}, joined)
     if clearable(judgement.number):
+        sums = rules.Sums(case, proposal)
+        parts = gap.parts(case, proposal, judgement, sums) if judgement.number in hour.REPORTED else None
         parents = None if families is None else hour.parents_of(case, families)
-        lines += hour_lines(judgement, rules.Sums(case, proposal), parents)
-    return "\n".join([*lines, "", NOT_PROVED]) + "\n"
+        lines += hour_lines(judgement, sums, parts, parents)
+    return "\n".join([*lines, "", NOT_PROVED_ACCEPTED if judgement.accepted else NOT_PROVED]) + "\n"

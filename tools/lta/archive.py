@@ -115,6 +115,29 @@ class Columned:
         return {**rules.COLUMN_NUMBERS, 0: "written"}.get(self.number, f"number {self.number}")
 
 
+@dataclass(frozen=True)
+class Shortfalls:
+    """What lta_shortfalls answers: of each order, branch and link, in file order, by how much it falls short, in whole
+    hundred-thousandths of a microcent. In a refusal all three are None.
+    """
+
+    number: int
+    index: int
+    orders: tuple | None = None
+    branches: tuple | None = None
+    links: tuple | None = None
+
+    @property
+    def answered(self):
+        return self.number == 0
+
+    @property
+    def text(self):
+        """What the number means, in words."""
+        words = {**rules.NUMBERS, **rules.SHORTFALL_NUMBERS, 0: "answered"}
+        return words.get(self.number, f"number {self.number}")
+
+
 # Building.
 
 NOT_LINKED = "the shared object cannot be linked"
@@ -248,6 +271,7 @@ ENTRIES = {
     "lta_dump_proposal": (WrittenStruct, _BYTES * 3),
     "lta_case_columned": (WrittenStruct, _BYTES * 2),
     "lta_case_restored": (WrittenStruct, _BYTES * 2),
+    "lta_shortfalls": (WrittenStruct, _BYTES * 2 + _AMOUNTS),
 }
 
 _loaded = {}
@@ -331,6 +355,7 @@ def answer_of(carried):
 
 
 def new_scratch():
+    """Room for the wide board, on which the command and lta.carried ask; the smaller board's entries answer the same."""
     return (ctypes.c_int64 * rules.INTUITIVE_SCRATCH)()
 
 
@@ -388,3 +413,21 @@ def case_columned(case, room=None):
 def case_restored(file, room=None):
     """The way back, of a columned file's bytes."""
     return rearranged("lta_case_restored", file, room)
+
+
+def shortfalls(case, proposal, room=rules.SHORTFALL_ROOM):
+    """Has the archive write by how much each order, branch and link of an accepted hour, as two files' bytes, falls short,
+    with an output of the room's numbers.
+    """
+    case, proposal = bytes_of(case), bytes_of(proposal)
+    if room < 0:
+        raise ValueError(f"the output's room is {room} numbers")
+    out = (ctypes.c_int64 * max(room, 1))()
+    written = entry("lta_shortfalls")(case, len(case), proposal, len(proposal), out, room)
+    if written.number:
+        return Shortfalls(written.number, written.index)
+    # Of each two, whole microcents and hundred-thousandths.
+    amounts = [rules.WHOLE * out[at] + out[at + 1] for at in range(0, written.length, 2)]
+    counts = hour.case_counts(case)
+    orders, branches = counts["orders"], counts["orders"] + counts["branches"]
+    return Shortfalls(0, written.index, *map(tuple, (amounts[:orders], amounts[orders:branches], amounts[branches:])))

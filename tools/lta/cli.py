@@ -32,6 +32,7 @@ Judges, explains, shows, builds and draws hours of the day-ahead coupling.
 
   lta judge [FILE...] [--csv | --json] [--pairs | --joined]
   lta explain FILE...
+  lta shortfalls FILE... [--csv | --json] [--joined]
   lta intuitive FILE... [--links | --pairs TEXT] [--json] [--joined]
   lta dump CASE DUMP [-o PROPOSAL] [--force]
   lta column CASE [-o FILE] [--force]
@@ -56,7 +57,11 @@ they are named: by their file, by their folder, or in the text.
 judge prints a table: file, verdict, index, welfare, gap, rent and owed in euros. --csv and --json are for machines and
 have every decimal. Without a FILE it reads a joined hour from standard input.
 explain says the verdict in words: the field, its offset in decimal and hex, its value and its limit; and of an hour
-whose files are in order its zones, branches, links and families, and the gap's parts, largest first.
+whose files are in order its zones, branches, links and families, and the gap's parts: of an accepted hour the archive's
+shortfalls, largest first, and what is left.
+shortfalls says of an accepted hour by how much each order, branch and link falls short of its best at the zone prices,
+largest first, to a hundred-thousandth of a microcent, and what is left of the gap. --csv and --json have all of them, in
+file order: the archive's two numbers, whole microcents and hundred-thousandths, and euros.
 intuitive says whether an accepted hour's exports can all be carried to imports, each from a zone to one whose price is
 not lower, by annex 5.1 of Annex 16.18: yes or no, how much can be carried, and for a no the zones that are cut off.
 Flow goes along pairs of zones: the case's links, which --links says too, or those of --pairs, a text with two zones to
@@ -73,12 +78,13 @@ field says which field of the last file named stands at OFFSET, a number or hex 
 build writes the files asked for, - being standard output; without one it says the sizes.
 Nothing that is there is written over without --force.
 
-Verdicts, totals, prices, yes or no, proposals and columned files come from the proved archive alone; on first use, and
-after a change in crates/, it is proved and built, which takes some minutes. Explanations, zones cut off and pages are
-computed beside it and say so.
+Verdicts, totals, prices, shortfalls, yes or no, proposals and columned files come from the proved archive alone; on first
+use, and after a change in crates/, it is proved and built, which takes some minutes. Explanations, zones cut off, what is
+left of a gap and pages are computed beside it and say so.
 
 Status: 0 every hour is accepted, or as its text expects; 1 not so; 2 something could not be read, judged or written,
 and a line says what. intuitive: 0 yes; 1 no, and where the archive refuses the hour or a pair, which is then said; 2.
+shortfalls: 0 answered; 1 where the archive refuses the hour, which is then said; 2.
 dump, column and restore: 0 written; 1 where the archive refuses the case, the dump or the file, which is then said; 2.
 page, show, field and build: 0 or 2.
 """
@@ -197,6 +203,17 @@ def run_explain(options):
     found = explain(*files, judgement, families=families)
     put(account.account(*files, judgement, found, source.kind == JOINED, families))
     return 0 if judgement.accepted else 1
+
+
+def run_shortfalls(options):
+    from . import shortages
+
+    source = one_hour(options.files, options.way)
+    read_hour = source.read()
+    told = shortages.ask(source.name, read_hour.case, read_hour.proposal)
+    forms = {"json": shortages.as_json, "csv": shortages.as_csv, None: shortages.as_text}
+    put(forms[options.form](told))
+    return 0 if told.answer.answered else 1
 
 
 def run_intuitive(options):
@@ -408,9 +425,10 @@ def parser():
 
     judge = command("judge", run_judge, ("pairs", "joined"))
     judge.add_argument("files", nargs="*")
-    form = judge.add_mutually_exclusive_group()
-    form.add_argument("--csv", dest="form", action="store_const", const="csv")
-    form.add_argument("--json", dest="form", action="store_const", const="json")
+    for made in (judge, needing("shortfalls", run_shortfalls, ("joined",))):
+        form = made.add_mutually_exclusive_group()
+        form.add_argument("--csv", dest="form", action="store_const", const="csv")
+        form.add_argument("--json", dest="form", action="store_const", const="json")
     needing("explain", run_explain, ("pairs", "joined"))
     intuitive = needing("intuitive", run_intuitive, ("joined",))
     asked = intuitive.add_mutually_exclusive_group()

@@ -47,8 +47,10 @@ A stored hour, hours/NAME.txt, opens with what it protects and says in comments 
   # expect N I                             number and index for the joined file, as the desk cuts it
   # expect-apart N I                       those for the two files handed over apart, where they are others
   # totals welfare W bound B gap G rent R owed O    the report's totals in euros, where a number is 0 or 26
+  # shortfall KIND N EUROS                 by how much order, branch or link N falls short; all others do not. One of:
+  # shortfall none                         nothing does
 
-tests/stored_hours holds each of these to both judges. A stored hour with families, families/NAME.txt, has in their place
+tests/stored_hours holds the first three to both judges, tests/stored_shortfalls the last. A stored hour with families, families/NAME.txt, has in their place
 
   # expect N I                             number and index with the list
   # expect-without N I                     those without it, where they are others

@@ -1,5 +1,6 @@
 """lta page: one self-contained page of an hour, or of many with a first table. It asks for nothing from elsewhere and
-runs no script. Verdicts, totals and prices are the archive's; what is drawn beside them is computed here, as it says.
+runs no script. Verdicts, totals, prices and the shortfalls of an accepted hour are the archive's; what is drawn beside
+them is computed here, as it says.
 """
 
 from __future__ import annotations
@@ -9,7 +10,7 @@ import os
 import pathlib
 from dataclasses import dataclass
 
-from . import account, amounts, drawing, hour, judging, rules
+from . import account, amounts, drawing, gap, hour, judging, rules
 from .causes import Disagreement, Explanation, explain
 from .drawing import element
 from .inputs import JOINED, UNREAD, InputError, printable
@@ -19,7 +20,8 @@ MOST_NAMED = 12  # hours of a page up to which each order of a curve has a name 
 MOST_PARTS = 20  # of a gap, or of what a field is held to
 STYLE = pathlib.Path(__file__).with_name("page.css")
 NOT_PROVED = (
-    "Verdict, totals and zone prices are the proved archive's. All else here is computed beside it and is not proved."
+    "Verdict, totals, zone prices and the shortfalls of an accepted hour are the proved archive's. All else here is computed "
+    "beside it and is not proved."
 )
 POLICY = "default-src 'none'; style-src 'unsafe-inline'"
 
@@ -34,6 +36,8 @@ NOTES = {
     "Links": "Flow against the LTA share of the capacity. A binding link is full, to a tenth of a MW, and has a positive spread. "
     "Contracted volumes, where the case has them, are what is owed for; they limit no flow.",
     "Families": "An order is accepted in no larger fraction than the order on which it leans. The bound takes no notice of families.",
+    "The gap's parts": "Shortfalls, largest first: what each order, branch or link could have earned more at the zone prices. What "
+    "is left is the larger total's lead, weighed by the two shares; it is computed beside the archive.",
     "Prices through the hours": "In the table's order; an hour that is refused leaves a hole.",
 }
 
@@ -50,7 +54,7 @@ STANDINGS = {
 @dataclass(frozen=True)
 class Drawn:
     """An hour as a page has it: where it came from, the archive's answers as judge has them, of which the last is that
-    of the two files apart, and the explanation or why there is none.
+    of the two files apart, the explanation or why there is none, and of an hour with a gap its parts.
     """
 
     name: str
@@ -61,6 +65,7 @@ class Drawn:
     fault: str = ""
     joined: bool = False
     families: bytes | None = None
+    parts: gap.Parts | None = None
 
     @property
     def judgement(self):
@@ -94,12 +99,15 @@ class Drawn:
 def drawn_hour(source, folder=None):
     """An hour, judged. In a folder it is named from there."""
     read, name = source.read(), source.name if folder is None else os.path.relpath(source.name, folder)
-    rows, found, fault = judging.rows_of(name, read), None, ""
+    rows, found, parts, fault = judging.rows_of(name, read), None, None, ""
+    files, judgement = (read.case, read.proposal), rows[-1].judgement
     try:
-        found = explain(read.case, read.proposal, rows[-1].judgement, families=read.families)
+        found = explain(*files, judgement, families=read.families)
+        if judgement.number in hour.REPORTED:
+            parts = gap.parts(*files, judgement, rules.Sums(*files))
     except Disagreement as said:
-        fault = str(said)
-    return Drawn(name, read.case, read.proposal, rows, found, fault, source.kind == JOINED, read.families)
+        found, fault = None, str(said)
+    return Drawn(name, *files, rows, found, fault, source.kind == JOINED, read.families, parts)
 
 
 def text(words):
@@ -365,26 +373,38 @@ def family_table(one, sums):
 # The gap.
 
 
-def gap_row(name, amount, gap, bar):
+def gap_row(name, amount, whole, bar):
     cells = element("td", text(name), "wide") + element("td", bar, "meter")
     return element(
-        "tr", cells + element("td", amounts.gap_part(amount)) + element("td", drawing.share_of_gap(amount, gap))
+        "tr", cells + element("td", amounts.gap_part(amount)) + element("td", drawing.share_of_gap(amount, whole))
     )
 
 
-def gap_table(sums):
-    parts = account.gap_parts(sums)
-    if not parts:
+def gap_table(sums, parts):
+    """The shortfalls, the largest ones by name, and what is left under them."""
+    if not parts.gap:
         return element("p", "0.00 €: no order, branch or link falls short.")
-    largest, rows = parts[0][1], []
-    for name, amount in parts[:MOST_PARTS]:
+    named, left = account.part_rows(sums, parts), sum(1 for part in parts.left if part.amount)
+    short, rest = named[: len(named) - left], named[len(named) - left :]
+    largest, rows = max(amount for _, amount in named), []
+
+    def add(name, amount):
         bar = drawing.amount_bar(amount, largest, False, f"{amounts.gap_part(amount)} euros")
-        rows.append(gap_row(name, amount, sums.gap, bar))
-    if len(parts) > MOST_PARTS:
-        rest = sum(amount for _, amount in parts[MOST_PARTS:])
-        rows.append(gap_row(f"{len(parts) - MOST_PARTS:,} more", rest, sums.gap, ""))
+        rows.append(gap_row(name, amount, parts.gap, bar))
+
+    for name, amount in short[:MOST_PARTS]:
+        add(name, amount)
+    if len(short) > MOST_PARTS:
+        more = sum(amount for _, amount in short[MOST_PARTS:])
+        rows.append(gap_row(f"{len(short) - MOST_PARTS:,} more", more, parts.gap, ""))
+    for name, amount in rest:
+        add(name, amount)
     head = element("th", "what falls short", "left") + element("th", "", "meter")
     return table(head + element("th", "euros") + element("th", "of the gap"), rows)
+
+
+def gap_note(parts):
+    return "" if parts.from_archive else "The archive gives no shortfalls of a refusal: these are found beside it."
 
 
 # Pages.
@@ -401,7 +421,7 @@ def hour_body(one, level, named):
     body += part(level, "Zones", zone_table(sums)) + part(level, "Order curves", zone_cards(sums, named))
     body += part(level, "Branches", branch_cards(sums)) + part(level, "Links", link_cards(sums))
     body += part(level, "Families", family_table(one, sums))
-    return body + (part(level, "The gap's parts, largest first", gap_table(sums)) if reported else "")
+    return body + (part(level, "The gap's parts", gap_table(sums, one.parts), gap_note(one.parts)) if reported else "")
 
 
 def hour_row(one, place, money, expecting):

@@ -13,6 +13,7 @@ REPORT_ROOM = 176
 INTUITIVE_SCRATCH = 324
 INTUITIVE_PAIRS = 64
 PROPOSAL_ROOM = 2573  # room that is enough for every proposal
+SHORTFALL_ROOM = 1280  # numbers that are enough for the shortfalls of every hour
 VERSIONS = {"case": (1, 2), "proposal": (1,), "families": (1,)}
 
 # Least and greatest of each field that has limits of its own; an order's zone and a link's zones are held to the count.
@@ -72,7 +73,7 @@ INTUITIVE_NUMBERS = {
     82: "net position out of range, or their sum is not zero",
     83: "price of a zone out of range",
     84: "pair with an unknown zone, equal zones, repeated or past the 64th",
-    85: "scratch under 324 numbers",
+    85: "scratch under 324 numbers, or under 96 on the smaller board",
 }
 
 # The same of request S-5's.
@@ -89,6 +90,9 @@ COLUMN_NUMBERS = {
     71: "case not readable, or no columned file of one",
     72: "output shorter than the file",
 }
+
+# The same of request S-14's.
+SHORTFALL_NUMBERS = {86: "output too short for the shortfalls"}
 
 Branch = namedtuple("Branch", "ram ptdfs shadow")
 Link = namedtuple("Link", "source sink capacity contracted flow")
@@ -183,7 +187,9 @@ class Sums:
         self.rent = sum(net * price for net, price in zip(self.net, self.prices))
 
     def gap_parts(self):
-        """The gap taken apart as `Gap` of crates/rules does it: kind, place, and hundred-thousandths of a microcent."""
+        """The gap taken apart: kind, place, and hundred-thousandths of a microcent. First are the shortfalls of request S-14
+        in file order, then what each total is behind the larger one, weighed by its share.
+        """
         parts = []
         for place, (order, surplus) in enumerate(zip(self.orders, self.surpluses)):
             signed = order.volume if order.buys else -order.volume

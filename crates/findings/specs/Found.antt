@@ -1,16 +1,16 @@
 -- What the driver finds in an hour by a list of rows: the verdict, and of an hour that is valued what the report holds, with its net positions. Assumes nothing.
 use mathlib.Core.Path.{_≡_, refl, sym, ap, subst, _∙_}
 use mathlib.Core.Bool.{Bool, true, false, not, _||_}
-use mathlib.Core.List.{List, _++_}
+use mathlib.Core.List.{List, [], _∷_, _++_}
 use mathlib.Core.Option.{Option, none, some}
 use Prim.Native.Nat.{ℕ, _≤_}
 use native.Mathlib.Omega.{arith}
 use lib.ListN.{replicate}
 use lib.Dec.{T, eqb, eqb→eq}
 use lib.IntN.{pos}
-use Rattle.rules.specs.Meaning.Hour.{caseOf, planOf, pricesOf, net}
+use Rattle.rules.specs.Meaning.Hour.{Case, Plan, Prices, caseOf, planOf, pricesOf, net}
 use Rattle.rules.specs.Meaning.Report.{totalsOf, reports}
-use Rattle.rules.specs.Meaning.Verdict.{caseRows, proposalRows, clearingRows}
+use Rattle.rules.specs.Meaning.Verdict.{caseRows, proposalRows, overloadedBranch, priceOutside, wideGap, judgementRows}
 use Rattle.rows.specs.declared.Outcome.{Outcome}
 use Rattle.rows.specs.Meaning.Rows.{Row, verdict, refusal, answer}
 use Rattle.rows.specs.Promised.RowLaws.{else-refusal, refusal-append, lacks, not-refused, Comes}
@@ -23,9 +23,18 @@ use Rattle.report.specs.declared.Totals.{Totals}
 use Rattle.report.specs.Written.{totalsIn}
 use Rattle.findings.specs.declared.Found.{Found}
 
--- the table from row 1 to row 26, of a case s and a proposal t
-abbrev pub hourRows : List ℕ → List ℕ → List Row
-hourRows s t = caseRows s (caseOf s) ++ (proposalRows s t (caseOf s) (planOf s t) (pricesOf s t) ++ clearingRows (caseOf s) (planOf s t) (pricesOf s t))
+-- the family list that is given (S-11), or none
+abbrev pub listOf : Bool → List ℕ → Option (List ℕ)
+listOf true f = some f
+listOf false f = none
+
+-- the table from row 1 to row 26, of a case s and a proposal t, with a family list or without
+abbrev pub hourRows : Option (List ℕ) → List ℕ → List ℕ → List Row
+hourRows fs s t = caseRows s (caseOf s) ++ (proposalRows s t (caseOf s) (planOf s t) (pricesOf s t) ++ judgementRows fs (caseOf s) (planOf s t) (pricesOf s t))
+
+-- of it, the rows behind 23
+abbrev pub networkRows : Case → Plan → Prices → List Row
+networkRows c p d = overloadedBranch c p ∷ priceOutside c d ∷ wideGap c p d ∷ []
 
 pub record Finds (rows : List Row) (s t : List ℕ) (r : Found) : Type 0 where
   pub verdict-is : r .verdict ≡ answer (refusal rows)

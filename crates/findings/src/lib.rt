@@ -1,16 +1,22 @@
 // THE DRIVER: what the verdict table from row 1 to row 26 finds in an hour. Each stage is asked in the table's order, and may rest on what those before it passed.
 ghost use mathlib.Core.Path.{_≡_};
-ghost use mathlib.Core.Bool.{_&&_};
-ghost use Prim.Native.Nat.{_<_};
+ghost use mathlib.Core.Bool.{true, _&&_};
+ghost use mathlib.Core.Option.{none};
+ghost use Prim.Native.Nat.{_<_, _≤_};
 ghost use lib.Dec.{eqb};
 ghost use lib.IntN.{pos};
 ghost use lib.Signed.{ltZ};
-ghost use Rattle.rules.specs.Meaning.Hour.{caseOf, planOf, pricesOf};
-ghost use Rattle.rows.specs.Meaning.Rows.{refusal};
-ghost use Rattle.rules.specs.Meaning.Verdict.{clearingRows};
+ghost use Rattle.rules.specs.Meaning.Hour.{caseOf, planOf, pricesOf, net, fbPart};
+ghost use Rattle.rules.specs.Meaning.Hour as rules;
+ghost use Rattle.rows.specs.Promised.RowLaws.{placeOf};
+ghost use Rattle.rules.specs.Meaning.Verdict.{exchangeRows, clearingRows, judgementRows};
 ghost use Rattle.proposal_file.specs.Proposed.{Proposed};
 ghost use Rattle.proposal_file.specs.Answer.{openingOf};
-ghost use Rattle.findings.specs.Found.{Finds, hourRows, refusedAs, valuedAs};
+ghost use Rattle.family_list.specs.Steps.Answer.{Known};
+ghost use Rattle.clearing.specs.Held.{Holds};
+ghost use Rattle.clearing.specs.Stages.{VolumesIn, FlowsIn};
+ghost use Rattle.findings.specs.Found.{Finds, networkRows, hourRows, listOf, refusedAs, valuedAs};
+ghost use Rattle.findings.specs.Listed.{listedAnswer, fractionPlace};
 use case_branches::ptdf_table;
 use case_file::CaseAnswer;
 use case_file::read_case;
@@ -18,6 +24,9 @@ use case_header::Counts;
 use clearing::link_sums;
 use clearing::net_sum;
 use clearing::order_sums;
+use family_fractions::first_over_parent;
+use family_list::FamilyAnswer;
+use family_list::read_families;
 use measures::Grains;
 use measures::Microcents;
 use measures::Share;
@@ -103,34 +112,27 @@ fn share_without_link(links: usize, share: Share) -> bool
     false
 }
 
-// Rows 21 to 26, of files that were read.
-fn find_clearing(case: &[u8], k: Counts, proposal: &[u8], opening: Opening) -> Found
+// Rows 24 to 26, of files that were read, volumes and flows that were taken.
+fn find_network(
+    case: &[u8],
+    k: Counts,
+    proposal: &[u8],
+    opening: Opening,
+    nets: [Tenths; 16],
+    parts: [Tenths; 16],
+    welfare: Microcents,
+) -> Found
     requires { ⌜ Proposed (now «case») k (now proposal) ⌝ }
     requires { ⌜ opening ≡ openingOf (now proposal) ⌝ }
-    ensures { λ r. ⌜ Finds (clearingRows (caseOf (now («case» .entry))) (planOf (now («case» .entry)) (now (proposal .entry))) (pricesOf (now («case» .entry)) (now (proposal .entry)))) (now («case» .entry)) (now (proposal .entry)) r ⌝ }
+    requires { ⌜ VolumesIn (caseOf (now «case»)) (planOf (now «case») (now proposal)) ⌝ }
+    requires { ⌜ FlowsIn (caseOf (now «case»)) (planOf (now «case») (now proposal)) ⌝ }
+    requires { ⌜ Holds (net (caseOf (now «case»)) (planOf (now «case») (now proposal))) nets ⌝ }
+    requires { ⌜ Holds (fbPart (caseOf (now «case»)) (planOf (now «case») (now proposal))) parts ⌝ }
+    requires { ⌜ welfare .0 ≡ rules.welfare (caseOf (now «case»)) (planOf (now «case») (now proposal)) ⌝ }
+    ensures { λ r. ⌜ Finds (networkRows (caseOf (now («case» .entry))) (planOf (now («case» .entry)) (now (proposal .entry))) (pricesOf (now («case» .entry)) (now (proposal .entry)))) (now («case» .entry)) (now (proposal .entry)) r ⌝ }
 {
     let zones = k.zones;
     let share = opening.share;
-    let accepted = order_sums(case, k, proposal);
-    let excess = accepted.excess;
-    if let Place::At(i) = excess {
-        return refused(21, i);
-    }
-    let nets = accepted.nets;
-    let unbalanced = !net_sum(nets, zones).is_zero();
-    let no_domain = share_without_link(k.links, share);
-    if unbalanced {
-        return refused(22, 0);
-    }
-    if no_domain {
-        return refused(27, 0);
-    }
-    let exchange = link_sums(case, k, proposal, share, nets);
-    let overused = exchange.overused;
-    if let Place::At(l) = overused {
-        return refused(23, l);
-    }
-    let parts = exchange.parts;
     let table = ptdf_table(case, k);
     let branches = branch_sums(
         case,
@@ -155,7 +157,7 @@ fn find_clearing(case: &[u8], k: Counts, proposal: &[u8], opening: Opening) -> F
         case,
         k,
         proposal,
-        accepted.welfare,
+        welfare,
         prices,
         branches.total,
         zoned.rent,
@@ -168,15 +170,133 @@ fn find_clearing(case: &[u8], k: Counts, proposal: &[u8], opening: Opening) -> F
     valued(0, zones, nets, prices, totals)
 }
 
-// The hour, from its first byte: the case, the proposal, the clearing.
-pub fn find(case: &[u8], proposal: &[u8]) -> Found
-    ensures { λ r. ⌜ Finds (hourRows (now («case» .entry)) (now (proposal .entry))) (now («case» .entry)) (now (proposal .entry)) r ⌝ }
+// Rows 22 to 26, of files that were read and volumes that were taken.
+fn find_exchange(
+    case: &[u8],
+    k: Counts,
+    proposal: &[u8],
+    opening: Opening,
+    nets: [Tenths; 16],
+    welfare: Microcents,
+) -> Found
+    requires { ⌜ Proposed (now «case») k (now proposal) ⌝ }
+    requires { ⌜ opening ≡ openingOf (now proposal) ⌝ }
+    requires { ⌜ VolumesIn (caseOf (now «case»)) (planOf (now «case») (now proposal)) ⌝ }
+    requires { ⌜ Holds (net (caseOf (now «case»)) (planOf (now «case») (now proposal))) nets ⌝ }
+    requires { ⌜ welfare .0 ≡ rules.welfare (caseOf (now «case»)) (planOf (now «case») (now proposal)) ⌝ }
+    ensures { λ r. ⌜ Finds (exchangeRows (caseOf (now («case» .entry))) (planOf (now («case» .entry)) (now (proposal .entry))) (pricesOf (now («case» .entry)) (now (proposal .entry)))) (now («case» .entry)) (now (proposal .entry)) r ⌝ }
+{
+    let zones = k.zones;
+    let share = opening.share;
+    let unbalanced = !net_sum(nets, zones).is_zero();
+    let no_domain = share_without_link(k.links, share);
+    if unbalanced {
+        return refused(22, 0);
+    }
+    if no_domain {
+        return refused(27, 0);
+    }
+    let exchange = link_sums(case, k, proposal, share, nets);
+    let overused = exchange.overused;
+    if let Place::At(l) = overused {
+        return refused(23, l);
+    }
+    let parts = exchange.parts;
+    find_network(case, k, proposal, opening, nets, parts, welfare)
+}
+
+// Row 28, where there is a family list.
+fn first_over(case: &[u8], k: Counts, proposal: &[u8], families: &[u8], listed: bool) -> Place
+    requires { ⌜ Proposed (now «case») k (now proposal) ⌝ }
+    requires { ⌜ VolumesIn (caseOf (now «case»)) (planOf (now «case») (now proposal)) ⌝ }
+    requires { ⌜ (listed ≡ true → Known (now families) (k .orders)) ⌝ }
+    ensures { λ r. ⌜ placeOf r ≡ fractionPlace (listOf listed (now (families .entry))) (caseOf (now («case» .entry))) (planOf (now («case» .entry)) (now (proposal .entry))) ⌝ }
+{
+    if listed {
+        return first_over_parent(case, k, proposal, families);
+    }
+    Place::Nowhere
+}
+
+// Rows 21 to 26, of files that were read.
+fn find_clearing(
+    case: &[u8],
+    k: Counts,
+    proposal: &[u8],
+    opening: Opening,
+    families: &[u8],
+    listed: bool,
+) -> Found
+    requires { ⌜ Proposed (now «case») k (now proposal) ⌝ }
+    requires { ⌜ opening ≡ openingOf (now proposal) ⌝ }
+    requires { ⌜ (listed ≡ true → Known (now families) (k .orders)) ⌝ }
+    ensures { λ r. ⌜ Finds (clearingRows (listOf listed (now (families .entry))) (caseOf (now («case» .entry))) (planOf (now («case» .entry)) (now (proposal .entry))) (pricesOf (now («case» .entry)) (now (proposal .entry)))) (now («case» .entry)) (now (proposal .entry)) r ⌝ }
+{
+    let accepted = order_sums(case, k, proposal);
+    let excess = accepted.excess;
+    if let Place::At(i) = excess {
+        return refused(21, i);
+    }
+    let over = first_over(case, k, proposal, families, listed);
+    if let Place::At(i) = over {
+        return refused(28, i);
+    }
+    let nets = accepted.nets;
+    find_exchange(case, k, proposal, opening, nets, accepted.welfare)
+}
+
+// Rows 16 to 18, where there is a family list.
+fn read_listed(families: &[u8], orders: usize, listed: bool) -> FamilyAnswer
+    requires { ⌜ orders ≤ 512 ⌝ }
+    ensures { λ r. ⌜ r ≡ listedAnswer listed (now (families .entry)) orders ⌝ }
+{
+    if listed {
+        return read_families(families, orders);
+    }
+    FamilyAnswer::Sound
+}
+
+// Rows 15 to 26, of a case and a proposal that were read: a tolerance too wide to be accepted (S-12), the family list, the clearing.
+fn find_judged(
+    case: &[u8],
+    k: Counts,
+    proposal: &[u8],
+    opening: Opening,
+    families: &[u8],
+    listed: bool,
+) -> Found
+    requires { ⌜ Proposed (now «case») k (now proposal) ⌝ }
+    requires { ⌜ opening ≡ openingOf (now proposal) ⌝ }
+    ensures { λ r. ⌜ Finds (judgementRows (listOf listed (now (families .entry))) (caseOf (now («case» .entry))) (planOf (now («case» .entry)) (now (proposal .entry))) (pricesOf (now («case» .entry)) (now (proposal .entry)))) (now («case» .entry)) (now (proposal .entry)) r ⌝ }
+{
+    let tolerance = k.tolerance;
+    if tolerance.is_wide_tolerance() {
+        return refused(15, 0);
+    }
+    match read_listed(families, k.orders, listed) {
+        FamilyAnswer::Refused(refusal) => refused_by(refusal),
+        FamilyAnswer::Sound => find_clearing(case, k, proposal, opening, families, listed),
+    }
+}
+
+// The hour, from its first byte: the case, the proposal, the family list where there is one (S-11), the clearing.
+pub fn find_listed(case: &[u8], proposal: &[u8], families: &[u8], listed: bool) -> Found
+    ensures { λ r. ⌜ Finds (hourRows (listOf listed (now (families .entry))) (now («case» .entry)) (now (proposal .entry))) (now («case» .entry)) (now (proposal .entry)) r ⌝ }
 {
     match read_case(case) {
         CaseAnswer::Refused(refusal) => refused_by(refusal),
         CaseAnswer::Readable(k) => match read_proposal(case, k, proposal) {
             ProposalAnswer::Refused(refusal) => refused_by(refusal),
-            ProposalAnswer::Sound(opening) => find_clearing(case, k, proposal, opening),
+            ProposalAnswer::Sound(opening) => {
+                find_judged(case, k, proposal, opening, families, listed)
+            }
         },
     }
+}
+
+// The same without a family list.
+pub fn find(case: &[u8], proposal: &[u8]) -> Found
+    ensures { λ r. ⌜ Finds (hourRows none (now («case» .entry)) (now (proposal .entry))) (now («case» .entry)) (now (proposal .entry)) r ⌝ }
+{
+    find_listed(case, proposal, &case[..0], false)
 }

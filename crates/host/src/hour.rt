@@ -1,12 +1,13 @@
-// The judgement as the host calls it: three byte slices, and a number returned.
+// The judgement as the host calls it: byte slices, and a number returned; without a family list and with one (S-11).
 ghost use mathlib.Core.Path.{_≡_};
 ghost use Prim.Native.Nat.{_+_, _*_, _/_, _%_};
 ghost use lib.ListN.{length};
-ghost use Rattle.rules.specs.Meaning.Promise.{TotalsReported, Allowed, Accurate, GapWithin, HasLink, Covered, Best, CoveredInFull};
-ghost use Rattle.rules.specs.Meaning.Report.{bufferAfter};
-ghost use Rattle.rules.specs.Meaning.Verdict.{outcome};
+ghost use Rattle.rules.specs.Meaning.Promise.{TotalsReported, Allowed, Accurate, GapWithin, HasLink, Covered, Best, CoveredInFull, FamilyTotalsReported, FamiliesKept};
+ghost use Rattle.rules.specs.Meaning.Report.{bufferAfter, familyBufferAfter};
+ghost use Rattle.rules.specs.Meaning.Verdict.{outcome, familyOutcome};
 ghost use Rattle.rules.specs.Meaning.AnnexPromise.{AnnexDemand3};
 use judgement::judge;
+use judgement::judge_families;
 
 fn packed(number: u32, index: u32) -> u64
     ensures { λ r. ⌜ r ≡ number + 256 * index ⌝ }
@@ -33,5 +34,32 @@ pub extern "C" fn lta_judge(case: &[u8], proposal: &[u8], report: &mut [u8]) -> 
     ensures annex { λ r. ⌜ (r ≡ 0 → AnnexDemand3 (now («case» .entry)) (now (proposal .entry)) (now (report .exit))) ⌝ }
 {
     let v = judge(case, proposal, report);
+    packed(v.number, v.index)
+}
+
+// THE ENTRY WITH A FAMILY LIST (S-11): the same with rows 16 to 18 and 28, an empty list being 16. An accepted hour keeps what one without a list keeps, the
+// accuracy rule comparing with clearings free of families, and beside it each child is accepted in at most the fraction of its parent.
+#[no_mangle]
+pub extern "C" fn lta_judge_families(
+    case: &[u8],
+    proposal: &[u8],
+    families: &[u8],
+    report: &mut [u8],
+) -> u64
+    ensures outcome { λ r. ⌜ r ≡ (familyOutcome (now («case» .entry)) (now (proposal .entry)) (now (families .entry)) (length (now (report .entry)))) .number + 256 * (familyOutcome (now («case» .entry)) (now (proposal .entry)) (now (families .entry)) (length (now (report .entry)))) .index ⌝ }
+    ensures number { λ r. ⌜ r % 256 ≡ (familyOutcome (now («case» .entry)) (now (proposal .entry)) (now (families .entry)) (length (now (report .entry)))) .number ⌝ }
+    ensures index { λ r. ⌜ r / 256 ≡ (familyOutcome (now («case» .entry)) (now (proposal .entry)) (now (families .entry)) (length (now (report .entry)))) .index ⌝ }
+    ensures report { λ r. ⌜ now (report .exit) ≡ familyBufferAfter (now («case» .entry)) (now (proposal .entry)) (now (families .entry)) (now (report .entry)) ⌝ }
+    ensures totals { λ r. ⌜ FamilyTotalsReported (now («case» .entry)) (now (proposal .entry)) (now (families .entry)) (length (now (report .entry))) (now (report .exit)) ⌝ }
+    ensures families { λ r. ⌜ (r ≡ 0 → FamiliesKept (now («case» .entry)) (now (proposal .entry)) (now (families .entry))) ⌝ }
+    ensures allowed { λ r. ⌜ (r ≡ 0 → Allowed (now («case» .entry)) (now (proposal .entry))) ⌝ }
+    ensures accuracy { λ r. ⌜ (r ≡ 0 → Accurate (now («case» .entry)) (now (report .exit))) ⌝ }
+    ensures gap { λ r. ⌜ (r ≡ 0 → GapWithin (now («case» .entry)) (now (report .exit))) ⌝ }
+    ensures coverage { λ r. ⌜ (r ≡ 0 → HasLink (now («case» .entry)) → Covered (now (report .exit))) ⌝ }
+    ensures best { λ r. ⌜ (r ≡ 0 → Best (now («case» .entry)) (now (report .exit))) ⌝ }
+    ensures covered_in_full { λ r. ⌜ (r ≡ 0 → HasLink (now («case» .entry)) → CoveredInFull (now (report .exit))) ⌝ }
+    ensures annex { λ r. ⌜ (r ≡ 0 → AnnexDemand3 (now («case» .entry)) (now (proposal .entry)) (now (report .exit))) ⌝ }
+{
+    let v = judge_families(case, proposal, families, report);
     packed(v.number, v.index)
 }

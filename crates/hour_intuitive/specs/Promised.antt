@@ -1,2 +1,3 @@
--- What holds of an hour's answer
+-- What holds of an hour's answer, and on either board
 pub mod Asked
+pub mod BothBoards

@@ -1,4 +1,4 @@
-// Whether an hour is intuitive (request S-3): it is judged, and where it is accepted its net positions, turned, and its zone prices are asked.
+// Whether an hour is intuitive (requests S-3 and S-13): it is judged, and where it is accepted its net positions, turned, and its zone prices are asked.
 ghost use mathlib.Core.Path.{_≡_};
 ghost use Prim.Native.Nat.{_≤_, _<_};
 ghost use lib.ListN.{length};
@@ -10,11 +10,15 @@ ghost use Rattle.clearing.specs.Held.{tenthsAt};
 ghost use Rattle.network.specs.Prices.{grainsAt};
 ghost use Rattle.transports.specs.Meaning.Network.{CarriesAll, Excess};
 ghost use Rattle.intuitive.specs.Meaning.Intuitive.{scratchRoom, LargestTotal};
+ghost use Rattle.intuitive.specs.Meaning.SmallBoard.{smallRoom};
 ghost use Rattle.hour_intuitive.specs.Meaning.Hour.{hourOutcome, hourNetwork, hourScratch};
 ghost use Rattle.hour_intuitive.specs.Steps.Lent.{FitsTo, Lists, refusedAs};
+ghost use Rattle.hour_intuitive.specs.Steps.Kept.{Kept};
 use findings::find;
 use intuitive::Carried;
-use intuitive::intuitive;
+use intuitive::SCRATCH;
+use intuitive::SMALL_SCRATCH;
+use intuitive::intuitive_in;
 use measures::Bits;
 use measures::Grains;
 use measures::Tenths;
@@ -69,15 +73,16 @@ fn refused(verdict: Outcome) -> Carried
     }
 }
 
-// The judgement's number and index where the hour is not accepted; else the answer for its exports, its prices and these pairs. As `host` exports it.
-pub fn hour_intuitive(case: &[u8], proposal: &[u8], pairs: &[u8], scratch: &mut [i64]) -> Carried
-    ensures outcome { λ r. ⌜ verdict (r .number) (r .index) ≡ hourOutcome (now («case» .entry)) (now (proposal .entry)) (now (pairs .entry)) scratchRoom (length (now (scratch .entry))) ⌝ }
-    ensures yes { λ r. ⌜ (r .number ≡ 0 → r .intuitive ≡ 1 → CarriesAll (hourNetwork (now («case» .entry)) (now (proposal .entry)) (now (pairs .entry)))) ⌝ }
-    ensures no { λ r. ⌜ (r .number ≡ 0 → r .intuitive ≡ 0 → Excess (hourNetwork (now («case» .entry)) (now (proposal .entry)) (now (pairs .entry)))) ⌝ }
-    ensures yes_or_no { λ r. ⌜ r .intuitive < 2 ⌝ }
-    ensures largest { λ r. ⌜ (r .number ≡ 0 → LargestTotal (hourNetwork (now («case» .entry)) (now (proposal .entry)) (now (pairs .entry))) (r .total .0)) ⌝ }
-    ensures scratch { λ r. ⌜ now (scratch .exit) ≡ hourScratch (now («case» .entry)) (now (proposal .entry)) (now (pairs .entry)) scratchRoom (now (scratch .entry)) ⌝ }
-    ensures refused { λ r. ⌜ (0 < r .number → (r .intuitive ≡ 0) × (r .total .0 ≡ pos 0)) ⌝ }
+// With n numbers of scratch: the judgement's refusal, or the answer for the accepted hour's exports, its prices and these pairs.
+fn hour_intuitive_in(
+    case: &[u8],
+    proposal: &[u8],
+    pairs: &[u8],
+    scratch: &mut [i64],
+    n: usize,
+) -> Carried
+    requires { ⌜ 96 ≤ n ⌝ }
+    ensures { λ r. ⌜ Kept (now («case» .entry)) (now (proposal .entry)) (now (pairs .entry)) n (now (scratch .entry)) r (now (scratch .exit)) ⌝ }
 {
     let found = find(case, proposal);
     let judged = found.verdict;
@@ -89,5 +94,36 @@ pub fn hour_intuitive(case: &[u8], proposal: &[u8], pairs: &[u8], scratch: &mut 
     let prices = found.prices;
     let exports = turned(nets, zones);
     let list = listed(prices, zones);
-    intuitive(&exports[..zones], &list[..zones], pairs, scratch)
+    intuitive_in(&exports[..zones], &list[..zones], pairs, scratch, n)
+}
+
+// The judgement's number and index where the hour is not accepted; else the answer for its exports, its prices and these pairs. As `host` exports it.
+pub fn hour_intuitive(case: &[u8], proposal: &[u8], pairs: &[u8], scratch: &mut [i64]) -> Carried
+    ensures outcome { λ r. ⌜ verdict (r .number) (r .index) ≡ hourOutcome (now («case» .entry)) (now (proposal .entry)) (now (pairs .entry)) scratchRoom (length (now (scratch .entry))) ⌝ }
+    ensures yes { λ r. ⌜ (r .number ≡ 0 → r .intuitive ≡ 1 → CarriesAll (hourNetwork (now («case» .entry)) (now (proposal .entry)) (now (pairs .entry)))) ⌝ }
+    ensures no { λ r. ⌜ (r .number ≡ 0 → r .intuitive ≡ 0 → Excess (hourNetwork (now («case» .entry)) (now (proposal .entry)) (now (pairs .entry)))) ⌝ }
+    ensures yes_or_no { λ r. ⌜ r .intuitive < 2 ⌝ }
+    ensures largest { λ r. ⌜ (r .number ≡ 0 → LargestTotal (hourNetwork (now («case» .entry)) (now (proposal .entry)) (now (pairs .entry))) (r .total .0)) ⌝ }
+    ensures scratch { λ r. ⌜ now (scratch .exit) ≡ hourScratch (now («case» .entry)) (now (proposal .entry)) (now (pairs .entry)) scratchRoom (now (scratch .entry)) ⌝ }
+    ensures refused { λ r. ⌜ (0 < r .number → (r .intuitive ≡ 0) × (r .total .0 ≡ pos 0)) ⌝ }
+{
+    hour_intuitive_in(case, proposal, pairs, scratch, SCRATCH)
+}
+
+// The same from 96 numbers of scratch (S-13), as `host` exports it.
+pub fn hour_intuitive_small(
+    case: &[u8],
+    proposal: &[u8],
+    pairs: &[u8],
+    scratch: &mut [i64],
+) -> Carried
+    ensures outcome { λ r. ⌜ verdict (r .number) (r .index) ≡ hourOutcome (now («case» .entry)) (now (proposal .entry)) (now (pairs .entry)) smallRoom (length (now (scratch .entry))) ⌝ }
+    ensures yes { λ r. ⌜ (r .number ≡ 0 → r .intuitive ≡ 1 → CarriesAll (hourNetwork (now («case» .entry)) (now (proposal .entry)) (now (pairs .entry)))) ⌝ }
+    ensures no { λ r. ⌜ (r .number ≡ 0 → r .intuitive ≡ 0 → Excess (hourNetwork (now («case» .entry)) (now (proposal .entry)) (now (pairs .entry)))) ⌝ }
+    ensures yes_or_no { λ r. ⌜ r .intuitive < 2 ⌝ }
+    ensures largest { λ r. ⌜ (r .number ≡ 0 → LargestTotal (hourNetwork (now («case» .entry)) (now (proposal .entry)) (now (pairs .entry))) (r .total .0)) ⌝ }
+    ensures scratch { λ r. ⌜ now (scratch .exit) ≡ hourScratch (now («case» .entry)) (now (proposal .entry)) (now (pairs .entry)) smallRoom (now (scratch .entry)) ⌝ }
+    ensures refused { λ r. ⌜ (0 < r .number → (r .intuitive ≡ 0) × (r .total .0 ≡ pos 0)) ⌝ }
+{
+    hour_intuitive_in(case, proposal, pairs, scratch, SMALL_SCRATCH)
 }

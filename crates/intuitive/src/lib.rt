@@ -1,4 +1,4 @@
-// Intuitive hours (request S-3): whether an hour's exchanges can all go from lower or equal price to higher, and the largest total that can.
+// Intuitive hours (requests S-3 and S-13): whether an hour's exchanges can all go from lower or equal price to higher, and the largest total that can.
 ghost use mathlib.Core.Path.{_≡_};
 ghost use Prim.Native.Nat.{_≤_, _<_};
 ghost use lib.ListN.{length};
@@ -7,6 +7,7 @@ ghost use Rattle.rows.specs.Meaning.Rows.{verdict};
 ghost use Rattle.zone_pairs.specs.Meaning.Pairs.{networkOf};
 ghost use Rattle.transports.specs.Meaning.Network.{CarriesAll, Excess};
 ghost use Rattle.intuitive.specs.Meaning.Intuitive.{intuitiveOutcome, LargestTotal, intuitiveScratch};
+ghost use Rattle.intuitive.specs.Meaning.SmallBoard.{smallRoom};
 ghost use Rattle.intuitive.specs.Steps.Answers.{flagOf, Met};
 use largest_transport::largest_transport;
 use measures::Raw;
@@ -30,8 +31,10 @@ pub struct Carried {
     pub total: Tenths,
 }
 
-// So many numbers of scratch are lent.
-const SCRATCH: usize = 324;
+// So many numbers of scratch are lent, and on the smaller board.
+pub const SCRATCH: usize = 324;
+
+pub const SMALL_SCRATCH: usize = 96;
 
 fn outcome(number: u32, index: usize) -> Outcome
     requires { ⌜ index < 4294967296 ⌝ }
@@ -89,7 +92,13 @@ fn volume(total: u64) -> Tenths
 }
 
 // With n numbers of scratch, of which the board takes 96.
-fn intuitive_in(net: &[i64], prices: &[i64], pairs: &[u8], scratch: &mut [i64], n: usize) -> Carried
+pub fn intuitive_in(
+    net: &[i64],
+    prices: &[i64],
+    pairs: &[u8],
+    scratch: &mut [i64],
+    n: usize,
+) -> Carried
     requires { ⌜ 96 ≤ n ⌝ }
     ensures { λ r. ⌜ Met (now (net .entry)) (now (prices .entry)) (now (pairs .entry)) n (now (scratch .entry)) r (now (scratch .exit)) ⌝ }
 {
@@ -128,4 +137,22 @@ pub fn intuitive(
     ensures refused { λ r. ⌜ (0 < r .number → (r .intuitive ≡ 0) × (r .total .0 ≡ pos 0)) ⌝ }
 {
     intuitive_in(net_exports, zone_prices, pairs, scratch, SCRATCH)
+}
+
+// The same from 96 numbers of scratch (S-13), as `host` exports it.
+pub fn intuitive_small(
+    net_exports: &[i64],
+    zone_prices: &[i64],
+    pairs: &[u8],
+    scratch: &mut [i64],
+) -> Carried
+    ensures outcome { λ r. ⌜ verdict (r .number) (r .index) ≡ intuitiveOutcome (now («net_exports» .entry)) (now («zone_prices» .entry)) (now (pairs .entry)) smallRoom (length (now (scratch .entry))) ⌝ }
+    ensures yes { λ r. ⌜ (r .number ≡ 0 → r .intuitive ≡ 1 → CarriesAll (networkOf (now («net_exports» .entry)) (now («zone_prices» .entry)) (now (pairs .entry)))) ⌝ }
+    ensures no { λ r. ⌜ (r .number ≡ 0 → r .intuitive ≡ 0 → Excess (networkOf (now («net_exports» .entry)) (now («zone_prices» .entry)) (now (pairs .entry)))) ⌝ }
+    ensures yes_or_no { λ r. ⌜ r .intuitive < 2 ⌝ }
+    ensures largest { λ r. ⌜ (r .number ≡ 0 → LargestTotal (networkOf (now («net_exports» .entry)) (now («zone_prices» .entry)) (now (pairs .entry))) (r .total .0)) ⌝ }
+    ensures scratch { λ r. ⌜ now (scratch .exit) ≡ intuitiveScratch (now («net_exports» .entry)) (now («zone_prices» .entry)) (now (pairs .entry)) smallRoom (now (scratch .entry)) ⌝ }
+    ensures refused { λ r. ⌜ (0 < r .number → (r .intuitive ≡ 0) × (r .total .0 ≡ pos 0)) ⌝ }
+{
+    intuitive_in(net_exports, zone_prices, pairs, scratch, SMALL_SCRATCH)
 }

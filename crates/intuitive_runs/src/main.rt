@@ -1,9 +1,12 @@
-// Hours through the entry of request S-3: 001's two price sets, hours whose answer is known, and one input for each cause. Printed for each is its name, then
-// number, index, 1 for a yes or 0, the total in tenths, and how many numbers at the scratch's start are zero; all are 7 before.
+// Hours through the entries of requests S-3 and S-13: 001's two price sets, hours whose answer is known, and one input for each cause. Printed for each is its
+// name, then on the wide board and after it on the smaller number, index, 1 for a yes or 0, the total in tenths, and how many numbers at the scratch's start are
+// zero; all are 7 before.
 use intuitive::Carried;
 use libc::STDOUT_FILENO;
 
 const ROOM: usize = 330;
+
+const SMALL_ROOM: usize = 102;
 
 fn print(text: &[u8]) {
     io::write_all(STDOUT_FILENO, text);
@@ -37,24 +40,34 @@ fn told(r: Carried, zeros: u64) {
     counted(r.intuitive as u64);
     counted(r.total.bits().0);
     print_count(zeros);
-    print(b"\n");
 }
 
-fn answer(name: &[u8], net: &[i64], prices: &[i64], pairs: &[u8], scratch: &mut [i64]) {
+fn wide(name: &[u8], net: &[i64], prices: &[i64], pairs: &[u8], scratch: &mut [i64]) {
     let r = intuitive::intuitive(net, prices, pairs, scratch);
     print(name);
     print(b": ");
     told(r, zeros(scratch));
 }
 
+fn small(net: &[i64], prices: &[i64], pairs: &[u8], scratch: &mut [i64]) {
+    let r = intuitive::intuitive_small(net, prices, pairs, scratch);
+    print(b"; ");
+    told(r, zeros(scratch));
+    print(b"\n");
+}
+
 fn run(name: &[u8], net: &[i64], prices: &[i64], pairs: &[u8]) {
     let mut scratch = [7i64; ROOM];
-    answer(name, net, prices, pairs, &mut scratch);
+    wide(name, net, prices, pairs, &mut scratch);
+    let mut board = [7i64; SMALL_ROOM];
+    small(net, prices, pairs, &mut board);
 }
 
 fn run_short(name: &[u8], net: &[i64], prices: &[i64], pairs: &[u8]) {
     let mut scratch = [7i64; 323];
-    answer(name, net, prices, pairs, &mut scratch);
+    wide(name, net, prices, pairs, &mut scratch);
+    let mut board = [7i64; 95];
+    small(net, prices, pairs, &mut board);
 }
 
 // 001, annex 5.1: five zones, with pairs AB, AC, BE, CD and DE both ways.
@@ -376,7 +389,7 @@ fn run_85() {
     let net = NET;
     let prices = PRICES;
     let pairs = PAIRS;
-    run_short(b"85, a scratch of 323", &net, &prices, &pairs);
+    run_short(b"85, a scratch of 323 and of 95", &net, &prices, &pairs);
     run_short(b"84 before 85", &net, &prices, &[0u8, 0]);
 }
 

@@ -1,21 +1,62 @@
--- From the whole table to the judgement's contract: the outcome, the buffer, and what is promised in the numbers that the report's bytes hold.
--- Assumes nothing.
+-- From the whole table to the judgement's contract: the outcome, the buffer, and what is promised in the numbers that the report's bytes hold; without a family
+-- list and with one. Assumes nothing.
 use mathlib.Core.Path.{_≡_, sym, ap, subst, _∙_}
 use mathlib.Core.List.{List}
+use mathlib.Core.Option.{none, some}
 use Prim.Native.Nat.{ℕ}
 use lib.ListN.{length}
+use lib.Dec.{T}
 use Rattle.rules.specs.Meaning.Hour.{caseOf, planOf, pricesOf}
-use Rattle.rules.specs.Meaning.Verdict.{table, outcome}
-use Rattle.rules.specs.Meaning.Report.{Reported, bufferAfter}
+use Rattle.rules.specs.Meaning.Verdict.{table, outcome, familyOutcome}
+use Rattle.rules.specs.Meaning.Report.{Reported, reports, bufferAfter, familyBufferAfter}
 use Rattle.rules.specs.Promised.Reported.{reported}
-use Rattle.rules.specs.Meaning.Promise.{TotalsReported, Allowed, Accurate, GapWithin, HasLink, Covered, Best, CoveredInFull}
+use Rattle.rules.specs.Meaning.Promise.{TotalsReported, Allowed, Accurate, GapWithin, HasLink, Covered, Best, CoveredInFull, FamilyTotalsReported, FamiliesKept}
 use Rattle.rules.specs.Promised.Guarantee.{Accepted, Demand3, demand-3}
+use Rattle.rules.specs.Promised.Families.{accepted-without, family-buffer, family-reported}
 use Rattle.rules.specs.Meaning.AnnexPromise.{AnnexDemand3}
 use Rattle.rules.specs.Promised.Annex.AnnexHour.{annex-demand-3}
 use Rattle.rows.specs.declared.Outcome.{Outcome}
+use Rattle.family_list.specs.Promised.FamilyList.{families-kept}
 use Rattle.judgement.specs.Judged.{Judged}
 
-module _ (s t b : List ℕ) (r : Outcome) (b′ : List ℕ) (j : Judged (table s t (length b) (caseOf s) (planOf s t) (pricesOf s t)) s t b r b′) where
+-- WHAT IS PROMISED OF AN ACCEPTED HOUR, for the buffer b′ afterwards, with a list and without; A says that it is accepted
+abbrev pub DemandsIf : Type 0 → List ℕ → List ℕ → List ℕ → Type 0
+DemandsIf A s t b′ = (A → Allowed s t)
+    × ((A → Accurate s b′)
+    × ((A → GapWithin s b′)
+    × ((A → HasLink s → Covered b′)
+    × ((A → Best s b′)
+    × ((A → HasLink s → CoveredInFull b′)
+    × (A → AnnexDemand3 s t b′))))))
+
+pub demands-from : {A B : Type 0} (s t b′ : List ℕ) → (B → A) → DemandsIf A s t b′ → DemandsIf B s t b′
+demands-from s t b′ f d = (
+  λ e. d .0 (f e),
+  (λ e. d .1 .0 (f e), (λ e. d .1 .1 .0 (f e), (λ e. d .1 .1 .1 .0 (f e), (λ e. d .1 .1 .1 .1 .0 (f e), (λ e. d .1 .1 .1 .1 .1 .0 (f e), λ e. d .1 .1 .1 .1 .1 .1 (f e)))))),
+)
+
+abbrev pub Demands : List ℕ → List ℕ → Outcome → List ℕ → Type 0
+Demands s t r b′ = DemandsIf (r .number ≡ 0) s t b′
+
+-- from an hour that is accepted without a list, and whose buffer is the one of that
+module _ (s t b : List ℕ) (r : Outcome) (b′ : List ℕ) (accepted : r .number ≡ 0 → Accepted s t (length b)) (same : r .number ≡ 0 → b′ ≡ bufferAfter s t b) where
+  kept : r .number ≡ 0 → Demand3 s t b′
+  kept e = subst (λ (x : List ℕ). Demand3 s t x) (sym (same e)) (demand-3 s t b (accepted e))
+
+  annexed : r .number ≡ 0 → AnnexDemand3 s t b′
+  annexed e = subst (λ (x : List ℕ). AnnexDemand3 s t x) (sym (same e)) (annex-demand-3 s t b (accepted e))
+
+  demands : Demands s t r b′
+  demands = (
+    λ e. (kept e) .is-allowed,
+    (
+      λ e. (kept e) .is-accurate,
+      (λ e. (kept e) .gap-in, (λ e. (kept e) .is-covered, (λ e. (kept e) .is-best, (λ e. (kept e) .covered-in-full, annexed)))),
+    ),
+  )
+
+-- WITHOUT A LIST
+module _ (s t b : List ℕ) (r : Outcome) (b′ : List ℕ) (j : Judged (table none s t (length b) (caseOf s) (planOf s t) (pricesOf s t)) s t b r b′) where
   answered : r ≡ outcome s t (length b)
   unfolding outcome
   answered = j .given
@@ -24,52 +65,38 @@ module _ (s t b : List ℕ) (r : Outcome) (b′ : List ℕ) (j : Judged (table s
   unfolding outcome bufferAfter
   buffered = j .buffer
 
-  accepted : r .number ≡ 0 → Accepted s t (length b)
-  accepted e = record { answer = sym (ap (λ (v : Outcome). v .number) answered) ∙ e }
-
-  kept : r .number ≡ 0 → Demand3 s t b′
-  kept e = subst (λ (x : List ℕ). Demand3 s t x) (sym buffered) (demand-3 s t b (accepted e))
-
-  annexed : r .number ≡ 0 → AnnexDemand3 s t b′
-  annexed e = subst (λ (x : List ℕ). AnnexDemand3 s t x) (sym buffered) (annex-demand-3 s t b (accepted e))
-
   totals : TotalsReported s t (length b) b′
   totals w = subst (λ (x : List ℕ). Reported ((outcome s t (length b)) .number) (caseOf s) (planOf s t) (pricesOf s t) x) (sym buffered) (reported s t b w)
 
-  pub promises : (r ≡ outcome s t (length b)) × ((b′ ≡ bufferAfter s t b)
-      × (TotalsReported s t (length b) b′
-      × ((r .number ≡ 0 → Allowed s t)
-      × ((r .number ≡ 0 → Accurate s b′)
-      × ((r .number ≡ 0 → GapWithin s b′)
-      × ((r .number ≡ 0 → HasLink s → Covered b′)
-      × ((r .number ≡ 0 → Best s b′)
-      × ((r .number ≡ 0 → HasLink s → CoveredInFull b′)
-      × (r .number ≡ 0 → AnnexDemand3 s t b′)))))))))
-  promises = (
-    answered,
+  pub promises : (r ≡ outcome s t (length b)) × ((b′ ≡ bufferAfter s t b) × (TotalsReported s t (length b) b′ × Demands s t r b′))
+  promises = (answered, (buffered, (totals, demands s t b r b′ (λ e. record { answer = sym (ap (λ (v : Outcome). v .number) answered) ∙ e }) (λ e. buffered))))
+
+-- WITH THE FAMILY LIST f (S-11)
+module _ (s t f b : List ℕ) (r : Outcome) (b′ : List ℕ) (j : Judged (table (some f) s t (length b) (caseOf s) (planOf s t) (pricesOf s t)) s t b r b′) where
+  family-answered : r ≡ familyOutcome s t f (length b)
+  unfolding familyOutcome
+  family-answered = j .given
+
+  family-buffered : b′ ≡ familyBufferAfter s t f b
+  unfolding familyOutcome familyBufferAfter
+  family-buffered = j .buffer
+
+  zero : r .number ≡ 0 → (familyOutcome s t f (length b)) .number ≡ 0
+  zero e = sym (ap (λ (v : Outcome). v .number) family-answered) ∙ e
+
+  same-buffer : r .number ≡ 0 → b′ ≡ bufferAfter s t b
+  unfolding reports
+  same-buffer e = family-buffered ∙ family-buffer s t f b (subst (λ (n : ℕ). T (reports n)) (sym (zero e)) tt)
+
+  pub family-promises : (r ≡ familyOutcome s t f (length b))
+      × ((b′ ≡ familyBufferAfter s t f b) × (FamilyTotalsReported s t f (length b) b′ × ((r .number ≡ 0 → FamiliesKept s t f) × Demands s t r b′)))
+  family-promises = (
+    family-answered,
     (
-      buffered,
+      family-buffered,
       (
-        totals,
-        (
-          λ e. (kept e) .is-allowed,
-          (
-            λ e. (kept e) .is-accurate,
-            (
-              λ e. (kept e) .gap-in,
-              (
-                λ e. (kept e) .is-covered,
-                (
-                  λ e. (kept e) .is-best,
-                  (
-                    λ e. (kept e) .covered-in-full,
-                    annexed,
-                  ),
-                ),
-              ),
-            ),
-          ),
-        ),
+        subst (λ (x : List ℕ). FamilyTotalsReported s t f (length b) x) (sym family-buffered) (family-reported s t f b),
+        (λ e. families-kept s t f (length b) (zero e), demands s t b r b′ (λ e. accepted-without s t f (length b) (zero e)) same-buffer),
       ),
     ),
   )

@@ -1,2 +1,3 @@
--- WHAT A CONSTRUCTOR ANSWERS, by the limits
+-- WHAT A CONSTRUCTOR ANSWERS, by the limits, and a load at a price
 pub mod Held
+pub mod Cost

@@ -49,8 +49,8 @@ pub fn admit(zones: usize, zone: usize, side: u8, quantity: u32, price: Raw) -> 
     })
 }
 
-// How far an order's price lies on the good side of its zone's.
-fn above(buys: bool, price: Grains, at: Grains) -> Grains
+// How far an order's price lies on the good side of its zone's, in grains.
+pub fn above(buys: bool, price: Grains, at: Grains) -> Grains
     requires { ⌜ Within limits.zonePrice (price .0) ⌝ }
     requires { ⌜ Within limits.zonePrice (at .0) ⌝ }
     ensures { λ r. ⌜ r .0 ≡ rules.above buys (price .0) (at .0) ⌝ }

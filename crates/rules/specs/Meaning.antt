@@ -2,6 +2,7 @@
 pub mod Layout
 pub mod Hour
 pub mod Clearing
+pub mod Families
 pub mod Verdict
 pub mod Report
 pub mod Versions

@@ -15,5 +15,9 @@ pub mod Contracted
 pub mod Versions
 -- S-6: hours without links
 pub mod NoLinks
+-- S-11: what a family list changes
+pub mod Families
+-- S-12: wide tolerances
+pub mod Tolerance
 -- in the terms of Annex 14.29
 pub mod Annex

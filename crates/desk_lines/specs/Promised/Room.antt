@@ -103,18 +103,21 @@ later-short s t n =
                       (
                         at-offset 14 _ _ tt (in-file (shadowPart s t) (shadows-adjacent s t) (proposal-bytes s n)),
                         (
-                          placed 21 _ tt orders,
+                          fixed 15 0 tt tt,
                           (
-                            fixed 22 0 tt tt,
+                            placed 21 _ tt orders,
                             (
-                              fixed 27 0 tt tt,
+                              fixed 22 0 tt tt,
                               (
-                                placed 23 _ tt links,
+                                fixed 27 0 tt tt,
                                 (
-                                  placed 24 _ tt branches,
+                                  placed 23 _ tt links,
                                   (
-                                    placed 25 _ tt zones,
-                                    (fixed 26 0 tt tt, tt),
+                                    placed 24 _ tt branches,
+                                    (
+                                      placed 25 _ tt zones,
+                                      (fixed 26 0 tt tt, tt),
+                                    ),
                                   ),
                                 ),
                               ),

@@ -10,7 +10,7 @@ use Rattle.rules.specs.Meaning.Hour.{caseOf, planOf, pricesOf}
 use Rattle.rows.specs.declared.Outcome.{Outcome}
 use Rattle.rows.specs.Meaning.Rows.{Row, refusal, answer}
 use Rattle.rows.specs.Promised.RowLaws.{field-passes, else-refusal, refusal-append}
-use Rattle.rules.specs.Meaning.Verdict.{roomRows, caseRows, proposalRows, clearingRows, table, outcome, headerRefusal, caseHeaderRows, caseBodyRows}
+use Rattle.rules.specs.Meaning.Verdict.{roomRows, caseRows, proposalRows, judgementRows, table, outcome, headerRefusal, caseHeaderRows, caseBodyRows}
 use Rattle.case_header.specs.Answer.{countsOf}
 use Rattle.case_header.specs.Opened.{Limited, limited, links-bound}
 
@@ -19,7 +19,7 @@ abbrev pub headerRows : List ℕ → List Row
 headerRows s = caseHeaderRows s (caseOf s)
 
 abbrev pub laterRows : List ℕ → List ℕ → List Row
-laterRows s t = caseBodyRows s (caseOf s) ++ (proposalRows s t (caseOf s) (planOf s t) (pricesOf s t) ++ clearingRows (caseOf s) (planOf s t) (pricesOf s t))
+laterRows s t = caseBodyRows s (caseOf s) ++ (proposalRows s t (caseOf s) (planOf s t) (pricesOf s t) ++ judgementRows none (caseOf s) (planOf s t) (pricesOf s t))
 
 -- with a report buffer of 176 bytes, an hour is refused by its header's rows, else by the later ones
 pub outcome-by-header : (s t : List ℕ) → outcome s t reportRoom ≡ answer (else-refusal (headerRefusal s) (refusal (laterRows s t)))

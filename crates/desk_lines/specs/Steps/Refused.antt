@@ -13,7 +13,7 @@ use Rattle.rules.specs.Meaning.Hour.{caseOf, planOf, pricesOf}
 use Rattle.rows.specs.declared.Outcome.{Outcome}
 use Rattle.rows.specs.Meaning.Rows.{Row, verdict, firstBelow, refusal, answer, once}
 use Rattle.rows.specs.Promised.RowLaws.{field-passes, else-refusal, refusal-append, lacks, not-refused, behind}
-use Rattle.rules.specs.Meaning.Verdict.{under, differ, notMark, roomRows, caseRows, proposalRows, clearingRows, table, outcome, caseRefusal, headerRefusal}
+use Rattle.rules.specs.Meaning.Verdict.{under, differ, notMark, roomRows, caseRows, proposalRows, judgementRows, table, outcome, caseRefusal, headerRefusal}
 use Rattle.rules.specs.Meaning.Report.{reports}
 use Rattle.desk_lines.specs.Steps.Header.{headerRows, laterRows, outcome-by-header}
 use Rattle.desk_lines.specs.Steps.Judged.{one-line}
@@ -66,7 +66,7 @@ module _ (s t : List ℕ) (h : proposalLength s < length t) where
       )
     where
       later : List Row
-      later = proposalRows s t (caseOf s) (planOf s t) (pricesOf s t) ++ clearingRows (caseOf s) (planOf s t) (pricesOf s t)
+      later = proposalRows s t (caseOf s) (planOf s t) (pricesOf s t) ++ judgementRows none (caseOf s) (planOf s t) (pricesOf s t)
 
       wrong : differ (length t) (proposalLength s) ≡ true
       wrong = ap not (ne-eqb (length t) (proposalLength s) (λ e. omega arith))

@@ -1,42 +1,24 @@
--- `findings::find_clearing` meets its contract: a row of the table for each stage, in the table's order, past each that passes to the one that fails.
--- A stage reaches what it rests on through the stage before it, so that a row put between two others is met by the one that follows it. Assumes nothing.
-use mathlib.Core.Path.{_≡_, refl, ap, sym, subst, _∙_}
-use mathlib.Core.Bool.{not, _&&_}
-use mathlib.Core.List.{List}
+-- `findings::find_clearing` meets its contract: row 21, row 28 where there is a family list, and what is found behind them. Assumes nothing.
+use mathlib.Core.Path.{_≡_, refl, ap, _∙_}
+use mathlib.Core.List.{List, _++_}
 use mathlib.Core.Option.{Option, none, some}
-use Prim.Native.Nat.{ℕ, _≤_, _<_}
+use Prim.Native.Nat.{ℕ, _≤_}
 use native.Mathlib.Omega.{arith}
 use borrow.Author.Needs.{needs}
 use denote.Ref.{now}
-use lib.Dec.{T, eqb}
-use lib.IntN.{ℤ, pos, _-ℤ_, _*ℤ_}
-use lib.Signed.{ltZ}
-use mir.Syntax.{w64}
-use Rattle.integers.specs.Ranges.{isZero, outside, within}
-use Rattle.integers.specs.Sums.{sumTo, sum-ext}
-use Rattle.integers.specs.Size.{near-fits, near-sub, near-pos, near-unsigned}
-use Rattle.integers.specs.Machine.{SumsFit, sfits-by}
-use Rattle.measures.specs.Meaning.Limits as limits
-use Rattle.measures.specs.Meaning.Limits.{microcentsOf}
-use Rattle.rules.specs.Meaning.Hour.{Case, Plan, Prices, caseOf, planOf, pricesOf, net, netSum, zonePrice, noLink, gap, rent}
-use Rattle.rows.specs.declared.Outcome.{Outcome}
-use Rattle.rows.specs.Meaning.Rows.{Row, verdict, failing, firstBelow}
-use Rattle.rows.specs.Promised.RowLaws.{placeOf, Comes, clear, fails-at, none-left, once-fails, once-passes, behind, not-below, at-place, at-none, first-ext, place-below}
-use Rattle.rules.specs.Meaning.Verdict.{over, overZ, excessVolume, overusedLink, overloadedBranch, priceOutside, clearingRows}
-use Rattle.rules.specs.Steps.Passed.{CaseSound, case-sound, proposal-sound}
-use Rattle.rules.specs.Promised.Fits.{balance-sums, rent-sums, system-near}
-use Rattle.rules.specs.Meaning.Report as rules
-use Rattle.rules.specs.Meaning.Report.{totalsOf, reports}
-use Rattle.case_header.specs.declared.Counts.{Counts}
-use Rattle.proposal_file.specs.declared.Opening.{Opening}
-use Rattle.clearing.specs.Held.{tenthsAt, Holds}
-use Rattle.clearing.specs.Stages.{VolumesIn, volumes-in, flows-in, fit-ext}
-use Rattle.network.specs.Prices.{grainsAt, Priced}
-use Rattle.findings.specs.Found.{finds-refused, finds-valued}
+use Rattle.rules.specs.Meaning.Hour.{Case, Plan, Prices, caseOf, planOf, pricesOf}
+use Rattle.rows.specs.Meaning.Rows.{verdict, failing, refusal}
+use Rattle.rows.specs.Promised.RowLaws.{placeOf, row-found, row-clear, at-place, at-none, place-below}
+use Rattle.rules.specs.Meaning.Verdict.{excessVolume, exchangeRows, fractionRows, clearingRows}
+use Rattle.rules.specs.Meaning.Report.{reports}
+use Rattle.rules.specs.Steps.Passed.{case-sound}
+use Rattle.clearing.specs.Stages.{volumes-in}
+use Rattle.findings.specs.Found.{listOf, finds-refused, same-rows}
+use Rattle.findings.specs.Listed.{fractionPlace, place-few, fraction-over, fractions-within}
 use Rattle.findings.proofs.find_clearing.Statement.{statement}
 use Rattle.findings.proofs.find_clearing.Tie as tie
 
--- the hour that is judged, and its rows
+-- the hour that is judged, and its list
 abbrev hour : tie.Start → Case
 hour a = caseOf (now (a .args .«case»))
 
@@ -46,41 +28,19 @@ plan a = planOf (now (a .args .«case»)) (now (a .args .proposal))
 abbrev rates : tie.Start → Prices
 rates a = pricesOf (now (a .args .«case»)) (now (a .args .proposal))
 
-abbrev rows : tie.Start → List Row
-rows a = clearingRows (hour a) (plan a) (rates a)
+abbrev list : tie.Start → Option (List ℕ)
+list a = listOf (a .args .listed) (now (a .args .families))
 
--- the rows up to that of a number pass
-abbrev Past : tie.Start → ℕ → Type 0
-Past a n = (o : Option Outcome) → Comes (behind n (rows a)) o → Comes (rows a) o
+few-orders : (a : tie.Start) → hour a .orders ≤ 512
+few-orders a = (case-sound _ (a .pre .0 .opened .readable)) .orders-in
 
-sound : (a : tie.Start) → CaseSound (hour a)
-sound a = case-sound _ (a .pre .0 .opened .readable)
-
-zones-is : (a : tie.Start) → a .args .k .zones ≡ hour a .zones
-unfolding caseOf
-zones-is a = ap (λ (k : Counts). k .zones) (a .pre .0 .opened .counts)
-
-few-zones : (a : tie.Start) → a .args .k .zones ≤ 16
-few-zones a = omega (arith, zones-is a, (sound a) .zones-in .1)
-
-links-is : (a : tie.Start) → a .args .k .links ≡ hour a .links
-unfolding caseOf
-links-is a = ap (λ (k : Counts). k .links) (a .pre .0 .opened .counts)
-
-share-is : (a : tie.Start) → a .args .opening .share .0 ≡ pos (plan a .share)
-unfolding planOf
-share-is a = ap (λ (o : Opening). o .share .0) (a .pre .1)
-
-share-in : (a : tie.Start) → plan a .share ≤ 100000
-share-in a = (proposal-sound _ _ (a .pre .0 .passed)) .share-in
-
--- 21, THE VOLUMES
 abbrev asked : tie.After-order-sums → tie.Start
 asked c = c .before .before .before .before
 
 abbrev orders : tie.After-enum-told → tie.After-order-sums
 orders c = c .before .before
 
+-- 21
 order-sums-requires : tie.Need-order-sums-requires
 order-sums-requires c κs = search needs
 
@@ -91,11 +51,14 @@ excess-at : (c : tie.After-excess) → failing (excessVolume (hour (asked (c .be
 excess-at c = at-place _ _ _ (c .before .before .order-sums .ensures .0) (c .excess .given .1)
 
 refused-requires : tie.Need-refused-requires
-refused-requires c κs = let o = c .before in place-below _ _ _ 4294967296 (excess-at o) (omega (arith, (sound (asked (o .before .before))) .orders-in))
+refused-requires c κs = let o = c .before in place-below _ _ _ 4294967296 (excess-at o) (omega (arith, few-orders (asked (o .before .before))))
 
 returns : tie.Need-returns
 unfolding clearingRows reports
-returns c = finds-refused (verdict 21 _) (c .refused .ensures) refl ((fails-at _ (excess-at (c .before .before))) .is)
+returns c =
+    let o = c .before .before in
+    let a = asked (o .before .before) in
+    finds-refused (verdict 21 _) (c .refused .ensures) refl (row-found (excessVolume (hour a) (plan a)) _ _ (excess-at o))
 
 enum-told : tie.Need-enum-told
 enum-told c = search needs
@@ -103,314 +66,55 @@ enum-told c = search needs
 no-excess : (c : tie.After-enum-told) → failing (excessVolume (hour (asked (orders c))) (plan (asked (orders c)))) ≡ none
 no-excess c = at-none _ _ (orders c .order-sums .ensures .0) (c .enum-told .given .1)
 
-past-volumes : (c : tie.After-enum-told) → Past (asked (orders c)) 21
+-- 28
+abbrev volumes : tie.After-first-over → tie.After-enum-told
+volumes c = c .before
+
+abbrev hour-of : tie.After-first-over → tie.Start
+hour-of c = asked (orders (volumes c))
+
+past-volumes : (c : tie.After-enum-told) → let a = asked (orders c) in refusal (clearingRows (list a) (hour a) (plan a) (rates a)) ≡ refusal (fractionRows (list a) (hour a) (plan a) ++ exchangeRows (hour a) (plan a) (rates a))
 unfolding clearingRows
-past-volumes c o q = clear (no-excess c) q
+past-volumes c = let a = asked (orders c) in row-clear (excessVolume (hour a) (plan a)) _ (no-excess c)
 
-volumes : (c : tie.After-enum-told) → VolumesIn (hour (asked (orders c))) (plan (asked (orders c)))
-volumes c = volumes-in (no-excess c)
+first-over-requires : tie.Need-first-over-requires
+first-over-requires c κs = let a = asked (orders c) in (a .pre .0, (volumes-in (no-excess c), a .pre .1 .1))
 
-nets : (c : tie.After-enum-told) → Holds (net (hour (asked (orders c))) (plan (asked (orders c)))) (orders c .order-sums .result .nets)
-nets c = orders c .order-sums .ensures .1 .0 (ap placeOf (c .enum-told .given .1))
+enum-known-over : tie.Need-enum-known-over
+enum-known-over c = search needs
 
--- 22, THE BALANCE
-net-sum-requires : tie.Need-net-sum-requires
-net-sum-requires c κs =
-    let v = c .before in
-    let a = asked (orders v) in (
-      few-zones a,
-      fit-ext _ _ _ (λ z h. (nets v) .each z (omega (arith, few-zones a)))
-          (subst (λ (n : ℕ). SumsFit (λ z. net (hour a) (plan a) z) n) (sym (zones-is a)) (balance-sums _ (sound a) _ ((volumes v) .within))),
-    )
-
-is-zero-requires : tie.Need-is-zero-requires
-is-zero-requires c κs = search needs
-
-abbrev volumes-of : tie.After-is-zero → tie.After-enum-told
-volumes-of c = c .before .before .before
-
--- as the machine adds it up
-balance-is : (c : tie.After-is-zero) → c .is-zero .result ≡ isZero (netSum (hour (asked (orders (volumes-of c)))) (plan (asked (orders (volumes-of c)))))
-unfolding netSum
-balance-is c =
-    let v = volumes-of c in
-    let a = asked (orders v) in
-    c .is-zero .ensures
-    ∙ ap isZero (c .before .net-sum .ensures ∙ sum-ext _ _ _ (λ z h. (nets v) .each z (omega (arith, few-zones a))) ∙ ap (λ (n : ℕ). sumTo n (λ z. net (hour a) (plan a) z)) (zones-is a))
+over-at : (c : tie.After-over) → fractionPlace (list (hour-of (c .before .before))) (hour (hour-of (c .before .before))) (plan (hour-of (c .before .before))) ≡ some (c .over .given .0 .0)
+over-at c = at-place _ _ _ (c .before .before .first-over .ensures) (c .over .given .1)
 
 refused-requires-2 : tie.Need-refused-requires-2
-refused-requires-2 c κs = search needs
+refused-requires-2 c κs = let o = c .before in let a = hour-of (o .before .before) in place-few (list a) (hour a) (plan a) (few-orders a) (over-at o)
 
 returns-2 : tie.Need-returns-2
-unfolding clearingRows reports
+unfolding reports
 returns-2 c =
-    let z = c .before .before .before in
-    finds-refused (verdict 22 _) (c .refused2 .ensures) refl ((past-volumes (volumes-of z) _ (fails-at 0 (once-fails (sym (ap not (balance-is z)) ∙ c .before .if1 .taken)))) .is)
-
-past-balance : (c : tie.Else1) → Past (asked (orders (volumes-of (c .before .before)))) 22
-unfolding clearingRows
-past-balance c o q = past-volumes (volumes-of (c .before .before)) o (clear (once-passes (sym (ap not (balance-is (c .before .before))) ∙ c .if1 .left)) q)
-
--- 27, THE SHARE WITHOUT LINKS (S-6)
-share-without-link-requires : tie.Need-share-without-link-requires
-share-without-link-requires c κs = search needs
-
--- as the machine asks it
-no-domain-is : (c : tie.After-share-without-link) → let a = asked (orders (volumes-of (c .before))) in c .share-without-link .result ≡ (noLink (hour a) && over 0 (plan a .share))
-unfolding noLink
-no-domain-is c = let a = asked (orders (volumes-of (c .before))) in c .share-without-link .ensures ∙ (λ j. eqb (links-is a j) 0 && ltZ (pos 0) (share-is a j))
-
-refused-requires-3 : tie.Need-refused-requires-3
-refused-requires-3 c κs = search needs
-
-returns-3 : tie.Need-returns-3
-unfolding clearingRows reports
-returns-3 c =
-    let e = c .before .before in
-    finds-refused (verdict 27 _) (c .refused3 .ensures) refl ((past-balance e _ (fails-at 0 (once-fails (sym (no-domain-is (e .before)) ∙ c .before .if2 .taken)))) .is)
-
-past-share : (c : tie.Else2) → Past (asked (orders (volumes-of (c .before .before .before)))) 27
-unfolding clearingRows
-past-share c o q = past-balance (c .before) o (clear (once-passes (sym (no-domain-is (c .before .before)) ∙ c .if2 .left)) q)
-
--- 23, THE LINKS
-abbrev before-links : tie.After-link-sums → tie.After-enum-told
-before-links c = volumes-of (c .before .before .before .before)
-
-abbrev links-asked : tie.After-link-sums → tie.Start
-links-asked c = asked (orders (before-links c))
-
-abbrev links : tie.After-enum-told2 → tie.After-link-sums
-links c = c .before .before
-
-link-sums-requires : tie.Need-link-sums-requires
-link-sums-requires c κs =
-    let v = volumes-of (c .before .before .before) in
-    let a = asked (orders v) in
-    (a .pre .0, (volumes v, (share-is a, nets v)))
-
-enum-known-overused : tie.Need-enum-known-overused
-enum-known-overused c = search needs
-
-overused-at : (c : tie.After-overused) → failing (overusedLink (hour (links-asked (c .before .before))) (plan (links-asked (c .before .before)))) ≡ some (c .overused .given .0 .0)
-overused-at c = at-place _ _ _ (c .before .before .link-sums .ensures .0) (c .overused .given .1)
-
-refused-requires-4 : tie.Need-refused-requires-4
-refused-requires-4 c κs = let o = c .before in place-below _ _ _ 4294967296 (overused-at o) (omega (arith, (sound (links-asked (o .before .before))) .links-in))
-
-returns-4 : tie.Need-returns-4
-unfolding clearingRows reports
-returns-4 c =
     let o = c .before .before in
-    finds-refused (verdict 23 _) (c .refused4 .ensures) refl ((past-share (o .before .before .before) _ (fails-at _ (overused-at o))) .is)
+    let a = hour-of (o .before .before) in
+    finds-refused (verdict 28 _) (c .refused2 .ensures) refl (past-volumes (volumes (o .before .before)) ∙ fraction-over (list a) (hour a) (plan a) (exchangeRows (hour a) (plan a) (rates a)) _ (over-at o))
 
 enum-told-2 : tie.Need-enum-told-2
 enum-told-2 c = search needs
 
-none-overused : (c : tie.After-enum-told2) → failing (overusedLink (hour (links-asked (links c))) (plan (links-asked (links c)))) ≡ none
-none-overused c = at-none _ _ (links c .link-sums .ensures .0) (c .enum-told2 .given .1)
+none-over : (c : tie.After-enum-told2) → fractionPlace (list (hour-of (c .before .before))) (hour (hour-of (c .before .before))) (plan (hour-of (c .before .before))) ≡ none
+none-over c = at-none _ _ (c .before .before .first-over .ensures) (c .enum-told2 .given .1)
 
-past-links : (c : tie.After-enum-told2) → Past (links-asked (links c)) 23
-unfolding clearingRows
-past-links c o q = past-share (links c .before) o (clear (none-overused c) q)
+-- FROM 22 ON
+find-exchange-requires : tie.Need-find-exchange-requires
+find-exchange-requires c κs =
+    let v = volumes (c .before .before .before) in
+    let a = asked (orders v) in
+    let none-above = ap placeOf (v .enum-told .given .1) in
+    (a .pre .0, (a .pre .1 .0, (volumes-in (no-excess v), (orders v .order-sums .ensures .1 .0 none-above, orders v .order-sums .ensures .1 .1 none-above))))
 
--- 24, THE BRANCHES
-abbrev before-branches : tie.After-branch-sums → tie.After-enum-told2
-before-branches c = c .before .before .before .before
-
-abbrev branches-asked : tie.After-branch-sums → tie.Start
-branches-asked c = links-asked (links (before-branches c))
-
-abbrev branches : tie.After-enum-told3 → tie.After-branch-sums
-branches c = c .before .before
-
-ptdf-table-requires : tie.Need-ptdf-table-requires
-ptdf-table-requires c κs = search needs
-
-rest-requires : tie.Need-rest-requires
-rest-requires c κs =
-    let a = links-asked (links (c .before .before)) in
-    sfits-by w64 (ap (λ (x : ℤ). pos 100000 -ℤ x) (share-is a)) (near-fits w64 (omega arith) (near-sub (near-pos 100000) (near-unsigned _ 100000 (share-in a))))
-
-branch-sums-requires : tie.Need-branch-sums-requires
-unfolding planOf pricesOf
-branch-sums-requires c κs =
-    let l = c .before .before .before in
-    let v = before-links (links l) in
-    let a = asked (orders v) in (
-      a .pre .0,
-      (
-        volumes v,
-        (
-          flows-in (sound a) (share-in a) (none-overused l),
-          (
-            c .before .ptdf-table .ensures,
-            (
-              links l .link-sums .ensures .1 (ap placeOf (l .enum-told2 .given .1)),
-              (c .rest .ensures ∙ ap (λ (x : ℤ). pos 100000 -ℤ x) (share-is a), ap (λ (o : Opening). o .system .0) (a .pre .1)),
-            ),
-          ),
-        ),
-      ),
-    )
-
-enum-known-overloaded : tie.Need-enum-known-overloaded
-enum-known-overloaded c = search needs
-
-overloaded-at : (c : tie.After-overloaded) → failing (overloadedBranch (hour (branches-asked (c .before .before))) (plan (branches-asked (c .before .before)))) ≡ some (c .overloaded .given .0 .0)
-overloaded-at c = at-place _ _ _ (c .before .before .branch-sums .ensures .0) (c .overloaded .given .1)
-
-refused-requires-5 : tie.Need-refused-requires-5
-refused-requires-5 c κs = let o = c .before in place-below _ _ _ 4294967296 (overloaded-at o) (omega (arith, (sound (branches-asked (o .before .before))) .branches-in))
-
-returns-5 : tie.Need-returns-5
-unfolding clearingRows reports
-returns-5 c =
+returns-3 : tie.Need-returns-3
+returns-3 c =
     let o = c .before .before in
-    finds-refused (verdict 24 _) (c .refused5 .ensures) refl ((past-links (before-branches (o .before .before)) _ (fails-at _ (overloaded-at o))) .is)
-
-enum-told-3 : tie.Need-enum-told-3
-enum-told-3 c = search needs
-
-none-overloaded : (c : tie.After-enum-told3) → failing (overloadedBranch (hour (branches-asked (branches c))) (plan (branches-asked (branches c)))) ≡ none
-none-overloaded c = at-none _ _ (branches c .branch-sums .ensures .0) (c .enum-told3 .given .1)
-
-past-branches : (c : tie.After-enum-told3) → Past (branches-asked (branches c)) 24
-unfolding clearingRows
-past-branches c o q = past-links (before-branches (branches c)) o (clear (none-overloaded c) q)
-
-priced : (c : tie.After-enum-told3) → Priced (hour (branches-asked (branches c))) (rates (branches-asked (branches c))) (branches c .branch-sums .result .prices)
-priced c = branches c .branch-sums .ensures .1 .0 (ap placeOf (c .enum-told3 .given .1))
-
--- 25, THE ZONE PRICES
-abbrev before-prices : tie.After-zone-sums → tie.After-enum-told3
-before-prices c = c .before .before
-
-abbrev prices-asked : tie.After-zone-sums → tie.Start
-prices-asked c = branches-asked (branches (before-prices c))
-
-abbrev prices : tie.After-enum-told4 → tie.After-zone-sums
-prices c = c .before .before
-
--- a zone's part of the rent
-rent-term : (c : tie.After-enum-told3) (z : ℕ) → z < hour (branches-asked (branches c)) .zones
-    → tenthsAt (orders (before-links (links (before-branches (branches c)))) .order-sums .result .nets) z *ℤ grainsAt (branches c .branch-sums .result .prices) z
-    ≡ net (hour (branches-asked (branches c))) (plan (branches-asked (branches c))) z *ℤ zonePrice (hour (branches-asked (branches c))) (rates (branches-asked (branches c))) z
-rent-term c z h = λ j. (nets (before-links (links (before-branches (branches c))))) .each z (omega (arith, few-zones (branches-asked (branches c)), zones-is (branches-asked (branches c)))) j *ℤ (priced c) .each z h j
-
-zone-sums-requires : tie.Need-zone-sums-requires
-zone-sums-requires c κs =
-    let b = c .before in
-    let v = before-links (links (before-branches (branches b))) in
-    let a = branches-asked (branches b) in (
-      few-zones a,
-      record {
-        sums = λ n h e. fit-ext _ _ n (λ z l. rent-term b z (omega (arith, zones-is a)))
-            (rent-sums _ (sound a) _ (system-near _ _) ((proposal-sound _ _ (a .pre .0 .passed)) .shadow-in) _ ((volumes v) .within) n (omega (arith, zones-is a))
-            (λ z l. within limits.zonePrice _ (subst (λ (x : ℤ). T (not (outside limits.zonePrice x))) ((priced b) .each z (omega (arith, zones-is a))) (not-below _ _ e z l))));
-      },
-    )
-
--- the search over the computed prices is the table's over the zone prices
-searched : (c : tie.After-zone-sums)
-    → firstBelow (prices-asked c .args .k .zones) (λ z. outside limits.zonePrice (grainsAt (branches (before-prices c) .branch-sums .result .prices) z)) ≡ failing (priceOutside (hour (prices-asked c)) (rates (prices-asked c)))
-searched c =
-    let a = prices-asked c in
-    ap (λ (n : ℕ). firstBelow n (λ z. outside limits.zonePrice (grainsAt (branches (before-prices c) .branch-sums .result .prices) z))) (zones-is a)
-    ∙ first-ext (hour a .zones) _ _ (λ z h. ap (outside limits.zonePrice) ((priced (before-prices c)) .each z h))
-
-enum-known-outside : tie.Need-enum-known-outside
-enum-known-outside c = search needs
-
-outside-at : (c : tie.After-outside) → failing (priceOutside (hour (prices-asked (c .before .before))) (rates (prices-asked (c .before .before)))) ≡ some (c .outside .given .0 .0)
-outside-at c = let f = c .before .before in sym (searched f) ∙ at-place _ _ _ (f .zone-sums .ensures .0) (c .outside .given .1)
-
-refused-requires-6 : tie.Need-refused-requires-6
-refused-requires-6 c κs = let o = c .before in let a = prices-asked (o .before .before) in place-below _ _ _ 4294967296 (outside-at o) (omega (arith, (sound a) .zones-in .1))
-
-returns-6 : tie.Need-returns-6
-unfolding clearingRows reports
-returns-6 c =
-    let o = c .before .before in
-    finds-refused (verdict 25 _) (c .refused6 .ensures) refl ((past-branches (before-prices (o .before .before)) _ (fails-at _ (outside-at o))) .is)
-
-enum-told-4 : tie.Need-enum-told-4
-enum-told-4 c = search needs
-
-none-outside : (c : tie.After-enum-told4) → failing (priceOutside (hour (prices-asked (prices c))) (rates (prices-asked (prices c)))) ≡ none
-none-outside c = let f = prices c in sym (searched f) ∙ at-none _ _ (f .zone-sums .ensures .0) (c .enum-told4 .given .1)
-
-past-prices : (c : tie.After-enum-told4) → Past (prices-asked (prices c)) 25
-unfolding clearingRows
-past-prices c o q = past-branches (before-prices (prices c)) o (clear (none-outside c) q)
-
--- 26, THE GAP
-rent-is : (c : tie.After-enum-told4) → prices c .zone-sums .result .rent .0 ≡ rent (hour (prices-asked (prices c))) (plan (prices-asked (prices c))) (rates (prices-asked (prices c)))
-unfolding rent
-rent-is c =
-    let a = prices-asked (prices c) in
-    prices c .zone-sums .ensures .1 (ap placeOf (c .enum-told4 .given .1))
-    ∙ sum-ext _ _ _ (λ z h. rent-term (before-prices (prices c)) z (omega (arith, zones-is a)))
-    ∙ ap (λ (n : ℕ). sumTo n (λ z. net (hour a) (plan a) z *ℤ zonePrice (hour a) (rates a) z)) (zones-is a)
-
-totals-requires : tie.Need-totals-requires
-totals-requires c κs =
-    let b = before-prices (prices c) in
-    let v = before-links (links (before-branches (branches b))) in
-    let a = asked (orders v) in (
-      a .pre .0,
-      (
-        volumes v,
-        (
-          priced b,
-          (
-            record { within = λ z h. within limits.zonePrice _ (not-below _ _ (none-outside c) z h) },
-            (
-              branches b .branch-sums .ensures .1 .1 (ap placeOf (b .enum-told3 .given .1)),
-              (orders v .order-sums .ensures .1 .1 (ap placeOf (v .enum-told .given .1)), rent-is c),
-            ),
-          ),
-        ),
-      ),
-    )
-
-abbrev before-gap : tie.After-exceeds → tie.After-enum-told4
-before-gap c = c .before .before .before .before
-
-abbrev gap-asked : tie.After-exceeds → tie.Start
-gap-asked c = prices-asked (prices (before-gap c))
-
-gap-nets : (c : tie.After-exceeds) → Holds (net (hour (gap-asked c)) (plan (gap-asked c))) (orders (before-links (links (before-branches (branches (before-prices (prices (before-gap c))))))) .order-sums .result .nets)
-gap-nets c = nets (before-links (links (before-branches (branches (before-prices (prices (before-gap c)))))))
-
-exceeds-requires : tie.Need-exceeds-requires
-exceeds-requires c κs = search needs
-
-gap-is : (c : tie.After-exceeds) → c .exceeds .result ≡ overZ (microcentsOf (pos (hour (gap-asked c) .tolerance))) (gap (hour (gap-asked c)) (plan (gap-asked c)) (rates (gap-asked c)))
-unfolding totalsOf caseOf
-gap-is c =
-    c .exceeds .ensures
-    ∙ (λ j. ltZ (ap (λ (k : Counts). k .tolerance .0) (gap-asked c .pre .0 .opened .counts) j) (ap (λ (x : rules.Totals). x .gap) (c .before .before .before .totals .ensures) j))
-
-valued-requires : tie.Need-valued-requires
-valued-requires c κs = search needs
-
-returns-7 : tie.Need-returns-7
-unfolding clearingRows reports
-returns-7 c =
-    let e = c .before .before in
-    finds-valued 26 _ _ _ _ (some (verdict 26 0)) (c .valued .ensures) refl refl (past-prices (before-gap e) _ (fails-at 0 (once-fails (sym (gap-is e) ∙ c .before .if3 .taken))))
-    (few-zones (gap-asked e)) (zones-is (gap-asked e)) (gap-nets e) (priced (before-prices (prices (before-gap e)))) (e .before .before .before .totals .ensures)
-
-valued-requires-2 : tie.Need-valued-requires-2
-valued-requires-2 c κs = search needs
-
-returns-8 : tie.Need-returns-8
-unfolding clearingRows reports
-returns-8 c =
-    let e = c .before .before in
-    finds-valued 0 _ _ _ _ none (c .valued2 .ensures) refl refl (past-prices (before-gap e) _ (clear (once-passes (sym (gap-is e) ∙ c .before .if3 .left)) none-left))
-    (few-zones (gap-asked e)) (zones-is (gap-asked e)) (gap-nets e) (priced (before-prices (prices (before-gap e)))) (e .before .before .before .totals .ensures)
+    let a = hour-of (o .before .before) in
+    same-rows (past-volumes (volumes (o .before .before)) ∙ fractions-within (list a) (hour a) (plan a) (exchangeRows (hour a) (plan a) (rates a)) (none-over o)) (c .find-exchange .ensures)
 
 pub find-clearing-spec : {M : Type 1} → statement M
 find-clearing-spec =
@@ -421,33 +125,10 @@ find-clearing-spec =
     refused-requires
     returns
     enum-told
-    net-sum-requires
-    is-zero-requires
-    share-without-link-requires
+    first-over-requires
+    enum-known-over
     refused-requires-2
     returns-2
-    refused-requires-3
-    returns-3
-    link-sums-requires
-    enum-known-overused
-    refused-requires-4
-    returns-4
     enum-told-2
-    ptdf-table-requires
-    rest-requires
-    branch-sums-requires
-    enum-known-overloaded
-    refused-requires-5
-    returns-5
-    enum-told-3
-    zone-sums-requires
-    enum-known-outside
-    refused-requires-6
-    returns-6
-    enum-told-4
-    totals-requires
-    exceeds-requires
-    valued-requires
-    returns-7
-    valued-requires-2
-    returns-8)
+    find-exchange-requires
+    returns-3)

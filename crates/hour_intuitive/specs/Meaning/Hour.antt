@@ -1,6 +1,7 @@
 -- REQUEST S-3, of an hour: its net positions with export positive (ours are turned first), its zone prices, and what is asked of it: the verdict table with
 -- room enough for a report, and then the causes 81 to 85 of its positions and prices. Assumes nothing.
 use mathlib.Core.List.{List, [], _∷_, _++_}
+use mathlib.Core.Option.{none}
 use Prim.Native.Nat.{ℕ, zero, suc}
 use lib.ListN.{length}
 use lib.IntN.{ℤ, pos, _-ℤ_}
@@ -28,9 +29,9 @@ hourPrices s t = listTo ((caseOf s) .zones) (λ z. zonePrice (caseOf s) (pricesO
 abbrev pub hourNetwork : List ℕ → List ℕ → List ℕ → Network
 hourNetwork s t pairs = networkOf (hourExports s t) (hourPrices s t) pairs
 
--- THE TABLE, for a case s, a proposal t, pairs, and a scratch of `room` numbers of which n are asked for
+-- THE TABLE, for a case s, a proposal t, pairs, and a scratch of `room` numbers of which n are asked for, 324 or 96 (S-13)
 unfoldable pub askedRows : List ℕ → List ℕ → List ℕ → ℕ → ℕ → List Row
-askedRows s t pairs n room = table s t reportRoom (caseOf s) (planOf s t) (pricesOf s t) ++ intuitiveRows (hourExports s t) (hourPrices s t) pairs n room
+askedRows s t pairs n room = table none s t reportRoom (caseOf s) (planOf s t) (pricesOf s t) ++ intuitiveRows (hourExports s t) (hourPrices s t) pairs n room
 
 unfoldable pub hourOutcome : List ℕ → List ℕ → List ℕ → ℕ → ℕ → Outcome
 hourOutcome s t pairs n room = answer (refusal (askedRows s t pairs n room))

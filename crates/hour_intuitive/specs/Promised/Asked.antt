@@ -53,7 +53,7 @@ list-at (suc n) f z h = elim (decLt z n) [
 
 module _ (s t pairs : List ℕ) (n room : ℕ) where
   abbrev judged : List Row
-  judged = table s t reportRoom (caseOf s) (planOf s t) (pricesOf s t)
+  judged = table none s t reportRoom (caseOf s) (planOf s t) (pricesOf s t)
 
   abbrev asked : List Row
   asked = intuitiveRows (hourExports s t) (hourPrices s t) pairs n room

@@ -3,7 +3,7 @@ use mathlib.Core.Path.{_≡_, refl, sym, ap, subst, _∙_}
 use mathlib.Core.Bool.{Bool, true}
 use mathlib.Core.List.{List}
 use mathlib.Core.Option.{Option, none, some}
-use Prim.Native.Nat.{ℕ, _≤_, _<_}
+use Prim.Native.Nat.{ℕ, _<_}
 use native.Mathlib.Omega.{arith}
 use lib.ListN.{length, take}
 use lib.IntN.{ℤ, pos, _-ℤ_}
@@ -11,7 +11,7 @@ use mir.Syntax.{w64}
 use Rattle.integers.specs.Size.{near-fits}
 use Rattle.integers.specs.Machine.{sfits-by}
 use Rattle.rows.specs.declared.Outcome.{Outcome}
-use Rattle.rows.specs.Meaning.Rows.{verdict, refusal, answer}
+use Rattle.rows.specs.Meaning.Rows.{refusal, answer}
 use Rattle.rows.specs.Promised.RowLaws.{field-passes}
 use Rattle.rules.specs.Meaning.Layout.{reportRoom}
 use Rattle.rules.specs.Meaning.Hour.{caseOf, planOf, pricesOf, net, zonePrice}
@@ -22,46 +22,36 @@ use Rattle.measures.specs.declared.Tenths.{Tenths}
 use Rattle.measures.specs.declared.Grains.{Grains}
 use Rattle.clearing.specs.Held.{tenthsAt}
 use Rattle.network.specs.Prices.{grainsAt}
-use Rattle.transports.specs.Meaning.Network.{Network, CarriesAll, Excess}
 use Rattle.zone_pairs.specs.Meaning.Pairs.{networkOf}
 use Rattle.intuitive.specs.declared.Carried.{Carried}
-use Rattle.intuitive.specs.Meaning.Intuitive.{LargestTotal, scratchBy, intuitiveRefusal, intuitiveOutcome, intuitiveScratch}
+use Rattle.intuitive.specs.Meaning.Intuitive.{scratchBy, intuitiveRefusal, intuitiveOutcome, intuitiveScratch}
+use Rattle.intuitive.specs.Promised.BothBoards.{Clauses}
 use Rattle.findings.specs.declared.Found.{Found}
 use Rattle.findings.specs.Found.{Finds, hourRows}
 use Rattle.hour_intuitive.specs.Meaning.Hour.{listTo, hourExports, hourPrices, hourNetwork, askedRows, hourOutcome, hourScratch}
 use Rattle.hour_intuitive.specs.Promised.Asked.{refused-first, asked-then, none-refused, position-near, price-in}
+use Rattle.hour_intuitive.specs.Promised.BothBoards.{Contract}
 use Rattle.hour_intuitive.specs.Steps.Lent.{FitsTo, Lists, part-is, same-list, refusedAs}
-
--- the clauses, of the outcome o, the network c and the scratch b′ that they name
-abbrev Clauses : Outcome → Network → List ℤ → Carried → List ℤ → Type 0
-Clauses o c b′ r b =
-    (verdict (r .number) (r .index) ≡ o)
-    × ((r .number ≡ 0 → r .intuitive ≡ 1 → CarriesAll c)
-    × ((r .number ≡ 0 → r .intuitive ≡ 0 → Excess c)
-    × ((r .intuitive < 2)
-    × ((r .number ≡ 0 → LargestTotal c (r .total .0))
-    × ((b ≡ b′)
-    × (0 < r .number → (r .intuitive ≡ 0) × (r .total .0 ≡ pos 0)))))))
 
 module _ (s t pairs : List ℕ) (n : ℕ) (scratch : List ℤ) where
   abbrev pub Kept : Carried → List ℤ → Type 0
-  Kept = Clauses (hourOutcome s t pairs n (length scratch)) (hourNetwork s t pairs) (hourScratch s t pairs n scratch)
+  Kept = Contract s t pairs n scratch
 
   -- with room enough 30 passes
-  past-room : refusal (table s t reportRoom (caseOf s) (planOf s t) (pricesOf s t)) ≡ refusal (hourRows s t)
+  past-room : refusal (table none s t reportRoom (caseOf s) (planOf s t) (pricesOf s t)) ≡ refusal (hourRows none s t)
   unfolding table roomRows
-  past-room = field-passes 30 0 (hourRows s t) refl
+  past-room = field-passes 30 0 (hourRows none s t) refl
 
-  module _ (f : Found) (h : Finds (hourRows s t) s t f) where
+  module _ (f : Found) (h : Finds (hourRows none s t) s t f) where
     -- NOT ACCEPTED
     pub kept-refused : 0 < f .verdict .number → {r : Carried} → r ≡ refusedAs (f .verdict) → Kept r scratch
     unfolding hourOutcome hourScratch
-    kept-refused l e = subst (λ (r : Carried). Kept r scratch) (sym e) (by (refusal (hourRows s t)) refl)
+    kept-refused l e = subst (λ (r : Carried). Kept r scratch) (sym e) (by (refusal (hourRows none s t)) refl)
       where
         apart : {X : Type 0} → f .verdict .number ≡ 0 → X
         apart q = absurd (omega (arith, l))
 
-        by : (o : Option Outcome) → refusal (hourRows s t) ≡ o → Kept (refusedAs (f .verdict)) scratch
+        by : (o : Option Outcome) → refusal (hourRows none s t) ≡ o → Kept (refusedAs (f .verdict)) scratch
         by (some x) q =
             let asked = refused-first s t pairs n (length scratch) x (past-room ∙ q) in (
               h .verdict-is ∙ ap answer (q ∙ sym asked),

@@ -1,4 +1,7 @@
 -- `intuitive::intuitive` meets its contract, clause by clause. Assumes nothing.
+use denote.Ref.{now}
+use Rattle.intuitive.specs.Meaning.Intuitive.{scratchRoom}
+use Rattle.intuitive.specs.Steps.Answers.{clauses}
 use borrow.Author.Needs.{needs}
 use Rattle.intuitive.proofs.intuitive.Statement.{statement}
 use Rattle.intuitive.proofs.intuitive.Tie as tie
@@ -11,8 +14,8 @@ same-length c = search needs
 
 returns : tie.Need-returns
 returns c =
-    let m = c .before .intuitive-in .ensures in
-    (m .outcome, (m .a-yes, (m .a-no, (m .yes-or-no, (m .most, (m .scratch, m .refused))))))
+    let a = c .before .before .before .before .args in
+    clauses (now (a .net-exports)) (now (a .zone-prices)) (now (a .pairs)) scratchRoom (now (a .scratch)) _ _ (c .before .intuitive-in .ensures)
 
 pub intuitive-spec : {M : Type 1} → statement M
 intuitive-spec = tie.close (tie.spec intuitive-in-requires same-length returns)

@@ -17,7 +17,7 @@ use Rattle.net_positions.specs.Meaning.Positions.{positionOutside, unbalanced}
 use Rattle.zone_pairs.specs.Meaning.Pairs.{pairCount, badPair, priceAt}
 use Rattle.transports.specs.Meaning.Network.{Network, Largest}
 
--- so many numbers of scratch are lent
+-- so many numbers of scratch are lent; on the smaller board of S-13 `SmallBoard.smallRoom`
 abbrev pub scratchRoom : ℕ
 scratchRoom = 324
 
@@ -28,7 +28,7 @@ unfit net prices = outside zoneCounts (pos (length net)) || differ (length price
 abbrev pub priceOutside : List ℤ → ℕ → Bool
 priceOutside prices z = outside limits.zonePrice (priceAt prices z)
 
--- THE TABLE, for a scratch of `room` numbers of which n are asked for: each row is asked over its whole list before the next
+-- THE TABLE, for a scratch of `room` numbers of which n are asked for, 324 or 96: each row is asked over its whole list before the next
 unfoldable pub intuitiveRows : List ℤ → List ℤ → List ℕ → ℕ → ℕ → List Row
 intuitiveRows net prices pairs n room =
     once 81 (unfit net prices)

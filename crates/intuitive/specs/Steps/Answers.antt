@@ -25,6 +25,7 @@ use Rattle.largest_transport.specs.Filled.{Answer}
 use Rattle.intuitive.specs.declared.Carried.{Carried}
 use Rattle.intuitive.specs.Meaning.Intuitive.{unfit, priceOutside, intuitiveRows, intuitiveRefusal, intuitiveOutcome, LargestTotal, scratchBy, intuitiveScratch}
 use Rattle.intuitive.specs.Promised.Causes.{intuitive-none, scratch-refused, scratch-answered}
+use Rattle.intuitive.specs.Promised.BothBoards.{Contract}
 
 module _ (net prices : List ℤ) (pairs : List ℕ) (n room : ℕ) where
   abbrev pub From : ℕ → Type 0
@@ -147,6 +148,10 @@ pub record Met (net prices : List ℤ) (pairs : List ℕ) (n : ℕ) (s : List �
   pub most : r .number ≡ 0 → LargestTotal (networkOf net prices pairs) (r .total .0)
   pub scratch : s' ≡ intuitiveScratch net prices pairs n s
   pub refused : 0 < r .number → (r .intuitive ≡ 0) × (r .total .0 ≡ pos 0)
+
+-- as the clauses of its contract
+pub clauses : (net prices : List ℤ) (pairs : List ℕ) (n : ℕ) (s : List ℤ) (r : Carried) (s' : List ℤ) → Met net prices pairs n s r s' → Contract net prices pairs n s r s'
+clauses net prices pairs n s r s' m = (m .outcome, (m .a-yes, (m .a-no, (m .yes-or-no, (m .most, (m .scratch, m .refused))))))
 
 module _ (net prices : List ℤ) (pairs : List ℕ) (n : ℕ) (s : List ℤ) (o : Outcome) (said : o ≡ intuitiveOutcome net prices pairs n (length s)) where
   number-is : o .number ≡ (intuitiveOutcome net prices pairs n (length s)) .number

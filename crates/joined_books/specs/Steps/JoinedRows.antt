@@ -4,7 +4,7 @@ use mathlib.Core.Path.{_≡_, sym, ap, subst, _∙_}
 use mathlib.Core.Bool.{Bool, false, not, _||_}
 use mathlib.Core.List.{List, [], _∷_, _++_}
 use mathlib.Core.Option.{Option, none}
-use Prim.Native.Nat.{ℕ, zero, suc, _+_, _-_, _≤_, _<_}
+use Prim.Native.Nat.{ℕ, _+_, _-_, _≤_, _<_}
 use native.Mathlib.Omega.{arith}
 use native.Mathlib.Decide.{decLt}
 use borrow.Author.Tests.{le-ltb}
@@ -12,9 +12,8 @@ use lib.Dec.{T, eqb}
 use lib.ListN.{length, length-append, List·getD-append}
 use lib.Seq.{getD-append-add}
 use lib.IntN.{ℤ, pos, _+ℤ_}
-use Rattle.integers.specs.Difference.{at, _⊕_, eq-by}
 use Rattle.integers.specs.Ranges.{outside, not-is}
-use Rattle.integers.specs.Sums.{sumTo, sum-ext}
+use Rattle.integers.specs.Sums.{sumTo, sum-ext, sum-split}
 use Rattle.measures.specs.Meaning.Limits as limits
 use Rattle.rules.specs.Meaning.Layout.{zoneCounts, orderCounts}
 use Rattle.rules.specs.Meaning.Hour.{surplusOf}
@@ -34,15 +33,6 @@ badOf prices r = badRow (length prices) (r .zone) (r .side) (r .quantity) (r .pr
 
 earned : List ℤ → BookRow → ℤ
 earned prices r = surplusOf (eqb (r .side) 0) (r .quantity) (r .price) (priceAt prices (r .zone))
-
--- a sum in two parts
-sum-split : (n m : ℕ) (f : ℕ → ℤ) → sumTo (n + m) f ≡ sumTo n f +ℤ sumTo m (λ i. f (n + i))
-unfolding sumTo
-sum-split n zero f = let e : n + zero ≡ n = omega arith in ap (λ (k : ℕ). sumTo k f) e ∙ eq-by (at (sumTo n f)) (at (sumTo n f) ⊕ at (pos 0)) (omega arith)
-sum-split n (suc m) f =
-    let e : n + suc m ≡ suc (n + m) = omega arith in
-    ap (λ (k : ℕ). sumTo k f) e ∙ ap (λ (x : ℤ). x +ℤ f (n + m)) (sum-split n m f)
-    ∙ eq-by (at (sumTo n f) ⊕ at (sumTo m (λ i. f (n + i))) ⊕ at (f (n + m))) (at (sumTo n f) ⊕ (at (sumTo m (λ i. f (n + i))) ⊕ at (f (n + m)))) (omega arith)
 
 -- a row of the first book, and of the second
 module _ (a b : List BookRow) (prices : List ℤ) where

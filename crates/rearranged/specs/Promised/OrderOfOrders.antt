@@ -13,7 +13,7 @@ use Rattle.integers.specs.Bytes.{signed64}
 use Rattle.integers.specs.Ranges.{outside, isZero}
 use Rattle.rearranged.specs.Meaning.Permutation.{Permutation}
 use Rattle.measures.specs.Meaning.Limits as limits
-use Rattle.rules.specs.Meaning.Layout.{ordersIn, volumeIn, caseLength, proposalLength, caseHeader, proposalHeader, branchFieldAt, linkFields, linkFieldAt, orderFields, shadowAt, zonePriceAt}
+use Rattle.rules.specs.Meaning.Layout.{toleranceIn, ordersIn, volumeIn, caseLength, proposalLength, caseHeader, proposalHeader, branchFieldAt, linkFields, linkFieldAt, orderFields, shadowAt, zonePriceAt}
 use Rattle.rules.specs.Meaning.Hour.{Case, Plan, Prices, caseOf, planOf, pricesOf, linkUse, linkRoom, branchRoom, branchPrice, zonePrice, noLink}
 use Rattle.rows.specs.declared.Outcome.{Outcome}
 use Rattle.rows.specs.Meaning.Rows.{firstBelow, anyBelow, refusal, answer, once}
@@ -140,7 +140,7 @@ module _ (s : List ℕ) (π : Permutation (ordersIn s)) (r : Readable s) where
     unfolding caseOf planOf excess movedCase
     excess-moved i h = λ j. over (sym (m .quantity-same i h) j) (volume-moved s π whole t right i h j)
 
-    clearing-rows : SameTable (clearingRows c p d) (clearingRows c′ p′ d)
+    clearing-rows : SameTable (clearingRows none c p d) (clearingRows none c′ p′ d)
     unfolding clearingRows noLink excess caseOf planOf counted movedCase withVolumes linkUse linkRoom branchRoom zonePrice branchPrice
     clearing-rows =
         let x = volume-moved s π whole t right in
@@ -155,15 +155,15 @@ module _ (s : List ℕ) (π : Permutation (ordersIn s)) (r : Readable s) where
 
     -- THE VERDICT IS THE SAME, but for the index of 21
     pub same-verdict : (room : ℕ) → SameVerdict (outcome s t room) (outcome s′ t′ room)
-    unfolding outcome table roomRows
-    same-verdict room = subst (λ (x : Outcome). SameVerdict (outcome s t room) x) (λ j. answer (refusal (table s′ t′ room (sym case-is j) (sym plan-is j) (sym prices-are j))))
-        (same-answer (after-rows (and-row (same-row refl) no-row) (after-rows case-rows (after-rows proposal-rows clearing-rows)) .same))
+    unfolding outcome table roomRows counted caseOf movedCase toleranceIn
+    same-verdict room = subst (λ (x : Outcome). SameVerdict (outcome s t room) x) (λ j. answer (refusal (table none s′ t′ room (sym case-is j) (sym plan-is j) (sym prices-are j))))
+        (same-answer (after-rows (and-row (same-row refl) no-row) (after-rows case-rows (after-rows proposal-rows (after-rows (and-row (same-row refl) no-row) clearing-rows))) .same))
 
     -- THE INDEX OF 21 is the first place to which an order at fault has gone
     pub index-of-21 : (room : ℕ) → (outcome s t room) .number ≡ 21 → First (ordersIn s) (λ i. excess c p (π .source i)) ((outcome s′ t′ room) .index)
     unfolding outcome table roomRows caseRows proposalRows clearingRows lacks rowNumbered caseOf excess movedCase
     index-of-21 room e =
-        let row = row-by-number 21 (table s′ t′ room (caseOf s′) (planOf s′ t′) (pricesOf s′ t′)) (omega arith) tt tt (same-verdict room .number-same ∙ e) in
+        let row = row-by-number 21 (table none s′ t′ room (caseOf s′) (planOf s′ t′) (pricesOf s′ t′)) (omega arith) tt tt (same-verdict room .number-same ∙ e) in
         let place = row .first-place in
         let here : (outcome s′ t′ room) .index ≡ row .place = ap (λ (o : Outcome). o .index) (row .is) in
         let below : row .place < ordersIn s = subst (λ (n : ℕ). row .place < n) (sym (m .orders-same)) (place .place-in) in

@@ -290,6 +290,14 @@ later n qs rs t e = by (refusal qs) refl (sym (ap (λ (x : Option Outcome). (ans
     by (some x) q e = absurd (not-refused n qs t x q (sym (ap (λ (y : Option Outcome). (answer (else-refusal y (refusal rs))) .number) q) ∙ e))
     by none q e = record { none-first = q; then-second = sym (ap (λ (y : Option Outcome). (answer (else-refusal y (refusal rs))) .number) q) ∙ e }
 
+-- rows put between two tables, none of them of number n: with the number n the answer is the one without them
+pub left-out : (n : ℕ) (qs ms rs : List Row) → T (lacks n ms) → (answer (refusal (qs ++ (ms ++ rs)))) .number ≡ n → refusal (qs ++ (ms ++ rs)) ≡ refusal (qs ++ rs)
+left-out n qs ms rs t e = refusal-append qs (ms ++ rs) ∙ by (refusal qs) (sym (ap (λ (x : Option Outcome). (answer x) .number) (refusal-append qs (ms ++ rs))) ∙ e) ∙ sym (refusal-append qs rs)
+  where
+    by : (o : Option Outcome) → (answer (else-refusal o (refusal (ms ++ rs)))) .number ≡ n → else-refusal o (refusal (ms ++ rs)) ≡ else-refusal o (refusal rs)
+    by (some x) e = refl
+    by none e = refusal-append ms rs ∙ ap (λ (x : Option Outcome). else-refusal x (refusal rs)) ((later n ms rs t e) .none-first)
+
 pub none-zero : (rs : List Row) → refusal rs ≡ none → (answer (refusal rs)) .number ≡ 0
 none-zero rs e = ap (λ (x : Option Outcome). (answer x) .number) e
 

@@ -1,14 +1,16 @@
 -- What is promised of a judgement, a definition for each clause: of the case s, the proposal t and the report that is written. Assumes nothing.
 use mathlib.Core.Path.{_≡_}
 use mathlib.Core.List.{List}
-use Prim.Native.Nat.{ℕ, _<_}
+use mathlib.Core.Option.{some}
+use Prim.Native.Nat.{ℕ, _≤_, _<_}
 use lib.Dec.{T}
 use lib.IntN.{pos, _+ℤ_, _-ℤ_, _*ℤ_}
 use lib.Signed.{_≤ℤ_}
 use Rattle.measures.specs.Meaning.Limits.{microcentsOf}
-use Rattle.rules.specs.Meaning.Hour.{Plan, caseOf, planOf, pricesOf, welfare}
+use Rattle.rules.specs.Meaning.Hour.{Plan, caseOf, planOf, pricesOf, Kept, welfare}
 use Rattle.rules.specs.Meaning.Clearing.{Clearing}
-use Rattle.rules.specs.Meaning.Verdict.{outcome}
+use Rattle.rules.specs.Meaning.Families.{Fraction, parentOf, LeadsBack, accepted, fractionRule}
+use Rattle.rules.specs.Meaning.Verdict.{outcome, familyOutcome}
 use Rattle.rules.specs.Meaning.Report.{Reported, reports, reportedWelfare, reportedGap, reportedRent, reportedOwed}
 
 -- OF 0 AND 26: each total and each zone price that the report's bytes hold is the integer that its rule gives
@@ -24,9 +26,9 @@ Allowed s t = Clearing (caseOf s) (planOf s t)
 abbrev pub Accurate : List ℕ → List ℕ → Type 0
 Accurate s report = (q : Plan) → Clearing (caseOf s) q → welfare (caseOf s) q ≤ℤ (pos (q .den) *ℤ (reportedWelfare report +ℤ reportedGap report))
 
--- 0 <= gap <= tolerance, in microcents
+-- 0 <= gap <= tolerance, in microcents; and the tolerance is at most 10,000 cents (S-12), so that the accuracy and coverage rules speak of such hours
 abbrev pub GapWithin : List ℕ → List ℕ → Type 0
-GapWithin s report = (pos 0 ≤ℤ reportedGap report) × (reportedGap report ≤ℤ microcentsOf (pos ((caseOf s) .tolerance)))
+GapWithin s report = (pos 0 ≤ℤ reportedGap report) × ((reportedGap report ≤ℤ microcentsOf (pos ((caseOf s) .tolerance))) × ((caseOf s) .tolerance ≤ 10000))
 
 -- S-6: THE COVERAGE RULE SPEAKS OF HOURS WITH A LINK, and so does what it says at gap zero
 abbrev pub HasLink : List ℕ → Type 0
@@ -42,3 +44,20 @@ Best s report = reportedGap report ≡ pos 0 → (q : Plan) → Clearing (caseOf
 
 abbrev pub CoveredInFull : List ℕ → Type 0
 CoveredInFull report = reportedGap report ≡ pos 0 → reportedOwed report ≤ℤ reportedRent report
+
+-- S-11, OF A JUDGEMENT WITH THE FAMILY LIST f. The accuracy rule still compares with clearings free of families, and the coverage rule is untouched: of what
+-- stands above only the totals are of another outcome
+abbrev pub FamilyTotalsReported : List ℕ → List ℕ → List ℕ → ℕ → List ℕ → Type 0
+FamilyTotalsReported s t f room report = T (reports ((familyOutcome s t f room) .number)) → Reported ((familyOutcome s t f room) .number) (caseOf s) (planOf s t) (pricesOf s t) report
+
+-- OF AN ACCEPTED HOUR: one fraction is at most another
+pub record FractionAtMost (a b : Fraction) : Type 0 where
+  pub whole-positive : 0 < a .whole
+  pub other-positive : 0 < b .whole
+  pub at-most : Kept (fractionRule a b)
+
+-- every parent that the list names is an order, no order leads back to itself, and each child is accepted in at most the fraction of its parent
+pub record FamiliesKept (s t f : List ℕ) : Type 0 where
+  pub parent-exists : (i j : ℕ) → i < (caseOf s) .orders → parentOf f i ≡ some j → j < (caseOf s) .orders
+  pub none-leads-back : (i : ℕ) → i < (caseOf s) .orders → LeadsBack (parentOf f) i → ⊥
+  pub within-parent : (i j : ℕ) → i < (caseOf s) .orders → parentOf f i ≡ some j → FractionAtMost (accepted (caseOf s) (planOf s t) i) (accepted (caseOf s) (planOf s t) j)

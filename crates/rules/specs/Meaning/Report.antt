@@ -10,7 +10,7 @@ use Rattle.integers.specs.Bytes.{bytesOf, signed64, i64At}
 use Rattle.rules.specs.Meaning.Layout.{reportVersionAt, reportNumberAt, reportZonesAt, reportZeroAt, welfareAt, boundAt, gapAt, rentAt, owedAt, zonePriceAt}
 use Rattle.rules.specs.Meaning.Hour.{Case, Plan, Prices, caseOf, planOf, pricesOf, zonePrice, welfare, owed, bound, gap, rent}
 use Rattle.rows.specs.declared.Outcome.{Outcome}
-use Rattle.rules.specs.Meaning.Verdict.{outcome}
+use Rattle.rules.specs.Meaning.Verdict.{outcome, familyOutcome}
 
 -- the prices of the zones below n
 unfoldable pub priceBytes : ℕ → (ℕ → ℤ) → List ℕ
@@ -88,3 +88,7 @@ written o c p d buffer = cond (reports (o .number)) (reportBytes (o .number) c p
 
 unfoldable pub bufferAfter : List ℕ → List ℕ → List ℕ → List ℕ
 bufferAfter s t buffer = written (outcome s t (length buffer)) (caseOf s) (planOf s t) (pricesOf s t) buffer
+
+-- and with the family list f (S-11)
+unfoldable pub familyBufferAfter : List ℕ → List ℕ → List ℕ → List ℕ → List ℕ
+familyBufferAfter s t f buffer = written (familyOutcome s t f (length buffer)) (caseOf s) (planOf s t) (pricesOf s t) buffer

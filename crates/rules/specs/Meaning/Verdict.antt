@@ -1,9 +1,9 @@
--- The verdict table of document 01, as requests S-2, S-4 and S-6 amend it: a row for each cause, in the table's own order, and the judgement's outcome.
+-- The verdict table of document 01, as requests S-2, S-4, S-6, S-11 and S-12 amend it: a row for each cause, in the table's own order, and the judgement's outcome.
 -- Every test has a value on any bytes; its value counts only where the rows before it passed. Assumes nothing.
 use mathlib.Core.Path.{_≡_}
-use mathlib.Core.Bool.{Bool, not, _&&_, _||_}
+use mathlib.Core.Bool.{Bool, false, not, _&&_, _||_}
 use mathlib.Core.List.{List, [], _∷_, _++_}
-use mathlib.Core.Option.{Option, none}
+use mathlib.Core.Option.{Option, none, some}
 use Prim.Native.Nat.{ℕ, zero, suc, _+_}
 use lib.ListN.{length}
 use lib.Dec.{eqb, leb, ltb}
@@ -13,6 +13,7 @@ use Rattle.integers.specs.Ranges.{outside, isZero}
 use Rattle.measures.specs.Meaning.Limits as limits
 use Rattle.rules.specs.Meaning.Layout.{u8At, caseHeader, caseVersion, caseLength, proposalHeader, proposalVersion, proposalLength, zoneCounts, branchCounts, linkCounts, orderCounts, reportRoom, branchFieldAt, linkFields, linkFieldAt, orderFields, orderFieldAt, shadowAt}
 use Rattle.rules.specs.Meaning.Hour.{Case, Plan, Prices, caseOf, planOf, pricesOf, netSum, broken, brokenZ, linkRule, branchRule, zonePrice, noLink, gap}
+use Rattle.rules.specs.Meaning.Families.{familyVersion, familyLength, parentOf, missing, leadsBack, accepted, fractionRule}
 use Rattle.rows.specs.declared.Outcome.{Outcome}
 use Rattle.rows.specs.Meaning.Rows.{Row, anyBelow, refusal, answer, once, field, each, eachAt, eachField}
 
@@ -67,8 +68,8 @@ orderFault c i = rowFault (c .zones) (c .zone i) (c .side i) (c .quantity i) (c 
 unfoldable pub badRow : ℕ → ℕ → ℕ → ℕ → ℤ → Bool
 badRow n zone side quantity price = anyBelow orderFields (rowFault n zone side quantity price)
 
--- THE TABLE, for a case s, a proposal t and a report buffer of `room` bytes; c, p and d are what s and t hold. Each row has a name, and the lists of the
--- names are the order in which they are asked.
+-- THE TABLE, for a case s, a proposal t and a report buffer of `room` bytes; c, p and d are what s and t hold. Beside the case there may be a family list
+-- (S-11): without one the rows 16 to 18 and 28 are not asked. Each row has a name, and the lists of the names are the order in which they are asked.
 -- 30 is asked first of all: report buffer under 176 bytes
 abbrev pub smallBuffer : ℕ → Row
 smallBuffer room = once 30 (under reportRoom room)
@@ -166,9 +167,40 @@ proposalRows s t c p d =
     ∷ shadowAbove s c d
     ∷ []
 
+-- 15 (S-12), asked straight after 14: the tolerance is above 10,000 cents
+abbrev pub wideTolerance : Case → Row
+wideTolerance c = once 15 (outside limits.acceptedTolerance (pos (c .tolerance)))
+
+-- ROWS OF A FAMILY LIST f (S-11), asked after 14. 16: mark is not LTF, version is not 1, or length is wrong for this case. 17: a parent does not exist: the
+-- order that names it. 18: an order leads back to itself
+abbrev pub wrongFamilyList : List ℕ → Case → Row
+wrongFamilyList f c = once 16 (notMark 76 84 70 f || differ (familyVersion f) 1 || differ (length f) (familyLength (c .orders)))
+
+abbrev pub missingParent : List ℕ → Case → Row
+missingParent f c = each 17 (c .orders) (λ i. missing (c .orders) (parentOf f i))
+
+abbrev pub ownAncestor : List ℕ → Case → Row
+ownAncestor f c = each 18 (c .orders) (leadsBack (c .orders) (parentOf f))
+
+abbrev pub familyRows : Option (List ℕ) → Case → List Row
+familyRows none c = []
+familyRows (some f) c = wrongFamilyList f c ∷ missingParent f c ∷ ownAncestor f c ∷ []
+
 -- 21: volume above the order's quantity
 abbrev pub excessVolume : Case → Plan → Row
 excessVolume c p = each 21 (c .orders) (λ i. over (c .quantity i) (p .volume i))
+
+-- 28 (S-11), asked after 21: a child's fraction exceeds its parent's: the child
+abbrev pub exceedsParent : Case → Plan → ℕ → Option ℕ → Bool
+exceedsParent c p child none = false
+exceedsParent c p child (some parent) = broken (fractionRule (accepted c p child) (accepted c p parent))
+
+abbrev pub excessFraction : List ℕ → Case → Plan → Row
+excessFraction f c p = each 28 (c .orders) (λ i. exceedsParent c p i (parentOf f i))
+
+abbrev pub fractionRows : Option (List ℕ) → Case → Plan → List Row
+fractionRows none c p = []
+fractionRows (some f) c p = excessFraction f c p ∷ []
 
 -- 22: balance (rule 3) fails. 27, asked between 22 and 23: no link, and the LTA share above 0 (S-6). 23: link rule (4) fails. 24: branch rule (5) fails
 abbrev pub unbalanced : Case → Plan → Row
@@ -191,10 +223,10 @@ priceOutside c d = each 25 (c .zones) (λ z. outside limits.zonePrice (zonePrice
 abbrev pub wideGap : Case → Plan → Prices → Row
 wideGap c p d = once 26 (overZ (limits.microcentsOf (pos (c .tolerance))) (gap c p d))
 
-unfoldable pub clearingRows : Case → Plan → Prices → List Row
-clearingRows c p d =
-    excessVolume c p
-    ∷ unbalanced c p
+-- behind the volumes, which 21 and 28 ask
+abbrev pub exchangeRows : Case → Plan → Prices → List Row
+exchangeRows c p d =
+    unbalanced c p
     ∷ shareWithoutLink c p
     ∷ overusedLink c p
     ∷ overloadedBranch c p
@@ -202,12 +234,23 @@ clearingRows c p d =
     ∷ wideGap c p d
     ∷ []
 
-unfoldable pub table : List ℕ → List ℕ → ℕ → Case → Plan → Prices → List Row
-table s t room c p d = roomRows room ++ (caseRows s c ++ (proposalRows s t c p d ++ clearingRows c p d))
+unfoldable pub clearingRows : Option (List ℕ) → Case → Plan → Prices → List Row
+clearingRows fs c p d = excessVolume c p ∷ (fractionRows fs c p ++ exchangeRows c p d)
 
--- the judgement's answer
+-- of files that were read: the tolerance, the family list, the clearing
+abbrev pub judgementRows : Option (List ℕ) → Case → Plan → Prices → List Row
+judgementRows fs c p d = wideTolerance c ∷ (familyRows fs c ++ clearingRows fs c p d)
+
+unfoldable pub table : Option (List ℕ) → List ℕ → List ℕ → ℕ → Case → Plan → Prices → List Row
+table fs s t room c p d = roomRows room ++ (caseRows s c ++ (proposalRows s t c p d ++ judgementRows fs c p d))
+
+-- the judgement's answer, without a family list
 unfoldable pub outcome : List ℕ → List ℕ → ℕ → Outcome
-outcome s t room = answer (refusal (table s t room (caseOf s) (planOf s t) (pricesOf s t)))
+outcome s t room = answer (refusal (table none s t room (caseOf s) (planOf s t) (pricesOf s t)))
+
+-- and with the family list f (S-11)
+unfoldable pub familyOutcome : List ℕ → List ℕ → List ℕ → ℕ → Outcome
+familyOutcome s t f room = answer (refusal (table (some f) s t room (caseOf s) (planOf s t) (pricesOf s t)))
 
 -- READABLE: none of 1 to 8 holds
 unfoldable pub caseRefusal : List ℕ → Option Outcome

@@ -2,7 +2,7 @@
 -- Assumes nothing.
 use mathlib.Core.Path.{_≡_, refl, sym, ap, subst}
 use mathlib.Core.Bool.{Bool, true, false, not, cond}
-use mathlib.Core.List.{List, [], _∷_, map}
+use mathlib.Core.List.{List, [], _∷_, _++_, map}
 use mathlib.Core.Option.{Option, none, some}
 use Prim.Native.Nat.{ℕ, _<_}
 use native.Mathlib.Omega.{arith}
@@ -16,7 +16,7 @@ use Rattle.rows.specs.declared.Outcome.{Outcome}
 use Rattle.rows.specs.Meaning.Rows.{Row, verdict, refusal, answer, unnamed, at-offset, the-place, a-field, Asked, ask, Asks, ascending, Pass}
 use Rattle.rows.specs.Promised.RowLaws.{empty, Answered, answered, Soonest, soonest, lacks, numbersBelow, number-below, isRow, rowOf, hasRow, before, row-passed, later, Comes, past, clear, none-left, once-passes}
 use Rattle.rules.specs.Meaning.Book.{BookRow, bookRows, bookRefusal, bookSurplus, bookAnswer, bookAnswerBy}
-use Rattle.rules.specs.Meaning.Verdict.{overZ, roomRows, caseRows, proposalRows, clearingRows, table, outcome}
+use Rattle.rules.specs.Meaning.Verdict.{overZ, roomRows, caseRows, proposalRows, wideTolerance, clearingRows, table, outcome, familyOutcome}
 
 -- 30 is asked first of all, then the others from the smallest number, and of one number from the smallest offset; but 27 between 22 and 23 (S-6)
 unfoldable pub asked : List Asked
@@ -40,6 +40,7 @@ asked =
     ∷ ask 12 unnamed
     ∷ ask 13 unnamed
     ∷ ask 14 a-field
+    ∷ ask 15 unnamed
     ∷ ask 21 the-place
     ∷ ask 22 unnamed
     ∷ ask 27 unnamed
@@ -62,38 +63,49 @@ pub not-in-turn : T (not (ascending (drop 1 asked)))
 unfolding asked ascending
 not-in-turn = tt
 
-pub between-22-and-23 : map (λ (a : Asked). a .number) (take 3 (drop 20 asked)) ≡ 22 ∷ 27 ∷ 23 ∷ []
+pub between-22-and-23 : map (λ (a : Asked). a .number) (take 3 (drop 21 asked)) ≡ 22 ∷ 27 ∷ 23 ∷ []
 unfolding asked
 between-22-and-23 = refl
 
-pub table-order : (s t : List ℕ) (room : ℕ) (c : Case) (p : Plan) (d : Prices) → Asks (table s t room c p d) asked
+pub table-order : (s t : List ℕ) (room : ℕ) (c : Case) (p : Plan) (d : Prices) → Asks (table none s t room c p d) asked
 unfolding table roomRows caseRows proposalRows clearingRows asked
-table-order s t room c p d = (refl, (λ k. refl, (refl, (λ k. refl, (refl, (λ k. refl, (refl, (λ k. refl, (refl, (λ k. refl, (refl, (λ k. refl, (refl, (λ k. refl, (refl, (λ k. refl, (refl, (λ k. refl, (refl, (λ k. refl, (refl, (tt, (refl, (tt, (refl, (tt, (refl, (λ k. refl, (refl, (λ k. refl, (refl, (λ k. refl, (refl, (λ k. refl, (refl, (λ k. refl, (refl, (tt, (refl, (λ k. refl, (refl, (λ k. refl, (refl, (λ k. refl, (refl, (λ k. refl, (refl, (λ k. refl, (refl, (λ k. refl, (refl, (λ k. refl, tt))))))))))))))))))))))))))))))))))))))))))))))))))))
+table-order s t room c p d = (refl, (λ k. refl, (refl, (λ k. refl, (refl, (λ k. refl, (refl, (λ k. refl, (refl, (λ k. refl, (refl, (λ k. refl, (refl, (λ k. refl, (refl, (λ k. refl, (refl, (λ k. refl, (refl, (λ k. refl, (refl, (tt, (refl, (tt, (refl, (tt, (refl, (λ k. refl, (refl, (λ k. refl, (refl, (λ k. refl, (refl, (λ k. refl, (refl, (λ k. refl, (refl, (tt, (refl, (λ k. refl, (refl, (λ k. refl, (refl, (λ k. refl, (refl, (λ k. refl, (refl, (λ k. refl, (refl, (λ k. refl, (refl, (λ k. refl, (refl, (λ k. refl, tt))))))))))))))))))))))))))))))))))))))))))))))))))))))
 
 -- the clearing's rows end in 26 only by its own row: were it to pass, with those before it, nothing would be refused
-by-26 : (c : Case) (p : Plan) (d : Prices) → (answer (refusal (clearingRows c p d))) .number ≡ 26
+by-26 : (c : Case) (p : Plan) (d : Prices) → (answer (refusal (clearingRows none c p d))) .number ≡ 26
     → (b : Bool) → overZ (limits.microcentsOf (pos (c .tolerance))) (gap c p d) ≡ b → T (overZ (limits.microcentsOf (pos (c .tolerance))) (gap c p d))
 unfolding clearingRows before hasRow rowOf isRow
 by-26 c p d e true q = subst (λ (b : Bool). T b) (sym q) tt
 by-26 c p d e false q =
-    let rows : Comes (clearingRows c p d) none =
+    let rows : Comes (clearingRows none c p d) none =
     past (passed 21 0 tt) (past (passed 22 0 tt) (past (passed 27 0 tt) (past (passed 23 0 tt) (past (passed 24 0 tt) (past (passed 25 0 tt) (clear (once-passes q) none-left)))))) in
     absurd (differ (ap (λ (o : Option Outcome). (answer o) .number) (rows .is)))
   where
-    passed : (i k : ℕ) → T (hasRow i k (before 26 (clearingRows c p d))) → Pass (rowOf i k (clearingRows c p d))
-    passed = row-passed 26 (clearingRows c p d) e
+    passed : (i k : ℕ) → T (hasRow i k (before 26 (clearingRows none c p d))) → Pass (rowOf i k (clearingRows none c p d))
+    passed = row-passed 26 (clearingRows none c p d) e
 
-    differ : (answer (refusal (clearingRows c p d))) .number ≡ 0 → ⊥
+    differ : (answer (refusal (clearingRows none c p d))) .number ≡ 0 → ⊥
     differ z = omega (arith, e, z)
+
+-- without a family list and with one: no row has the number 0, and every number is below 256
+no-zero : (fs : Option (List ℕ)) (s t : List ℕ) (room : ℕ) (c : Case) (p : Plan) (d : Prices) → T (lacks 0 (table fs s t room c p d))
+unfolding table roomRows caseRows proposalRows clearingRows lacks
+no-zero none s t room c p d = tt
+no-zero (some f) s t room c p d = tt
+
+small-numbers : (fs : Option (List ℕ)) (s t : List ℕ) (room : ℕ) (c : Case) (p : Plan) (d : Prices) → T (numbersBelow 256 (table fs s t room c p d))
+unfolding table roomRows caseRows proposalRows clearingRows numbersBelow
+small-numbers none s t room c p d = tt
+small-numbers (some f) s t room c p d = tt
 
 module _ (s t : List ℕ) (room : ℕ) where
   abbrev rows : List Row
-  rows = table s t room (caseOf s) (planOf s t) (pricesOf s t)
+  rows = table none s t room (caseOf s) (planOf s t) (pricesOf s t)
 
   -- 0 IF AND ONLY IF EVERY ROW PASSES at every place; else the first row that fails, at its first place. So nothing is returned for another cause.
   pub outcome-answered : Answered rows (outcome s t room)
-  unfolding outcome table roomRows caseRows proposalRows clearingRows lacks
-  outcome-answered = answered rows tt
+  unfolding outcome
+  outcome-answered = answered rows (no-zero none s t room (caseOf s) (planOf s t) (pricesOf s t))
 
   -- a cause that holds, in row j at place k, is not asked before the outcome's: rows by their position in `asked`, then places from the first
   pub outcome-first : (j k : ℕ) → k < (getD rows j empty) .places → T ((getD rows j empty) .fails k) → Soonest rows (outcome s t room) j k
@@ -106,8 +118,8 @@ module _ (s t : List ℕ) (room : ℕ) where
 
   -- a number is below 256, so number + 256 * index has both
   pub outcome-below : (outcome s t room) .number < 256
-  unfolding outcome table roomRows caseRows proposalRows clearingRows numbersBelow
-  outcome-below = number-below 256 rows (omega arith) tt
+  unfolding outcome
+  outcome-below = number-below 256 rows (omega arith) (small-numbers none s t room (caseOf s) (planOf s t) (pricesOf s t))
 
   -- 26: the gap is above the tolerance
   pub over-tolerance : (outcome s t room) .number ≡ 26 → limits.microcentsOf (pos ((caseOf s) .tolerance)) <ℤ gap (caseOf s) (planOf s t) (pricesOf s t)
@@ -116,7 +128,39 @@ module _ (s t : List ℕ) (room : ℕ) where
       let a = later 26 (roomRows room) _ tt e in
       let b = later 26 (caseRows s (caseOf s)) _ tt (a .then-second) in
       let f = later 26 (proposalRows s t (caseOf s) (planOf s t) (pricesOf s t)) _ tt (b .then-second) in
-      ltZ-yes (by-26 (caseOf s) (planOf s t) (pricesOf s t) (f .then-second) (overZ (limits.microcentsOf (pos ((caseOf s) .tolerance))) (gap (caseOf s) (planOf s t) (pricesOf s t))) refl)
+      let g = later 26 (wideTolerance (caseOf s) ∷ []) _ tt (f .then-second) in
+      ltZ-yes (by-26 (caseOf s) (planOf s t) (pricesOf s t) (g .then-second) (overZ (limits.microcentsOf (pos ((caseOf s) .tolerance))) (gap (caseOf s) (planOf s t) (pricesOf s t))) refl)
+
+-- WITH A FAMILY LIST (S-11): 16 to 18 after 14 and 15, and 28 after 21. In this order too 27 and 28 alone are out of turn
+unfoldable pub familyAsked : List Asked
+familyAsked = take 20 asked ++ (ask 16 unnamed ∷ ask 17 the-place ∷ ask 18 the-place ∷ []) ++ take 1 (drop 20 asked) ++ (ask 28 the-place ∷ drop 21 asked)
+
+pub family-numbers : map (λ (a : Asked). a .number) (drop 18 familyAsked) ≡ 14 ∷ 15 ∷ 16 ∷ 17 ∷ 18 ∷ 21 ∷ 28 ∷ 22 ∷ 27 ∷ 23 ∷ 24 ∷ 25 ∷ 26 ∷ []
+unfolding familyAsked asked
+family-numbers = refl
+
+pub family-order : (s t f : List ℕ) (room : ℕ) (c : Case) (p : Plan) (d : Prices) → Asks (table (some f) s t room c p d) familyAsked
+unfolding table roomRows caseRows proposalRows clearingRows familyAsked asked
+family-order s t f room c p d = (refl, (λ k. refl, (refl, (λ k. refl, (refl, (λ k. refl, (refl, (λ k. refl, (refl, (λ k. refl, (refl, (λ k. refl, (refl, (λ k. refl, (refl, (λ k. refl, (refl, (λ k. refl, (refl, (λ k. refl, (refl, (tt, (refl, (tt, (refl, (tt, (refl, (λ k. refl, (refl, (λ k. refl, (refl, (λ k. refl, (refl, (λ k. refl, (refl, (λ k. refl, (refl, (tt, (refl, (λ k. refl, (refl, (λ k. refl, (refl, (λ k. refl, (refl, (λ k. refl, (refl, (λ k. refl, (refl, (λ k. refl, (refl, (λ k. refl, (refl, (λ k. refl, (refl, (λ k. refl, (refl, (λ k. refl, (refl, (λ k. refl, (refl, (λ k. refl, tt))))))))))))))))))))))))))))))))))))))))))))))))))))))))))))))
+
+module _ (s t f : List ℕ) (room : ℕ) where
+  abbrev family-rows : List Row
+  family-rows = table (some f) s t room (caseOf s) (planOf s t) (pricesOf s t)
+
+  pub family-answered : Answered family-rows (familyOutcome s t f room)
+  unfolding familyOutcome
+  family-answered = answered family-rows (no-zero (some f) s t room (caseOf s) (planOf s t) (pricesOf s t))
+
+  pub family-first : (j k : ℕ) → k < (getD family-rows j empty) .places → T ((getD family-rows j empty) .fails k) → Soonest family-rows (familyOutcome s t f room) j k
+  unfolding familyOutcome
+  family-first j k h q = soonest family-rows j k h q
+
+  pub family-accepted-is : (familyOutcome s t f room) .number ≡ 0 → familyOutcome s t f room ≡ verdict 0 0
+  family-accepted-is e = family-answered .passes-zero (family-answered .zero-passes e)
+
+  pub family-below : (familyOutcome s t f room) .number < 256
+  unfolding familyOutcome
+  family-below = number-below 256 family-rows (omega arith) (small-numbers (some f) s t room (caseOf s) (planOf s t) (pricesOf s t))
 
 -- THE LENT BOOK, whose refusals are rows of the same kind
 unfoldable pub bookAsked : List Asked

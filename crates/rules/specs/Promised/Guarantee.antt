@@ -15,14 +15,14 @@ use Rattle.rules.specs.Meaning.Verdict.{outcome, Readable}
 use Rattle.rules.specs.Meaning.Report.{reports, bufferAfter}
 use Rattle.rules.specs.Meaning.Promise.{Allowed, Accurate, GapWithin, HasLink, Covered, Best, CoveredInFull}
 use Rattle.rules.specs.Steps.Duality
-use Rattle.rules.specs.Steps.Passed.{Sound, sound, case-sound, within-tolerance}
+use Rattle.rules.specs.Steps.Passed.{Sound, sound, case-sound, within-tolerance, narrow-tolerance}
 use Rattle.rules.specs.Promised.Reported.{reported}
 
 -- the judgement answers 0
 pub record Accepted (s t : List ℕ) (room : ℕ) : Type 0 where
   pub answer : (outcome s t room) .number ≡ 0
 
-accepted-sound : (s t : List ℕ) (room : ℕ) → Accepted s t room → Sound s t room
+pub accepted-sound : (s t : List ℕ) (room : ℕ) → Accepted s t room → Sound s t room
 unfolding reports
 accepted-sound s t room a = sound s t room (subst (λ (n : ℕ). T (reports n)) (sym (a .answer)) tt)
 
@@ -103,7 +103,7 @@ demand-3 s t buffer a =
     record {
       is-allowed = allowed s t (length buffer) a;
       is-accurate = λ q cl. rw (r .welfare-at, r .gap-at) (accuracy s t (length buffer) a q cl);
-      gap-in = (rw (r .gap-at) ((gap-range s t (length buffer) a) .0), rw (r .gap-at) ((gap-range s t (length buffer) a) .1));
+      gap-in = (rw (r .gap-at) ((gap-range s t (length buffer) a) .0), (rw (r .gap-at) ((gap-range s t (length buffer) a) .1), narrow-tolerance s t (length buffer) (a .answer)));
       is-covered = λ linked. rw (r .owed-at, r .gap-at, r .rent-at) (coverage s t (length buffer) a linked);
       is-best = λ z q cl. rw (r .welfare-at) (best-at-zero-gap s t (length buffer) a (sym (r .gap-at) ∙ z) q cl);
       covered-in-full = λ linked z. rw (r .owed-at, r .rent-at) (covered-at-zero-gap s t (length buffer) a linked (sym (r .gap-at) ∙ z));

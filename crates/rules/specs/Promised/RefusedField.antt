@@ -191,7 +191,7 @@ module _ (s : List ℕ) where
 -- WHAT IS NAMED
 module _ (s t : List ℕ) (room : ℕ) where
   abbrev rows : List Row
-  rows = table s t room (caseOf s) (planOf s t) (pricesOf s t)
+  rows = table none s t room (caseOf s) (planOf s t) (pricesOf s t)
 
   pub names-branch-field : (outcome s t room) .number ≡ 6 → FieldNamed 6 (branchPart s) (length s) (outcome s t room)
   unfolding outcome table roomRows caseRows proposalRows clearingRows lacks before rowNumbered caseOf

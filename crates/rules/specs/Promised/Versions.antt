@@ -20,7 +20,7 @@ use Rattle.rules.specs.Meaning.Hour.{Case, Plan, Prices, caseOf, planOf,
 use Rattle.rows.specs.declared.Outcome.{Outcome}
 use Rattle.rows.specs.Meaning.Rows.{Row, verdict, firstBelow, anyBelow, firstField, placeElse, refusal, answer}
 use Rattle.rows.specs.Promised.RowLaws.{First, first-is, first-ext, first-field, row-found, row-clear, field-fails, else-refusal, refusal-append, behind}
-use Rattle.rules.specs.Meaning.Verdict.{overZ, differ, branchFault, linkFault, orderFault, roomRows, caseRows, proposalRows, clearingRows, table, outcome, caseRefusal, Readable, caseHeaderRows, caseBodyRows}
+use Rattle.rules.specs.Meaning.Verdict.{overZ, differ, branchFault, linkFault, orderFault, roomRows, caseRows, proposalRows, clearingRows, judgementRows, table, outcome, caseRefusal, Readable, caseHeaderRows, caseBodyRows}
 use Rattle.rules.specs.Meaning.Report.{priceBytes, headerBytes, totalBytes, reportText, reportBytes, reportSize, reports, written, bufferAfter}
 use Rattle.rules.specs.Steps.Duality.{Placed}
 use Rattle.rules.specs.Steps.Passed.{case-rows-sound, case-rows-length, case-sound, sound}
@@ -192,17 +192,18 @@ module _ (s : List ℕ) (version-1 : caseVersion s ≡ 1) (long : 14 ≤ length 
           (more refl (λ m h. refl) (λ m x. ap (verdict 14) (shadow-at m)) no-rows))))) in
           rows .is
 
-      clearing-mapped : Placed c → refusal (clearingRows e p d) ≡ mapped f (refusal (clearingRows c p d))
+      judgement-mapped : Placed c → refusal (judgementRows none e p d) ≡ mapped f (refusal (judgementRows none c p d))
       unfolding clearingRows counted movedIndex noLink
-      clearing-mapped ok =
-          let rows : Maps f (clearingRows c p d) (clearingRows e p d) =
-          more refl (λ i h. ap (λ (n : ℕ). ltb n (p .volume i)) (same .quantity-same i h)) (λ k x. refl)
+      judgement-mapped ok =
+          let rows : Maps f (judgementRows none c p d) (judgementRows none e p d) =
+          more refl (λ k h. refl) (λ k x. refl)
+          (more refl (λ i h. ap (λ (n : ℕ). ltb n (p .volume i)) (same .quantity-same i h)) (λ k x. refl)
           (more refl (λ k h. ap (λ (x : ℤ). not (isZero x)) (net-sum c (caseOf v) same p)) (λ k x. refl)
           (more refl (λ k h. refl) (λ k x. refl)
           (more refl (λ l h. link-broken c (caseOf v) same p l h) (λ k x. refl)
           (more refl (λ m h. branch-broken c (caseOf v) same p m h) (λ k x. refl)
           (more refl (λ z h. ap (outside limits.zonePrice) (zone-price c (caseOf v) same d z h)) (λ k x. refl)
-          (more refl (λ k h. ap (overZ (limits.microcentsOf (pos (c .tolerance)))) (gap-same c (caseOf v) same d ok p)) (λ k x. refl) no-rows)))))) in
+          (more refl (λ k h. ap (overZ (limits.microcentsOf (pos (c .tolerance)))) (gap-same c (caseOf v) same d ok p)) (λ k x. refl) no-rows))))))) in
           rows .is
 
       case-is : caseOf v ≡ e
@@ -212,12 +213,12 @@ module _ (s : List ℕ) (version-1 : caseVersion s ≡ 1) (long : 14 ≤ length 
       whole-outcome : (room : ℕ) → outcome v t room ≡ moved s (outcome s t room)
       unfolding outcome table roomRows movedIndex
       whole-outcome room =
-          (λ j. answer (refusal (table v t room (case-is j) (plan-same j) (prices-are j))))
-          ∙ ap answer (rows-mapped f (roomRows room) (roomRows room) (caseRows s c ++ (proposalRows s t c p d ++ clearingRows c p d)) (caseRows v e ++ (proposalRows v t e p d ++ clearingRows e p d)) room-mapped
-          (λ x. rows-mapped f (caseRows s c) (caseRows v e) (proposalRows s t c p d ++ clearingRows c p d) (proposalRows v t e p d ++ clearingRows e p d) case-mapped
-          (λ readable. rows-mapped f (proposalRows s t c p d) (proposalRows v t e p d) (clearingRows c p d) (clearingRows e p d) proposal-mapped
-          (λ y. clearing-mapped ((case-rows-sound s c readable) .placed)))))
-          ∙ answer-mapped s (refusal (table s t room c p d))
+          (λ j. answer (refusal (table none v t room (case-is j) (plan-same j) (prices-are j))))
+          ∙ ap answer (rows-mapped f (roomRows room) (roomRows room) (caseRows s c ++ (proposalRows s t c p d ++ judgementRows none c p d)) (caseRows v e ++ (proposalRows v t e p d ++ judgementRows none e p d)) room-mapped
+          (λ x. rows-mapped f (caseRows s c) (caseRows v e) (proposalRows s t c p d ++ judgementRows none c p d) (proposalRows v t e p d ++ judgementRows none e p d) case-mapped
+          (λ readable. rows-mapped f (proposalRows s t c p d) (proposalRows v t e p d) (judgementRows none c p d) (judgementRows none e p d) proposal-mapped
+          (λ y. judgement-mapped ((case-rows-sound s c readable) .placed)))))
+          ∙ answer-mapped s (refusal (table none s t room c p d))
         where
           room-mapped : refusal (roomRows room) ≡ mapped f (refusal (roomRows room))
           room-mapped = let rows : Maps f (roomRows room) (roomRows room) = more refl (λ k h. refl) (λ k x. refl) no-rows in rows .is
@@ -311,10 +312,10 @@ module _ (s : List ℕ) (version-1 : caseVersion s ≡ 1) where
   unfolding outcome table caseRefusal roomRows movedIndex
   refused-outcome t room refused =
       let v = upgraded s in
-      ap answer (rows-mapped (moved s) (roomRows room) (roomRows room) (caseRows s (caseOf s) ++ (proposalRows s t (caseOf s) (planOf s t) (pricesOf s t) ++ clearingRows (caseOf s) (planOf s t) (pricesOf s t))) (caseRows v (caseOf v) ++ (proposalRows v t (caseOf v) (planOf v t) (pricesOf v t) ++ clearingRows (caseOf v) (planOf v t) (pricesOf v t))) room-mapped
-      (λ x. rows-mapped (moved s) (caseRows s (caseOf s)) (caseRows v (caseOf v)) (proposalRows s t (caseOf s) (planOf s t) (pricesOf s t) ++ clearingRows (caseOf s) (planOf s t) (pricesOf s t)) (proposalRows v t (caseOf v) (planOf v t) (pricesOf v t) ++ clearingRows (caseOf v) (planOf v t) (pricesOf v t)) same-refusal
+      ap answer (rows-mapped (moved s) (roomRows room) (roomRows room) (caseRows s (caseOf s) ++ (proposalRows s t (caseOf s) (planOf s t) (pricesOf s t) ++ judgementRows none (caseOf s) (planOf s t) (pricesOf s t))) (caseRows v (caseOf v) ++ (proposalRows v t (caseOf v) (planOf v t) (pricesOf v t) ++ judgementRows none (caseOf v) (planOf v t) (pricesOf v t))) room-mapped
+      (λ x. rows-mapped (moved s) (caseRows s (caseOf s)) (caseRows v (caseOf v)) (proposalRows s t (caseOf s) (planOf s t) (pricesOf s t) ++ judgementRows none (caseOf s) (planOf s t) (pricesOf s t)) (proposalRows v t (caseOf v) (planOf v t) (pricesOf v t) ++ judgementRows none (caseOf v) (planOf v t) (pricesOf v t)) same-refusal
       (λ none-holds. absurd (refused none-holds))))
-      ∙ answer-mapped s (refusal (table s t room (caseOf s) (planOf s t) (pricesOf s t)))
+      ∙ answer-mapped s (refusal (table none s t room (caseOf s) (planOf s t) (pricesOf s t)))
     where
       room-mapped : refusal (roomRows room) ≡ mapped (moved s) (refusal (roomRows room))
       room-mapped = let rows : Maps (moved s) (roomRows room) (roomRows room) = more refl (λ k h. refl) (λ k x. refl) no-rows in rows .is

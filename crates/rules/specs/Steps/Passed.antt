@@ -1,7 +1,7 @@
 -- What the rows of the table leave where they pass: every limit of a readable case, of a proposal, and a clearing of the case. Assumes nothing.
 use mathlib.Core.Path.{_≡_, refl, sym, ap, subst}
 use mathlib.Core.Bool.{Bool, true, false, not, _&&_, _||_}
-use mathlib.Core.List.{List}
+use mathlib.Core.List.{List, [], _∷_}
 use mathlib.Core.Option.{none}
 use Prim.Native.Nat.{ℕ, suc, _+_, _*_, _≤_, _<_}
 use native.Mathlib.Omega.{arith}
@@ -19,7 +19,7 @@ use Rattle.rules.specs.Meaning.Clearing.{Clearing}
 use Rattle.rules.specs.Meaning.Annex.{PairsOnce}
 use Rattle.rows.specs.Meaning.Rows.{refusal, Pass}
 use Rattle.rows.specs.Promised.RowLaws.{has-before, isRow, rowOf, hasRow, before, row-passed, lacks, no-place, later, none-zero, rowNumbered, number-passes, field-at-passes}
-use Rattle.rules.specs.Meaning.Verdict.{over, unknown, branchFault, repeated, linkFault, rowFault, orderFault, roomRows, caseRows, proposalRows, clearingRows, table, outcome, Readable, caseRefusal, proposalRefusal}
+use Rattle.rules.specs.Meaning.Verdict.{over, unknown, branchFault, repeated, linkFault, rowFault, orderFault, roomRows, caseRows, proposalRows, wideTolerance, clearingRows, table, outcome, Readable, caseRefusal, proposalRefusal}
 use Rattle.rules.specs.Meaning.Report.{reports}
 use Rattle.rules.specs.Steps.Duality.{Placed}
 
@@ -170,7 +170,7 @@ no-share c share e t = none (nltb→le 0 share (subst (λ (n : ℕ). T (not (eqb
 
 -- the rows before 26
 module _ (c : Case) (p : Plan) (d : Prices) (one : p .den ≡ 1) (share-in : p .share ≤ partsInOne)
-    (rows : (n k : ℕ) → T (hasRow n k (before 26 (clearingRows c p d))) → Pass (rowOf n k (clearingRows c p d))) where
+    (rows : (n k : ℕ) → T (hasRow n k (before 26 (clearingRows none c p d))) → Pass (rowOf n k (clearingRows none c p d))) where
   pub clearing-rows-sound : ClearingSound c p d
   unfolding clearingRows before hasRow rowOf isRow
   clearing-rows-sound = record {
@@ -208,18 +208,19 @@ module _ (s t : List ℕ) (room : ℕ) where
   d = pricesOf s t
 
   -- with a number n that no row before the clearing's has
-  parts : (n : ℕ) → T (lacks n (roomRows room)) → T (lacks n (caseRows s c)) → T (lacks n (proposalRows s t c p d)) → (outcome s t room) .number ≡ n
-      → ((i k : ℕ) → T (hasRow i k (before 26 (clearingRows c p d))) → T (hasRow i k (before n (clearingRows c p d)))) → Sound s t room
+  parts : (n : ℕ) → T (lacks n (roomRows room)) → T (lacks n (caseRows s c)) → T (lacks n (proposalRows s t c p d)) → T (lacks n (wideTolerance c ∷ [])) → (outcome s t room) .number ≡ n
+      → ((i k : ℕ) → T (hasRow i k (before 26 (clearingRows none c p d))) → T (hasRow i k (before n (clearingRows none c p d)))) → Sound s t room
   unfolding outcome table caseRefusal proposalRefusal roomRows before hasRow rowOf isRow planOf c p d
-  parts n l₀ l₁ l₂ e up =
+  parts n l₀ l₁ l₂ l₃ e up =
       let a = later n (roomRows room) _ l₀ e in
       let b = later n (caseRows s c) _ l₁ (a .then-second) in
       let f = later n (proposalRows s t c p d) _ l₂ (b .then-second) in
+      let g = later n (wideTolerance c ∷ []) _ l₃ (f .then-second) in
       record {
         readable = record { none-holds = b .none-first };
         proposed = f .none-first;
         cleared = clearing-rows-sound c p d refl ((proposal-rows-sound s t c p d (f .none-first)) .share-in)
-            (λ i k h. row-passed n (clearingRows c p d) (f .then-second) i k (up i k h));
+            (λ i k h. row-passed n (clearingRows none c p d) (g .then-second) i k (up i k h));
         enough-room = nltb→le room reportRoom ((row-passed 0 (roomRows room) (none-zero (roomRows room) (a .none-first)) 30 0 tt) .pass 0 (omega arith));
       }
 
@@ -227,10 +228,15 @@ module _ (s t : List ℕ) (room : ℕ) where
   pub sound : T (reports ((outcome s t room) .number)) → Sound s t room
   unfolding reports roomRows caseRows proposalRows clearingRows lacks before
   sound r = either (eqb ((outcome s t room) .number) 0) (eqb ((outcome s t room) .number) 26) r
-      (λ e. parts 0 tt tt tt (eqb→eq ((outcome s t room) .number) 0 e) (λ i k h. has-before 26 i k (clearingRows c p d) h))
-      (λ e. parts 26 tt tt tt (eqb→eq ((outcome s t room) .number) 26 e) (λ i k h. h))
+      (λ e. parts 0 tt tt tt tt (eqb→eq ((outcome s t room) .number) 0 e) (λ i k h. has-before 26 i k (clearingRows none c p d) h))
+      (λ e. parts 26 tt tt tt tt (eqb→eq ((outcome s t room) .number) 26 e) (λ i k h. h))
 
   -- VERDICT 0: the gap is at most the tolerance
   pub within-tolerance : (outcome s t room) .number ≡ 0 → gap (caseOf s) (planOf s t) (pricesOf s t) ≤ℤ limits.microcentsOf (pos ((caseOf s) .tolerance))
   unfolding outcome table roomRows caseRows proposalRows clearingRows before hasRow rowOf isRow
-  within-tolerance e = ltZ-no ((row-passed 0 (table s t room (caseOf s) (planOf s t) (pricesOf s t)) e 26 0 tt) .pass 0 (omega arith))
+  within-tolerance e = ltZ-no ((row-passed 0 (table none s t room (caseOf s) (planOf s t) (pricesOf s t)) e 26 0 tt) .pass 0 (omega arith))
+
+  -- and the tolerance is one that an accepted hour may have (S-12)
+  pub narrow-tolerance : (outcome s t room) .number ≡ 0 → (caseOf s) .tolerance ≤ 10000
+  unfolding outcome table roomRows caseRows proposalRows clearingRows before hasRow rowOf isRow
+  narrow-tolerance e = (nat-within 0 10000 ((caseOf s) .tolerance) ((row-passed 0 (table none s t room (caseOf s) (planOf s t) (pricesOf s t)) e 15 0 tt) .pass 0 (omega arith))) .1

@@ -166,10 +166,10 @@ examples =
     ∷ priceIs 0 (pos 200000000) ∷ priceIs 1 (pos 637500000) ∷ priceIs 2 (pos 500000000) ∷ [])
     -- P2: no link
     ∷ example (threeZones [] 0) (proposal2 []) (verdict 0 0) (welfareIs (euros 19500) ∷ rentIs (euros 15000) ∷ owedIs (euros 0) ∷ [])
-    -- P3: P2's proposal with the link and flow 0; with tolerance 299,999 cents. P4: tolerance 300,000
+    -- P3: P2's proposal with the link and flow 0. With tolerance 299,999 cents, and P4, tolerance 300,000: 15 since S-12
     ∷ example (threeZones linkAB 0) (proposal2 (0 ∷ [])) (verdict 26 0) (gapIs (euros 3000) ∷ owedIs (euros 18000) ∷ [])
-    ∷ example (threeZones linkAB 299999) (proposal2 (0 ∷ [])) (verdict 26 0) []
-    ∷ example (threeZones linkAB 300000) (proposal2 (0 ∷ [])) (verdict 0 0) []
+    ∷ example (threeZones linkAB 299999) (proposal2 (0 ∷ [])) (verdict 15 0) []
+    ∷ example (threeZones linkAB 300000) (proposal2 (0 ∷ [])) (verdict 15 0) []
     -- P5: second volume 6,001
     ∷ example (threeZones linkAB 0) (proposal1 87500 6001 4375 3500) (verdict 21 1) []
     -- P6: last volume 4,376

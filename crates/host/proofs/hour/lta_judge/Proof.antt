@@ -1,12 +1,13 @@
 -- `host::hour::lta_judge` meets its contract: it packs the verdict of `judge`, and a packed 0 has the number 0. Assumes nothing.
 use mathlib.Core.Path.{_≡_, ap, _∙_}
-use Prim.Native.Nat.{ℕ, _+_, _*_, _/_, _%_, _<_}
+use Prim.Native.Nat.{_+_, _*_}
 use denote.Ref.{now}
 use lib.ListN.{length}
-use native.Mathlib.Omega.{arith}
 use borrow.Author.Needs.{needs}
 use Rattle.rules.specs.Promised.Causes.{outcome-below}
 use Rattle.rows.specs.declared.Outcome.{Outcome}
+use Rattle.judgement.specs.Packed.{packed-number, packed-index, packed-zero}
+use Rattle.judgement.specs.Promises.{demands-from}
 use Rattle.host.proofs.hour.lta_judge.Statement.{statement}
 use Rattle.host.proofs.hour.lta_judge.Tie as tie
 
@@ -19,55 +20,14 @@ packed-requires c κs = search needs
 same-length : tie.Need-same-length
 same-length c = search needs
 
--- number and index of what is packed
-packed-number : (r n i : ℕ) → n < 256 → r ≡ n + 256 * i → r % 256 ≡ n
-packed-number r n i h e = omega arith
-
-packed-index : (r n i : ℕ) → n < 256 → r ≡ n + 256 * i → r / 256 ≡ i
-packed-index r n i h e = omega arith
-
-accepted : (c : tie.After-packed) → c .packed .result ≡ 0 → c .before .before .before .judge .result .number ≡ 0
-accepted c e = omega (arith, e, c .packed .ensures)
-
 returns : tie.Need-returns
 returns c =
     let a = c .before .before .before .before .before .before .before .before in
     let j = c .before .before .before .judge .ensures in
     let is = c .packed .ensures ∙ ap (λ (v : Outcome). v .number + 256 * v .index) (j .0) in
-    let below = outcome-below (now (a .args .«case»)) (now (a .args .proposal)) (length (now (a .args .report))) in (
-      is,
-      (
-        packed-number _ _ _ below is,
-        (
-          packed-index _ _ _ below is,
-          (
-            j .1 .0,
-            (
-              j .1 .1 .0,
-              (
-                λ e. j .1 .1 .1 .0 (accepted c e),
-                (
-                  λ e. j .1 .1 .1 .1 .0 (accepted c e),
-                  (
-                    λ e. j .1 .1 .1 .1 .1 .0 (accepted c e),
-                    (
-                      λ e. j .1 .1 .1 .1 .1 .1 .0 (accepted c e),
-                      (
-                        λ e. j .1 .1 .1 .1 .1 .1 .1 .0 (accepted c e),
-                        (
-                          λ e. j .1 .1 .1 .1 .1 .1 .1 .1 .0 (accepted c e),
-                          λ e. j .1 .1 .1 .1 .1 .1 .1 .1 .1 (accepted c e),
-                        ),
-                      ),
-                    ),
-                  ),
-                ),
-              ),
-            ),
-          ),
-        ),
-      ),
-    )
+    let below = outcome-below (now (a .args .«case»)) (now (a .args .proposal)) (length (now (a .args .report))) in
+    let zero = packed-zero _ _ _ (c .packed .ensures) in
+    (is, (packed-number _ _ _ below is, (packed-index _ _ _ below is, (j .1 .0, (j .1 .1 .0, demands-from _ _ _ zero (j .1 .1 .1))))))
 
 pub lta-judge-spec : {M : Type 1} → statement M
 lta-judge-spec = tie.close (tie.spec judge-requires packed-requires same-length returns)

@@ -1,0 +1,55 @@
+// Row 28 (request S-11): a child accepted in a larger fraction than its parent.
+ghost use mathlib.Core.Path.{_≡_};
+ghost use Prim.Native.Nat.{_<_};
+ghost use Rattle.rules.specs.Meaning.Hour.{caseOf, planOf};
+ghost use Rattle.rules.specs.Meaning.Families.{parentOf};
+ghost use Rattle.rules.specs.Meaning.Verdict.{exceedsParent, excessFraction};
+ghost use Rattle.rows.specs.Meaning.Rows.{failing};
+ghost use Rattle.rows.specs.Promised.RowLaws.{placeOf};
+ghost use Rattle.proposal_file.specs.Proposed.{Proposed};
+ghost use Rattle.clearing.specs.Stages.{VolumesIn};
+ghost use Rattle.family_list.specs.Steps.Answer.{Known};
+use case_header::Counts;
+use case_orders::order_at;
+use family_list::NO_PARENT;
+use family_list::parent_at;
+use proposal_file::volume_at;
+use rows::Place;
+
+// Whether the fraction of order i exceeds its parent's.
+fn exceeds_parent(case: &[u8], k: Counts, proposal: &[u8], families: &[u8], i: usize) -> bool
+    requires { ⌜ Proposed (now «case») k (now proposal) ⌝ }
+    requires { ⌜ VolumesIn (caseOf (now «case»)) (planOf (now «case») (now proposal)) ⌝ }
+    requires { ⌜ Known (now families) (k .orders) ⌝ }
+    requires { ⌜ i < k .orders ⌝ }
+    ensures { λ r. ⌜ r ≡ exceedsParent (caseOf (now («case» .entry))) (planOf (now («case» .entry)) (now (proposal .entry))) i (parentOf (now (families .entry)) i) ⌝ }
+{
+    let orders = k.orders;
+    let parent = parent_at(families, orders, i);
+    if parent == NO_PARENT {
+        return false;
+    }
+    let child = order_at(case, k, i);
+    let above = order_at(case, k, parent);
+    let quantity = child.quantity;
+    let parent_quantity = above.quantity;
+    let volume = volume_at(case, k, proposal, i);
+    let parent_volume = volume_at(case, k, proposal, parent);
+    volume.greater_part(quantity, parent_volume, parent_quantity)
+}
+
+// The first child whose fraction exceeds its parent's, of a proposal that row 21 passes and a family list that rows 16 and 17 pass.
+pub fn first_over_parent(case: &[u8], k: Counts, proposal: &[u8], families: &[u8]) -> Place
+    requires { ⌜ Proposed (now «case») k (now proposal) ⌝ }
+    requires { ⌜ VolumesIn (caseOf (now «case»)) (planOf (now «case») (now proposal)) ⌝ }
+    requires { ⌜ Known (now families) (k .orders) ⌝ }
+    ensures { λ r. ⌜ placeOf r ≡ failing (excessFraction (now (families .entry)) (caseOf (now («case» .entry))) (planOf (now («case» .entry)) (now (proposal .entry)))) ⌝ }
+{
+    let orders = k.orders;
+    for i in 0..orders {
+        if exceeds_parent(case, k, proposal, families, i) {
+            return Place::At(i);
+        }
+    }
+    Place::Nowhere
+}

@@ -1,0 +1,127 @@
+-- `family_list::bad_header` meets its contract: a list that lacks a field is under 5 bytes, which is no length of a list. Assumes nothing.
+use mathlib.Core.Path.{_≡_, sym, ap, _∙_}
+use mathlib.Core.Bool.{not, _&&_}
+use mathlib.Core.List.{List}
+use Prim.Native.Nat.{ℕ}
+use native.Mathlib.Omega.{arith}
+use borrow.Author.Needs.{needs}
+use borrow.Author.Tests.{eq-eqb, ne-eqb}
+use lib.Dec.{eqb}
+use Rattle.rules.specs.Meaning.Layout.{u16At}
+use Rattle.rules.specs.Meaning.Verdict.{notMark, differ}
+use Rattle.fields.specs.declared.Cursor.{Cursor}
+use Rattle.fields.specs.declared.Mark.{Mark}
+use Rattle.fields.specs.Walk.{markAt, markField, halfField, Took}
+use Rattle.fields.specs.Walk as walk
+use Rattle.rules.specs.Meaning.Families.{familyVersion, familyLength}
+use Rattle.family_list.specs.Steps.Answer.{too-short, wrong-mark, wrong-version, by-length}
+use Rattle.family_list.proofs.bad_header.Statement.{statement}
+use Rattle.family_list.proofs.bad_header.Tie as tie
+
+new-requires : tie.Need-new-requires
+new-requires c κs = search needs
+
+mark-requires : tie.Need-mark-requires
+mark-requires c κs = search needs
+
+enum-known-mark : tie.Need-enum-known-mark
+enum-known-mark c = search needs
+
+enum-told : tie.Need-enum-told
+enum-told c = search needs
+
+abbrev mark-file : tie.After-mark → List ℕ
+mark-file c = c .before .before .before .args .families .now
+
+abbrev orders-of : tie.After-mark → ℕ
+orders-of c = c .before .before .before .args .orders
+
+mark-is : (c : tie.After-mark) → c .mark .result ≡ markField (mark-file c) 0
+mark-is c = c .mark .ensures ∙ ap (λ (d : Cursor). markField (mark-file c) (d .at)) (c .before .new .ensures)
+
+mark-took : (c : tie.After-mark2) → Took (mark-file (c .before .before)) 0 3 (markAt (mark-file (c .before .before)) 0) (c .mark2 .given .0 .0) (c .mark2 .given .0 .1 .0)
+mark-took c = walk.mark-took (mark-file (c .before .before)) 0 (sym (mark-is (c .before .before)) ∙ c .mark2 .given .1)
+
+returns : tie.Need-returns
+returns c =
+    let a = c .before .before in
+    too-short (mark-file a) (orders-of a) (omega (arith, walk.mark-short (mark-file a) 0 (sym (mark-is a) ∙ c .enum-told .given .1)))
+
+half-requires : tie.Need-half-requires
+half-requires c κs = search needs
+
+enum-known-version : tie.Need-enum-known-version
+enum-known-version c = search needs
+
+enum-told-2 : tie.Need-enum-told-2
+enum-told-2 c = search needs
+
+abbrev version-file : tie.After-half → List ℕ
+version-file c = mark-file (c .before .before .before .before)
+
+version-is : (c : tie.After-half) → c .half .result ≡ halfField (version-file c) 3
+version-is c = c .half .ensures ∙ ap (λ (d : Cursor). halfField (version-file c) (d .at)) (mark-took (c .before .before) .past)
+
+version-took : (c : tie.After-version) → Took (version-file (c .before .before)) 3 2 (u16At (version-file (c .before .before)) 3) (c .version .given .0 .0) (c .version .given .0 .1 .0)
+version-took c = walk.half-took (version-file (c .before .before)) 3 (sym (version-is (c .before .before)) ∙ c .version .given .1)
+
+returns-2 : tie.Need-returns-2
+returns-2 c =
+    let a = c .before .before in
+    too-short (version-file a) _ (omega (arith, walk.half-short (version-file a) 3 (sym (version-is a) ∙ c .enum-told2 .given .1)))
+
+differs-requires : tie.Need-differs-requires
+differs-requires c κs = search needs
+
+-- the two tests
+abbrev opened : tie.After-differs → tie.After-version
+opened c = c .before .before
+
+mark-test : (c : tie.After-differs) → c .differs .result ≡ notMark 76 84 70 (version-file (opened c .before .before))
+unfolding notMark
+mark-test c = c .differs .ensures ∙ ap (λ (m : Mark). not (eqb (m .0) 76 && eqb (m .1) 84 && eqb (m .2) 70)) (mark-took (opened c .before .before .before .before) .is)
+
+version-test : (c : tie.After-version) → differ (familyVersion (version-file (c .before .before))) 1 ≡ not (eqb (c .version .given .0 .0) 1)
+unfolding familyVersion
+version-test c = ap (λ (v : ℕ). differ v 1) (sym (version-took c .is))
+
+returns-3 : tie.Need-returns-3
+returns-3 c = wrong-mark _ _ (sym (mark-test (c .before)) ∙ c .if1 .taken)
+
+returns-4 : tie.Need-returns-4
+returns-4 c =
+    let v = opened (c .before .before) in
+    wrong-version _ _ (version-test v ∙ ap not (ne-eqb (v .version .given .0 .0) 1 (c .if2 .taken)))
+
+mul-result : tie.Need-mul-result
+mul-result c = search needs
+
+add-result : tie.Need-add-result
+add-result c = search needs
+
+returns-5 : tie.Need-returns-5
+unfolding familyLength
+returns-5 c =
+    let e = c .before in
+    let v = opened (e .before) in
+    by-length _ _ (sym (mark-test (e .before)) ∙ e .if1 .left) (version-test v ∙ ap not (eq-eqb (v .version .given .0 .0) 1 (c .if2 .left)))
+
+pub bad-header-spec : {M : Type 1} → statement M
+bad-header-spec =
+    tie.close
+    (tie.spec
+    new-requires
+    mark-requires
+    enum-known-mark
+    enum-told
+    returns
+    half-requires
+    enum-known-version
+    enum-told-2
+    returns-2
+    differs-requires
+    returns-3
+    returns-4
+    mul-result
+    add-result
+    returns-5)

@@ -1,0 +1,3 @@
+-- The rooms: `Promised` is what is proved, for their reader, of the definitions in `rules`; all else is proved
+pub mod Promised
+pub mod Steps

@@ -1,0 +1,160 @@
+-- What reading a family list answers, by rows 16 to 18 of the verdict table, and what these rows leave where they pass. Assumes nothing.
+use mathlib.Core.Path.{_≡_, refl, sym, ap, _∙_}
+use mathlib.Core.Bool.{Bool, true, false, not, cond, _||_}
+use mathlib.Core.List.{List, [], _∷_}
+use mathlib.Core.Option.{Option, none, some, Option·none-ne-some}
+use Prim.Native.Nat.{ℕ, _≤_, _<_}
+use native.Mathlib.Omega.{arith}
+use lib.ListN.{length}
+use borrow.Author.Tests.{eqb-true, eq-eqb, ne-eqb, le-leb, lt-leb}
+use lib.Dec.{T, eqb, nleb→lt}
+use Rattle.integers.specs.Ranges.{not-is}
+use Rattle.rows.specs.declared.Outcome.{Outcome}
+use Rattle.rows.specs.Meaning.Rows.{Row, verdict, firstBelow, refusal, once, each}
+use Rattle.rows.specs.Promised.RowLaws.{not-below, field-fails, field-passes, row-found, row-clear, number-passes, rowNumbered}
+use Rattle.rules.specs.Meaning.Hour.{Case}
+use Rattle.rules.specs.Meaning.Families.{familyHeader, noParent, familyVersion, familyLength, named, parentIn, parentOf, missing, leadsBack}
+use Rattle.rules.specs.Meaning.Verdict.{differ, notMark, familyRows}
+use Rattle.family_list.specs.declared.FamilyAnswer.{FamilyAnswer}
+use Rattle.family_list.specs.declared.FamilyAnswer.the-variants.{Sound, Refused}
+use Rattle.family_list.specs.Steps.Ancestors.{Exist}
+
+-- THE TESTS of the three rows, and the rows: of a case they ask the number of its orders alone
+abbrev pub wrongList : List ℕ → ℕ → Bool
+wrongList f orders = notMark 76 84 70 f || differ (familyVersion f) 1 || differ (length f) (familyLength orders)
+
+abbrev pub absent : List ℕ → ℕ → ℕ → Bool
+absent f orders i = missing orders (parentOf f i)
+
+abbrev pub rowsBeside : List ℕ → ℕ → List Row
+rowsBeside f orders = once 16 (wrongList f orders) ∷ each 17 orders (absent f orders) ∷ each 18 orders (leadsBack orders (parentOf f)) ∷ []
+
+pub rows-are : (f : List ℕ) (c : Case) {orders : ℕ} → c .orders ≡ orders → familyRows (some f) c ≡ rowsBeside f orders
+rows-are f c e = ap (rowsBeside f) e
+
+-- THE ANSWER
+abbrev pub familyBy : Option Outcome → FamilyAnswer
+familyBy (some o) = Refused o
+familyBy none = Sound
+
+abbrev pub familyAnswer : List ℕ → ℕ → FamilyAnswer
+familyAnswer f orders = familyBy (refusal (rowsBeside f orders))
+
+-- ROW 16 PASSED: the length is right, beside at most 512 orders
+pub record Whole (f : List ℕ) (orders : ℕ) : Type 0 where
+  pub few : orders ≤ 512
+  pub long : length f ≡ familyLength orders
+
+-- ROW 17 PASSED too: every parent that is named is an order
+pub record Known (f : List ℕ) (orders : ℕ) : Type 0 where
+  pub whole : Whole f orders
+  pub exist : Exist orders (parentOf f)
+
+-- ROW 16, by its three tests
+or-true : (a : Bool) → (a || true) ≡ true
+or-true true = refl
+or-true false = refl
+
+module _ (f : List ℕ) (orders : ℕ) where
+  pub too-short : length f < familyHeader → true ≡ wrongList f orders
+  unfolding familyLength
+  too-short h = sym (ap (λ (b : Bool). notMark 76 84 70 f || differ (familyVersion f) 1 || b) (ap not (ne-eqb (length f) (familyLength orders) (λ e. omega arith))) ∙ or-true (notMark 76 84 70 f || differ (familyVersion f) 1))
+
+  pub wrong-mark : notMark 76 84 70 f ≡ true → true ≡ wrongList f orders
+  wrong-mark e = sym (ap (λ (b : Bool). b || differ (familyVersion f) 1 || differ (length f) (familyLength orders)) e)
+
+  pub wrong-version : differ (familyVersion f) 1 ≡ true → true ≡ wrongList f orders
+  wrong-version e = sym (ap (λ (b : Bool). b || differ (length f) (familyLength orders)) (ap (λ (b : Bool). notMark 76 84 70 f || b) e ∙ or-true (notMark 76 84 70 f)))
+
+  pub by-length : notMark 76 84 70 f ≡ false → differ (familyVersion f) 1 ≡ false → differ (length f) (familyLength orders) ≡ wrongList f orders
+  by-length p q = sym (λ j. p j || q j || differ (length f) (familyLength orders))
+
+pub whole-of : (f : List ℕ) (orders : ℕ) → orders ≤ 512 → wrongList f orders ≡ false → Whole f orders
+whole-of f orders h e = record { few = h; long = by (notMark 76 84 70 f || differ (familyVersion f) 1) (eqb (length f) (familyLength orders)) refl e }
+  where
+    by : (a b : Bool) → eqb (length f) (familyLength orders) ≡ b → (a || not b) ≡ false → length f ≡ familyLength orders
+    by a true q e = eqb-true (length f) (familyLength orders) q
+    by true false q e = cc
+    by false false q e = cc
+
+-- ROW 17, by the number that an order gives
+module _ (f : List ℕ) (orders i : ℕ) {v : ℕ} (is : v ≡ parentIn f i) where
+  by-number : (b : Bool) → eqb v noParent ≡ b → absent f orders i ≡ missing orders (cond b none (some v))
+  unfolding parentOf
+  by-number b e = ap (λ (x : ℕ). missing orders (named x)) (sym is) ∙ ap (λ (c : Bool). missing orders (cond c none (some v))) e
+
+  pub is-absent : orders ≤ v → (v ≡ noParent → ⊥) → absent f orders i ≡ true
+  is-absent h d = by-number false (ne-eqb v noParent d) ∙ le-leb orders v h
+
+  pub no-parent : v ≡ noParent → absent f orders i ≡ false
+  no-parent e = by-number true (eq-eqb v noParent e)
+
+  pub is-order : orders ≤ 512 → v < orders → absent f orders i ≡ false
+  is-order few h = by-number false (ne-eqb v noParent (λ e. omega arith)) ∙ lt-leb orders v h
+
+pub exist-of : (f : List ℕ) (orders : ℕ) → ((i : ℕ) → i < orders → T (not (absent f orders i))) → Exist orders (parentOf f)
+exist-of f orders h = record { exists = λ i j l e. by (parentOf f i) j e (h i l) }
+  where
+    by : (o : Option ℕ) (j : ℕ) → o ≡ some j → T (not (missing orders o)) → j < orders
+    by none j e t = absurd (Option·none-ne-some j e)
+    by (some i) j e t = let q : i ≡ j = cc in omega (arith, nleb→lt orders i t)
+
+pub all-exist : (f : List ℕ) (orders : ℕ) → Whole f orders → firstBelow orders (absent f orders) ≡ none → Known f orders
+all-exist f orders w e = record { whole = w; exist = exist-of f orders (not-below orders (absent f orders) e) }
+
+-- THE REFUSAL, row by row
+module _ (f : List ℕ) (orders : ℕ) where
+  abbrev row-17 : Row
+  row-17 = each 17 orders (absent f orders)
+
+  abbrev row-18 : Row
+  row-18 = each 18 orders (leadsBack orders (parentOf f))
+
+  pub by-16 : wrongList f orders ≡ true → refusal (rowsBeside f orders) ≡ some (verdict 16 0)
+  by-16 e = field-fails 16 0 _ e
+
+  past-16 : wrongList f orders ≡ false → refusal (rowsBeside f orders) ≡ refusal (row-17 ∷ row-18 ∷ [])
+  past-16 e = field-passes 16 0 _ e
+
+  pub by-17 : {i : ℕ} → wrongList f orders ≡ false → firstBelow orders (absent f orders) ≡ some i → refusal (rowsBeside f orders) ≡ some (verdict 17 i)
+  by-17 {i} e p = past-16 e ∙ row-found row-17 (row-18 ∷ []) i p
+
+  past-17 : wrongList f orders ≡ false → firstBelow orders (absent f orders) ≡ none → refusal (rowsBeside f orders) ≡ refusal (row-18 ∷ [])
+  past-17 e p = past-16 e ∙ row-clear row-17 (row-18 ∷ []) p
+
+  pub by-18 : {i : ℕ} → wrongList f orders ≡ false → firstBelow orders (absent f orders) ≡ none → firstBelow orders (leadsBack orders (parentOf f)) ≡ some i
+      → refusal (rowsBeside f orders) ≡ some (verdict 18 i)
+  by-18 {i} e p q = past-17 e p ∙ row-found row-18 [] i q
+
+  pub by-none : wrongList f orders ≡ false → firstBelow orders (absent f orders) ≡ none → firstBelow orders (leadsBack orders (parentOf f)) ≡ none → refusal (rowsBeside f orders) ≡ none
+  unfolding refusal
+  by-none e p q = past-17 e p ∙ row-clear row-18 [] q
+
+-- where no row refuses, what 16 and 17 leave
+pub known-passed : (f : List ℕ) (orders : ℕ) → orders ≤ 512 → refusal (rowsBeside f orders) ≡ none → Known f orders
+unfolding rowNumbered
+known-passed f orders h e =
+    let passed = number-passes (rowsBeside f orders) e in
+    record {
+      whole = whole-of f orders h (not-is (wrongList f orders) ((passed 16) .pass 0 (omega arith)));
+      exist = exist-of f orders ((passed 17) .pass);
+    }
+
+-- AN ANSWER READ BACK, beside a case of so many orders
+module _ (f : List ℕ) (c : Case) {orders : ℕ} (count : c .orders ≡ orders) where
+  pub refused-of : {o : Outcome} → familyAnswer f orders ≡ Refused o → refusal (familyRows (some f) c) ≡ some o
+  refused-of {o} e = ap refusal (rows-are f c count) ∙ by (refusal (rowsBeside f orders)) e
+    where
+      by : (x : Option Outcome) → familyBy x ≡ Refused o → x ≡ some o
+      by (some y) e = cc
+      by none e = cc
+
+  pub passed-of : familyAnswer f orders ≡ Sound → refusal (familyRows (some f) c) ≡ none
+  passed-of e = ap refusal (rows-are f c count) ∙ by (refusal (rowsBeside f orders)) e
+    where
+      by : (x : Option Outcome) → familyBy x ≡ Sound → x ≡ none
+      by (some y) e = cc
+      by none e = refl
+
+  pub known-of : orders ≤ 512 → familyAnswer f orders ≡ Sound → Known f orders
+  known-of h e = known-passed f orders h (ap refusal (sym (rows-are f c count)) ∙ passed-of e)

@@ -1,0 +1,268 @@
+-- `findings::find_network` meets its contract: a row of the table for each stage, in the table's order, past each that passes to the one that fails.
+-- A stage reaches what it rests on through the stage before it, so that a row put between two others is met by the one that follows it. Assumes nothing.
+use mathlib.Core.Path.{_≡_, refl, ap, sym, subst, _∙_}
+use mathlib.Core.Bool.{not}
+use mathlib.Core.Option.{Option, none, some}
+use Prim.Native.Nat.{ℕ, _<_}
+use native.Mathlib.Omega.{arith}
+use borrow.Author.Needs.{needs}
+use denote.Ref.{now}
+use lib.Dec.{T}
+use lib.IntN.{ℤ, pos, _-ℤ_, _*ℤ_}
+use lib.Signed.{ltZ}
+use mir.Syntax.{w64}
+use Rattle.integers.specs.Ranges.{outside, within}
+use Rattle.integers.specs.Sums.{sumTo, sum-ext}
+use Rattle.integers.specs.Size.{near-fits, near-sub, near-pos, near-unsigned}
+use Rattle.integers.specs.Machine.{sfits-by}
+use Rattle.measures.specs.Meaning.Limits as limits
+use Rattle.measures.specs.Meaning.Limits.{microcentsOf}
+use Rattle.rules.specs.Meaning.Hour.{Case, Plan, Prices, caseOf, planOf, pricesOf, net, zonePrice, gap, rent}
+use Rattle.rows.specs.declared.Outcome.{Outcome}
+use Rattle.rows.specs.Meaning.Rows.{verdict, failing, firstBelow}
+use Rattle.rows.specs.Promised.RowLaws.{placeOf, Comes, clear, fails-at, none-left, once-fails, once-passes, behind, not-below, at-place, at-none, first-ext, place-below}
+use Rattle.rules.specs.Meaning.Verdict.{over, overZ, overloadedBranch, priceOutside}
+use Rattle.rules.specs.Steps.Passed.{proposal-sound}
+use Rattle.rules.specs.Promised.Fits.{rent-sums, system-near}
+use Rattle.rules.specs.Meaning.Report as rules
+use Rattle.rules.specs.Meaning.Report.{totalsOf, reports}
+use Rattle.case_header.specs.declared.Counts.{Counts}
+use Rattle.clearing.specs.Held.{tenthsAt, Holds}
+use Rattle.clearing.specs.Stages.{VolumesIn, fit-ext}
+use Rattle.network.specs.Prices.{grainsAt, Priced}
+use Rattle.findings.specs.Found.{networkRows, finds-refused, finds-valued}
+use Rattle.findings.specs.Facts.{HourFacts, hour-facts}
+use Rattle.findings.proofs.find_network.Statement.{statement}
+use Rattle.findings.proofs.find_network.Tie as tie
+
+-- the hour that is judged, what is known of it, and its rows
+abbrev hour : tie.Start → Case
+hour a = caseOf (now (a .args .«case»))
+
+abbrev plan : tie.Start → Plan
+plan a = planOf (now (a .args .«case»)) (now (a .args .proposal))
+
+abbrev rates : tie.Start → Prices
+rates a = pricesOf (now (a .args .«case»)) (now (a .args .proposal))
+
+facts : (a : tie.Start) → HourFacts (now (a .args .«case»)) (a .args .k) (now (a .args .proposal)) (a .args .opening)
+facts a = hour-facts _ _ _ _ (a .pre .0) (a .pre .1 .0)
+
+-- the rows up to that of a number pass
+abbrev Past : tie.Start → ℕ → Type 0
+Past a n = (o : Option Outcome) → Comes (behind n (networkRows (hour a) (plan a) (rates a))) o → Comes (networkRows (hour a) (plan a) (rates a)) o
+
+volumes : (a : tie.Start) → VolumesIn (hour a) (plan a)
+volumes a = a .pre .1 .1 .0
+
+nets : (a : tie.Start) → Holds (net (hour a) (plan a)) (a .args .nets)
+nets a = a .pre .1 .1 .1 .1 .0
+
+-- 24, THE BRANCHES
+abbrev branches-asked : tie.After-branch-sums → tie.Start
+branches-asked c = c .before .before .before .before .before .before
+
+abbrev branches : tie.After-enum-told → tie.After-branch-sums
+branches c = c .before .before
+
+ptdf-table-requires : tie.Need-ptdf-table-requires
+ptdf-table-requires c κs = search needs
+
+rest-requires : tie.Need-rest-requires
+rest-requires c κs =
+    let a = c .before .before .before .before in
+    sfits-by w64 (ap (λ (x : ℤ). pos 100000 -ℤ x) ((facts a) .share-is)) (near-fits w64 (omega arith) (near-sub (near-pos 100000) (near-unsigned _ 100000 ((facts a) .share-in))))
+
+branch-sums-requires : tie.Need-branch-sums-requires
+unfolding planOf pricesOf
+branch-sums-requires c κs =
+    let a = c .before .before .before .before .before in (
+      a .pre .0,
+      (
+        volumes a,
+        (
+          a .pre .1 .1 .1 .0,
+          (
+            c .before .ptdf-table .ensures,
+            (
+              a .pre .1 .1 .1 .1 .1 .0,
+              (c .rest .ensures ∙ ap (λ (x : ℤ). pos 100000 -ℤ x) ((facts a) .share-is), (facts a) .system-is),
+            ),
+          ),
+        ),
+      ),
+    )
+
+enum-known-overloaded : tie.Need-enum-known-overloaded
+enum-known-overloaded c = search needs
+
+overloaded-at : (c : tie.After-overloaded) → failing (overloadedBranch (hour (branches-asked (c .before .before))) (plan (branches-asked (c .before .before)))) ≡ some (c .overloaded .given .0 .0)
+overloaded-at c = at-place _ _ _ (c .before .before .branch-sums .ensures .0) (c .overloaded .given .1)
+
+refused-requires : tie.Need-refused-requires
+refused-requires c κs = let o = c .before in place-below _ _ _ 4294967296 (overloaded-at o) (omega (arith, ((facts (branches-asked (o .before .before))) .sound) .branches-in))
+
+returns : tie.Need-returns
+unfolding reports
+returns c =
+    let o = c .before .before in
+    finds-refused (verdict 24 _) (c .refused .ensures) refl ((fails-at _ (overloaded-at o)) .is)
+
+enum-told : tie.Need-enum-told
+enum-told c = search needs
+
+none-overloaded : (c : tie.After-enum-told) → failing (overloadedBranch (hour (branches-asked (branches c))) (plan (branches-asked (branches c)))) ≡ none
+none-overloaded c = at-none _ _ (branches c .branch-sums .ensures .0) (c .enum-told .given .1)
+
+past-branches : (c : tie.After-enum-told) → Past (branches-asked (branches c)) 24
+past-branches c o q = clear (none-overloaded c) q
+
+priced : (c : tie.After-enum-told) → Priced (hour (branches-asked (branches c))) (rates (branches-asked (branches c))) (branches c .branch-sums .result .prices)
+priced c = branches c .branch-sums .ensures .1 .0 (ap placeOf (c .enum-told .given .1))
+
+-- 25, THE ZONE PRICES
+abbrev before-prices : tie.After-zone-sums → tie.After-enum-told
+before-prices c = c .before .before
+
+abbrev prices-asked : tie.After-zone-sums → tie.Start
+prices-asked c = branches-asked (branches (before-prices c))
+
+abbrev prices : tie.After-enum-told2 → tie.After-zone-sums
+prices c = c .before .before
+
+-- a zone's part of the rent
+rent-term : (c : tie.After-enum-told) (z : ℕ) → z < hour (branches-asked (branches c)) .zones
+    → tenthsAt (branches-asked (branches c) .args .nets) z *ℤ grainsAt (branches c .branch-sums .result .prices) z
+    ≡ net (hour (branches-asked (branches c))) (plan (branches-asked (branches c))) z *ℤ zonePrice (hour (branches-asked (branches c))) (rates (branches-asked (branches c))) z
+rent-term c z h = λ j. (nets (branches-asked (branches c))) .each z (omega (arith, (facts (branches-asked (branches c))) .few-zones, (facts (branches-asked (branches c))) .zones-is)) j *ℤ (priced c) .each z h j
+
+zone-sums-requires : tie.Need-zone-sums-requires
+zone-sums-requires c κs =
+    let b = c .before in
+    let a = branches-asked (branches b) in (
+      (facts a) .few-zones,
+      record {
+        sums = λ n h e. fit-ext _ _ n (λ z l. rent-term b z (omega (arith, (facts a) .zones-is)))
+            (rent-sums _ ((facts a) .sound) _ (system-near _ _) ((proposal-sound _ _ (a .pre .0 .passed)) .shadow-in) _ ((volumes a) .within) n (omega (arith, (facts a) .zones-is))
+            (λ z l. within limits.zonePrice _ (subst (λ (x : ℤ). T (not (outside limits.zonePrice x))) ((priced b) .each z (omega (arith, (facts a) .zones-is))) (not-below _ _ e z l))));
+      },
+    )
+
+-- the search over the computed prices is the table's over the zone prices
+searched : (c : tie.After-zone-sums)
+    → firstBelow (prices-asked c .args .k .zones) (λ z. outside limits.zonePrice (grainsAt (branches (before-prices c) .branch-sums .result .prices) z)) ≡ failing (priceOutside (hour (prices-asked c)) (rates (prices-asked c)))
+searched c =
+    let a = prices-asked c in
+    ap (λ (n : ℕ). firstBelow n (λ z. outside limits.zonePrice (grainsAt (branches (before-prices c) .branch-sums .result .prices) z))) ((facts a) .zones-is)
+    ∙ first-ext (hour a .zones) _ _ (λ z h. ap (outside limits.zonePrice) ((priced (before-prices c)) .each z h))
+
+enum-known-outside : tie.Need-enum-known-outside
+enum-known-outside c = search needs
+
+outside-at : (c : tie.After-outside) → failing (priceOutside (hour (prices-asked (c .before .before))) (rates (prices-asked (c .before .before)))) ≡ some (c .outside .given .0 .0)
+outside-at c = let f = c .before .before in sym (searched f) ∙ at-place _ _ _ (f .zone-sums .ensures .0) (c .outside .given .1)
+
+refused-requires-2 : tie.Need-refused-requires-2
+refused-requires-2 c κs = let o = c .before in let a = prices-asked (o .before .before) in place-below _ _ _ 4294967296 (outside-at o) (omega (arith, ((facts a) .sound) .zones-in .1))
+
+returns-2 : tie.Need-returns-2
+unfolding reports
+returns-2 c =
+    let o = c .before .before in
+    finds-refused (verdict 25 _) (c .refused2 .ensures) refl ((past-branches (before-prices (o .before .before)) _ (fails-at _ (outside-at o))) .is)
+
+enum-told-2 : tie.Need-enum-told-2
+enum-told-2 c = search needs
+
+none-outside : (c : tie.After-enum-told2) → failing (priceOutside (hour (prices-asked (prices c))) (rates (prices-asked (prices c)))) ≡ none
+none-outside c = let f = prices c in sym (searched f) ∙ at-none _ _ (f .zone-sums .ensures .0) (c .enum-told2 .given .1)
+
+past-prices : (c : tie.After-enum-told2) → Past (prices-asked (prices c)) 25
+past-prices c o q = past-branches (before-prices (prices c)) o (clear (none-outside c) q)
+
+-- 26, THE GAP
+rent-is : (c : tie.After-enum-told2) → prices c .zone-sums .result .rent .0 ≡ rent (hour (prices-asked (prices c))) (plan (prices-asked (prices c))) (rates (prices-asked (prices c)))
+unfolding rent
+rent-is c =
+    let a = prices-asked (prices c) in
+    prices c .zone-sums .ensures .1 (ap placeOf (c .enum-told2 .given .1))
+    ∙ sum-ext _ _ _ (λ z h. rent-term (before-prices (prices c)) z (omega (arith, (facts a) .zones-is)))
+    ∙ ap (λ (n : ℕ). sumTo n (λ z. net (hour a) (plan a) z *ℤ zonePrice (hour a) (rates a) z)) ((facts a) .zones-is)
+
+totals-requires : tie.Need-totals-requires
+totals-requires c κs =
+    let b = before-prices (prices c) in
+    let a = branches-asked (branches b) in (
+      a .pre .0,
+      (
+        volumes a,
+        (
+          priced b,
+          (
+            record { within = λ z h. within limits.zonePrice _ (not-below _ _ (none-outside c) z h) },
+            (
+              branches b .branch-sums .ensures .1 .1 (ap placeOf (b .enum-told .given .1)),
+              (a .pre .1 .1 .1 .1 .1 .1, rent-is c),
+            ),
+          ),
+        ),
+      ),
+    )
+
+abbrev before-gap : tie.After-exceeds → tie.After-enum-told2
+before-gap c = c .before .before .before .before
+
+abbrev gap-asked : tie.After-exceeds → tie.Start
+gap-asked c = prices-asked (prices (before-gap c))
+
+exceeds-requires : tie.Need-exceeds-requires
+exceeds-requires c κs = search needs
+
+gap-is : (c : tie.After-exceeds) → c .exceeds .result ≡ overZ (microcentsOf (pos (hour (gap-asked c) .tolerance))) (gap (hour (gap-asked c)) (plan (gap-asked c)) (rates (gap-asked c)))
+unfolding totalsOf caseOf
+gap-is c =
+    c .exceeds .ensures
+    ∙ (λ j. ltZ (ap (λ (k : Counts). k .tolerance .0) (gap-asked c .pre .0 .opened .counts) j) (ap (λ (x : rules.Totals). x .gap) (c .before .before .before .totals .ensures) j))
+
+valued-requires : tie.Need-valued-requires
+valued-requires c κs = search needs
+
+returns-3 : tie.Need-returns-3
+unfolding reports
+returns-3 c =
+    let e = c .before .before in
+    finds-valued 26 _ _ _ _ (some (verdict 26 0)) (c .valued .ensures) refl refl (past-prices (before-gap e) _ (fails-at 0 (once-fails (sym (gap-is e) ∙ c .before .if1 .taken))))
+    ((facts (gap-asked e)) .few-zones) ((facts (gap-asked e)) .zones-is) (nets (gap-asked e)) (priced (before-prices (prices (before-gap e)))) (e .before .before .before .totals .ensures)
+
+valued-requires-2 : tie.Need-valued-requires-2
+valued-requires-2 c κs = search needs
+
+returns-4 : tie.Need-returns-4
+unfolding reports
+returns-4 c =
+    let e = c .before .before in
+    finds-valued 0 _ _ _ _ none (c .valued2 .ensures) refl refl (past-prices (before-gap e) _ (clear (once-passes (sym (gap-is e) ∙ c .before .if1 .left)) none-left))
+    ((facts (gap-asked e)) .few-zones) ((facts (gap-asked e)) .zones-is) (nets (gap-asked e)) (priced (before-prices (prices (before-gap e)))) (e .before .before .before .totals .ensures)
+
+pub find-network-spec : {M : Type 1} → statement M
+find-network-spec =
+    tie.close
+    (tie.spec
+    ptdf-table-requires
+    rest-requires
+    branch-sums-requires
+    enum-known-overloaded
+    refused-requires
+    returns
+    enum-told
+    zone-sums-requires
+    enum-known-outside
+    refused-requires-2
+    returns-2
+    enum-told-2
+    totals-requires
+    exceeds-requires
+    valued-requires
+    returns-3
+    valued-requires-2
+    returns-4)

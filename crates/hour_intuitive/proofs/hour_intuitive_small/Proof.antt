@@ -1,0 +1,16 @@
+-- `hour_intuitive::hour_intuitive_small` meets its contract, clause by clause. Assumes nothing.
+use borrow.Author.Needs.{needs}
+use Rattle.hour_intuitive.proofs.hour_intuitive_small.Statement.{statement}
+use Rattle.hour_intuitive.proofs.hour_intuitive_small.Tie as tie
+
+hour-intuitive-in-requires : tie.Need-hour-intuitive-in-requires
+hour-intuitive-in-requires c κs = search needs
+
+same-length : tie.Need-same-length
+same-length c = search needs
+
+returns : tie.Need-returns
+returns c = c .before .hour-intuitive-in .ensures
+
+pub hour-intuitive-small-spec : {M : Type 1} → statement M
+hour-intuitive-small-spec = tie.close (tie.spec hour-intuitive-in-requires same-length returns)

@@ -1,0 +1,120 @@
+-- From what was found in an hour, and from what was written, to the contract. Assumes nothing.
+use mathlib.Core.Path.{_≡_, refl, sym, ap, subst, _∙_}
+use mathlib.Core.List.{List, _++_}
+use mathlib.Core.Option.{Option, none, some, Option·none-ne-some}
+use Prim.Native.Nat.{ℕ, _+_, _*_, _≤_, _<_}
+use native.Mathlib.Nat.{zero-add}
+use native.Mathlib.Omega.{arith}
+use borrow.Author.Tests.{le-ltb}
+use lib.Dec.{T}
+use lib.ListN.{length, take, drop}
+use lib.Seq.{sets, sets-eq}
+use lib.IntN.{ℤ}
+use Rattle.integers.specs.Ranges.{is-false}
+use Rattle.rows.specs.declared.Outcome.{Outcome}
+use Rattle.rows.specs.Meaning.Rows.{verdict, refusal, answer, failing}
+use Rattle.rows.specs.Promised.RowLaws.{first-none}
+use Rattle.rules.specs.Meaning.Layout.{reportRoom}
+use Rattle.rules.specs.Meaning.Hour.{caseOf, planOf, pricesOf, linkUse, linkRoom}
+use Rattle.rules.specs.Meaning.Report.{reports}
+use Rattle.rules.specs.Meaning.Verdict.{outcome, overusedLink}
+use Rattle.rules.specs.Steps.Passed.{Sound, sound}
+use Rattle.rules.specs.Promised.Guarantee.{Accepted, allowed}
+use Rattle.output.specs.declared.Written.{Written}
+use Rattle.case_header.specs.declared.Counts.{Counts}
+use Rattle.case_header.specs.declared.HeaderAnswer.the-variants as header
+use Rattle.case_header.specs.Answer.{countsOf, headerAnswer}
+use Rattle.case_header.specs.Opened.{Limited, headed, limited, headed-of, header-refused-of}
+use Rattle.findings.specs.declared.Found.{Found}
+use Rattle.findings.specs.Found.{Finds, hourRows}
+use Rattle.shortfalls.specs.Meaning.Answer.{shortfallNumbers, shortfallCount, shortfallRows, shortfallOutcome, writtenBy, shortfallWritten, shortfallOutput, Answers}
+use Rattle.shortfalls.specs.Promised.Account.{hour-accounted}
+use Rattle.shortfalls.specs.Promised.Answer.{gap-small, hour-answers}
+use Rattle.shortfalls.specs.Promised.Causes.{room-passes, refused-first, short-output, enough-room}
+use Rattle.single_shortfall.specs.Judged.{Judged}
+use Rattle.hour_shortfalls.specs.Pairs.{countOf}
+
+module _ (s t : List ℕ) (out : List ℤ) where
+  abbrev numbers : List ℤ
+  numbers = shortfallNumbers (caseOf s) (planOf s t) (pricesOf s t)
+
+  -- the clauses of the contract
+  abbrev pub Kept : Written → List ℤ → Type 0
+  Kept r after =
+      (verdict (r .number) (r .index) ≡ shortfallOutcome s t (length out))
+      × ((r .length ≡ length (shortfallWritten s t (length out)))
+      × ((after ≡ shortfallOutput s t out)
+      × (r .number ≡ 0 → Answers (caseOf s) (planOf s t) (pricesOf s t) after)))
+
+  -- REFUSED
+  pub kept-refused : (n k : ℕ) → 0 < n → refusal (shortfallRows s t (length out)) ≡ some (verdict n k) → {r : Written} → r ≡ record { number = n; index = k; length = 0 } → Kept r out
+  unfolding shortfallOutcome shortfallWritten shortfallOutput
+  kept-refused n k h e q = subst (λ (r : Written). Kept r out) (sym q) (
+    sym (ap answer e),
+    (
+      sym (ap (λ (o : Option Outcome). length (writtenBy o numbers)) e),
+      (sym (ap (λ (o : Option Outcome). writtenBy o numbers ++ drop (length (writtenBy o numbers)) out) e), λ z. absurd (omega (arith, h))),
+    ),
+  )
+
+  -- ANSWERED
+  pub kept-answer : Accepted s t reportRoom → {m : ℕ} {after : List ℤ} → refusal (shortfallRows s t (length out)) ≡ none → length numbers ≤ length out → m ≡ length numbers → after ≡ sets out 0 numbers
+      → Kept (record { number = 0; index = 0; length = m }) after
+  unfolding shortfallOutcome shortfallWritten shortfallOutput
+  kept-answer a {m} {after} e h q w =
+      let stands = w ∙ sets-eq numbers out 0 (omega arith) ∙ ap (λ (n : ℕ). numbers ++ drop n out) (zero-add (length numbers)) in (
+        sym (ap answer e),
+        (
+          q ∙ sym (ap (λ (o : Option Outcome). length (writtenBy o numbers)) e),
+          (
+            stands ∙ sym (ap (λ (o : Option Outcome). writtenBy o numbers ++ drop (length (writtenBy o numbers)) out) e),
+            λ z. subst (λ (l : List ℤ). Answers (caseOf s) (planOf s t) (pricesOf s t) l) (sym stands) (hour-answers s t reportRoom a (drop (length numbers) out)),
+          ),
+        ),
+      )
+
+  -- WHAT WAS FOUND
+  module _ (f : Found) (h : Finds (hourRows none s t) s t f) where
+    pub found-refused : 0 < f .verdict .number → refusal (shortfallRows s t (length out)) ≡ some (verdict (f .verdict .number) (f .verdict .index))
+    found-refused l = by (refusal (hourRows none s t)) refl
+      where
+        by : (o : Option Outcome) → refusal (hourRows none s t) ≡ o → refusal (shortfallRows s t (length out)) ≡ some (verdict (f .verdict .number) (f .verdict .index))
+        by (some x) q = refused-first s t (length out) x (room-passes s t (length out) ∙ q) ∙ ap (λ (y : Outcome). some y) (sym (h .verdict-is ∙ ap answer q))
+        by none q = absurd (omega (arith, l, ap (λ (o : Outcome). o .number) (h .verdict-is ∙ ap answer q)))
+
+    pub found-accepted : f .verdict .number ≡ 0 → Accepted s t reportRoom
+    unfolding outcome
+    found-accepted e = record { answer = ap (λ (o : Option Outcome). (answer o) .number) (room-passes s t (length out)) ∙ ap (λ (o : Outcome). o .number) (sym (h .verdict-is)) ∙ e }
+
+-- AN ACCEPTED HOUR, as the stages have it
+module _ (s t : List ℕ) (a : Accepted s t reportRoom) where
+  passed : Sound s t reportRoom
+  unfolding reports
+  passed = sound s t reportRoom (subst (λ (n : ℕ). T (reports n)) (sym (a .answer)) tt)
+
+  pub good-header : {r : Outcome} → headerAnswer s ≡ header.Refused r → ⊥
+  good-header e = clash (headed {s = s} {k = countsOf s} (record { readable = passed .readable; counts = refl }) .passed) (header-refused-of s e)
+    where
+      clash : {o : Option Outcome} {r : Outcome} → o ≡ none → o ≡ some r → ⊥
+      clash {o} {r} p q = Option·none-ne-some r (sym p ∙ q)
+
+  pub judged : {k : Counts} → headerAnswer s ≡ header.Good k → Judged s k t
+  judged e = record {
+    proposed = record { opened = record { readable = passed .readable; counts = (headed-of s e) .counts }; passed = passed .proposed };
+    clearing = allowed s t reportRoom a;
+    prices-in = record { within = passed .cleared .zonePrice-in };
+    accounted = hour-accounted s t reportRoom a;
+    gap-small = gap-small s t reportRoom a;
+  }
+
+  pub count-is : {k : Counts} → headerAnswer s ≡ header.Good k → countOf k ≡ shortfallCount (caseOf s)
+  unfolding shortfallCount caseOf
+  count-is e = ap countOf ((headed-of s e) .counts)
+
+-- row 23 passes
+pub no-overuse : {s : List ℕ} {k : Counts} {t : List ℕ} → Judged s k t → failing (overusedLink (caseOf s) (planOf s t)) ≡ none
+no-overuse {s} {k} {t} j = first-none _ _ (λ l h. is-false (le-ltb (linkRoom (caseOf s) (planOf s t) l) (linkUse (caseOf s) (planOf s t) l) (j .clearing .link l h)))
+
+-- the counts are few
+pub few : {s : List ℕ} {k : Counts} {t : List ℕ} → Judged s k t → Limited k
+few j = limited (headed (j .proposed .opened))

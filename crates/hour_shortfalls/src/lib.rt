@@ -1,0 +1,174 @@
+// The shortfalls of an hour (request S-14): it is judged, and where it is accepted two numbers are written for each order, then each branch, then each link.
+ghost use mathlib.Core.Path.{_≡_};
+ghost use Prim.Native.Nat.{_+_, _*_, _≤_};
+ghost use lib.ListN.{length};
+ghost use lib.Seq.{sets};
+ghost use lib.IntN.{pos, _-ℤ_};
+ghost use Rattle.measures.specs.Meaning.Limits as limits;
+ghost use Rattle.rows.specs.Meaning.Rows.{verdict};
+ghost use Rattle.rules.specs.Meaning.Hour.{caseOf, planOf, pricesOf, net, fbPart};
+ghost use Rattle.case_branches.specs.Table.{tableOf};
+ghost use Rattle.proposal_file.specs.Proposed.{Proposed};
+ghost use Rattle.clearing.specs.Held.{Holds};
+ghost use Rattle.network.specs.Prices.{Priced};
+ghost use Rattle.shortfalls.specs.Meaning.Shortfalls.{orderShortfall, branchShortfall, linkShortfall};
+ghost use Rattle.shortfalls.specs.Meaning.Answer.{pairsTo, shortfallNumbers, shortfallOutcome, shortfallWritten, shortfallOutput, Answers};
+ghost use Rattle.single_shortfall.specs.Judged.{Judged};
+ghost use Rattle.hour_shortfalls.specs.Pairs.{numbersIn, Writable, countOf};
+use case_branches::ptdf_table;
+use case_header::Counts;
+use case_header::HeaderAnswer;
+use case_header::read_header;
+use clearing::link_sums;
+use fields::word_at;
+use findings::find;
+use measures::ExactMicrocents;
+use measures::Grains;
+use measures::Raw;
+use measures::Share;
+use measures::ShareAnswer;
+use measures::Tenths;
+use output::Written;
+use output::refused;
+use single_shortfall::branch_shortfall;
+use single_shortfall::link_shortfall;
+use single_shortfall::order_shortfall;
+
+// Where a proposal has its LTA share.
+const SHARE_AT: usize = 5;
+
+// The n-th pair: whole microcents, and the parts past them.
+fn put(out: &mut [i64], n: usize, x: ExactMicrocents)
+    requires { ⌜ n ≤ 640 ⌝ }
+    requires { ⌜ 2 * n + 2 ≤ length (now out) ⌝ }
+    requires { ⌜ Writable x ⌝ }
+    ensures { λ _. ⌜ now (out .exit) ≡ sets (now (out .entry)) (2 * n) (numbersIn x) ⌝ }
+{
+    out[2 * n] = x.whole().0 as i64;
+    out[2 * n + 1] = x.parts().0 as i64;
+}
+
+fn put_orders(case: &[u8], k: Counts, proposal: &[u8], prices: [Grains; 16], out: &mut [i64])
+    requires { ⌜ Judged (now «case») k (now proposal) ⌝ }
+    requires { ⌜ Priced (caseOf (now «case»)) (pricesOf (now «case») (now proposal)) prices ⌝ }
+    requires { ⌜ 2 * k .orders ≤ length (now out) ⌝ }
+    ensures { λ _. ⌜ now (out .exit) ≡ sets (now (out .entry)) 0 (pairsTo (k .orders) (orderShortfall (caseOf (now («case» .entry))) (planOf (now («case» .entry)) (now (proposal .entry))) (pricesOf (now («case» .entry)) (now (proposal .entry))))) ⌝ }
+{
+    for i in 0..k.orders {
+        put(out, i, order_shortfall(case, k, proposal, prices, i));
+    }
+}
+
+fn put_branches(
+    case: &[u8],
+    k: Counts,
+    proposal: &[u8],
+    table: [[i32; 16]; 64],
+    parts: [Tenths; 16],
+    flow_based: Share,
+    out: &mut [i64],
+)
+    requires { ⌜ Judged (now «case») k (now proposal) ⌝ }
+    requires { ⌜ table ≡ tableOf (now «case») ⌝ }
+    requires { ⌜ Holds (fbPart (caseOf (now «case»)) (planOf (now «case») (now proposal))) parts ⌝ }
+    requires { ⌜ «flow_based» .0 ≡ pos limits.partsInOne -ℤ pos ((planOf (now «case») (now proposal)) .share) ⌝ }
+    requires { ⌜ 2 * (k .orders + k .branches) ≤ length (now out) ⌝ }
+    ensures { λ _. ⌜ now (out .exit) ≡ sets (now (out .entry)) (2 * k .orders) (pairsTo (k .branches) (branchShortfall (caseOf (now («case» .entry))) (planOf (now («case» .entry)) (now (proposal .entry))) (pricesOf (now («case» .entry)) (now (proposal .entry))))) ⌝ }
+{
+    for m in 0..k.branches {
+        let row = table[m];
+        put(
+            out,
+            k.orders + m,
+            branch_shortfall(case, k, proposal, row, parts, flow_based, m),
+        );
+    }
+}
+
+fn put_links(
+    case: &[u8],
+    k: Counts,
+    proposal: &[u8],
+    share: Share,
+    prices: [Grains; 16],
+    out: &mut [i64],
+)
+    requires { ⌜ Judged (now «case») k (now proposal) ⌝ }
+    requires { ⌜ Priced (caseOf (now «case»)) (pricesOf (now «case») (now proposal)) prices ⌝ }
+    requires { ⌜ share .0 ≡ pos ((planOf (now «case») (now proposal)) .share) ⌝ }
+    requires { ⌜ 2 * countOf k ≤ length (now out) ⌝ }
+    ensures { λ _. ⌜ now (out .exit) ≡ sets (now (out .entry)) (2 * (k .orders + k .branches)) (pairsTo (k .links) (linkShortfall (caseOf (now («case» .entry))) (planOf (now («case» .entry)) (now (proposal .entry))) (pricesOf (now («case» .entry)) (now (proposal .entry))))) ⌝ }
+{
+    for l in 0..k.links {
+        put(
+            out,
+            k.orders + k.branches + l,
+            link_shortfall(case, k, proposal, share, prices, l),
+        );
+    }
+}
+
+// The LTA share of a proposal that rows 9 to 14 pass. Row 13 passed, so that its constructor does not refuse.
+fn share_of(case: &[u8], k: Counts, proposal: &[u8]) -> Share
+    requires { ⌜ Proposed (now «case») k (now proposal) ⌝ }
+    ensures { λ r. ⌜ r .0 ≡ pos ((planOf (now («case» .entry)) (now (proposal .entry))) .share) ⌝ }
+{
+    let ShareAnswer::Held(share) = Share::new(Raw::unsigned(word_at(proposal, SHARE_AT))) else {
+        return Share::LEAST;
+    };
+    share
+}
+
+// All of them, of an accepted hour with these net positions and prices. The flow-based parts are the judgement's stage over the links, asked once more.
+fn put_all(
+    case: &[u8],
+    k: Counts,
+    proposal: &[u8],
+    nets: [Tenths; 16],
+    prices: [Grains; 16],
+    out: &mut [i64],
+)
+    requires { ⌜ Judged (now «case») k (now proposal) ⌝ }
+    requires { ⌜ Holds (net (caseOf (now «case»)) (planOf (now «case») (now proposal))) nets ⌝ }
+    requires { ⌜ Priced (caseOf (now «case»)) (pricesOf (now «case») (now proposal)) prices ⌝ }
+    requires { ⌜ 2 * countOf k ≤ length (now out) ⌝ }
+    ensures { λ _. ⌜ now (out .exit) ≡ sets (now (out .entry)) 0 (shortfallNumbers (caseOf (now («case» .entry))) (planOf (now («case» .entry)) (now (proposal .entry))) (pricesOf (now («case» .entry)) (now (proposal .entry)))) ⌝ }
+{
+    let share = share_of(case, k, proposal);
+    let exchange = link_sums(case, k, proposal, share, nets);
+    let parts = exchange.parts;
+    let table = ptdf_table(case, k);
+    put_orders(case, k, proposal, prices, out);
+    put_branches(case, k, proposal, table, parts, share.rest(), out);
+    put_links(case, k, proposal, share, prices, out);
+}
+
+// The judgement's number and index where the hour is not accepted; else its shortfalls, or 86 where the output is too short. As `host` exports it.
+pub fn hour_shortfalls(case: &[u8], proposal: &[u8], out: &mut [i64]) -> Written
+    ensures outcome { λ r. ⌜ verdict (r .number) (r .index) ≡ shortfallOutcome (now («case» .entry)) (now (proposal .entry)) (length (now (out .entry))) ⌝ }
+    ensures length { λ r. ⌜ r .length ≡ length (shortfallWritten (now («case» .entry)) (now (proposal .entry)) (length (now (out .entry)))) ⌝ }
+    ensures output { λ r. ⌜ now (out .exit) ≡ shortfallOutput (now («case» .entry)) (now (proposal .entry)) (now (out .entry)) ⌝ }
+    ensures shortfalls { λ r. ⌜ (r .number ≡ 0 → Answers (caseOf (now («case» .entry))) (planOf (now («case» .entry)) (now (proposal .entry))) (pricesOf (now («case» .entry)) (now (proposal .entry))) (now (out .exit))) ⌝ }
+{
+    let found = find(case, proposal);
+    let judged = found.verdict;
+    if judged.number != 0 {
+        return refused(judged.number, judged.index as usize);
+    }
+    // An accepted hour's header is good.
+    let HeaderAnswer::Good(k) = read_header(case) else {
+        return refused(judged.number, 0);
+    };
+    let length = 2 * (k.orders + k.branches + k.links);
+    if out.len() < length {
+        return refused(86, 0);
+    }
+    let nets = found.nets;
+    let prices = found.prices;
+    put_all(case, k, proposal, nets, prices, out);
+    Written {
+        number: 0,
+        index: 0,
+        length,
+    }
+}

@@ -1,0 +1,25 @@
+-- REQUEST S-13, the smaller board: S-3's answer from 96 numbers of scratch, one per pair, one per zone for export used, one per zone for import used. All else
+-- is said in S-3's words: its table asks for n numbers and its scratch afterwards has n zeros, 324 on the wide board and 96 on this one. Assumes nothing.
+use Prim.Native.Nat.{ℕ, _+_}
+
+-- one per pair, of which there are up to 64
+abbrev pub pairNumbers : ℕ
+pairNumbers = 64
+
+-- one per zone, of which there are up to 16
+abbrev pub zoneNumbers : ℕ
+zoneNumbers = 16
+
+-- WHERE THEY STAND: what flows along pair k, the export used of zone z, and its import used
+abbrev pub flowPlace : ℕ → ℕ
+flowPlace k = k
+
+abbrev pub exportPlace : ℕ → ℕ
+exportPlace z = pairNumbers + z
+
+abbrev pub importPlace : ℕ → ℕ
+importPlace z = pairNumbers + zoneNumbers + z
+
+-- so many numbers of scratch are lent
+abbrev pub smallRoom : ℕ
+smallRoom = pairNumbers + zoneNumbers + zoneNumbers

@@ -1,0 +1,107 @@
+-- THE SMALLER BOARD ANSWERS AS THE WIDE ONE (S-13): of any two results that meet the two contracts with number 0 on one input, yes or no and the total are equal;
+-- what the wide one takes the smaller takes too; and 81 to 84 are the same. It rests on what the contracts say, and on nothing of how they are met. Assumes nothing.
+use mathlib.Core.Path.{_≡_, refl, sym, ap, _∙_}
+use mathlib.Core.Bool.{Bool, true, false}
+use mathlib.Core.List.{List, [], _∷_, _++_}
+use mathlib.Core.Option.{Option, none, some}
+use Prim.Native.Nat.{ℕ, _≤_, _<_}
+use native.Mathlib.Omega.{arith}
+use borrow.Author.Tests.{le-ltb}
+use lib.ListN.{length}
+use lib.IntN.{ℤ, pos}
+use Rattle.rows.specs.declared.Outcome.{Outcome}
+use Rattle.rows.specs.Meaning.Rows.{Row, verdict, refusal, answer, once, each}
+use Rattle.rows.specs.Promised.RowLaws.{else-refusal, refusal-append, field-fails, field-passes}
+use Rattle.rules.specs.Meaning.Verdict.{under}
+use Rattle.net_positions.specs.Meaning.Positions.{positionOutside, unbalanced}
+use Rattle.zone_pairs.specs.Meaning.Pairs.{pairCount, badPair, networkOf}
+use Rattle.transports.specs.Meaning.Network.{Network, Placed, CarriesAll, Excess}
+use Rattle.flow_board.specs.Board.{amountAt, boardOf}
+use Rattle.intuitive.specs.declared.Carried.{Carried}
+use Rattle.intuitive.specs.Meaning.Intuitive.{scratchRoom, unfit, priceOutside, intuitiveRows, intuitiveRefusal, intuitiveOutcome, LargestTotal, intuitiveScratch}
+use Rattle.intuitive.specs.Meaning.SmallBoard.{flowPlace, exportPlace, importPlace, smallRoom}
+use Rattle.intuitive.specs.Promised.Causes.{intuitive-none}
+use Rattle.intuitive.specs.Promised.OneAnswer.{one-answer}
+use Rattle.intuitive.specs.Steps.Sizes.{placed, room-in}
+
+-- THE CLAUSES OF A CONTRACT, in their order, for the outcome o, the network c and the scratch b′ that they name. The entries of an hour have the same.
+abbrev pub Clauses : Outcome → Network → List ℤ → Carried → List ℤ → Type 0
+Clauses o c b′ r b =
+    (verdict (r .number) (r .index) ≡ o)
+    × ((r .number ≡ 0 → r .intuitive ≡ 1 → CarriesAll c)
+    × ((r .number ≡ 0 → r .intuitive ≡ 0 → Excess c)
+    × ((r .intuitive < 2)
+    × ((r .number ≡ 0 → LargestTotal c (r .total .0))
+    × ((b ≡ b′)
+    × (0 < r .number → (r .intuitive ≡ 0) × (r .total .0 ≡ pos 0)))))))
+
+-- two results that meet such clauses with number 0 say the same of one network
+pub clauses-agree : (c : Network) → Placed c → (o p : Outcome) (s′ t′ : List ℤ) (r q : Carried) (s t : List ℤ) → Clauses o c s′ r s → Clauses p c t′ q t → r .number ≡ 0 → q .number ≡ 0
+    → (r .intuitive ≡ q .intuitive) × (r .total .0 ≡ q .total .0)
+clauses-agree c ok o p s′ t′ r q s t a b e f =
+    one-answer c ok (r .intuitive) (q .intuitive) (r .total .0) (q .total .0)
+    (record { yes-or-no = a .1 .1 .1 .0; a-yes = a .1 .0 e; a-no = a .1 .1 .0 e; most = a .1 .1 .1 .1 .0 e })
+    (record { yes-or-no = b .1 .1 .1 .0; a-yes = b .1 .0 f; a-no = b .1 .1 .0 f; most = b .1 .1 .1 .1 .0 f })
+
+module _ (net prices : List ℤ) (pairs : List ℕ) where
+  -- THE CONTRACT of the wide entry with n = 324, of the smaller with n = 96, for a scratch s that is lent, a result and the scratch afterwards
+  abbrev pub Contract : ℕ → List ℤ → Carried → List ℤ → Type 0
+  Contract n s = Clauses (intuitiveOutcome net prices pairs n (length s)) (networkOf net prices pairs) (intuitiveScratch net prices pairs n s)
+
+  -- YES OR NO AND THE TOTAL ARE EQUAL on each input that both take, whatever scratches are lent
+  pub boards-agree : (s t : List ℤ) (r q : Carried) (s' t' : List ℤ) → Contract scratchRoom s r s' → Contract smallRoom t q t' → r .number ≡ 0 → q .number ≡ 0
+      → (r .intuitive ≡ q .intuitive) × (r .total .0 ≡ q .total .0)
+  boards-agree s t r q s' t' a b e f =
+      let taken = intuitive-none net prices pairs scratchRoom (length s) (sym (ap (λ (o : Outcome). o .number) (a .0)) ∙ e) in
+      clauses-agree (networkOf net prices pairs) (placed net prices pairs scratchRoom (length s) taken) _ _ _ _ r q s' t' a b e f
+
+  -- WHAT IS TAKEN. With room enough the table is the same, however much is asked for
+  abbrev before-85 : List Row
+  before-85 =
+      once 81 (unfit net prices)
+      ∷ each 82 (length net) (positionOutside net)
+      ∷ once 82 (unbalanced net)
+      ∷ each 83 (length prices) (priceOutside prices)
+      ∷ each 84 (pairCount pairs) (badPair (length net) pairs)
+      ∷ []
+
+  abbrev last : ℕ → ℕ → List Row
+  last n room = once 85 (under n room) ∷ []
+
+  pub same-rows : (m n room other : ℕ) → m ≤ room → n ≤ other → intuitiveRows net prices pairs m room ≡ intuitiveRows net prices pairs n other
+  unfolding intuitiveRows
+  same-rows m n room other h k = ap (λ (b : Bool). before-85 ++ (once 85 b ∷ [])) (le-ltb room m h ∙ sym (le-ltb other n k))
+
+  -- so that a scratch which the wide entry takes is answered alike by the smaller, refused or not
+  pub wide-is-small : (room : ℕ) → scratchRoom ≤ room → intuitiveOutcome net prices pairs smallRoom room ≡ intuitiveOutcome net prices pairs scratchRoom room
+  unfolding intuitiveOutcome intuitiveRefusal
+  wide-is-small room h = ap (λ (rows : List Row). answer (refusal rows)) (same-rows smallRoom scratchRoom room room (omega arith) h)
+
+  pub small-takes : (room : ℕ) → (intuitiveOutcome net prices pairs scratchRoom room) .number ≡ 0 → (intuitiveOutcome net prices pairs smallRoom room) .number ≡ 0
+  small-takes room e = ap (λ (o : Outcome). o .number) (wide-is-small room (room-in net prices pairs scratchRoom room (intuitive-none net prices pairs scratchRoom room e))) ∙ e
+
+  -- the last row has 85 alone
+  last-else : (n room : ℕ) → 0 < (answer (refusal (last n room))) .number → (answer (refusal (last n room))) .number < 85 → ⊥
+  unfolding refusal
+  last-else n room h l = by (under n room) refl
+    where
+      by : (b : Bool) → under n room ≡ b → ⊥
+      by true u = omega (arith, h, l, ap (λ (o : Option Outcome). (answer o) .number) (field-fails 85 0 [] u))
+      by false u = omega (arith, h, l, ap (λ (o : Option Outcome). (answer o) .number) (field-passes 85 0 [] u))
+
+  -- 81 TO 84 AS BEFORE, with any scratch, index and all
+  pub refused-alike : (m n room other : ℕ) → 0 < (intuitiveOutcome net prices pairs m room) .number → (intuitiveOutcome net prices pairs m room) .number < 85
+      → intuitiveOutcome net prices pairs n other ≡ intuitiveOutcome net prices pairs m room
+  unfolding intuitiveOutcome intuitiveRefusal intuitiveRows
+  refused-alike m n room other h l = by (refusal before-85) refl
+    where
+      split : (n room : ℕ) (o : Option Outcome) → refusal before-85 ≡ o → refusal (before-85 ++ last n room) ≡ else-refusal o (refusal (last n room))
+      split n room o q = refusal-append before-85 (last n room) ∙ ap (λ (x : Option Outcome). else-refusal x (refusal (last n room))) q
+
+      by : (o : Option Outcome) → refusal before-85 ≡ o → answer (refusal (before-85 ++ last n other)) ≡ answer (refusal (before-85 ++ last m room))
+      by (some x) q = ap answer (split n other (some x) q ∙ sym (split m room (some x) q))
+      by none q = absurd (last-else m room (rw (split m room none q) at h) (rw (split m room none q) at l))
+
+-- THE BOARD IS LAID OUT as S-13 says: what flows, is exported and is imported on the way to an answer stands at these places and at no other
+pub board-places : (s : List ℤ) → boardOf s ≡ record { flow = λ k. amountAt s (flowPlace k); sent = λ z. amountAt s (exportPlace z); got = λ z. amountAt s (importPlace z) }
+board-places s = refl

@@ -1,0 +1,65 @@
+-- `judgement::judge_listed` meets its contract: row 30, and what is found behind it. Assumes nothing.
+use mathlib.Core.Path.{_≡_, refl}
+use mathlib.Core.List.{List}
+use mathlib.Core.Option.{Option}
+use Prim.Native.Nat.{ℕ}
+use borrow.Author.Needs.{needs}
+use borrow.Author.Tests.{lt-ltb, le-ltb}
+use denote.Ref.{now}
+use lib.ListN.{length}
+use Rattle.rules.specs.Meaning.Hour.{caseOf, planOf, pricesOf}
+use Rattle.rules.specs.Meaning.Report.{reports}
+use Rattle.rules.specs.Meaning.Verdict.{roomRows, table}
+use Rattle.rows.specs.Meaning.Rows.{Row, refusal}
+use Rattle.rows.specs.Promised.RowLaws.{field-fails, field-passes}
+use Rattle.findings.specs.Found.{listOf, hourRows}
+use Rattle.judgement.specs.Judged.{refused, same-rows, judged}
+use Rattle.judgement.proofs.judge_listed.Statement.{statement}
+use Rattle.judgement.proofs.judge_listed.Tie as tie
+
+-- the files, the buffer and the table
+abbrev file : tie.Start → List ℕ
+file a = now (a .args .«case»)
+
+abbrev plan : tie.Start → List ℕ
+plan a = now (a .args .proposal)
+
+abbrev list : tie.Start → Option (List ℕ)
+list a = listOf (a .args .listed) (now (a .args .families))
+
+abbrev buffer : tie.Start → List ℕ
+buffer a = now (a .args .report)
+
+abbrev all : tie.Start → List Row
+all a = table (list a) (file a) (plan a) (length (buffer a)) (caseOf (file a)) (planOf (file a) (plan a)) (pricesOf (file a) (plan a))
+
+-- 30
+returns : tie.Need-returns
+unfolding table roomRows reports
+returns c =
+    let a = c .before .before .before .before .before in
+    refused (all a) (file a) (plan a) (buffer a) 30 0 refl (field-fails 30 0 (hourRows (list a) (file a) (plan a)) (lt-ltb (length (buffer a)) 176 (c .if1 .taken)))
+
+past-room : (c : tie.Else1) → refusal (all (c .before .before .before .before .before)) ≡ refusal (hourRows (list (c .before .before .before .before .before)) (file (c .before .before .before .before .before)) (plan (c .before .before .before .before .before)))
+unfolding table roomRows
+past-room c = let a = c .before .before .before .before .before in field-passes 30 0 (hourRows (list a) (file a) (plan a)) (le-ltb (length (buffer a)) 176 (c .if1 .left))
+
+-- THE HOUR
+find-listed-requires : tie.Need-find-listed-requires
+find-listed-requires c κs = search needs
+
+conclude-requires : tie.Need-conclude-requires
+conclude-requires c κs = search needs
+
+same-length : tie.Need-same-length
+same-length c = search needs
+
+returns-2 : tie.Need-returns-2
+returns-2 c =
+    let q = c .before .before in
+    let f = q .before .before in
+    let a = c .before .before .before .before .before .before .before .before .before .before in
+    same-rows (past-room (f .before)) (judged (hourRows (list a) (file a) (plan a)) (file a) (plan a) (buffer a) (f .find-listed .result) (f .find-listed .ensures) (q .conclude .ensures .0) (q .conclude .ensures .1))
+
+pub judge-listed-spec : {M : Type 1} → statement M
+judge-listed-spec = tie.close (tie.spec returns find-listed-requires conclude-requires same-length returns-2)

@@ -1,0 +1,103 @@
+-- What a family list changes (S-11): without one nothing, and with one an hour that is valued is valued as without. Assumes nothing.
+use mathlib.Core.Path.{_≡_, refl, sym, ap, subst, _∙_}
+use mathlib.Core.Bool.{Bool, true, false, not, cond, _||_}
+use mathlib.Core.List.{List, [], _∷_, _++_}
+use mathlib.Core.Option.{Option, none, some}
+use Prim.Native.Nat.{ℕ, _*_, _<_}
+use native.Mathlib.Omega.{arith}
+use lib.ListN.{length, drop}
+use lib.Dec.{T, eqb, eqb→eq, nltb→le}
+use Rattle.integers.specs.Ranges.{not-is}
+use Rattle.rules.specs.Meaning.Hour.{Case, Plan, Prices, caseOf, planOf, pricesOf}
+use Rattle.rules.specs.Meaning.Families.{parentOf, accepted}
+use Rattle.rows.specs.declared.Outcome.{Outcome}
+use Rattle.rows.specs.Meaning.Rows.{Row, Pass, refusal, answer}
+use Rattle.rows.specs.Promised.RowLaws.{else-refusal, refusal-append, lacks, left-out, row-passed, row-passes, before, hasRow, rowOf, isRow}
+use Rattle.rules.specs.Meaning.Verdict.{roomRows, caseRows, proposalRows, wideTolerance, excessVolume, exchangeRows, exceedsParent, excessFraction, fractionRows, familyRows, clearingRows, table, outcome, familyOutcome}
+use Rattle.rules.specs.Meaning.Report.{reports, reportBytes, reportSize, written, bufferAfter, familyBufferAfter}
+use Rattle.rules.specs.Meaning.Promise.{FractionAtMost, FamilyTotalsReported}
+use Rattle.rules.specs.Promised.Guarantee.{Accepted, accepted-sound}
+use Rattle.rules.specs.Promised.Reported.{reported}
+use Rattle.rules.specs.Promised.PlainFacts.{case-facts}
+
+-- WITHOUT A LIST the table is the one that it was before S-11: no row of it is a family's
+pub without-a-list : (s t : List ℕ) (room : ℕ) (c : Case) (p : Plan) (d : Prices)
+    → table none s t room c p d ≡ roomRows room ++ (caseRows s c ++ (proposalRows s t c p d ++ (wideTolerance c ∷ (excessVolume c p ∷ exchangeRows c p d))))
+unfolding table clearingRows
+without-a-list s t room c p d = refl
+
+either : {X : Type 0} (a b : Bool) → T (a || b) → (T a → X) → (T b → X) → X
+either true b t f g = f tt
+either false b t f g = g t
+
+after : (qs xs ys : List Row) → refusal xs ≡ refusal ys → refusal (qs ++ xs) ≡ refusal (qs ++ ys)
+after qs xs ys e = refusal-append qs xs ∙ ap (else-refusal (refusal qs)) e ∙ sym (refusal-append qs ys)
+
+module _ (s t f : List ℕ) (room : ℕ) where
+  abbrev c : Case
+  c = caseOf s
+
+  abbrev p : Plan
+  p = planOf s t
+
+  abbrev d : Prices
+  d = pricesOf s t
+
+  -- with a number that no row of a family has, the families' rows are left out
+  others : (n : ℕ) → T (lacks n (familyRows (some f) c)) → T (lacks n (fractionRows (some f) c p)) → (familyOutcome s t f room) .number ≡ n → familyOutcome s t f room ≡ outcome s t room
+  unfolding familyOutcome outcome table roomRows caseRows proposalRows clearingRows
+  others n h k e =
+      let front = roomRows room ++ (caseRows s c ++ (proposalRows s t c p d ++ (wideTolerance c ∷ []))) in
+      let first = left-out n front (familyRows (some f) c) (excessVolume c p ∷ (fractionRows (some f) c p ++ exchangeRows c p d)) h e in
+      let second = left-out n (front ++ (excessVolume c p ∷ [])) (fractionRows (some f) c p) (exchangeRows c p d) k (ap (λ (o : Option Outcome). (answer o) .number) (sym first) ∙ e) in
+      ap answer (first ∙ second)
+
+  -- A LIST ONLY REFUSES: where the answer with it is 0 or 26, it is the answer without it
+  pub valued-alike : T (reports ((familyOutcome s t f room) .number)) → familyOutcome s t f room ≡ outcome s t room
+  unfolding reports lacks
+  valued-alike r = either (eqb ((familyOutcome s t f room) .number) 0) (eqb ((familyOutcome s t f room) .number) 26) r
+      (λ e. others 0 tt tt (eqb→eq ((familyOutcome s t f room) .number) 0 e))
+      (λ e. others 26 tt tt (eqb→eq ((familyOutcome s t f room) .number) 26 e))
+
+  -- so an hour that is accepted with a list is accepted without it
+  pub accepted-without : (familyOutcome s t f room) .number ≡ 0 → Accepted s t room
+  unfolding reports
+  accepted-without e = record { answer = ap (λ (o : Outcome). o .number) (sym (valued-alike (subst (λ (n : ℕ). T (reports n)) (sym e) tt))) ∙ e }
+
+  -- ACCEPTED: each child's fraction is at most its parent's, where the parent is an order
+  pub child-within : (familyOutcome s t f room) .number ≡ 0 → (i j : ℕ) → i < c .orders → j < c .orders → parentOf f i ≡ some j → FractionAtMost (accepted c p i) (accepted c p j)
+  unfolding familyOutcome table roomRows caseRows proposalRows clearingRows before hasRow rowOf isRow caseOf
+  child-within e i j h k q = record {
+    whole-positive = quantity-positive i h;
+    other-positive = quantity-positive j k;
+    at-most = nltb→le (p .volume j * c .quantity i) (p .volume i * c .quantity j)
+        (subst (λ (o : Option ℕ). T (not (exceedsParent c p i o))) q ((row-passed 0 (table (some f) s t room c p d) e 28 0 tt) .pass i h));
+  }
+    where
+      quantity-positive : (i : ℕ) → i < c .orders → 0 < c .quantity i
+      quantity-positive i h = omega (arith, (case-facts s ((accepted-sound s t room (accepted-without e)) .readable)) .quantity-in i h .0)
+
+  -- A LIST THAT NAMES NO PARENT, and that 16 passes, judges as no list does
+  pub no-parents : refusal (familyRows (some f) c) ≡ none → ((i : ℕ) → i < c .orders → parentOf f i ≡ none) → familyOutcome s t f room ≡ outcome s t room
+  unfolding familyOutcome outcome table clearingRows
+  no-parents passed none-named =
+      let no-child : Pass (excessFraction f c p) = record { pass = λ k l. subst (λ (o : Option ℕ). T (not (exceedsParent c p k o))) (sym (none-named k l)) tt } in
+      let volumes = after (excessVolume c p ∷ []) _ _ (row-passes (excessFraction f c p) (exchangeRows c p d) no-child) in
+      let families = refusal-append (familyRows (some f) c) _ ∙ ap (λ (x : Option Outcome). else-refusal x (refusal (clearingRows (some f) c p d))) passed in
+      ap answer (after (roomRows room) _ _ (after (caseRows s c) _ _ (after (proposalRows s t c p d) _ _ (after (wideTolerance c ∷ []) _ _ (families ∙ volumes)))))
+
+-- EVERY BYTE OF THE BUFFER afterwards: that of the judgement without the list where the hour is valued with it, else as it was
+module _ (s t f buffer : List ℕ) where
+  pub family-buffer : T (reports ((familyOutcome s t f (length buffer)) .number)) → familyBufferAfter s t f buffer ≡ bufferAfter s t buffer
+  unfolding familyBufferAfter bufferAfter
+  family-buffer r = ap (λ (o : Outcome). written o (caseOf s) (planOf s t) (pricesOf s t) buffer) (valued-alike s t f (length buffer) r)
+
+  pub family-unchanged : T (not (reports ((familyOutcome s t f (length buffer)) .number))) → familyBufferAfter s t f buffer ≡ buffer
+  unfolding familyBufferAfter written
+  family-unchanged r = ap (λ (b : Bool). cond b (reportBytes ((familyOutcome s t f (length buffer)) .number) (caseOf s) (planOf s t) (pricesOf s t) ++ drop (reportSize (caseOf s)) buffer) buffer) (not-is (reports ((familyOutcome s t f (length buffer)) .number)) r)
+
+  -- each total and each price that the report's bytes then hold
+  pub family-reported : FamilyTotalsReported s t f (length buffer) (familyBufferAfter s t f buffer)
+  family-reported r =
+      let same = valued-alike s t f (length buffer) r in
+      rw (family-buffer r, same) (reported s t buffer (subst (λ (o : Outcome). T (reports (o .number))) same r))

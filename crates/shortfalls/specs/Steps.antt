@@ -1,0 +1,3 @@
+-- THE PROOFS' MEANS
+pub mod Parts
+pub mod Pairs

@@ -1,0 +1,90 @@
+"""lta shortfalls: by how much each order, branch and link of an accepted hour falls short, as the archive writes it, and
+what is left of the gap. What falls short is named beside it.
+"""
+
+from __future__ import annotations
+
+import csv
+import io
+import json
+from dataclasses import dataclass
+
+from . import account, amounts, archive, gap, rules
+from .causes import Disagreement, explain
+
+NOT_PROVED = "Shortfalls and gap are the archive's. All else is computed beside it and is not proved."
+
+
+@dataclass(frozen=True)
+class Told:
+    """The archive's answer on an hour, and its parts, or of a refusal the words."""
+
+    name: str
+    answer: archive.Shortfalls
+    cause: str = ""
+    sums: rules.Sums | None = None
+    parts: gap.Parts | None = None
+
+
+def ask(name, case, proposal):
+    """Has the archive answer, and finds the rest."""
+    judgement, answer = archive.judge(case, proposal), archive.shortfalls(case, proposal)
+    found = explain(case, proposal, judgement)
+    if (answer.number, answer.index) != (found.number, found.index):
+        raise Disagreement(f"{answer.number} {answer.index}", f"{found.number} {found.index}")
+    if not answer.answered:
+        return Told(name, answer, found.words)
+    sums = rules.Sums(case, proposal)
+    return Told(name, answer, "", sums, gap.held(answer, judgement, sums))
+
+
+def first_line(told):
+    """How many fall short, by how much together, and what is left."""
+    found = told.parts
+    whole = f"gap {amounts.microcents(found.gap)} euros"
+    if not found.gap:
+        return f"{whole}: no order, branch or link falls short"
+    together = amounts.gap_part(sum(part.amount for part in found.short))
+    count = f"{len(found.short):,} of {len(found.shortfalls):,} orders, branches and links fall short"
+    short = f"{count}, by {together} together" if found.short else "no order, branch or link falls short"
+    left = f"{amounts.gap_part(found.lead)} is left, the larger total's lead" if found.lead else "nothing is left"
+    return f"{whole}: {short}; {left}"
+
+
+def as_text(told):
+    if told.parts is None:
+        return f"not answered; {told.cause}\n"
+    body = ["", *account.part_lines(told.sums, told.parts)] if told.parts.told else []
+    return "\n".join([first_line(told), *body, "", NOT_PROVED]) + "\n"
+
+
+def record(part):
+    """A part for machines: the entry's two numbers, and euros with all their decimals, as text."""
+    whole, rest = divmod(part.amount, rules.WHOLE)
+    euros = amounts.fixed(part.amount, gap.DECIMALS)
+    return {"kind": part.kind, "index": part.place, "microcents": whole, "hundred_thousandths": rest, "euros": euros}
+
+
+def as_json(told):
+    """For machines: every shortfall in file order, and what is left."""
+    answer, found = told.answer, told.parts
+    made = {
+        "file": told.name,
+        "number": answer.number,
+        "index": answer.index,
+        "text": answer.text,
+        "gap": None if found is None else amounts.fixed(found.gap, 8),
+        "left": None if found is None else amounts.fixed(found.lead, gap.DECIMALS),
+        "shortfalls": None if found is None else [record(part) for part in found.shortfalls],
+    }
+    return json.dumps(made, indent=1) + "\n"
+
+
+def as_csv(told):
+    """A row for each shortfall, in file order; of a refusal none."""
+    out = io.StringIO()
+    writer = csv.writer(out, lineterminator="\n")
+    writer.writerow(["file", "kind", "index", "microcents", "hundred_thousandths", "euros"])
+    for part in told.parts.shortfalls if told.parts else ():
+        writer.writerow([told.name, *record(part).values()])
+    return out.getvalue()
