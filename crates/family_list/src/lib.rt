@@ -123,6 +123,7 @@ fn least_on_circle(families: &[u8], orders: usize, i: usize, tip: usize) -> usiz
     }
     let mut least = tip;
     let mut at = parent_at(families, orders, tip);
+    // Counted for the proof that the way around ends.
     let mut steps: usize = 1;
     while at != tip {
         least = smaller(least, at);

@@ -46,7 +46,7 @@ element-copy-out-if2 : tie.Need-element-copy-out-if2
 element-copy-out-if2 c = low c
 
 add-if2 : tie.Need-add-if2
-add-if2 c = search needs
+add-if2 c = let w = c .before in omega (arith, a w .pre .1 .0, a w .pre .0 .whole .few)
 
 returns-2 : tie.Need-returns-2
 returns-2 c =

@@ -115,7 +115,7 @@ module _ (parent : ℕ → Option ℕ) (n : ℕ) where
     stays : (k : ℕ) → n ≤ v k → n ≤ w k
     stays k l = elim (ℕ-discrete k tip) [ yes e ↦ absurd (omega (arith, ap v e)) | no d ↦ omega (arith, p .others k d) ]
 
-    -- an order other than tip
+    -- a step up from tip, which then holds the walk's number
     pub walk-steps : Walking i u tip v → Walking i u (v tip) w
     walk-steps s = record {
       holds-parent = λ j l f. elim (ℕ-discrete j tip) [ yes e ↦ absurd (omega (arith, ap w e, p .here)) | no d ↦ kept j l (p .others j d) f ];
