@@ -55,7 +55,7 @@ pub record LeadsBack (parent : ℕ → Option ℕ) (i : ℕ) : Type 0 where
   pub one-or-more : 1 ≤ steps
   pub back : ancestor parent steps i ≡ some i
 
--- the same as a test: within as many steps as there are orders. Where every parent exists the two agree (`families`: `Circle.leads-back`)
+-- the same as a test: within as many steps as there are orders. Where every parent exists the two agree (`family_list`: `Circle.leads-back`)
 abbrev pub isOrder : ℕ → Option ℕ → Bool
 isOrder i none = false
 isOrder i (some j) = eqb j i

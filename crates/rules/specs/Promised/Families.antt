@@ -2,17 +2,17 @@
 use mathlib.Core.Path.{_≡_, refl, sym, ap, subst, _∙_}
 use mathlib.Core.Bool.{Bool, true, false, not, cond, _||_}
 use mathlib.Core.List.{List, [], _∷_, _++_}
-use mathlib.Core.Option.{Option, none, some}
-use Prim.Native.Nat.{ℕ, _*_, _<_}
+use mathlib.Core.Option.{Option, none, some, Option·none-ne-some}
+use Prim.Native.Nat.{ℕ, zero, suc, _*_, _≤_, _<_}
 use native.Mathlib.Omega.{arith}
 use lib.ListN.{length, drop}
 use lib.Dec.{T, eqb, eqb→eq, nltb→le}
 use Rattle.integers.specs.Ranges.{not-is}
 use Rattle.rules.specs.Meaning.Hour.{Case, Plan, Prices, caseOf, planOf, pricesOf}
-use Rattle.rules.specs.Meaning.Families.{parentOf, accepted}
+use Rattle.rules.specs.Meaning.Families.{parentOf, onward, ancestor, LeadsBack, isOrder, leadsBack, accepted}
 use Rattle.rows.specs.declared.Outcome.{Outcome}
 use Rattle.rows.specs.Meaning.Rows.{Row, Pass, refusal, answer}
-use Rattle.rows.specs.Promised.RowLaws.{else-refusal, refusal-append, lacks, left-out, row-passed, row-passes, before, hasRow, rowOf, isRow}
+use Rattle.rows.specs.Promised.RowLaws.{any-none, else-refusal, refusal-append, lacks, left-out, row-passed, row-passes, before, hasRow, rowOf, isRow}
 use Rattle.rules.specs.Meaning.Verdict.{roomRows, caseRows, proposalRows, wideTolerance, excessVolume, exchangeRows, exceedsParent, excessFraction, fractionRows, familyRows, clearingRows, table, outcome, familyOutcome}
 use Rattle.rules.specs.Meaning.Report.{reports, reportBytes, reportSize, written, bufferAfter, familyBufferAfter}
 use Rattle.rules.specs.Meaning.Promise.{FractionAtMost, FamilyTotalsReported}
@@ -101,3 +101,20 @@ module _ (s t f buffer : List ℕ) where
   family-reported r =
       let same = valued-alike s t f (length buffer) r in
       rw (family-buffer r, same) (reported s t buffer (subst (λ (o : Outcome). T (reports (o .number))) same r))
+
+-- AN ORDER WITHOUT A PARENT never leads back to itself, by the sentence and by the row's test: at least one step is taken
+no-way-up : (parent : ℕ → Option ℕ) (i k : ℕ) → parent i ≡ none → ancestor parent (suc k) i ≡ none
+unfolding ancestor
+no-way-up parent i zero e = e
+no-way-up parent i (suc k) e = ap (onward parent) (no-way-up parent i k e)
+
+pub no-parent-never-back : (parent : ℕ → Option ℕ) (i : ℕ) → parent i ≡ none → LeadsBack parent i → ⊥
+no-parent-never-back parent i e b = by (b .steps) (b .one-or-more) (b .back)
+  where
+    by : (n : ℕ) → 1 ≤ n → ancestor parent n i ≡ some i → ⊥
+    by zero h q = omega arith
+    by (suc k) h q = Option·none-ne-some i (sym (no-way-up parent i k e) ∙ q)
+
+pub no-parent-passes-18 : (orders : ℕ) (parent : ℕ → Option ℕ) (i : ℕ) → parent i ≡ none → leadsBack orders parent i ≡ false
+unfolding leadsBack
+no-parent-passes-18 orders parent i e = any-none orders _ (λ k h. subst (λ (o : Option ℕ). T (not (isOrder i o))) (sym (no-way-up parent i k e)) tt)
