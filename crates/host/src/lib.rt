@@ -6,4 +6,5 @@ pub mod hour;
 pub mod intuitive_hours;
 pub mod queue;
 pub mod sheet;
+pub mod shortfall_hours;
 pub mod text;
