@@ -1,0 +1,16 @@
+-- `host::shortfall_hours::lta_shortfalls` meets its contract: it is that of `hour_shortfalls`, word for word. Assumes nothing.
+use borrow.Author.Needs.{needs}
+use Rattle.host.proofs.shortfall_hours.lta_shortfalls.Statement.{statement}
+use Rattle.host.proofs.shortfall_hours.lta_shortfalls.Tie as tie
+
+hour-shortfalls-requires : tie.Need-hour-shortfalls-requires
+hour-shortfalls-requires c κs = search needs
+
+same-length : tie.Need-same-length
+same-length c = search needs
+
+returns : tie.Need-returns
+returns c = c .before .hour-shortfalls .ensures
+
+pub lta-shortfalls-spec : {M : Type 1} → statement M
+lta-shortfalls-spec = tie.close (tie.spec hour-shortfalls-requires same-length returns)
