@@ -2,12 +2,12 @@
 use mathlib.Core.Path.{_≡_, refl, sym, ap, subst, _∙_}
 use mathlib.Core.List.{List, _++_}
 use mathlib.Core.Option.{Option, none, some, Option·none-ne-some}
-use Prim.Native.Nat.{ℕ, _+_, _*_, _≤_, _<_}
+use Prim.Native.Nat.{ℕ, _≤_, _<_}
 use native.Mathlib.Nat.{zero-add}
 use native.Mathlib.Omega.{arith}
 use borrow.Author.Tests.{le-ltb}
 use lib.Dec.{T}
-use lib.ListN.{length, take, drop}
+use lib.ListN.{length, drop}
 use lib.Seq.{sets, sets-eq}
 use lib.IntN.{ℤ}
 use Rattle.integers.specs.Ranges.{is-false}
@@ -30,7 +30,7 @@ use Rattle.findings.specs.Found.{Finds, hourRows}
 use Rattle.shortfalls.specs.Meaning.Answer.{shortfallNumbers, shortfallCount, shortfallRows, shortfallOutcome, writtenBy, shortfallWritten, shortfallOutput, Answers}
 use Rattle.shortfalls.specs.Promised.Account.{hour-accounted}
 use Rattle.shortfalls.specs.Promised.Answer.{gap-small, hour-answers}
-use Rattle.shortfalls.specs.Promised.Causes.{room-passes, refused-first, short-output, enough-room}
+use Rattle.shortfalls.specs.Promised.Causes.{room-passes, refused-first}
 use Rattle.single_shortfall.specs.Judged.{Judged}
 use Rattle.hour_shortfalls.specs.Pairs.{countOf}
 

@@ -1,16 +1,15 @@
 -- An accepted hour, as the stages after its judgement have it, and that each of its shortfalls can be computed in 64 bits: a whole one is at most the gap.
 -- Assumes nothing.
-use mathlib.Core.Path.{_≡_, refl, sym, ap, _∙_}
-use mathlib.Core.List.{List, []}
+use mathlib.Core.Path.{_≡_, refl, ap}
+use mathlib.Core.List.{List}
 use Prim.Native.Nat.{ℕ, _*_, _≤_, _<_}
 use native.Mathlib.Omega.{arith}
 use lib.Dec.{T, ltb→lt}
 use lib.ListN.{getD}
-use lib.IntN.{ℤ, pos, _-ℤ_, _*ℤ_}
+use lib.IntN.{ℤ, pos, _*ℤ_}
 use lib.Signed.{_≤ℤ_, ltZ}
 use Rattle.integers.specs.Difference.{at, _⊗_, le-by, le-fact, eq-fact}
 use Rattle.integers.specs.Size.{Near, near-le, near-sub, near-mul, near-sum, near-pos, near-unsigned, near-within}
-use Rattle.integers.specs.Sums.{sumTo}
 use Rattle.integers.specs.Machine.{SumsFit}
 use Rattle.measures.specs.Meaning.Limits as limits
 use Rattle.measures.specs.Meaning.Limits.{partsInOne}

@@ -14,7 +14,7 @@ use Rattle.rules.specs.Meaning.Report.{reports}
 use Rattle.rules.specs.Promised.Guarantee.{Accepted}
 use Rattle.case_header.specs.declared.HeaderAnswer.the-variants as header
 use Rattle.case_header.specs.Answer.{headerAnswer}
-use Rattle.shortfalls.specs.Meaning.Answer.{shortfallNumbers, shortfallCount}
+use Rattle.shortfalls.specs.Meaning.Answer.{shortfallCount}
 use Rattle.shortfalls.specs.Promised.Answer.{numbers-long}
 use Rattle.shortfalls.specs.Promised.Causes.{short-output, enough-room}
 use Rattle.single_shortfall.specs.Judged.{Judged}

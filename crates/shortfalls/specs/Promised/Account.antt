@@ -17,7 +17,7 @@ use Rattle.rules.specs.Meaning.Clearing.{Clearing}
 use Rattle.rules.specs.Meaning.Verdict.{outcome}
 use Rattle.rules.specs.Meaning.Report.{reports, bufferAfter, reportedGap}
 use Rattle.rules.specs.Steps.Duality.{Placed}
-use Rattle.rules.specs.Steps.Passed.{Sound, sound, case-sound}
+use Rattle.rules.specs.Steps.Passed.{sound, case-sound}
 use Rattle.rules.specs.Promised.Gap.{orderShort, branchShort, linkShort, slack, gap-is, order-short, branch-short, link-short, slack-short}
 use Rattle.rules.specs.Promised.Guarantee.{Accepted, allowed}
 use Rattle.rules.specs.Promised.Reported.{reported}

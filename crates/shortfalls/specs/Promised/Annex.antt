@@ -12,13 +12,13 @@ use lib.IntN.{ℤ, pos, negsuc, _+ℤ_, _-ℤ_, _*ℤ_}
 use lib.Signed.{_≤ℤ_, _<ℤ_}
 use Rattle.integers.specs.Difference.{up, dn, at, _⊕_, _⊖_, _⊗_, le-by, eq-by, le-fact, eq-fact}
 use Rattle.integers.specs.Order.{positive, positive-nat, le-antisym, add-nonneg, larger-left, larger-right}
-use Rattle.integers.specs.Sums.{sumTo, sum-ext, sum-nonneg}
+use Rattle.integers.specs.Sums.{sum-ext, sum-nonneg}
 use Rattle.measures.specs.Meaning.Limits.{partsInOne}
-use Rattle.rules.specs.Meaning.Hour.{Case, Plan, Prices, caseOf, planOf, pricesOf, buys, above, fbPart, branchUse, branchRoom, zonePrice, surplusOf, orderSurplus, branchValue, branchTotal, spread, linkTotal, welfare, bound, gap}
+use Rattle.rules.specs.Meaning.Hour.{Case, Plan, Prices, caseOf, planOf, pricesOf, above, fbPart, branchUse, branchRoom, zonePrice, surplusOf, orderSurplus, branchValue, branchTotal, spread, linkTotal, welfare, bound, gap}
 use Rattle.rules.specs.Meaning.Clearing.{Clearing}
-use Rattle.rules.specs.Meaning.Annex.{Solution, Feasible, PairsOnce, Multipliers, capacityLTA, marginValue, capacityValue, liabilities}
+use Rattle.rules.specs.Meaning.Annex.{Solution, Feasible, PairsOnce, capacityLTA, marginValue, capacityValue, liabilities}
 use Rattle.rules.specs.Meaning.AnnexPromise.{Same, Agree, IsFeasible, multipliersOf}
-use Rattle.rules.specs.Meaning.Verdict.{outcome, Readable}
+use Rattle.rules.specs.Meaning.Verdict.{Readable}
 use Rattle.rules.specs.Meaning.Report.{reports}
 use Rattle.rules.specs.Steps.Duality.{Placed}
 use Rattle.rules.specs.Steps.Passed.{sound, case-sound, case-pairs}

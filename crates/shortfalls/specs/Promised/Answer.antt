@@ -1,6 +1,6 @@
 -- S-14 OF AN ANSWER: in an output that opens with the numbers of an accepted hour each pair is its order's, branch's or link's shortfall; none is negative, all
 -- together are at most the gap, and at gap zero every number is zero. Assumes nothing.
-use mathlib.Core.Path.{_≡_, refl, sym, ap, subst, _∙_}
+use mathlib.Core.Path.{_≡_, sym, ap, subst, _∙_}
 use mathlib.Core.List.{List, _++_, append-assoc}
 use Prim.Native.Nat.{ℕ, _+_, _*_, _-_, _≤_, _<_}
 use native.Mathlib.Omega.{arith}
@@ -10,7 +10,6 @@ use lib.Dec.{T}
 use lib.IntN.{ℤ, pos, _+ℤ_, _*ℤ_}
 use lib.Signed.{_≤ℤ_}
 use mir.Syntax.{w64}
-use mir.Val.{SFits}
 use Rattle.integers.specs.Difference.{at, _⊗_, le-by, le-fact}
 use Rattle.integers.specs.Order.{le-trans}
 use Rattle.integers.specs.Size.{Near, near-fits}
@@ -21,7 +20,7 @@ use Rattle.rules.specs.Meaning.Report.{reports}
 use Rattle.rules.specs.Steps.Passed.{sound, case-sound}
 use Rattle.rules.specs.Promised.Guarantee.{Accepted, gap-range}
 use Rattle.shortfalls.specs.Meaning.Shortfalls.{orderShortfall, branchShortfall, linkShortfall, allShortfalls, Accounted}
-use Rattle.shortfalls.specs.Meaning.Answer.{wholeOf, partsOf, pairsTo, shortfallNumbers, shortfallCount, wholeAt, partsAt, shortfallAt, Answers}
+use Rattle.shortfalls.specs.Meaning.Answer.{wholeOf, partsOf, pairsTo, shortfallNumbers, shortfallCount, wholeAt, shortfallAt, Answers}
 use Rattle.shortfalls.specs.Steps.Pairs.{Pair, pair-value, pairs-long, pair-here, pair-past, parts-range, whole-range}
 use Rattle.shortfalls.specs.Promised.Account.{hour-accounted}
 

@@ -1,6 +1,6 @@
 -- `single_shortfall::branch_shortfall` meets its contract: the branch's margin by the flow-based share, its load and its shadow price, in the one form.
 -- Assumes nothing.
-use mathlib.Core.Path.{_≡_, refl, ap, sym, subst, _∙_}
+use mathlib.Core.Path.{_≡_, ap, sym, subst, _∙_}
 use mathlib.Core.List.{List}
 use Prim.Native.Nat.{ℕ, _≤_, _<_}
 use native.Mathlib.Omega.{arith}
@@ -16,7 +16,7 @@ use Rattle.rules.specs.Meaning.Hour.{Case, Plan, Prices, caseOf, planOf, prices
 use Rattle.case_branches.specs.Table.{table-entry}
 use Rattle.clearing.specs.Stages.{fit-ext}
 use Rattle.single_shortfall.specs.Short.{shortOf, shortable-by, exact-by}
-use Rattle.single_shortfall.specs.Judged.{Judged, loadOn, zones-is, branches-is, sound, branch-is, loads-fit, branch-shortable}
+use Rattle.single_shortfall.specs.Judged.{loadOn, zones-is, branches-is, sound, branch-is, loads-fit, branch-shortable}
 use Rattle.single_shortfall.proofs.branch_shortfall.Statement.{statement}
 use Rattle.single_shortfall.proofs.branch_shortfall.Tie as tie
 

@@ -1,6 +1,6 @@
 -- `single_shortfall::link_shortfall` meets its contract: the link's capacity by the LTA share, its flow and its spread, in the one form. Assumes nothing.
-use mathlib.Core.Path.{_≡_, refl, ap, sym, _∙_}
-use Prim.Native.Nat.{ℕ, _≤_, _<_}
+use mathlib.Core.Path.{_≡_, ap, _∙_}
+use Prim.Native.Nat.{_<_}
 use native.Mathlib.Omega.{arith}
 use denote.Ref.{now}
 use lib.IntN.{ℤ, pos, _-ℤ_, _*ℤ_}
@@ -12,7 +12,7 @@ use Rattle.rules.specs.Meaning.Hour.{Case, Plan, Prices, caseOf, planOf, prices
 use Rattle.case_links.specs.declared.Link.{Link}
 use Rattle.network.specs.Prices.{grainsAt}
 use Rattle.single_shortfall.specs.Short.{shortOf, shortable-by, exact-by}
-use Rattle.single_shortfall.specs.Judged.{Judged, links-is, sound, link-is, spread-near, link-shortable}
+use Rattle.single_shortfall.specs.Judged.{links-is, sound, link-is, spread-near, link-shortable}
 use Rattle.single_shortfall.proofs.link_shortfall.Statement.{statement}
 use Rattle.single_shortfall.proofs.link_shortfall.Tie as tie
 

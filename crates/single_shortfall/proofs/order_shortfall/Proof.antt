@@ -1,6 +1,6 @@
 -- `single_shortfall::order_shortfall` meets its contract: the order's quantity, its volume and what a unit gains, in the one form. Assumes nothing.
-use mathlib.Core.Path.{_≡_, refl, ap, sym, subst, _∙_}
-use Prim.Native.Nat.{ℕ, _≤_, _<_}
+use mathlib.Core.Path.{_≡_, ap, sym, subst, _∙_}
+use Prim.Native.Nat.{_<_}
 use native.Mathlib.Omega.{arith}
 use denote.Ref.{now}
 use lib.IntN.{ℤ, pos, _*ℤ_}
@@ -15,7 +15,7 @@ use Rattle.rules.specs.Promised.Fits.{in-grains, near-zone-price}
 use Rattle.orders.specs.declared.Order.{Order}
 use Rattle.network.specs.Prices.{grainsAt}
 use Rattle.single_shortfall.specs.Short.{shortOf, shortable-by, exact-by}
-use Rattle.single_shortfall.specs.Judged.{Judged, orders-is, sound, gainOf, order-is, order-shortable}
+use Rattle.single_shortfall.specs.Judged.{orders-is, sound, gainOf, order-is, order-shortable}
 use Rattle.single_shortfall.proofs.order_shortfall.Statement.{statement}
 use Rattle.single_shortfall.proofs.order_shortfall.Tie as tie
 
