@@ -125,7 +125,8 @@ enum lta_number {
 #define LTA_REPORT_SIZE(zones) (48 + 8 * (zones)) /* bytes of a report */
 #define LTA_REPORT_ROOM 176         /* bytes that a report buffer must have, whatever the zones: a report of 16 */
 
-/* Readers of a report that lta_judge wrote. They are C in this header and no part of the archive: tested, and not proved. */
+/* Readers of a report that lta_judge or lta_judge_families wrote. They are C in this header and no part of the archive: tested, and not
+ * proved. */
 
 /* The signed number of 64 bits, little-endian, at an offset of the report. */
 static inline int64_t lta_report_amount(const uint8_t *report, size_t offset)
@@ -237,8 +238,8 @@ uint64_t lta_judge(const uint8_t *case_bytes, size_t case_len,
  *
  * What holds of an accepted hour, that is if lta_judge_families returns 0: all that holds of one that lta_judge accepts, word for word,
  * and
- *   [families]  Each order that has a parent is accepted in no larger fraction than its parent: volume * parent's quantity <= parent's
- *               volume * quantity.
+ *   [families]  Every parent is an order of the case, no order leads back to itself, and each order that has a parent is accepted in no
+ *               larger fraction than its parent: volume * parent's quantity <= parent's volume * quantity.
  * THE BOUND IS NOT TIGHTENED: [accuracy] compares with all clearings of the case, those included in which a child is ahead of its parent,
  * so that the best clearing with families may have less welfare than welfare + gap, and an hour whose families cost more than the
  * tolerance is refused by 26.

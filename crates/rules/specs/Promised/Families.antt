@@ -1,13 +1,13 @@
 -- What a family list changes (S-11): without one nothing, and with one an hour that is valued is valued as without. Assumes nothing.
 use mathlib.Core.Path.{_≡_, refl, sym, ap, subst, _∙_}
-use mathlib.Core.Bool.{Bool, true, false, not, cond, _||_}
+use mathlib.Core.Bool.{Bool, true, false, not, cond, _&&_, _||_}
 use mathlib.Core.List.{List, [], _∷_, _++_}
 use mathlib.Core.Option.{Option, none, some, Option·none-ne-some}
 use Prim.Native.Nat.{ℕ, zero, suc, _*_, _≤_, _<_}
 use native.Mathlib.Omega.{arith}
 use lib.ListN.{length, drop}
-use lib.Dec.{T, eqb, eqb→eq, nltb→le}
-use Rattle.integers.specs.Ranges.{not-is}
+use lib.Dec.{T, eqb, eqb→eq, not-T, nltb→le}
+use Rattle.integers.specs.Ranges.{not-is, and-both}
 use Rattle.rules.specs.Meaning.Hour.{Case, Plan, Prices, caseOf, planOf, pricesOf}
 use Rattle.rules.specs.Meaning.Families.{parentOf, onward, ancestor, LeadsBack, isOrder, leadsBack, accepted}
 use Rattle.rows.specs.declared.Outcome.{Outcome}
@@ -20,7 +20,7 @@ use Rattle.rules.specs.Promised.Guarantee.{Accepted, accepted-sound}
 use Rattle.rules.specs.Promised.Reported.{reported}
 use Rattle.rules.specs.Promised.PlainFacts.{case-facts}
 
--- WITHOUT A LIST the table is the one that it was before S-11: no row of it is a family's
+-- WITHOUT A LIST the table is the one that it was before S-11, but for row 15 (S-12): no row of it is a family's
 pub without-a-list : (s t : List ℕ) (room : ℕ) (c : Case) (p : Plan) (d : Prices)
     → table none s t room c p d ≡ roomRows room ++ (caseRows s c ++ (proposalRows s t c p d ++ (wideTolerance c ∷ (excessVolume c p ∷ exchangeRows c p d))))
 unfolding table clearingRows
@@ -29,6 +29,9 @@ without-a-list s t room c p d = refl
 either : {X : Type 0} (a b : Bool) → T (a || b) → (T a → X) → (T b → X) → X
 either true b t f g = f tt
 either false b t f g = g t
+
+other : (a n : ℕ) → (n ≡ a → ⊥) → T (not (eqb a n))
+other a n f = not-T (eqb a n) (λ t. f (sym (eqb→eq a n t)))
 
 after : (qs xs ys : List Row) → refusal xs ≡ refusal ys → refusal (qs ++ xs) ≡ refusal (qs ++ ys)
 after qs xs ys e = refusal-append qs xs ∙ ap (else-refusal (refusal qs)) e ∙ sym (refusal-append qs ys)
@@ -51,6 +54,16 @@ module _ (s t f : List ℕ) (room : ℕ) where
       let first = left-out n front (familyRows (some f) c) (excessVolume c p ∷ (fractionRows (some f) c p ++ exchangeRows c p d)) h e in
       let second = left-out n (front ++ (excessVolume c p ∷ [])) (fractionRows (some f) c p) (exchangeRows c p d) k (ap (λ (o : Option Outcome). (answer o) .number) (sym first) ∙ e) in
       ap answer (first ∙ second)
+
+  -- THE LIST REFUSES NOTHING: where the answer is by none of its rows, it is the answer without it
+  pub alike-unless : ((familyOutcome s t f room) .number ≡ 16 → ⊥) → ((familyOutcome s t f room) .number ≡ 17 → ⊥) → ((familyOutcome s t f room) .number ≡ 18 → ⊥) → ((familyOutcome s t f room) .number ≡ 28 → ⊥)
+      → familyOutcome s t f room ≡ outcome s t room
+  unfolding lacks
+  alike-unless a b e g =
+      let n = (familyOutcome s t f room) .number in
+      others n
+      (and-both (not (eqb 16 n)) (not (eqb 17 n) && (not (eqb 18 n) && true)) (other 16 n a) (and-both (not (eqb 17 n)) (not (eqb 18 n) && true) (other 17 n b) (and-both (not (eqb 18 n)) true (other 18 n e) tt)))
+      (and-both (not (eqb 28 n)) true (other 28 n g) tt) refl
 
   -- A LIST ONLY REFUSES: where the answer with it is 0 or 26, it is the answer without it
   pub valued-alike : T (reports ((familyOutcome s t f room) .number)) → familyOutcome s t f room ≡ outcome s t room
@@ -88,9 +101,12 @@ module _ (s t f : List ℕ) (room : ℕ) where
 
 -- EVERY BYTE OF THE BUFFER afterwards: that of the judgement without the list where the hour is valued with it, else as it was
 module _ (s t f buffer : List ℕ) where
-  pub family-buffer : T (reports ((familyOutcome s t f (length buffer)) .number)) → familyBufferAfter s t f buffer ≡ bufferAfter s t buffer
+  pub same-answer-same-buffer : familyOutcome s t f (length buffer) ≡ outcome s t (length buffer) → familyBufferAfter s t f buffer ≡ bufferAfter s t buffer
   unfolding familyBufferAfter bufferAfter
-  family-buffer r = ap (λ (o : Outcome). written o (caseOf s) (planOf s t) (pricesOf s t) buffer) (valued-alike s t f (length buffer) r)
+  same-answer-same-buffer e = ap (λ (o : Outcome). written o (caseOf s) (planOf s t) (pricesOf s t) buffer) e
+
+  pub family-buffer : T (reports ((familyOutcome s t f (length buffer)) .number)) → familyBufferAfter s t f buffer ≡ bufferAfter s t buffer
+  family-buffer r = same-answer-same-buffer (valued-alike s t f (length buffer) r)
 
   pub family-unchanged : T (not (reports ((familyOutcome s t f (length buffer)) .number))) → familyBufferAfter s t f buffer ≡ buffer
   unfolding familyBufferAfter written

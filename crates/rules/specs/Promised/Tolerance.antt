@@ -1,18 +1,22 @@
 -- Wide tolerances (S-12): what 15 says, and that no reader refuses by it. Assumes nothing.
-use mathlib.Core.Path.{_≡_}
-use mathlib.Core.List.{List}
-use mathlib.Core.Option.{none, some}
+use mathlib.Core.Path.{_≡_, refl, ap, _∙_}
+use mathlib.Core.Bool.{Bool, true, false}
+use mathlib.Core.List.{List, _++_}
+use mathlib.Core.Option.{Option, none, some}
 use Prim.Native.Nat.{ℕ, _≤_, _<_}
 use native.Mathlib.Omega.{arith}
 use native.Mathlib.Decide.{decLt}
+use borrow.Author.Tests.{le-ltb}
 use lib.Dec.{T, T-not}
 use lib.IntN.{pos}
-use Rattle.integers.specs.Ranges.{outside, nat-inside}
+use Rattle.integers.specs.Ranges.{outside, is-false, nat-within, nat-inside}
 use Rattle.measures.specs.Meaning.Limits as limits
+use Rattle.rules.specs.Meaning.Layout.{reportRoom}
 use Rattle.rules.specs.Meaning.Hour.{Case, Plan, Prices, caseOf, planOf, pricesOf}
-use Rattle.rows.specs.Meaning.Rows.{Pass}
-use Rattle.rows.specs.Promised.RowLaws.{lacks, before, rowNumbered, row-by-number}
-use Rattle.rules.specs.Meaning.Verdict.{roomRows, caseRows, proposalRows, wideTolerance, clearingRows, table, outcome, familyOutcome}
+use Rattle.rows.specs.declared.Outcome.{Outcome}
+use Rattle.rows.specs.Meaning.Rows.{Row, Pass, verdict, refusal, answer}
+use Rattle.rows.specs.Promised.RowLaws.{else-refusal, refusal-append, row-found, field-passes, once-fails, lacks, before, rowNumbered, row-by-number}
+use Rattle.rules.specs.Meaning.Verdict.{roomRows, caseRows, proposalRows, wideTolerance, clearingRows, judgementRows, table, outcome, familyOutcome, Readable, caseRefusal, proposalRefusal}
 
 -- above 10,000 cents, and no lower: 10,000 itself passes
 above : (cents : ℕ) → T (outside limits.acceptedTolerance (pos cents)) → 10000 < cents
@@ -29,6 +33,37 @@ only-wide s t room e = above ((caseOf s) .tolerance) ((row-by-number 15 (table n
 pub only-wide-family : (s t f : List ℕ) (room : ℕ) → (familyOutcome s t f room) .number ≡ 15 → 10000 < (caseOf s) .tolerance
 unfolding familyOutcome table roomRows caseRows proposalRows clearingRows lacks before rowNumbered
 only-wide-family s t f room e = above ((caseOf s) .tolerance) ((row-by-number 15 (table (some f) s t room (caseOf s) (planOf s t) (pricesOf s t)) (omega arith) tt tt e) .first-place .holds)
+
+-- and such a tolerance is 15, with room for a report, where case and proposal are read
+wide-fails : (cents : ℕ) → 10000 < cents → outside limits.acceptedTolerance (pos cents) ≡ true
+wide-fails cents h = by (outside limits.acceptedTolerance (pos cents)) refl
+  where
+    never : cents ≤ 10000 → ⊥
+    never l = omega (arith, h, l)
+
+    by : (b : Bool) → outside limits.acceptedTolerance (pos cents) ≡ b → b ≡ true
+    by true e = refl
+    by false e = absurd (never ((nat-within 0 10000 cents (is-false e)) .1))
+
+passes : (qs rs : List Row) → refusal qs ≡ none → refusal (qs ++ rs) ≡ refusal rs
+passes qs rs e = refusal-append qs rs ∙ ap (λ (x : Option Outcome). else-refusal x (refusal rs)) e
+
+module _ (s t : List ℕ) (room : ℕ) (enough : reportRoom ≤ room) (readable : Readable s) (proposed : proposalRefusal s t ≡ none) (wide : 10000 < (caseOf s) .tolerance) where
+  by-15 : (fs : Option (List ℕ)) → refusal (table fs s t room (caseOf s) (planOf s t) (pricesOf s t)) ≡ some (verdict 15 0)
+  unfolding table roomRows caseRefusal proposalRefusal
+  by-15 fs =
+      field-passes 30 0 (caseRows s (caseOf s) ++ (proposalRows s t (caseOf s) (planOf s t) (pricesOf s t) ++ judgementRows fs (caseOf s) (planOf s t) (pricesOf s t))) (le-ltb room reportRoom enough)
+      ∙ passes (caseRows s (caseOf s)) _ (readable .none-holds)
+      ∙ passes (proposalRows s t (caseOf s) (planOf s t) (pricesOf s t)) _ proposed
+      ∙ row-found (wideTolerance (caseOf s)) _ 0 (once-fails (wide-fails ((caseOf s) .tolerance) wide))
+
+  pub wide-is-15 : outcome s t room ≡ verdict 15 0
+  unfolding outcome
+  wide-is-15 = ap answer (by-15 none)
+
+  pub wide-is-15-family : (f : List ℕ) → familyOutcome s t f room ≡ verdict 15 0
+  unfolding familyOutcome
+  wide-is-15-family f = ap answer (by-15 (some f))
 
 -- NO READER ASKS IT: such a case is readable as before, and its proposal is read; so it is columned and restored, its book summed, its dump turned into a proposal
 pub readers-never-15 : (s t : List ℕ) (c : Case) (p : Plan) (d : Prices) → T (lacks 15 (caseRows s c)) × T (lacks 15 (proposalRows s t c p d))

@@ -18,7 +18,7 @@ use Rattle.rules.specs.Meaning.Hour.{Case, Plan, Prices, caseOf, planOf, prices
 use Rattle.rules.specs.Meaning.Verdict.{under, table}
 use Rattle.shortfalls.specs.Meaning.Shortfalls.{orderShortfall, branchShortfall, linkShortfall}
 
--- TWO NUMBERS for a shortfall, which is never negative: as one it would pass 64 bits
+-- TWO NUMBERS for a shortfall, which is never negative, so that whole microcents can be read off; and as one it would fit 64 bits only by the tolerance's limit
 unfoldable pub wholeOf : ℤ → ℤ
 wholeOf x = pos (natAbs x / partsInOne)
 
@@ -75,7 +75,9 @@ pub record Answers (c : Case) (p : Plan) (d : Prices) (out : List ℤ) : Type 0 
   pub order-is : (i : ℕ) → i < c .orders → shortfallAt out i ≡ orderShortfall c p d i
   pub branch-is : (m : ℕ) → m < c .branches → shortfallAt out (c .orders + m) ≡ branchShortfall c p d m
   pub link-is : (l : ℕ) → l < c .links → shortfallAt out (c .orders + c .branches + l) ≡ linkShortfall c p d l
-  -- with parts of one microcent, and a whole that fits 64 bits
+  -- with parts of one microcent, none of an order or a branch, and a whole that fits 64 bits
+  pub order-whole : (i : ℕ) → i < c .orders → partsAt out i ≡ pos 0
+  pub branch-whole : (m : ℕ) → m < c .branches → partsAt out (c .orders + m) ≡ pos 0
   pub parts-in : (n : ℕ) → n < shortfallCount c → (pos 0 ≤ℤ partsAt out n) × (partsAt out n ≤ℤ pos 99999)
   pub whole-in : (n : ℕ) → n < shortfallCount c → (pos 0 ≤ℤ wholeAt out n) × (wholeAt out n ≤ℤ gap c p d)
   pub whole-fits : (n : ℕ) → n < shortfallCount c → SFits w64 (wholeAt out n)

@@ -1,13 +1,13 @@
 -- S-14 OF AN ANSWER: in an output that opens with the numbers of an accepted hour each pair is its order's, branch's or link's shortfall; none is negative, all
 -- together are at most the gap, and at gap zero every number is zero. Assumes nothing.
-use mathlib.Core.Path.{_≡_, sym, ap, subst, _∙_}
+use mathlib.Core.Path.{_≡_, refl, sym, ap, subst, _∙_}
 use mathlib.Core.List.{List, _++_, append-assoc}
-use Prim.Native.Nat.{ℕ, _+_, _*_, _-_, _≤_, _<_}
+use Prim.Native.Nat.{ℕ, zero, suc, _+_, _*_, _%_, _-_, _≤_, _<_}
 use native.Mathlib.Omega.{arith}
 use native.Mathlib.Decide.{decLt}
 use lib.ListN.{length, length-append}
 use lib.Dec.{T}
-use lib.IntN.{ℤ, pos, _+ℤ_, _*ℤ_}
+use lib.IntN.{ℤ, pos, negsuc, negℤ, natAbs, _+ℤ_, _-ℤ_, _*ℤ_}
 use lib.Signed.{_≤ℤ_}
 use mir.Syntax.{w64}
 use Rattle.integers.specs.Difference.{at, _⊗_, le-by, le-fact}
@@ -15,11 +15,11 @@ use Rattle.integers.specs.Order.{le-trans}
 use Rattle.integers.specs.Size.{Near, near-fits}
 use Rattle.integers.specs.Sums.{sumTo, sum-ext, sum-split}
 use Rattle.measures.specs.Meaning.Limits.{partsInOne, microcentsOf}
-use Rattle.rules.specs.Meaning.Hour.{Case, Plan, Prices, caseOf, planOf, pricesOf, gap}
+use Rattle.rules.specs.Meaning.Hour.{Case, Plan, Prices, caseOf, planOf, pricesOf, branchUse, branchRoom, orderSurplus, gap}
 use Rattle.rules.specs.Meaning.Report.{reports}
 use Rattle.rules.specs.Steps.Passed.{sound, case-sound}
 use Rattle.rules.specs.Promised.Guarantee.{Accepted, gap-range}
-use Rattle.shortfalls.specs.Meaning.Shortfalls.{orderShortfall, branchShortfall, linkShortfall, allShortfalls, Accounted}
+use Rattle.shortfalls.specs.Meaning.Shortfalls.{earned, orderShortfall, branchShortfall, linkShortfall, allShortfalls, Accounted}
 use Rattle.shortfalls.specs.Meaning.Answer.{wholeOf, partsOf, pairsTo, shortfallNumbers, shortfallCount, wholeAt, shortfallAt, Answers}
 use Rattle.shortfalls.specs.Steps.Pairs.{Pair, pair-value, pairs-long, pair-here, pair-past, parts-range, whole-range}
 use Rattle.shortfalls.specs.Promised.Account.{hour-accounted}
@@ -100,6 +100,27 @@ module _ (c : Case) (p : Plan) (d : Prices) (rest : List ℤ) where
         +ℤ sum-ext (c .branches) (λ m. shortfallAt out (c .orders + m)) (λ m. branchShortfall c p d m) (λ m h. pair-value (a .branch-in m h) (branch-pair m h)) j
         +ℤ sum-ext (c .links) (λ l. shortfallAt out (c .orders + c .branches + l)) (λ l. linkShortfall c p d l) (λ l h. pair-value (a .link-in l h) (link-pair l h)) j)
 
+-- 100,000 times whole microcents have no parts
+size-of-minus : (n : ℕ) → natAbs (negℤ (pos n)) ≡ n
+size-of-minus zero = refl
+size-of-minus (suc n) = refl
+
+whole-has-none : (n : ℕ) → 100000 * n % 100000 ≡ 0
+whole-has-none n = omega arith
+
+no-parts : (x : ℤ) → partsOf (pos partsInOne *ℤ x) ≡ pos 0
+unfolding partsOf
+no-parts (pos n) = ap pos (whole-has-none n)
+no-parts (negsuc n) = ap (λ (k : ℕ). pos (k % 100000)) (size-of-minus (100000 * suc n)) ∙ ap pos (whole-has-none (suc n))
+
+order-parts : (c : Case) (p : Plan) (d : Prices) (i : ℕ) → partsOf (orderShortfall c p d i) ≡ pos 0
+unfolding orderShortfall
+order-parts c p d i = no-parts (orderSurplus c d i -ℤ earned c p d i)
+
+branch-parts : (c : Case) (p : Plan) (d : Prices) (m : ℕ) → partsOf (branchShortfall c p d m) ≡ pos 0
+unfolding branchShortfall
+branch-parts c p d m = no-parts (pos (d .shadow m) *ℤ (branchRoom c p m -ℤ branchUse c p m))
+
 -- OF AN ACCEPTED HOUR: no gap is above the highest tolerance
 pub gap-small : (s t : List ℕ) (room : ℕ) → Accepted s t room → gap (caseOf s) (planOf s t) (pricesOf s t) ≤ℤ pos 1000000000000000
 unfolding reports
@@ -115,6 +136,8 @@ hour-answers s t room acc rest = record {
   order-is = λ i h. pair-value (a .order-in i h) (order-pair c p d rest i h);
   branch-is = λ m h. pair-value (a .branch-in m h) (branch-pair c p d rest m h);
   link-is = λ l h. pair-value (a .link-in l h) (link-pair c p d rest l h);
+  order-whole = λ i h. (order-pair c p d rest i h) .parts-is ∙ order-parts c p d i;
+  branch-whole = λ m h. (branch-pair c p d rest m h) .parts-is ∙ branch-parts c p d m;
   parts-in = λ n h. let w = stands c p d rest g a n h in subst (λ (z : ℤ). (pos 0 ≤ℤ z) × (z ≤ℤ pos 99999)) (sym (w .pair .parts-is)) (parts-range (w .x));
   whole-in = whole-in;
   whole-fits = λ n h. near-fits w64 (omega arith) (near _ g (whole-in n h) (gap-small s t room acc));
