@@ -1,5 +1,5 @@
 -- `measures::Load::cost` meets its contract: the product, in whole microcents and parts of one. Assumes nothing.
-use mathlib.Core.Path.{_≡_, ap, _∙_}
+use mathlib.Core.Path.{ap, _∙_}
 use Prim.Native.Nat.{ℕ, _*_, _≤_}
 use native.Mathlib.Omega.{arith}
 use lib.IntN.{pos}
