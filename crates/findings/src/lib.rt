@@ -283,7 +283,8 @@ fn find_judged(
 pub fn find_listed(case: &[u8], proposal: &[u8], families: &[u8], listed: bool) -> Found
     ensures { λ r. ⌜ Finds (hourRows (listOf listed (now (families .entry))) (now («case» .entry)) (now (proposal .entry))) (now («case» .entry)) (now (proposal .entry)) r ⌝ }
 {
-    match read_case(case) {
+    // Lent again: handed on as it came, it is copied by sixteen bytes that were written by eight, for which the processor waits.
+    match read_case(&case[..]) {
         CaseAnswer::Refused(refusal) => refused_by(refusal),
         CaseAnswer::Readable(k) => match read_proposal(case, k, proposal) {
             ProposalAnswer::Refused(refusal) => refused_by(refusal),

@@ -63,7 +63,9 @@ pub fn branch_sums(
         let shadow = shadow_at(case, k, proposal, m);
         let margin = margin_at(case, k, m);
         let mut load = Load::ZERO;
-        for z in 0..zones {
+        // From the last zone to the first: the other way round the compiler makes vectors of these 64-bit products, which take longer.
+        for y in 0..zones {
+            let z = zones - 1 - y;
             let ptdf = Ptdf::of_entry(table[m][z]);
             let part = parts[z];
             load = load.plus(ptdf.load(part));

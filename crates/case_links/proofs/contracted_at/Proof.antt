@@ -14,34 +14,37 @@ use Rattle.case_header.specs.Opened.{headed, whole, limited, link-start-is, lin
 use Rattle.case_links.proofs.contracted_at.Statement.{statement}
 use Rattle.case_links.proofs.contracted_at.Tie as tie
 
-link-start-requires : tie.Need-link-start-requires
-link-start-requires c κs = (limited (headed (c .before .pre .0)), le-of-lt (c .before .pre .1))
-
-abbrev entry : tie.After-link-start → tie.Start
-entry c = c .before .before
-
-inside : (c : tie.After-link-start) → c .link-start .result + 6 + contractedSize (entry c .args .k .version) ≤ length (entry c .args .«case» .now)
-inside c = omega (arith, c .link-start .ensures, link-inside (whole (entry c .pre .0)) (entry c .args .l) (entry c .pre .1))
-
-place : (c : tie.After-link-start) → c .link-start .result ≡ linkAt (entry c .args .«case» .now) (entry c .args .l)
-place c = c .link-start .ensures ∙ link-start-is (headed (entry c .pre .0)) (entry c .args .l)
-
 contracts-requires : tie.Need-contracts-requires
 contracts-requires c κs = search needs
 
+abbrev entry : tie.After-contracts → tie.Start
+entry c = c .before .before
+
 -- by the version that the counts have
-version : (c : tie.After-contracts) → contracts (caseVersion (entry (c .before) .args .«case» .now)) ≡ c .contracts .result
-version c = sym (c .contracts .ensures ∙ ap (λ (k : Counts). contracts (k .version)) (entry (c .before) .pre .0 .counts))
+version : (c : tie.After-contracts) → contracts (caseVersion (entry c .args .«case» .now)) ≡ c .contracts .result
+version c = sym (c .contracts .ensures ∙ ap (λ (k : Counts). contracts (k .version)) (entry c .pre .0 .counts))
 
-four : (c : tie.Then1) → contractedSize (entry (c .before .before) .args .k .version) ≡ 4
+link-start-requires : tie.Need-link-start-requires
+link-start-requires c κs = let a = entry (c .before) in (limited (headed (a .pre .0)), le-of-lt (a .pre .1 .0))
+
+abbrev start : tie.After-link-start → tie.Start
+start c = entry (c .before .before)
+
+four : (c : tie.After-link-start) → contractedSize (start c .args .k .version) ≡ 4
 unfolding contractedSize
-four c = ap (λ (b : Bool). cond b 4 0) (sym (c .before .contracts .ensures) ∙ c .if1 .taken)
+four c = ap (λ (b : Bool). cond b 4 0) (sym (c .before .before .contracts .ensures) ∙ c .before .if1 .taken)
 
-add-word-at : tie.Need-add-word-at
-add-word-at c = omega (arith, inside (c .before .before), four c)
+inside : (c : tie.After-link-start) → c .link-start .result + 6 + 4 ≤ length (start c .args .«case» .now)
+inside c = omega (arith, four c, c .link-start .ensures, link-inside (whole (start c .pre .0)) (start c .args .l) (start c .pre .1 .0))
+
+place : (c : tie.After-link-start) → c .link-start .result ≡ linkAt (start c .args .«case» .now) (start c .args .l)
+place c = c .link-start .ensures ∙ link-start-is (headed (start c .pre .0)) (start c .args .l)
+
+add-at : tie.Need-add-at
+add-at c = omega (arith, inside c)
 
 word-at-requires : tie.Need-word-at-requires
-word-at-requires c κs = omega (arith, inside (c .before .before), four c)
+word-at-requires c κs = omega (arith, inside c)
 
 unsigned-requires : tie.Need-unsigned-requires
 unsigned-requires c κs = search needs
@@ -53,51 +56,30 @@ returns : tie.Need-returns
 unfolding contractedIn
 returns c =
     let w = c .before .before in
-    let t = w .before in
-    let l = t .before .before in
-    let s = entry l .args .«case» .now in
-    let i = entry l .args .l in
+    let l = w .before in
+    let s = start l .args .«case» .now in
+    let i = start l .args .l in
     ap (λ (t : Tenths). t .0) (c .of .ensures)
     ∙ c .before .unsigned .ensures
-    ∙ ap pos (w .word-at .ensures ∙ ap (λ (n : ℕ). u32At s (n + 6)) (place l) ∙ ap (λ (b : Bool). cond b (u32At s (linkAt s i + 6)) (capacityIn s i)) (sym (version (t .before) ∙ t .if1 .taken)))
-
-add-word-at-2 : tie.Need-add-word-at-2
-add-word-at-2 c = omega (arith, inside (c .before .before))
-
-word-at-requires-2 : tie.Need-word-at-requires-2
-word-at-requires-2 c κs = omega (arith, inside (c .before .before))
-
-unsigned-requires-2 : tie.Need-unsigned-requires-2
-unsigned-requires-2 c κs = search needs
-
-of-requires-2 : tie.Need-of-requires-2
-of-requires-2 c κs = search needs
+    ∙ ap pos (w .word-at .ensures ∙ ap (λ (n : ℕ). u32At s (n + 6)) (place l) ∙ ap (λ (b : Bool). cond b (u32At s (linkAt s i + 6)) (capacityIn s i)) (sym (version (l .before .before) ∙ l .before .if1 .taken)))
 
 returns-2 : tie.Need-returns-2
-unfolding contractedIn capacityIn
+unfolding contractedIn
 returns-2 c =
-    let w = c .before .before in
-    let t = w .before in
-    let l = t .before .before in
-    let s = entry l .args .«case» .now in
-    let i = entry l .args .l in
-    ap (λ (t : Tenths). t .0) (c .of2 .ensures)
-    ∙ c .before .unsigned2 .ensures
-    ∙ ap pos (w .word-at2 .ensures ∙ ap (λ (n : ℕ). u32At s (n + 2)) (place l) ∙ ap (λ (b : Bool). cond b (u32At s (linkAt s i + 6)) (capacityIn s i)) (sym (version (t .before) ∙ t .if1 .left)))
+    let a = entry (c .before) in
+    let s = a .args .«case» .now in
+    let i = a .args .l in
+    a .pre .1 .1 ∙ ap pos (ap (λ (b : Bool). cond b (u32At s (linkAt s i + 6)) (capacityIn s i)) (sym (version (c .before) ∙ c .if1 .left)))
 
 pub contracted-at-spec : {M : Type 1} → statement M
 contracted-at-spec =
     tie.close
     (tie.spec
-    link-start-requires
     contracts-requires
-    add-word-at
+    link-start-requires
+    add-at
     word-at-requires
     unsigned-requires
     of-requires
     returns
-    add-word-at-2
-    word-at-requires-2
-    unsigned-requires-2
-    of-requires-2
     returns-2)

@@ -11,7 +11,7 @@ use lib.IntN.{ℤ, pos, _+ℤ_, _*ℤ_}
 use lib.Signed.{ltZ}
 use mir.Syntax.{w64}
 use Rattle.integers.specs.Sums.{sumTo, only}
-use Rattle.integers.specs.Size.{near-fits, near-mul, near-unsigned}
+use Rattle.integers.specs.Size.{near-fits}
 use Rattle.integers.specs.Machine.{SumsFit, step, step-fits, sfits-by}
 use Rattle.measures.specs.Meaning.Limits.{partsInOne}
 use Rattle.rules.specs.Meaning.Hour.{Case, Plan, caseOf, planOf, signed, buys, orderNet, net, orderWelfare, welfare}
@@ -19,7 +19,8 @@ use Rattle.rows.specs.Meaning.Rows.{firstBelow}
 use Rattle.rows.specs.Promised.RowLaws.{first-here, first-later, first-nowhere, not-below}
 use Rattle.rules.specs.Meaning.Verdict.{over}
 use Rattle.rules.specs.Steps.Passed.{case-sound}
-use Rattle.rules.specs.Promised.Fits.{near-order-price, net-sums, welfare-sums, welfare-near}
+use Rattle.rules.specs.Steps.Duality.{signed-times}
+use Rattle.rules.specs.Promised.Fits.{orderNet-near, net-sums, welfare-sums, welfare-near}
 use Rattle.orders.specs.declared.Order.{Order}
 use Rattle.case_header.specs.declared.Counts.{Counts}
 use Rattle.clearing.specs.Held.{tenthsAt, Holds, zeros-hold, keyed, keyed-next, keyed-set}
@@ -88,7 +89,7 @@ net-fit c z = net-sums _ (case-sound _ (c .before .before .before .before .befor
 welfare-fit : (c : tie.Else1 Inv-loop μ-loop) → SumsFit (λ j. orderWelfare (hour (c .before .before .before .before .before .before .before .before .before)) (plan (c .before .before .before .before .before .before .before .before .before)) j) (c .before .before .before .before .before .before .loop .i + 1)
 welfare-fit c = welfare-sums _ (case-sound _ (c .before .before .before .before .before .before .before .before .before .pre .opened .readable)) _ _ (omega (arith, inside (c .before .before .before .before .before))) (held c)
 
--- this order's zone, and what it adds
+-- this order's zone
 zone-is : (c : tie.After-order-at Inv-loop μ-loop) → c .order-at .result .zone ≡ hour (c .before .before .before .before .before) .zone (c .before .before .loop .i)
 unfolding caseOf
 zone-is c = ap (λ (o : Order). o .zone) (c .order-at .ensures)
@@ -99,72 +100,91 @@ zone-small c = let cs = case-sound _ (c .before .before .before .before .before 
 zone-in : (c : tie.After-order-at Inv-loop μ-loop) → c .order-at .result .zone < 16
 zone-in c = omega (arith, zone-is c, zone-small c)
 
-term-is : (c : tie.After-volume-at Inv-loop μ-loop) → signed (c .before .order-at .result .buys) (c .volume-at .result .0) ≡ orderNet (hour (c .before .before .before .before .before .before)) (plan (c .before .before .before .before .before .before)) (c .before .before .before .loop .i)
+-- what it adds to its zone's net position
+abbrev order : tie.Else1 Inv-loop μ-loop → tie.After-order-at Inv-loop μ-loop
+order c = c .before .before .before .before
+
+abbrev turn : tie.Else1 Inv-loop μ-loop → tie.In-loop Inv-loop μ-loop
+turn c = order c .before
+
+signed-is : (c : tie.Else1 Inv-loop μ-loop) → signed (order c .order-at .result .buys) (c .before .before .before .volume-at .result .0) ≡ orderNet (hour (turn c .before .before .before .before)) (plan (turn c .before .before .before .before)) (turn c .before .loop .i)
 unfolding orderNet buys caseOf planOf
-term-is c = λ j. signed ((c .before .order-at .ensures j) .buys) (c .volume-at .ensures j)
+signed-is c = λ j. signed ((order c .order-at .ensures j) .buys) (c .before .before .before .volume-at .ensures j)
 
-mul-net-with-order : tie.Need-mul-net-with-order Inv-loop μ-loop
-mul-net-with-order c = omega (arith, zone-in (c .before .before .before .before))
+signed-volume-requires : tie.Need-signed-volume-requires Inv-loop μ-loop
+signed-volume-requires c κs =
+    let i = turn c in
+    sfits-by w64 (signed-is c) (near-fits w64 (omega arith) (orderNet-near _ (case-sound _ (i .before .before .before .before .pre .opened .readable)) _ _ (omega (arith, inside i)) (held c) (i .before .loop .i) (omega arith)))
 
-array-copy-out-net-with-order : tie.Need-array-copy-out-net-with-order Inv-loop μ-loop
-array-copy-out-net-with-order c = zone-in (c .before .before .before .before)
+term-is : (c : tie.After-signed-volume Inv-loop μ-loop) → c .signed-volume .result .0 ≡ orderNet (hour (turn (c .before) .before .before .before .before)) (plan (turn (c .before) .before .before .before .before)) (turn (c .before) .before .loop .i)
+term-is c = c .signed-volume .ensures ∙ signed-is (c .before)
 
-net-with-order-requires : tie.Need-net-with-order-requires Inv-loop μ-loop
-net-with-order-requires c κs =
-    let e = c .before in
-    let o = e .before .before .before .before in
+mul-plus : tie.Need-mul-plus Inv-loop μ-loop
+mul-plus c = omega (arith, zone-in (order (c .before)))
+
+array-copy-out-plus : tie.Need-array-copy-out-plus Inv-loop μ-loop
+array-copy-out-plus c = zone-in (order (c .before))
+
+plus-requires : tie.Need-plus-requires Inv-loop μ-loop
+plus-requires c κs =
+    let e = c .before .before in
+    let o = order e in
     let l = o .before .before in
     let z = o .order-at .result .zone in
-    sfits-by w64 (ap (λ (x : ℤ). tenthsAt (l .loop .nets) z +ℤ x) (term-is (e .before .before .before)) ∙ keyed-next _ _ (l .loop .i) (l .loop .nets) z (zone-is o) (zone-small o) (l .loop .inv .1 .1 .0))
+    sfits-by w64 (ap (λ (x : ℤ). tenthsAt (l .loop .nets) z +ℤ x) (term-is (c .before)) ∙ keyed-next _ _ (l .loop .i) (l .loop .nets) z (zone-is o) (zone-small o) (l .loop .inv .1 .1 .0))
     ((net-fit e z) .fits (l .loop .i + 1) (omega arith))
 
 mul-nets : tie.Need-mul-nets Inv-loop μ-loop
-mul-nets c = omega (arith, zone-in (c .before .before .before .before .before .before))
+mul-nets c = omega (arith, zone-in (order (c .before .before .before)))
 
 array-set-from-nets : tie.Need-array-set-from-nets Inv-loop μ-loop
-array-set-from-nets c = zone-in (c .before .before .before .before .before .before)
+array-set-from-nets c = zone-in (order (c .before .before .before))
+
+-- its part of the welfare
+price-is : (c : tie.After-order-at Inv-loop μ-loop) → c .order-at .result .price .0 ≡ hour (c .before .before .before .before .before) .price (c .before .before .loop .i)
+unfolding caseOf
+price-is c = ap (λ (o : Order). o .price .0) (c .order-at .ensures)
+
+product-is : (c : tie.After-signed-volume Inv-loop μ-loop) → c .signed-volume .result .0 *ℤ order (c .before) .order-at .result .price .0 ≡ orderWelfare (hour (turn (c .before) .before .before .before .before)) (plan (turn (c .before) .before .before .before .before)) (turn (c .before) .before .loop .i)
+unfolding orderWelfare orderNet
+product-is c = (λ j. term-is c j *ℤ price-is (order (c .before)) j) ∙ sym (signed-times (buys _ _) _ _)
 
 value-requires : tie.Need-value-requires Inv-loop μ-loop
-unfolding caseOf planOf
 value-requires c κs =
-    let e = c .before .before .before in
-    let o = e .before .before .before .before in
-    let i = o .before in
-    let cs = case-sound _ (o .before .before .before .before .before .pre .opened .readable) in
-    sfits-by w64 (λ j. e .before .before .before .volume-at .ensures j *ℤ (o .order-at .ensures j) .price .0)
-    (near-fits w64 (omega arith) (near-mul (near-unsigned _ 100000 (omega (arith, cs .quantity-in (i .before .loop .i) (inside i), held e (i .before .loop .i) (omega arith))))
-    (near-order-price _ (cs .price-in (i .before .loop .i) (inside i)))))
+    let v = c .before .before .before in
+    sfits-by w64 (product-is v) ((welfare-fit (v .before)) .term (turn (v .before) .before .loop .i) (omega arith))
 
--- this order's part of the welfare
-value-is : (c : tie.After-value Inv-loop μ-loop) → signed (c .before .before .before .before .before .before .before .before .order-at .result .buys) (c .value .result .0) ≡ orderWelfare (hour (c .before .before .before .before .before .before .before .before .before .before .before .before .before)) (plan (c .before .before .before .before .before .before .before .before .before .before .before .before .before)) (c .before .before .before .before .before .before .before .before .before .before .loop .i)
-unfolding orderWelfare buys caseOf planOf
-value-is c =
-    let o = c .before .before .before .before .before .before .before .before .order-at .ensures in
-    λ j. signed ((o j) .buys) ((c .value .ensures ∙ (λ i. c .before .before .before .before .before .before .before .volume-at .ensures i *ℤ (o i) .price .0)) j)
+value-is : (c : tie.After-value Inv-loop μ-loop) → c .value .result .0 ≡ orderWelfare (hour (turn (c .before .before .before .before .before) .before .before .before .before)) (plan (turn (c .before .before .before .before .before) .before .before .before .before)) (turn (c .before .before .before .before .before) .before .loop .i)
+value-is c = c .value .ensures ∙ product-is (c .before .before .before .before)
 
-welfare-with-order-requires : tie.Need-welfare-with-order-requires Inv-loop μ-loop
-welfare-with-order-requires c κs =
-    let l = c .before .before .before .before .before .before .before .before .before .before in
-    step-fits (welfare-fit (c .before .before .before .before)) (l .loop .i) (omega arith) (l .loop .inv .1 .1 .1) (value-is c)
+plus-requires-2 : tie.Need-plus-requires-2 Inv-loop μ-loop
+plus-requires-2 c κs =
+    let e = c .before .before .before .before .before in
+    let l = turn e .before in
+    step-fits (welfare-fit e) (l .loop .i) (omega arith) (l .loop .inv .1 .1 .1) (value-is c)
+
+abbrev passing : tie.After-plus2 Inv-loop μ-loop → tie.Else1 Inv-loop μ-loop
+passing c = c .before .before .before .before .before .before
 
 add-i : tie.Need-add-i Inv-loop μ-loop
-add-i c = omega (arith, inside (c .before .before .before .before .before .before .before .before .before .before), (case-sound _ (c .before .before .before .before .before .before .before .before .before .before .before .before .before .before .pre .opened .readable)) .orders-in)
+add-i c = let i = turn (passing c) in omega (arith, inside i, (case-sound _ (i .before .before .before .before .pre .opened .readable)) .orders-in)
 
 loop-less : tie.Need-loop-less Inv-loop μ-loop
-loop-less c = omega (arith, c .before .before .before .before .before .before .before .before .before .before .loop-test .taken)
+loop-less c = omega (arith, turn (passing c) .loop-test .taken)
 
 loop-again : tie.Need-loop-again Inv-loop μ-loop
 loop-again c =
-    let e = c .before .before .before .before .before in
-    let o = e .before .before .before .before in
-    let l = o .before .before in
+    let e = passing c in
+    let o = order e in
+    let l = turn e .before in
+    let p = c .before .before .before in
     let z = o .order-at .result .zone in (
-      omega (arith, o .before .loop-test .taken),
+      omega (arith, turn e .loop-test .taken),
       (
         passed e,
         (
-          keyed-set _ _ (l .loop .i) (l .loop .nets) z (c .before .before .before .net-with-order .result) (zone-is o) (zone-small o) (l .loop .inv .1 .1 .0) (c .before .before .before .net-with-order .ensures ∙ ap (λ (x : ℤ). tenthsAt (l .loop .nets) z +ℤ x) (term-is (e .before .before .before))),
-          step (welfare-fit e) (l .loop .i) (l .loop .inv .1 .1 .1) (value-is (c .before)) (c .welfare-with-order .ensures),
+          keyed-set _ _ (l .loop .i) (l .loop .nets) z (p .plus .result) (zone-is o) (zone-small o) (l .loop .inv .1 .1 .0) (p .plus .ensures ∙ ap (λ (x : ℤ). tenthsAt (l .loop .nets) z +ℤ x) (term-is (p .before .before))),
+          step (welfare-fit e) (l .loop .i) (l .loop .inv .1 .1 .1) (value-is (c .before)) (c .plus2 .ensures),
         ),
       ),
     )
@@ -207,13 +227,14 @@ order-sums-spec =
     volume-at-requires
     exceeds-requires
     returns
-    mul-net-with-order
-    array-copy-out-net-with-order
-    net-with-order-requires
+    signed-volume-requires
+    mul-plus
+    array-copy-out-plus
+    plus-requires
     mul-nets
     array-set-from-nets
     value-requires
-    welfare-with-order-requires
+    plus-requires-2
     add-i
     loop-less
     loop-again

@@ -6,7 +6,8 @@ use Prim.Native.Nat.{ℕ, _≤_, _<_}
 use lib.Dec.{T}
 use lib.IntN.{pos, _+ℤ_, _-ℤ_, _*ℤ_}
 use lib.Signed.{_≤ℤ_}
-use Rattle.measures.specs.Meaning.Limits.{microcentsOf}
+use Rattle.integers.specs.Ranges.{Within}
+use Rattle.measures.specs.Meaning.Limits.{microcentsOf, acceptedTolerance}
 use Rattle.rules.specs.Meaning.Hour.{Plan, caseOf, planOf, pricesOf, Kept, welfare}
 use Rattle.rules.specs.Meaning.Clearing.{Clearing}
 use Rattle.rules.specs.Meaning.Families.{Fraction, parentOf, LeadsBack, accepted, fractionRule}
@@ -26,9 +27,9 @@ Allowed s t = Clearing (caseOf s) (planOf s t)
 abbrev pub Accurate : List ℕ → List ℕ → Type 0
 Accurate s report = (q : Plan) → Clearing (caseOf s) q → welfare (caseOf s) q ≤ℤ (pos (q .den) *ℤ (reportedWelfare report +ℤ reportedGap report))
 
--- 0 <= gap <= tolerance, in microcents; and the tolerance is at most 10,000 cents (S-12), so that the accuracy and coverage rules speak of such hours
+-- 0 <= gap <= tolerance, in microcents; and the tolerance is one that an accepted hour may have (S-12), so that the accuracy and coverage rules speak of such hours
 abbrev pub GapWithin : List ℕ → List ℕ → Type 0
-GapWithin s report = (pos 0 ≤ℤ reportedGap report) × ((reportedGap report ≤ℤ microcentsOf (pos ((caseOf s) .tolerance))) × ((caseOf s) .tolerance ≤ 10000))
+GapWithin s report = (pos 0 ≤ℤ reportedGap report) × ((reportedGap report ≤ℤ microcentsOf (pos ((caseOf s) .tolerance))) × Within acceptedTolerance (pos ((caseOf s) .tolerance)))
 
 -- S-6: THE COVERAGE RULE SPEAKS OF HOURS WITH A LINK, and so does what it says at gap zero
 abbrev pub HasLink : List ℕ → Type 0

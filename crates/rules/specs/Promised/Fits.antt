@@ -1,10 +1,10 @@
--- Every total, every zone price, and every sum on the way to one in file order, fits signed 64 bits. Each stage names what the rows before it leave.
+-- Every total, every zone price, and every sum on the way to one in the order in which it is added up, fits signed 64 bits. Each stage names what the rows before it leave.
 -- Sizes: welfare and rent within 2.048e18, surpluses 2.304e18, branch total 3.2e18, link total and owed 2.88e17, so bound within 5.504e18 and gap 7.552e18, below 9.22e18.
 -- The rent is bounded order by order: zone by zone it would be 3.3e19. Assumes nothing.
 use mathlib.Core.Path.{_≡_, refl, ap}
 use mathlib.Core.Bool.{Bool, true, false}
 use mathlib.Core.List.{List}
-use Prim.Native.Nat.{ℕ, _+_, _*_, _≤_, _<_}
+use Prim.Native.Nat.{ℕ, _+_, _*_, _-_, _≤_, _<_}
 use native.Mathlib.Nat.{mul-le-mul}
 use native.Mathlib.Omega.{arith}
 use lib.Dec.{T, eqb}
@@ -63,7 +63,7 @@ module _ (c : Case) (cs : CaseSound c) where
     volume-near : (i : ℕ) → i < n → Near 100000 (pos (p .volume i))
     volume-near i h = near-unsigned (p .volume i) 100000 (omega (arith, cs .quantity-in i (omega arith), volumes i h))
 
-    orderNet-near : (i : ℕ) → i < n → Near 100000 (orderNet c p i)
+    pub orderNet-near : (i : ℕ) → i < n → Near 100000 (orderNet c p i)
     unfolding orderNet
     orderNet-near i h = near-signed (buys c i) 100000 _ (volume-near i h)
 
@@ -108,10 +108,15 @@ module _ (c : Case) (cs : CaseSound c) where
       unfolding fbPart ltaPart inflow outflow
       fbPart-near z = partial-near (c .links) (omega arith) flows z
 
+      branchUse-term-near : (m z : ℕ) → m < c .branches → z < c .zones → Near 12800000000000 (c .ptdf m z *ℤ fbPart c p z)
+      branchUse-term-near m z h k = near-mul (near-within 200000 limits.ptdf (c .ptdf m z) (omega arith) (omega arith) (cs .ptdf-in m z h k)) (fbPart-near z)
+
       pub branchUse-sums : (m : ℕ) → m < c .branches → SumsFit (λ z. c .ptdf m z *ℤ fbPart c p z) (c .zones)
-      branchUse-sums m h = small-sums _ 12800000000000 (c .zones)
-          (λ z k. near-mul (near-within 200000 limits.ptdf (c .ptdf m z) (omega arith) (omega arith) (cs .ptdf-in m z h k)) (fbPart-near z))
-          (omega (arith, cs .zones-in .1))
+      branchUse-sums m h = small-sums _ 12800000000000 (c .zones) (λ z k. branchUse-term-near m z h k) (omega (arith, cs .zones-in .1))
+
+      -- from the last zone to the first
+      pub branchUse-sums-back : (m : ℕ) → m < c .branches → SumsFit (λ y. c .ptdf m (c .zones - 1 - y) *ℤ fbPart c p (c .zones - 1 - y)) (c .zones)
+      branchUse-sums-back m h = small-sums _ 12800000000000 (c .zones) (λ y k. branchUse-term-near m (c .zones - 1 - y) h (omega (arith, k))) (omega (arith, cs .zones-in .1))
 
   -- row 23, read as a bound on the flow
   pub flow-in : (p : Plan) → p .share ≤ partsInOne → (l : ℕ) → l < c .links → linkUse c p l ≤ linkRoom c p l → p .flow l ≤ 100000

@@ -18,7 +18,7 @@ use Rattle.rows.specs.Meaning.Rows.{Row, Pass, verdict, refusal, answer}
 use Rattle.rows.specs.Promised.RowLaws.{else-refusal, refusal-append, row-found, field-passes, once-fails, lacks, before, rowNumbered, row-by-number}
 use Rattle.rules.specs.Meaning.Verdict.{roomRows, caseRows, proposalRows, wideTolerance, clearingRows, judgementRows, table, outcome, familyOutcome, Readable, caseRefusal, proposalRefusal}
 
--- above 10,000 cents, and no lower: 10,000 itself passes
+-- above 10,000 cents, the paper's number, and no lower: 10,000 itself passes
 above : (cents : ℕ) → T (outside limits.acceptedTolerance (pos cents)) → 10000 < cents
 above cents t = elim (decLt 10000 cents) [ yes h ↦ h | no g ↦ absurd (T-not (outside limits.acceptedTolerance (pos cents)) (nat-inside 0 10000 cents (omega arith) (omega arith)) t) ]
 

@@ -1,6 +1,6 @@
 -- Weak duality of the clearing: no clearing's welfare passes the bound (accuracy), and where there is a link the rent covers the link total, and so what is
 -- owed, up to the gap (coverage). Assumes nothing.
-use mathlib.Core.Path.{_≡_, sym, ap, _∙_}
+use mathlib.Core.Path.{_≡_, refl, sym, ap, _∙_}
 use mathlib.Core.Bool.{Bool, true, false, cond}
 use Prim.Native.Nat.{ℕ, _+_, _*_, _-_, _≤_, _<_}
 use native.Mathlib.Nat.{mul-le-mul-left, mul-le-mul-right}
@@ -68,6 +68,11 @@ at-most v q e (negsuc k) h = le-by (at (pos v) ⊗ at (negsuc k)) (at (pos e) �
       arith,
       le-fact (at (pos e) ⊗ at (pos 0)) (at (pos e) ⊗ at (positive (pos q *ℤ negsuc k))) (scaled e (larger-left (pos 0) (pos q *ℤ negsuc k))),
     ))
+
+-- a signed volume at a price is its value, signed
+pub signed-times : (b : Bool) (x y : ℤ) → signed b (x *ℤ y) ≡ signed b x *ℤ y
+signed-times true x y = refl
+signed-times false x y = eq-by (⊝_ (at x ⊗ at y)) ((⊝_ (at x)) ⊗ at y) (omega arith)
 
 -- one order: what it adds to the welfare, less its volume at the zone's price, is at most `e` times its surplus
 pub order-le : (b : Bool) (v q e : ℕ) (a z : ℤ) → v ≤ e * q

@@ -62,7 +62,9 @@ link-at-requires : tie.Need-link-at-requires Inv-loop μ-loop
 link-at-requires c κs = (start c .pre .0 .opened, c .loop-test .taken)
 
 contracted-at-requires : tie.Need-contracted-at-requires Inv-loop μ-loop
-contracted-at-requires c κs = (start (c .before) .pre .0 .opened, c .before .loop-test .taken)
+contracted-at-requires c κs =
+    let i = c .before .before in
+    (start i .pre .0 .opened, (i .loop-test .taken, ap (λ (k : Link). k .capacity .0) (c .before .link-at .ensures)))
 
 -- the zone that this link enters, and its price
 to-is : (c : tie.After-link-at Inv-loop μ-loop) → c .link-at .result .to ≡ hour (start (c .before)) .to (turn (c .before))
@@ -157,9 +159,9 @@ plus-requires c κs =
 abbrev minus : tie.After-plus Inv-loop μ-loop → tie.After-minus Inv-loop μ-loop
 minus c = c .before .before .before
 
-contracted-is : (c : tie.After-plus Inv-loop μ-loop) → let m = minus c in m .before .before .before .before .contracted-at .result .0 ≡ pos (hour (start (of-link m)) .contracted (turn (of-link m)))
+contracted-is : (c : tie.After-plus Inv-loop μ-loop) → let m = minus c in m .before .before .before .contracted-at .result .0 ≡ pos (hour (start (of-link m)) .contracted (turn (of-link m)))
 unfolding caseOf
-contracted-is c = minus c .before .before .before .before .contracted-at .ensures
+contracted-is c = minus c .before .before .before .contracted-at .ensures
 
 cost-requires-2 : tie.Need-cost-requires-2 Inv-loop μ-loop
 cost-requires-2 c κs =

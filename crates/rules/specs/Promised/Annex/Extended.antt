@@ -9,7 +9,7 @@ use native.Mathlib.Omega.{arith}
 use lib.Dec.{T, eqb, eqb→eq, eqb-refl, T-not}
 use lib.IntN.{ℤ, pos, natAbs, _+ℤ_, _-ℤ_, _*ℤ_}
 use lib.Signed.{_≤ℤ_, ≤ℤ-refl, yes-nonNeg, pos-natAbs}
-use Rattle.integers.specs.Difference.{at, _⊕_, _⊖_, _⊗_, ⊝_, le-by, eq-by, le-fact, eq-fact}
+use Rattle.integers.specs.Difference.{at, _⊕_, _⊖_, _⊗_, le-by, eq-by, le-fact, eq-fact}
 use Rattle.integers.specs.Ranges.{and-both, and-left, and-right}
 use Rattle.integers.specs.Sums.{sumTo, only, sum-ext, sum-zero, sum-add, sum-sub, sum-scale-l, sum-swap, sum-nonneg, sum-le, only-on, only-off, only-both, only-swap, sum-one, sum-key}
 use Rattle.measures.specs.Meaning.Limits.{partsInOne}
@@ -17,7 +17,7 @@ use Rattle.rules.specs.Meaning.Hour.{Case, Plan, signed, buys, orderNet,
 use Rattle.rules.specs.Meaning.Clearing.{Clearing}
 use Rattle.rules.specs.Meaning.Annex.{Solution, Feasible, PairsOnce, Connected, joins, byPair, capacityLTA, netFlow, objective}
 use Rattle.rules.specs.Meaning.AnnexPromise.{Same, Agree, IsClearing, IsFeasible}
-use Rattle.rules.specs.Steps.Duality.{Placed}
+use Rattle.rules.specs.Steps.Duality.{Placed, signed-times}
 use Rattle.rows.specs.Meaning.Rows.{firstBelow}
 use Rattle.rows.specs.Promised.RowLaws.{first-is, not-below}
 use Rattle.rules.specs.Promised.Annex.CommercialFlows.{net-plain, net-sum, net-ext, Carried, balanced-carried}
@@ -82,10 +82,6 @@ module _ (c : Case) (ok : Placed c) where
 -- a flow from zero to a part of a capacity of zero
 no-flow : (f a k : ℤ) → pos 0 ≤ℤ f → (pos partsInOne *ℤ f) ≤ℤ (a *ℤ k) → k ≡ pos 0 → f ≡ pos 0
 no-flow f a k h l e = eq-by (at f) (at (pos 0)) (omega (arith, le-fact (at (pos 0)) (at f) h, le-fact (at (pos partsInOne) ⊗ at f) (at a ⊗ at (pos 0)) (rw e at l)))
-
-signed-times : (b : Bool) (x y : ℤ) → signed b (x *ℤ y) ≡ signed b x *ℤ y
-signed-times true x y = refl
-signed-times false x y = eq-by (⊝_ (at x ⊗ at y)) ((⊝_ (at x)) ⊗ at y) (omega arith)
 
 module _ (c : Case) (ok : Placed c) (o : PairsOnce c) (p : Plan) (x : Solution) (same : Same c p x) (fe : Feasible c x) where
   -- the LTA flow of every pair is that of its link, or zero where there is none
