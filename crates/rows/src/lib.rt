@@ -1,5 +1,6 @@
-// A table of causes in code: what it answers, where a search of a cause's places ends, and the test of a count. Its meaning stands in specs/.
+// A table of causes in code: what it answers, where a search of a cause's places ends, the test of a count, and two tests in one. Its meaning stands in specs/.
 ghost use mathlib.Core.Path.{_≡_};
+ghost use mathlib.Core.Bool.{_||_};
 ghost use lib.IntN.{pos};
 ghost use Rattle.integers.specs.Ranges.{range, outside};
 
@@ -23,4 +24,14 @@ pub fn count_outside(least: usize, greatest: usize, count: usize) -> bool
         return true;
     }
     greatest < count
+}
+
+// Either of two tests. Both are made, so that a loop over it ends by its count alone.
+pub fn either(a: bool, b: bool) -> bool
+    ensures { λ r. ⌜ r ≡ a || b ⌝ }
+{
+    if a {
+        return true;
+    }
+    b
 }

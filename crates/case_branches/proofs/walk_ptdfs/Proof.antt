@@ -8,7 +8,7 @@ use Prim.Native.Nat.{ℕ, _+_, _*_, _-_, _≤_, _<_}
 use native.Mathlib.Omega.{arith}
 use borrow.Author.Needs.{needs}
 use lib.ListN.{length}
-use Rattle.integers.specs.Ranges.{outside}
+use Rattle.integers.specs.Ranges.{outside, not-some}
 use Rattle.measures.specs.Meaning.Limits as limits
 use Rattle.measures.specs.Steps.Held.{ptdf-outside, ptdf-held}
 use Rattle.measures.specs.declared.Raw.{Raw}
@@ -17,7 +17,7 @@ use Rattle.rows.specs.Meaning.Rows.{firstBelow}
 use Rattle.rows.specs.Promised.RowLaws.{first-none, first-later, no-place}
 use Rattle.fields.specs.declared.Cursor.{Cursor}
 use Rattle.fields.specs.Walk.{raw, signedField, Took, signed-took, signed-short}
-use Rattle.case_branches.specs.Branch.{ptdfFault, ended, ptdfs-stop, ptdfs-end, not-some}
+use Rattle.case_branches.specs.Branch.{ptdfFault, ended, ptdfs-stop, ptdfs-end}
 use Rattle.case_branches.proofs.walk_ptdfs.Statement.{statement}
 use Rattle.case_branches.proofs.walk_ptdfs.Tie as tie
 

@@ -70,7 +70,7 @@ mul-if3 c = search needs
 
 orders-is : (c : tie.After-half-at) → c .half-at .result ≡ ordersIn (text (c .before .before))
 unfolding ordersIn
-orders-is c = c .half-at .ensures
+orders-is c = c .half-at .ensures .0
 
 returns-3 : tie.Need-returns-3
 returns-3 c =

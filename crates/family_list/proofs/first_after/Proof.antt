@@ -10,6 +10,9 @@ use Rattle.family_list.specs.Steps.Walk.{held, Trail, Searched, came-bac
 use Rattle.family_list.proofs.first_after.Statement.{statement}
 use Rattle.family_list.proofs.first_after.Tie as tie
 
+cast-count : tie.Need-cast-count
+cast-count c = omega (arith, c .before .pre .0 .whole .few)
+
 mul-if1 : tie.Need-mul-if1
 mul-if1 c = search needs
 
@@ -48,6 +51,9 @@ element-copy-out-if2 c = low c
 add-if2 : tie.Need-add-if2
 add-if2 c = let w = c .before in omega (arith, a w .pre .1 .0, a w .pre .0 .whole .few)
 
+cast-if2 : tie.Need-cast-if2
+cast-if2 c = let w = c .before in omega (arith, a w .pre .1 .0, a w .pre .0 .whole .few)
+
 returns-2 : tie.Need-returns-2
 returns-2 c =
     let w = c .before .before in
@@ -77,6 +83,7 @@ pub first-after-spec : {M : Type 1} → statement M
 first-after-spec =
     tie.close
     (tie.spec
+    cast-count
     mul-if1
     element-copy-out-if1
     returns
@@ -84,6 +91,7 @@ first-after-spec =
     mul-if2
     element-copy-out-if2
     add-if2
+    cast-if2
     returns-2
     least-on-circle-requires
     smaller-requires

@@ -32,28 +32,28 @@ headed c = sym (c .before .bad-header .ensures) ∙ c .if1 .left
 whole : (c : tie.Else1) → Whole (file (entry c)) (entry c .args .orders)
 whole c = whole-of (file (entry c)) (entry c .args .orders) (entry c .pre) (headed c)
 
-take-parents-requires : tie.Need-take-parents-requires
-take-parents-requires c κs = (whole (c .before), refl)
+first-absent-requires : tie.Need-first-absent-requires
+first-absent-requires c κs = whole c
 
 enum-known-i : tie.Need-enum-known-i
 enum-known-i c = search needs
 
 -- row 17 asked
-module _ (c : tie.After-take-parents) where
+module _ (c : tie.After-first-absent) where
   abbrev past-16 : tie.Else1
-  past-16 = c .before .before
+  past-16 = c .before
 
   abbrev a : tie.Start
   a = entry past-16
 
-  missing-at : {i : ℕ} → c .take-parents .result ≡ At i → firstBelow (a .args .orders) (absent (file a) (a .args .orders)) ≡ some i
-  missing-at {i} e = at-place _ _ i (c .take-parents .ensures .0) e
+  missing-at : {i : ℕ} → c .first-absent .result ≡ At i → firstBelow (a .args .orders) (absent (file a) (a .args .orders)) ≡ some i
+  missing-at {i} e = at-place _ _ i (c .first-absent .ensures) e
 
-  none-missing : c .take-parents .result ≡ Nowhere → firstBelow (a .args .orders) (absent (file a) (a .args .orders)) ≡ none
-  none-missing e = at-none _ _ (c .take-parents .ensures .0) e
+  none-missing : c .first-absent .result ≡ Nowhere → firstBelow (a .args .orders) (absent (file a) (a .args .orders)) ≡ none
+  none-missing e = at-none _ _ (c .first-absent .ensures) e
 
-cast-t10 : tie.Need-cast-t10
-cast-t10 c =
+cast-t9 : tie.Need-cast-t9
+cast-t9 c =
     let m = c .before .before .before in
     omega (arith, place-below _ _ _ 512 (missing-at m (c .before .i .given .1)) (a m .pre))
 
@@ -67,30 +67,37 @@ enum-told c = search needs
 
 -- row 17 passed
 module _ (c : tie.After-enum-told) where
-  abbrev taken : tie.After-take-parents
-  taken = c .before .before
+  abbrev asked : tie.After-first-absent
+  asked = c .before .before
 
-  exist : firstBelow (a taken .args .orders) (absent (file (a taken)) (a taken .args .orders)) ≡ none
-  exist = none-missing taken (c .enum-told .given .1)
+  exist : firstBelow (a asked .args .orders) (absent (file (a asked)) (a asked .args .orders)) ≡ none
+  exist = none-missing asked (c .enum-told .given .1)
+
+take-parents-requires : tie.Need-take-parents-requires
+take-parents-requires c κs = (whole (past-16 (asked (c .before))), refl)
 
 first-on-circle-requires : tie.Need-first-on-circle-requires
 first-on-circle-requires c κs =
-    let m = taken (c .before) in
-    (all-exist (file (a m)) (a m .args .orders) (whole (past-16 m)) (exist (c .before)), m .take-parents .ensures .1 (ap placeOf (c .before .enum-told .given .1)))
+    let t = c .before .before .before in
+    let m = asked t in
+    (all-exist (file (a m)) (a m .args .orders) (whole (past-16 m)) (exist t), c .before .take-parents .ensures)
 
 enum-known-i-2 : tie.Need-enum-known-i-2
 enum-known-i-2 c = search needs
 
-cast-t14 : tie.Need-cast-t14
-cast-t14 c =
+abbrev told : tie.After-first-on-circle → tie.After-enum-told
+told m = m .before .before .before .before
+
+cast-t15 : tie.Need-cast-t15
+cast-t15 c =
     let m = c .before .before .before in
-    omega (arith, place-below _ _ _ 512 (at-place _ _ _ (m .first-on-circle .ensures) (c .before .i2 .given .1)) (a (taken (m .before .before)) .pre))
+    omega (arith, place-below _ _ _ 512 (at-place _ _ _ (m .first-on-circle .ensures) (c .before .i2 .given .1)) (a (asked (told m)) .pre))
 
 returns-3 : tie.Need-returns-3
 returns-3 c =
     let m = c .before .before .before in
-    let t = m .before .before in
-    ap familyBy (sym (by-18 (file (a (taken t))) (a (taken t) .args .orders) (headed (past-16 (taken t))) (exist t) (at-place _ _ _ (m .first-on-circle .ensures) (c .before .i2 .given .1))))
+    let t = told m in
+    ap familyBy (sym (by-18 (file (a (asked t))) (a (asked t) .args .orders) (headed (past-16 (asked t))) (exist t) (at-place _ _ _ (m .first-on-circle .ensures) (c .before .i2 .given .1))))
 
 enum-told-2 : tie.Need-enum-told-2
 enum-told-2 c = search needs
@@ -98,8 +105,8 @@ enum-told-2 c = search needs
 returns-4 : tie.Need-returns-4
 returns-4 c =
     let m = c .before .before in
-    let t = m .before .before in
-    ap familyBy (sym (by-none (file (a (taken t))) (a (taken t) .args .orders) (headed (past-16 (taken t))) (exist t) (at-none _ _ (m .first-on-circle .ensures) (c .enum-told2 .given .1))))
+    let t = told m in
+    ap familyBy (sym (by-none (file (a (asked t))) (a (asked t) .args .orders) (headed (past-16 (asked t))) (exist t) (at-none _ _ (m .first-on-circle .ensures) (c .enum-told2 .given .1))))
 
 pub read-families-spec : {M : Type 1} → statement M
 read-families-spec =
@@ -107,14 +114,15 @@ read-families-spec =
     (tie.spec
     bad-header-requires
     returns
-    take-parents-requires
+    first-absent-requires
     enum-known-i
-    cast-t10
+    cast-t9
     returns-2
     enum-told
+    take-parents-requires
     first-on-circle-requires
     enum-known-i-2
-    cast-t14
+    cast-t15
     returns-3
     enum-told-2
     returns-4)

@@ -4,6 +4,7 @@ use mathlib.Core.Path.{_≡_, _∙_}
 use mathlib.Core.Option.{Option}
 use Prim.Native.Nat.{ℕ, _+_, _<_}
 use native.Mathlib.Omega.{arith}
+use borrow.Author.Needs.{needs}
 use lib.ListN.{length, set, length-set}
 use denote.Ref.{now}
 use Rattle.family_list.specs.Steps.Walk.{Put, held, put-set, unwalked, fewer, Walked, Walking, walk-starts, walk-steps}
@@ -11,10 +12,13 @@ use Rattle.family_list.proofs.walk_up.Statement.{statement}
 use Rattle.family_list.proofs.walk_up.Tie as tie
 
 abbrev Inv-loop : tie.InvT-loop
-Inv-loop up₀ orders i tip₀ up tip = (tip < orders) × (length up ≡ 512) × ((parent : ℕ → Option ℕ) → Walked parent orders i (held up₀) → Walking parent orders i (held up₀) tip (held up))
+Inv-loop up₀ orders i count tip₀ up tip = (tip < orders) × (length up ≡ 512) × ((parent : ℕ → Option ℕ) → Walked parent orders i (held up₀) → Walking parent orders i (held up₀) tip (held up))
 
 abbrev μ-loop : tie.MeasureT-loop
-μ-loop up₀ orders i tip₀ up tip = unwalked orders orders (held up)
+μ-loop up₀ orders i count tip₀ up tip = unwalked orders orders (held up)
+
+cast-count : tie.Need-cast-count Inv-loop μ-loop
+cast-count c = omega (arith, c .pre .0)
 
 loop-holds : tie.Need-loop-holds Inv-loop μ-loop
 loop-holds c = (c .pre .1 .0, c .pre .1 .1, λ parent w. walk-starts parent (c .args .orders) (c .args .i) (held (now (c .args .up))) w)
@@ -35,8 +39,14 @@ mul-next c = omega (arith, low (c .before .before))
 element-copy-out-next : tie.Need-element-copy-out-next Inv-loop μ-loop
 element-copy-out-next c = low (c .before .before)
 
+cast-next : tie.Need-cast-next Inv-loop μ-loop
+cast-next c = search needs
+
 add-up : tie.Need-add-up Inv-loop μ-loop
 add-up c = omega (arith, c .before .before .before .before .pre .0, c .before .before .before .before .pre .1 .0)
+
+cast-up : tie.Need-cast-up Inv-loop μ-loop
+cast-up c = omega (arith, c .before .before .before .before .pre .0, c .before .before .before .before .pre .1 .0)
 
 mul-up : tie.Need-mul-up Inv-loop μ-loop
 mul-up c = omega (arith, low (c .before .before .before))
@@ -73,12 +83,15 @@ walk-up-spec =
     (tie.spec
     Inv-loop
     μ-loop
+    cast-count
     loop-holds
     mul-if1
     element-copy-out-if1
     mul-next
     element-copy-out-next
+    cast-next
     add-up
+    cast-up
     mul-up
     element-write-up
     loop-less

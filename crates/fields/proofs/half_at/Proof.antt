@@ -28,7 +28,7 @@ add-result c = search needs
 
 returns : tie.Need-returns
 unfolding u16At
-returns c = omega arith
+returns c = (omega arith, omega arith)
 
 pub half-at-spec : {M : Type 1} → statement M
 half-at-spec =

@@ -32,7 +32,7 @@ add-t7 c = omega (arith, inside (c .before))
 returns-2 : tie.Need-returns-2
 returns-2 c =
     let a = c .before .before .before .before .args in
-    ap (λ (x : ℕ). wordBy x (cursor (a .self .at + 2)) true) (c .half-at .ensures) ∙ ap (wordBy (u16At (a .s .now) (a .self .at)) (cursor (a .self .at + 2))) (sym (it-fits (c .before)))
+    ap (λ (x : ℕ). wordBy x (cursor (a .self .at + 2)) true) (c .half-at .ensures .0) ∙ ap (wordBy (u16At (a .s .now) (a .self .at)) (cursor (a .self .at + 2))) (sym (it-fits (c .before)))
 
 pub half-spec : {M : Type 1} → statement M
 half-spec = tie.close (tie.spec field-fits-requires returns half-at-requires add-t7 returns-2)
