@@ -1,55 +1,31 @@
 // Stored hours with families through the judgement. The input is one record after another: the lengths of a case, of a proposal and of a family list, 32 bits
 // each, little-endian, and then the three. Printed for each is number and index with the list, the report buffer in hex, and number and index without the list.
-ghost use Prim.Native.Nat.{_+_, _≤_, _<_};
+ghost use Prim.Native.Nat.{_≤_, _<_};
 ghost use lib.ListN.{length};
 use libc::STDIN_FILENO;
-use libc::STDOUT_FILENO;
+use rows::Outcome;
+use runs::number_at;
+use runs::print;
 
 const REPORT_ROOM: usize = 176;
 
-fn print(text: &[u8]) {
-    io::write_all(STDOUT_FILENO, text);
-}
-
-fn hex(digit: u8) -> u8
-    requires { ⌜ digit < 16 ⌝ }
-{
-    if digit < 10 {
-        return b'0' + digit;
-    }
-    b'a' + (digit - 10)
-}
-
-fn print_byte(b: u8) {
-    let text = [hex(b / 16), hex(b % 16)];
-    print(&text);
-}
-
-fn print_bytes(bytes: &[u8]) {
-    for k in 0..bytes.len() {
-        print_byte(bytes[k]);
-    }
-}
-
-fn print_verdict(number: u32, index: u32) {
-    io::print_decimal(STDOUT_FILENO, number as u64);
-    print(b" ");
-    io::print_decimal(STDOUT_FILENO, index as u64);
+fn print_verdict(v: Outcome) {
+    runs::print_count(v.number as u64);
+    runs::print_next(v.index as u64);
 }
 
 fn run_listed(case: &[u8], proposal: &[u8], families: &[u8]) {
     let mut report = [0u8; REPORT_ROOM];
-    let listed = judgement::judge_families(case, proposal, families, &mut report);
-    print_verdict(listed.number, listed.index);
+    print_verdict(judgement::judge_families(case, proposal, families, &mut report));
     print(b" ");
-    print_bytes(&report);
+    runs::print_hex(&report);
 }
 
 fn run_alone(case: &[u8], proposal: &[u8]) {
     let mut report = [0u8; REPORT_ROOM];
     let alone = judgement::judge(case, proposal, &mut report);
     print(b" without ");
-    print_verdict(alone.number, alone.index);
+    print_verdict(alone);
     print(b"\n");
 }
 
@@ -58,33 +34,31 @@ fn run(case: &[u8], proposal: &[u8], families: &[u8]) {
     run_alone(case, proposal);
 }
 
-// A length of a record, which is of at most 32 bits.
-fn length_at(input: &[u8], at: usize) -> usize
-    requires { ⌜ at + 4 ≤ length (now input) ⌝ }
-    ensures { λ r. ⌜ r ≤ 4294967295 ⌝ }
+// Runs a record and answers where the next stands. One that is cut short ends past the input, and with it the run.
+fn run_record(input: &[u8], at: usize) -> usize
+    requires { ⌜ at ≤ 65536 ⌝ }
+    ensures { λ r. ⌜ at < r ⌝ }
 {
-    fields::word_at(input, at) as usize
-}
-
-// A record that is cut short ends the run.
-fn run_records(input: &[u8])
-    requires { ⌜ length (now input) ≤ 65536 ⌝ }
-{
-    let mut at = 0;
-    while 12 <= input.len() - at {
-        let case_at = at + 12;
-        let proposal_at = case_at + length_at(input, at);
-        let families_at = proposal_at + length_at(input, at + 4);
-        let end = families_at + length_at(input, at + 8);
-        if input.len() < end {
-            return;
-        }
+    let case_at = at + 12;
+    let proposal_at = case_at + number_at(input, at);
+    let families_at = proposal_at + number_at(input, at + 4);
+    let end = families_at + number_at(input, at + 8);
+    if end <= input.len() {
         run(
             &input[case_at..proposal_at],
             &input[proposal_at..families_at],
             &input[families_at..end],
         );
-        at = end;
+    }
+    end
+}
+
+fn run_records(input: &[u8])
+    requires { ⌜ length (now input) ≤ 65536 ⌝ }
+{
+    let mut at = 0;
+    while at < input.len() {
+        at = run_record(input, at);
     }
 }
 

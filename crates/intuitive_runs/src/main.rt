@@ -2,19 +2,12 @@
 // name, then on the wide board and after it on the smaller number, index, 1 for a yes or 0, the total in tenths, and how many numbers at the scratch's start are
 // zero; all are 7 before.
 use intuitive::Carried;
-use libc::STDOUT_FILENO;
+use runs::print;
+use runs::print_next;
 
 const ROOM: usize = 330;
 
 const SMALL_ROOM: usize = 102;
-
-fn print(text: &[u8]) {
-    io::write_all(STDOUT_FILENO, text);
-}
-
-fn print_count(n: u64) {
-    io::print_decimal(STDOUT_FILENO, n);
-}
 
 // The numbers at the start that are zero.
 fn zeros(s: &[i64]) -> u64 {
@@ -29,17 +22,12 @@ fn zeros(s: &[i64]) -> u64 {
 }
 
 // Short functions: what a check takes grows with the square of a function's length.
-fn counted(n: u64) {
-    print_count(n);
-    print(b" ");
-}
-
 fn told(r: Carried, zeros: u64) {
-    counted(r.number as u64);
-    counted(r.index as u64);
-    counted(r.intuitive as u64);
-    counted(r.total.bits().0);
-    print_count(zeros);
+    runs::print_count(r.number as u64);
+    print_next(r.index as u64);
+    print_next(r.intuitive as u64);
+    print_next(r.total.bits().0);
+    print_next(zeros);
 }
 
 fn wide(name: &[u8], net: &[i64], prices: &[i64], pairs: &[u8], scratch: &mut [i64]) {

@@ -3,21 +3,13 @@
 ghost use Prim.Native.Nat.{_≤_, _<_};
 ghost use lib.ListN.{length};
 use libc::STDIN_FILENO;
-use libc::STDOUT_FILENO;
+use runs::print;
+use runs::print_next;
 
 // A number in a line, and where it ends.
 struct Digits {
     value: u64,
     end: usize,
-}
-
-fn print(text: &[u8]) {
-    io::write_all(STDOUT_FILENO, text);
-}
-
-fn print_count(n: u32) {
-    print(b" ");
-    io::print_decimal(STDOUT_FILENO, n as u64);
 }
 
 fn is_digit(b: u8) -> bool {
@@ -65,16 +57,16 @@ fn post(queue: &mut [u8; 101], line: &[u8]) {
         (hour.value % 4294967296) as u32,
     );
     print(b":");
-    print_count(n);
+    print_next(n as u64);
 }
 
 fn serve(queue: &mut [u8; 101]) {
     let s = queue_bytes::serve(queue);
     print(b":");
-    print_count(s.number);
-    print_count(s.index);
-    print_count(s.area);
-    print_count(s.hour);
+    print_next(s.number as u64);
+    print_next(s.index as u64);
+    print_next(s.area as u64);
+    print_next(s.hour as u64);
 }
 
 fn change(queue: &mut [u8; 101], line: &[u8]) {

@@ -21,11 +21,11 @@ slice-aggregate-print c = search needs
 print-requires : tie.Need-print-requires
 print-requires c κs = search needs
 
-cast-print-count : tie.Need-cast-print-count
-cast-print-count c = (not-negative (toZ w64 (ofZ w64 (c .before .args .x))) (c .if1 .left), rw (toZ-ofZ (c .before .fits .x)) (fits-natAbs tt (c .before .fits .x)))
+cast-print-next : tie.Need-cast-print-next
+cast-print-next c = (not-negative (toZ w64 (ofZ w64 (c .before .args .x))) (c .if1 .left), rw (toZ-ofZ (c .before .fits .x)) (fits-natAbs tt (c .before .fits .x)))
 
-print-count-requires : tie.Need-print-count-requires
-print-count-requires c κs = search needs
+print-next-requires : tie.Need-print-next-requires
+print-next-requires c κs = search needs
 
 returns : tie.Need-returns
 returns c = search needs
@@ -39,7 +39,7 @@ print-number-spec =
     (tie.spec
     slice-aggregate-print
     print-requires
-    cast-print-count
-    print-count-requires
+    cast-print-next
+    print-next-requires
     returns
     returns-2)

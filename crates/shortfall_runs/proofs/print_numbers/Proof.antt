@@ -1,15 +1,14 @@
--- `shortfall_runs::print_numbers` is safe and ends: the place stays in the numbers. The measure is the numbers left. Assumes nothing.
-use Prim.Native.Nat.{_-_, _≤_}
-use lib.ListN.{length}
+-- `shortfall_runs::print_numbers` is safe and ends: nothing has to hold from turn to turn; the measure is the numbers left. Assumes nothing.
+use Prim.Native.Nat.{_-_}
 use borrow.Author.Needs.{needs}
 use Rattle.shortfall_runs.proofs.print_numbers.Statement.{statement}
 use Rattle.shortfall_runs.proofs.print_numbers.Tie as tie
 
 abbrev Inv-loop : tie.InvT-loop
-Inv-loop numbers j₀ j-end j = j ≤ length numbers
+Inv-loop numbers n j₀ j = Unit {0}
 
 abbrev μ-loop : tie.MeasureT-loop
-μ-loop numbers j₀ j-end j = length numbers - j
+μ-loop numbers n j₀ j = n - j
 
 loop-holds : tie.Need-loop-holds Inv-loop μ-loop
 loop-holds c = search needs

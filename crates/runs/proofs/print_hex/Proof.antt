@@ -1,9 +1,9 @@
--- `column_runs::print_bytes` is safe and ends: the place stays in the bytes. The measure is the bytes left. Assumes nothing.
+-- `runs::print_hex` is safe and ends: the place stays in the bytes. The measure is the bytes left. Assumes nothing.
 use Prim.Native.Nat.{_-_, _≤_}
 use lib.ListN.{length}
 use borrow.Author.Needs.{needs}
-use Rattle.column_runs.proofs.print_bytes.Statement.{statement}
-use Rattle.column_runs.proofs.print_bytes.Tie as tie
+use Rattle.runs.proofs.print_hex.Statement.{statement}
+use Rattle.runs.proofs.print_hex.Tie as tie
 
 abbrev Inv-loop : tie.InvT-loop
 Inv-loop bytes k₀ k-end k = k ≤ length bytes
@@ -32,8 +32,8 @@ loop-again c = search needs
 returns : tie.Need-returns Inv-loop μ-loop
 returns c = search needs
 
-pub print-bytes-spec : {M : Type 1} → statement M
-print-bytes-spec =
+pub print-hex-spec : {M : Type 1} → statement M
+print-hex-spec =
     tie.close
     (tie.spec
     Inv-loop
