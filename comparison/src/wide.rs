@@ -1,7 +1,7 @@
 //! Wide tolerances retired (S-12): hours with tolerances about 10,000 cents and far
 //! above, alone and beside each other cause, and gaps about 10,000 cents.
 
-use crate::families::{enough, good, outside};
+use crate::families::{breaks_no_rule, enough, good, outside};
 use crate::fields::{fields, Field};
 use crate::make::{narrow, random, version, wide, Shape, GAP};
 use crate::offsets::at_least;
@@ -56,9 +56,7 @@ fn about_the_widest(run: &mut Run, rng: &mut Rng, met: &mut [u64; MET.len()]) {
     let shape = Shape::any(rng);
     let mut hour = good(rng, shape);
     hour.tolerance = 0;
-    let verdict = run.feed(&hour.case(), &hour.proposal(), enough(rng));
-    if verdict.number != 0 && verdict.number != 26 {
-        run.fault(|| format!("{verdict:?} for an hour that breaks no rule"));
+    if !breaks_no_rule(run, rng, &hour) {
         return;
     }
     let gap = run.total(GAP);
