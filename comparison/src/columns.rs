@@ -6,7 +6,7 @@
 //! come back; a columned file is judged, and both judges must refuse it by 2.
 
 use crate::archive;
-use crate::families::{change_a_byte, good, outside};
+use crate::families::{change_a_byte, good, one_outside};
 use crate::fields::{fields, Field};
 use crate::lent::Lent;
 use crate::make::{at_limits, random, Shape};
@@ -203,13 +203,9 @@ fn fault_in(
     hour: &Hour,
     number: std::ops::RangeInclusive<u32>,
 ) -> Option<(Field, i64)> {
-    let mut list = fields(hour);
-    list.retain(|field| field.in_case && number.contains(&field.number));
-    if list.is_empty() {
-        return None;
-    }
-    let field = rng.pick(&list);
-    outside(rng, &field).map(|value| (field, value))
+    one_outside(rng, hour, |field| {
+        field.in_case && number.contains(&field.number)
+    })
 }
 
 pub fn files(run: &mut Run, rng: &mut Rng) {
@@ -257,26 +253,24 @@ pub fn files(run: &mut Run, rng: &mut Rng) {
     marks(&mut files, rng);
     by_bytes(&mut files, rng);
 
-    let Files {
-        run,
-        inputs,
-        numbers,
-        met,
-        second_wrong,
-    } = files;
+    let Files { run, inputs, .. } = files;
     run.section("columns, numbers, times met");
     for (entry, name) in ENTRIES {
         let inputs = inputs[entry as usize];
         run.check_times(format!("{name}, inputs"), inputs, LEAST_INPUTS);
         for number in NUMBERS {
-            let times = numbers[entry as usize][number as usize];
+            let times = files.numbers[entry as usize][number as usize];
             run.check_times(format!("{name}, {number}"), times, LEAST_TIMES);
         }
     }
     run.section("columns, met, times");
-    run.check_met(&MET, &met);
+    run.check_met(&MET, &files.met);
     run.section("columns, the second judge's wrong builds, times told from the archive");
-    run.check_told(&ColumnBuild::WRONG, &second_wrong, inputs[0] + inputs[1]);
+    run.check_told(
+        &ColumnBuild::WRONG,
+        &files.second_wrong,
+        inputs[0] + inputs[1],
+    );
 }
 
 /// Outputs of every kind of length, of readable files and of others.

@@ -666,27 +666,19 @@ pub fn dumps(run: &mut Run, rng: &mut Rng) {
     by_bits(&mut dumps, rng);
     by_bytes(&mut dumps, rng);
 
-    let Dumps {
-        run,
-        inputs,
-        numbers,
-        cases,
-        judged,
-        met,
-        second_wrong,
-    } = dumps;
+    let Dumps { run, inputs, .. } = dumps;
     run.section("solver's dumps, numbers, times met");
     run.check_times("inputs".into(), inputs, LEAST_INPUTS);
-    run.check_numbers(&NUMBERS, &numbers, LEAST_TIMES);
-    for (number, times) in cases.iter().enumerate().skip(1) {
+    run.check_numbers(&NUMBERS, &dumps.numbers, LEAST_TIMES);
+    for (number, times) in dumps.cases.iter().enumerate().skip(1) {
         run.check_times(format!("56 {number}"), *times, 1);
     }
     run.section("solver's dumps, verdicts on what was written, times met");
-    run.check_numbers(&[0, 22, 27, 23, 24, 25, 26], &judged, 1);
+    run.check_numbers(&[0, 22, 27, 23, 24, 25, 26], &dumps.judged, 1);
     run.section("solver's dumps, met, times");
-    run.check_met(&MET, &met);
+    run.check_met(&MET, &dumps.met);
     run.section("solver's dumps, the second judge's wrong builds, times told from the archive");
-    run.check_told(&DumpBuild::WRONG, &second_wrong, inputs);
+    run.check_told(&DumpBuild::WRONG, &dumps.second_wrong, inputs);
 }
 
 /// Dumps that give the proposals of good hours, which are judged as those are.

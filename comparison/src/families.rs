@@ -50,6 +50,14 @@ pub fn breaks_no_rule(run: &mut Run, rng: &mut Rng, hour: &Hour) -> bool {
     reported
 }
 
+/// A good hour fed at tolerance zero, and its gap.
+pub fn hour_and_gap(run: &mut Run, rng: &mut Rng) -> Option<(Hour, i64)> {
+    let shape = Shape::any(rng);
+    let mut hour = good(rng, shape);
+    hour.tolerance = 0;
+    breaks_no_rule(run, rng, &hour).then(|| (hour, run.total(GAP)))
+}
+
 /// A good hour: optimal or feasible.
 pub fn good(rng: &mut Rng, shape: Shape) -> Hour {
     if rng.one_in(2) {
@@ -96,13 +104,9 @@ fn optimal_hours(run: &mut Run, rng: &mut Rng) {
 }
 
 fn tolerance_about_the_gap(run: &mut Run, rng: &mut Rng) {
-    let shape = Shape::any(rng);
-    let mut hour = good(rng, shape);
-    hour.tolerance = 0;
-    if !breaks_no_rule(run, rng, &hour) {
+    let Some((mut hour, gap)) = hour_and_gap(run, rng) else {
         return;
-    }
-    let gap = run.total(GAP);
+    };
     let cents = gap.div_euclid(1_000_000) + i64::from(gap % 1_000_000 != 0);
     for (tolerance, number) in [(cents - 1, 26), (cents, 0), (cents + 1, 0)] {
         if (0..=1_000_000_000).contains(&tolerance) {
@@ -230,6 +234,20 @@ pub fn change_a_byte(rng: &mut Rng, file: &mut [u8]) {
         true => 1 << rng.below(8),
         false => rng.next() as u8,
     };
+}
+
+/// Such a field of an hour that its bytes can put out of range, and such a value.
+pub fn one_outside(
+    rng: &mut Rng,
+    hour: &Hour,
+    such: impl Fn(&Field) -> bool,
+) -> Option<(Field, i64)> {
+    let list: Vec<Field> = fields(hour).into_iter().filter(such).collect();
+    if list.is_empty() {
+        return None;
+    }
+    let field = rng.pick(&list);
+    outside(rng, &field).map(|value| (field, value))
 }
 
 /// A value outside the field's range, if its bytes can hold one.

@@ -339,32 +339,25 @@ pub fn exchanges(run: &mut Run, rng: &mut Rng) {
     at_the_limits(&mut all, rng);
     hours(&mut all, rng);
 
-    let Exchanges {
-        run,
-        wide,
-        small,
-        both_took,
-        met,
-        ..
-    } = all;
+    let run = all.run;
     let sections = [
         "intuitive hours, numbers of lta_intuitive, times met",
         "intuitive hours, numbers of lta_hour_intuitive, times met",
         "intuitive hours, the second judge's wrong builds, times told from the archive",
     ];
-    told(run, sections, &wide, &IntuitiveBuild::WRONG);
+    told(run, sections, &all.wide, &IntuitiveBuild::WRONG);
     run.section("intuitive hours, met, times");
-    run.check_met(&MET, &met);
+    run.check_met(&MET, &all.met);
     let sections = [
         "the smaller board, numbers of lta_intuitive_small, times met",
         "the smaller board, numbers of lta_hour_intuitive_small, times met",
         "the smaller board, the second judge's wrong builds, times told from the archive",
     ];
-    told(run, sections, &small, &IntuitiveBuild::SMALL_WRONG);
+    told(run, sections, &all.small, &IntuitiveBuild::SMALL_WRONG);
     run.section("the smaller board, and the wide one on the same input");
     run.check_times(
         "both took it, and said the same".into(),
-        both_took,
+        all.both_took,
         LEAST_INPUTS,
     );
 }

@@ -7,8 +7,8 @@
 //! list the same files are judged too, and that answer is as it was.
 
 use crate::archive;
-use crate::families::{change_a_byte, enough, good, outside};
-use crate::fields::{fields, Field};
+use crate::families::{change_a_byte, enough, good, one_outside};
+use crate::fields::Field;
 use crate::lent::{Left, Lent};
 use crate::make::{at_limits, narrow, optimal, random, wide, Shape};
 use crate::rng::Rng;
@@ -346,20 +346,14 @@ pub fn lists(run: &mut Run, rng: &mut Rng) {
     other_causes(&mut lists, rng);
     whatever(&mut lists, rng);
 
-    let Lists {
-        run,
-        inputs,
-        numbers,
-        met,
-        second_wrong,
-    } = lists;
+    let Lists { run, inputs, .. } = lists;
     run.section("families, numbers, times met");
     run.check_times("inputs".into(), inputs, LEAST_INPUTS);
-    run.check_numbers(&NUMBERS, &numbers, LEAST_TIMES);
+    run.check_numbers(&NUMBERS, &lists.numbers, LEAST_TIMES);
     run.section("families, met, times");
-    run.check_met(&MET, &met);
+    run.check_met(&MET, &lists.met);
     run.section("families, the second judge's wrong builds, times told from the archive");
-    run.check_told(&FamilyBuild::WRONG, &second_wrong, inputs);
+    run.check_told(&FamilyBuild::WRONG, &lists.second_wrong, inputs);
 }
 
 /// Each single parent of each order of P1, two at a time too.
@@ -762,14 +756,9 @@ fn other_causes(lists: &mut Lists, rng: &mut Rng) {
     let mut made = 0;
     while made < 10_000 {
         let hour = some_hour(rng);
-        let mut list: Vec<Field> = fields(&hour);
         let number = rng.pick(&[2, 3, 4, 6, 7, 8, 10, 11, 13, 14, 21, 21, 21, 23]);
-        list.retain(|field| field.number == number && !field.tied);
-        if list.is_empty() {
-            continue;
-        }
-        let field = rng.pick(&list);
-        let Some(value) = outside(rng, &field) else {
+        let such = |field: &Field| field.number == number && !field.tied;
+        let Some((field, value)) = one_outside(rng, &hour, such) else {
             continue;
         };
         made += 1;

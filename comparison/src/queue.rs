@@ -284,19 +284,13 @@ pub fn queues(run: &mut Run, rng: &mut Rng) {
     longest_waits(&mut all);
     every_cell(&mut all, rng);
 
-    let Queues {
-        run,
-        runs,
-        numbers,
-        met,
-        second_wrong,
-    } = all;
+    let run = all.run;
     run.section("the desk queue, numbers, times met");
-    run.check_numbers(&NUMBERS, &numbers, LEAST_TIMES);
+    run.check_numbers(&NUMBERS, &all.numbers, LEAST_TIMES);
     run.section("the desk queue, met, times");
-    run.check_met(&MET, &met);
+    run.check_met(&MET, &all.met);
     run.section("the desk queue, the second judge's wrong builds, runs told from the archive");
-    run.check_told(&QueueBuild::WRONG, &second_wrong, runs);
+    run.check_told(&QueueBuild::WRONG, &all.second_wrong, all.runs);
 }
 
 /// How a run goes: which areas and hours are posted, how often it serves.

@@ -491,20 +491,14 @@ pub fn sheets(run: &mut Run, rng: &mut Rng) {
     }
     sheets.run.end();
 
-    let Sheets {
-        run,
-        inputs,
-        numbers,
-        met,
-        second_wrong,
-    } = sheets;
+    let Sheets { run, inputs, .. } = sheets;
     run.section("margin sheets, numbers, times met");
     run.check_times("inputs".into(), inputs, LEAST_INPUTS);
-    run.check_numbers(&NUMBERS, &numbers, LEAST_TIMES);
+    run.check_numbers(&NUMBERS, &sheets.numbers, LEAST_TIMES);
     run.section("margin sheets, met, times");
-    run.check_met(&MET, &met);
+    run.check_met(&MET, &sheets.met);
     run.section("margin sheets, the second judge's wrong builds, times told from the archive");
-    run.check_told(&SheetBuild::WRONG, &second_wrong, inputs);
+    run.check_told(&SheetBuild::WRONG, &sheets.second_wrong, inputs);
 }
 
 /// Each limit, one on either side of it, and everything else good.

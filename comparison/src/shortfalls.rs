@@ -8,8 +8,7 @@
 //! shares, and at gap zero each is zero.
 
 use crate::archive;
-use crate::families::{good, outside};
-use crate::fields::fields;
+use crate::families::{good, one_outside};
 use crate::lent::Lent;
 use crate::make::{
     at_limits, flow_based_parts, least_ram, most_flow, optimal, pairs, random, used, version,
@@ -565,24 +564,21 @@ pub fn hours(run: &mut Run, rng: &mut Rng) {
     refused(&mut hours, rng);
     largest(&mut hours, rng);
 
-    let Hours {
-        run,
-        inputs,
-        numbers,
-        met,
-        wrong_tried,
-        second_wrong,
-    } = hours;
+    let run = hours.run;
     run.section("shortfalls, numbers, times met");
-    run.check_times("inputs".into(), inputs, LEAST_INPUTS);
-    run.check_numbers(&NUMBERS, &numbers, LEAST_TIMES);
+    run.check_times("inputs".into(), hours.inputs, LEAST_INPUTS);
+    run.check_numbers(&NUMBERS, &hours.numbers, LEAST_TIMES);
     run.section("shortfalls of accepted hours, met, times");
-    for (n, (name, times)) in MET.iter().zip(met).enumerate() {
+    for (n, (name, times)) in MET.iter().zip(hours.met).enumerate() {
         let least = if n == 1 { LEAST_GAPS } else { 1 };
         run.check_times(name.to_string(), times, least);
     }
     run.section("shortfalls, the second judge's wrong builds, times told from the archive");
-    run.check_told(&ShortfallBuild::WRONG, &second_wrong, wrong_tried);
+    run.check_told(
+        &ShortfallBuild::WRONG,
+        &hours.second_wrong,
+        hours.wrong_tried,
+    );
 }
 
 /// The hours that the paper names, and P1 and P3 a 125th as large.
@@ -886,15 +882,9 @@ fn refused(hours: &mut Hours, rng: &mut Rng) {
         let hour = good(rng, shape);
         let hour = to_refuse(rng, hour);
         let (mut case, mut proposal) = (hour.case(), hour.proposal());
-        let mut list = fields(&hour);
         // Each number as often as the others, whatever the rows.
         let number = rng.pick(&[2, 3, 4, 6, 7, 8, 10, 11, 13, 14, 21, 23]);
-        list.retain(|field| field.number == number);
-        if list.is_empty() {
-            continue;
-        }
-        let field = rng.pick(&list);
-        let Some(value) = outside(rng, &field) else {
+        let Some((field, value)) = one_outside(rng, &hour, |field| field.number == number) else {
             continue;
         };
         made += 1;
