@@ -25,10 +25,10 @@ LONGEST = 256  # bytes of a stored hour's case that is taken
 def stored_cases():
     """The cases of the stored hours by name, sorted, each once."""
     cases = {}
-    for path in sorted(HOURS.glob("*.txt")):
-        case = bytes(hour.build(hour.read_text(path), HOURS)[0])
+    for name, text in stored_files.texts(HOURS).items():
+        case = bytes(hour.build(text, HOURS)[0])
         if len(case) <= LONGEST and case not in cases.values():
-            cases[path.stem] = case
+            cases[name] = case
     return cases
 
 
@@ -78,14 +78,8 @@ def run_files():
     return stored_files.of_program(given, due, "the files")
 
 
-def differences(made, folder):
-    return stored_files.unlike(made, folder, "what the stored hours give")
-
-
 def main(arguments):
-    return stored_files.run(
-        "build_columns.py", __doc__, arguments, run_files, differences, lambda name, data: f"{name} {len(data)} bytes"
-    )
+    return stored_files.run_of_program("build_columns.py", __doc__, arguments, run_files, "what the stored hours give")
 
 
 if __name__ == "__main__":

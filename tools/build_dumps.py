@@ -14,14 +14,14 @@ import struct
 import sys
 
 import stored_files
-from lta import dump, hour
+from lta import dump
 
 DUMPS = pathlib.Path(__file__).resolve().parent.parent / "dumps"
 
 
 def stored_dumps():
     """The texts of the stored dumps by name, sorted."""
-    return {path.stem: hour.read_text(path) for path in sorted(DUMPS.glob("*.txt"))}
+    return stored_files.texts(DUMPS)
 
 
 def record(case, data):
@@ -40,14 +40,8 @@ def run_files():
     return stored_files.of_program(given, due, "the stored dumps")
 
 
-def differences(made, folder):
-    return stored_files.unlike(made, folder, "the stored dumps")
-
-
 def main(arguments):
-    return stored_files.run(
-        "build_dumps.py", __doc__, arguments, run_files, differences, lambda name, data: f"{name} {len(data)} bytes"
-    )
+    return stored_files.run_of_program("build_dumps.py", __doc__, arguments, run_files, "the stored dumps")
 
 
 if __name__ == "__main__":

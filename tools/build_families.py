@@ -22,7 +22,7 @@ FAMILIES = pathlib.Path(__file__).resolve().parent.parent / "families"
 
 def stored_families():
     """The texts of the stored hours with families by name, sorted."""
-    return {path.stem: hour.read_text(path) for path in sorted(FAMILIES.glob("*.txt"))}
+    return stored_files.texts(FAMILIES)
 
 
 def files_of(text):
@@ -69,14 +69,8 @@ def run_files():
     return stored_files.of_program(given, due, "the stored hours with families")
 
 
-def differences(made, folder):
-    return stored_files.unlike(made, folder, "the stored hours with families")
-
-
 def main(arguments):
-    return stored_files.run(
-        "build_families.py", __doc__, arguments, run_files, differences, lambda name, data: f"{name} {len(data)} bytes"
-    )
+    return stored_files.run_of_program("build_families.py", __doc__, arguments, run_files, "the stored hours with families")
 
 
 if __name__ == "__main__":

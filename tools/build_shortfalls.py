@@ -27,7 +27,7 @@ REFUSED = ("p03-link-unused-tolerance-0", "p05-volume-above-quantity", "p09-shar
 
 def stored_hours():
     """The texts of the stored hours by name, sorted."""
-    return {path.stem: hour.read_text(path) for path in sorted(HOURS.glob("*.txt"))}
+    return stored_files.texts(HOURS)
 
 
 def due_room(case):
@@ -82,14 +82,8 @@ def run_files():
     return stored_files.of_program(given, due, "the stored hours")
 
 
-def differences(made, folder):
-    return stored_files.unlike(made, folder, "what the stored hours give")
-
-
 def main(arguments):
-    return stored_files.run(
-        "build_shortfalls.py", __doc__, arguments, run_files, differences, lambda name, data: f"{name} {len(data)} bytes"
-    )
+    return stored_files.run_of_program("build_shortfalls.py", __doc__, arguments, run_files, "what the stored hours give")
 
 
 if __name__ == "__main__":

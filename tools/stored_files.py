@@ -1,11 +1,18 @@
-"""What the tools share that write stored files for the programs: the command line, writing or --check, and the standard
-input and output of one program.
+"""What the tools share that write stored files for the programs: the stored texts, the command line, writing or --check,
+and the standard input and output of one program.
 """
 
 import pathlib
 import sys
 
+from lta import hour
+
 READ_AT_ONCE = 65_536  # bytes of its input that a program keeps
+
+
+def texts(folder):
+    """The stored texts of a folder by name, sorted."""
+    return {path.stem: hour.read_text(path) for path in sorted(folder.glob("*.txt"))}
 
 
 def of_program(given, due, what):
@@ -13,16 +20,6 @@ def of_program(given, due, what):
     if len(given) > READ_AT_ONCE:
         raise ValueError(f"{what} have {len(given)} bytes, and the program keeps {READ_AT_ONCE}")
     return {"stdin": bytes(given), "stdout": "".join(f"{line}\n" for line in due).encode()}
-
-
-def unlike(made, folder, source):
-    """The files in which the folder is not what would be written, each with why."""
-    for name, data in made.items():
-        path = folder / name
-        if not path.is_file():
-            yield f"{name} is missing"
-        elif path.read_bytes() != data:
-            yield f"{name} differs from {source}"
 
 
 def run(tool, usage, arguments, make, differences, said):
@@ -48,3 +45,25 @@ def run(tool, usage, arguments, make, differences, said):
         print(f"{tool}: {fault}", file=sys.stderr)
         return 1
     return 0
+
+
+def unlike(made, folder, source):
+    """The files in which the folder is not what would be written, each with why."""
+    for name, data in made.items():
+        path = folder / name
+        if not path.is_file():
+            yield f"{name} is missing"
+        elif path.read_bytes() != data:
+            yield f"{name} differs from {source}"
+
+
+def run_of_program(tool, usage, arguments, make, source):
+    """As `run`, for the standard input and output of one program, which are made from a source."""
+    return run(
+        tool,
+        usage,
+        arguments,
+        make,
+        lambda made, folder: unlike(made, folder, source),
+        lambda name, data: f"{name} {len(data)} bytes",
+    )

@@ -21,6 +21,7 @@ import build_families
 import build_hours
 import build_shortfalls
 import largest_hour
+import stored_files
 from lta import cli, columns, dump, gap, hour, rules
 
 ROOT = pathlib.Path(__file__).resolve().parent.parent
@@ -53,7 +54,7 @@ CONTRACTED_TEXT = hour.read_text(SAMPLES / "three-zone-contracted.txt")
 
 
 def stored_hours():
-    return {path.stem: hour.read_text(path) for path in sorted(build_hours.HOURS.glob("*.txt"))}
+    return stored_files.texts(build_hours.HOURS)
 
 
 def run_tool(main, *arguments):
@@ -65,6 +66,26 @@ def run_tool(main, *arguments):
         except SystemExit as stop:
             status = stop.code
     return status, out.getvalue(), err.getvalue()
+
+
+class Written(unittest.TestCase):
+    """What the tests share of tools that write the standard input and output of a program."""
+
+    def assert_checked(self, tool, folder, source):
+        """In a folder that the tool wrote, each file cut and each missing is found."""
+        name_of_tool = f"{tool.__name__}.py"
+        self.assertEqual(run_tool(tool.main, "--check", folder), (0, "", ""))
+        for name in ("stdin", "stdout"):
+            path = pathlib.Path(folder) / name
+            data = path.read_bytes()
+            path.write_bytes(data[:-1])
+            said = run_tool(tool.main, "--check", folder)
+            self.assertEqual(said, (1, "", f"{name_of_tool}: {name} differs from {source}\n"))
+            path.unlink()
+            said = run_tool(tool.main, "--check", folder)
+            self.assertEqual(said, (1, "", f"{name_of_tool}: {name} is missing\n"))
+            path.write_bytes(data)
+        self.assertEqual(run_tool(tool.main)[0], 2)
 
 
 class ThreeZoneHour(unittest.TestCase):
@@ -928,7 +949,7 @@ class Families(unittest.TestCase):
                 hour.expected(text, other)
 
 
-class StoredFamilies(unittest.TestCase):
+class StoredFamilies(Written):
     """Every number of the list is expected somewhere, each by its name, and what crates/family_runs reads is as made."""
 
     def test_every_number_is_expected_somewhere(self):
@@ -950,7 +971,6 @@ class StoredFamilies(unittest.TestCase):
         with tempfile.TemporaryDirectory() as folder:
             status, out, _ = run_tool(build_families.main, folder)
             self.assertEqual((status, out.count("\n")), (0, 2))
-            self.assertEqual(run_tool(build_families.main, "--check", folder), (0, "", ""))
             given = (pathlib.Path(folder) / "stdin").read_bytes()
             lines = (pathlib.Path(folder) / "stdout").read_text().splitlines()
             for text, line in zip(build_families.stored_families().values(), lines, strict=True):
@@ -961,17 +981,7 @@ class StoredFamilies(unittest.TestCase):
                     given = given[size:]
                 self.assertEqual((tuple(files), line), (build_families.files_of(text), build_families.line(text)))
             self.assertEqual(given, b"")
-            for name in ("stdin", "stdout"):
-                path = pathlib.Path(folder) / name
-                data = path.read_bytes()
-                path.write_bytes(data[:-1])
-                said = run_tool(build_families.main, "--check", folder)
-                self.assertEqual(said, (1, "", f"build_families.py: {name} differs from the stored hours with families\n"))
-                path.unlink()
-                said = run_tool(build_families.main, "--check", folder)
-                self.assertEqual(said, (1, "", f"build_families.py: {name} is missing\n"))
-                path.write_bytes(data)
-        self.assertEqual(run_tool(build_families.main)[0], 2)
+            self.assert_checked(build_families, folder, "the stored hours with families")
 
     def test_a_text_without_a_list(self):
         with self.assertRaisesRegex(ValueError, "it has no family list"):
@@ -1015,7 +1025,7 @@ class DumpValues(unittest.TestCase):
         self.assert_refused("flow", "bits:fff0000000000001", 58, "bits:fff0000000000001 is not finite")
 
 
-class StoredDumps(unittest.TestCase):
+class StoredDumps(Written):
     """The stored dumps name what they are, and together hold every number. tests/stored_dumps has them read."""
 
     def test_each_opens_with_a_comment(self):
@@ -1062,7 +1072,6 @@ class StoredDumps(unittest.TestCase):
         with tempfile.TemporaryDirectory() as folder:
             status, out, _ = run_tool(build_dumps.main, folder)
             self.assertEqual((status, out.count("\n")), (0, 2))
-            self.assertEqual(run_tool(build_dumps.main, "--check", folder), (0, "", ""))
             given = (pathlib.Path(folder) / "stdin").read_bytes()
             lines = (pathlib.Path(folder) / "stdout").read_text().splitlines()
             for text, line in zip(build_dumps.stored_dumps().values(), lines, strict=True):
@@ -1071,20 +1080,10 @@ class StoredDumps(unittest.TestCase):
                 self.assertEqual((files, line), (dump.build(text), dump.expected(text).line))
                 given = given[8 + sum(sizes) :]
             self.assertEqual(given, b"")
-            for name in ("stdin", "stdout"):
-                path = pathlib.Path(folder) / name
-                data = path.read_bytes()
-                path.write_bytes(data[:-1])
-                said = run_tool(build_dumps.main, "--check", folder)
-                self.assertEqual(said, (1, "", f"build_dumps.py: {name} differs from the stored dumps\n"))
-                path.unlink()
-                said = run_tool(build_dumps.main, "--check", folder)
-                self.assertEqual(said, (1, "", f"build_dumps.py: {name} is missing\n"))
-                path.write_bytes(data)
-        self.assertEqual(run_tool(build_dumps.main)[0], 2)
+            self.assert_checked(build_dumps, folder, "the stored dumps")
 
 
-class StoredColumns(unittest.TestCase):
+class StoredColumns(Written):
     """What crates/column_runs reads and prints, from the stored hours."""
 
     def test_every_number_is_due_on_both_ways(self):
@@ -1103,18 +1102,7 @@ class StoredColumns(unittest.TestCase):
     def test_written_and_checked(self):
         with tempfile.TemporaryDirectory() as folder:
             self.assertEqual(run_tool(build_columns.main, folder)[0], 0)
-            self.assertEqual(run_tool(build_columns.main, "--check", folder), (0, "", ""))
-            for name in ("stdin", "stdout"):
-                path = pathlib.Path(folder) / name
-                data = path.read_bytes()
-                path.write_bytes(data[:-1])
-                said = run_tool(build_columns.main, "--check", folder)
-                self.assertEqual(said, (1, "", f"build_columns.py: {name} differs from what the stored hours give\n"))
-                path.unlink()
-                said = run_tool(build_columns.main, "--check", folder)
-                self.assertEqual(said, (1, "", f"build_columns.py: {name} is missing\n"))
-                path.write_bytes(data)
-        self.assertEqual(run_tool(build_columns.main)[0], 2)
+            self.assert_checked(build_columns, folder, "what the stored hours give")
 
 
 class StoredShortfalls(unittest.TestCase):

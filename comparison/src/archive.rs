@@ -2,18 +2,11 @@
 
 #[cfg(feature = "intuitive")]
 use second_judge::CarriedAnswer;
-#[cfg(any(
-    feature = "columns",
-    feature = "desk",
-    feature = "dump",
-    feature = "sheet",
-    feature = "shortfalls"
-))]
-use second_judge::OutputAnswer;
 #[cfg(feature = "queue")]
 use second_judge::ServedAnswer;
 #[cfg(feature = "book")]
 use second_judge::{BookAnswer, Row};
+use second_judge::{OutputAnswer, Verdict};
 
 extern "C" {
     fn lta_judge(
@@ -181,13 +174,7 @@ struct Surplus {
 }
 
 /// struct lta_written.
-#[cfg(any(
-    feature = "columns",
-    feature = "desk",
-    feature = "dump",
-    feature = "sheet",
-    feature = "shortfalls"
-))]
+#[allow(dead_code)] // by entries beside the judgement, where one is built
 #[repr(C)]
 pub struct Written {
     number: u32,
@@ -195,13 +182,6 @@ pub struct Written {
     length: u64,
 }
 
-#[cfg(any(
-    feature = "columns",
-    feature = "desk",
-    feature = "dump",
-    feature = "sheet",
-    feature = "shortfalls"
-))]
 impl From<Written> for OutputAnswer {
     fn from(written: Written) -> OutputAnswer {
         OutputAnswer {
@@ -256,43 +236,48 @@ impl From<Served> for ServedAnswer {
     }
 }
 
+/// Where a list begins; `null` gives a null pointer for an empty one.
+fn start<T>(list: &[T], null: bool) -> *const T {
+    match list {
+        [] if null => std::ptr::null(),
+        _ => list.as_ptr(),
+    }
+}
+
+fn start_mut<T>(list: &mut [T], null: bool) -> *mut T {
+    match list {
+        [] if null => std::ptr::null_mut(),
+        _ => list.as_mut_ptr(),
+    }
+}
+
 /// Number + 256 * index, as the archive returns it.
 pub fn judge(case: &[u8], proposal: &[u8], report: &mut [u8]) -> u64 {
+    judge_as(case, proposal, report, false)
+}
+
+/// As `judge`; `null` gives a null pointer for each empty slice.
+pub fn judge_as(case: &[u8], proposal: &[u8], report: &mut [u8], null: bool) -> u64 {
     // Safe: each pointer comes with the length of its own slice.
     unsafe {
         lta_judge(
-            case.as_ptr(),
+            start(case, null),
             case.len(),
-            proposal.as_ptr(),
+            start(proposal, null),
             proposal.len(),
-            report.as_mut_ptr(),
+            start_mut(report, null),
             report.len(),
         )
     }
 }
 
-/// As `judge`, with a null pointer for each empty slice.
+/// What the archive returned as a verdict. An index that does not fit becomes the
+/// largest, which no judge gives.
 #[allow(dead_code)] // the benchmark has no use for it
-pub fn judge_null(case: &[u8], proposal: &[u8], report: &mut [u8]) -> u64 {
-    let pointer = |slice: &[u8]| match slice {
-        [] => std::ptr::null(),
-        _ => slice.as_ptr(),
-    };
-    let length = report.len();
-    let report = match report {
-        [] => std::ptr::null_mut(),
-        _ => report.as_mut_ptr(),
-    };
-    // Safe: a null pointer comes with length 0 only.
-    unsafe {
-        lta_judge(
-            pointer(case),
-            case.len(),
-            pointer(proposal),
-            proposal.len(),
-            report,
-            length,
-        )
+pub fn verdict(returned: u64) -> Verdict {
+    Verdict {
+        number: (returned % 256) as u32,
+        index: u32::try_from(returned / 256).unwrap_or(u32::MAX),
     }
 }
 
@@ -324,18 +309,15 @@ pub fn judge_families(
 #[cfg(feature = "book")]
 #[allow(dead_code)]
 pub fn book_surplus(orders: &[Order], prices: &[i64], null: bool) -> BookAnswer {
-    let orders_at = if null && orders.is_empty() {
-        std::ptr::null()
-    } else {
-        orders.as_ptr()
-    };
-    let prices_at = if null && prices.is_empty() {
-        std::ptr::null()
-    } else {
-        prices.as_ptr()
-    };
     // Safe: each pointer comes with the length of its own list.
-    let answer = unsafe { lta_book_surplus(orders_at, orders.len(), prices_at, prices.len()) };
+    let answer = unsafe {
+        lta_book_surplus(
+            start(orders, null),
+            orders.len(),
+            start(prices, null),
+            prices.len(),
+        )
+    };
     BookAnswer {
         number: answer.number,
         index: answer.index,
@@ -354,47 +336,17 @@ pub fn desk_lines(input: &[u8], out: &mut [u8]) -> OutputAnswer {
 /// empty slice.
 #[cfg(feature = "sheet")]
 pub fn sheet_branches(sheet: &[u8], zones: usize, out: &mut [u8], null: bool) -> OutputAnswer {
-    let sheet_at = if null && sheet.is_empty() {
-        std::ptr::null()
-    } else {
-        sheet.as_ptr()
-    };
-    let out_at = if null && out.is_empty() {
-        std::ptr::null_mut()
-    } else {
-        out.as_mut_ptr()
-    };
     // Safe: each pointer comes with the length of its own slice.
-    unsafe { lta_sheet_branches(sheet_at, sheet.len(), zones, out_at, out.len()) }.into()
-}
-
-/// Where a list begins; `null` gives a null pointer for an empty one.
-#[cfg(any(
-    feature = "columns",
-    feature = "dump",
-    feature = "families",
-    feature = "intuitive",
-    feature = "shortfalls"
-))]
-fn start<T>(list: &[T], null: bool) -> *const T {
-    match list {
-        [] if null => std::ptr::null(),
-        _ => list.as_ptr(),
+    unsafe {
+        lta_sheet_branches(
+            start(sheet, null),
+            sheet.len(),
+            zones,
+            start_mut(out, null),
+            out.len(),
+        )
     }
-}
-
-#[cfg(any(
-    feature = "columns",
-    feature = "dump",
-    feature = "families",
-    feature = "intuitive",
-    feature = "shortfalls"
-))]
-fn start_mut<T>(list: &mut [T], null: bool) -> *mut T {
-    match list {
-        [] if null => std::ptr::null_mut(),
-        _ => list.as_mut_ptr(),
-    }
+    .into()
 }
 
 /// The proposal of a dump, written to `out`; `null` gives a null pointer for

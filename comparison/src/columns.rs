@@ -6,22 +6,18 @@
 //! come back; a columned file is judged, and both judges must refuse it by 2.
 
 use crate::archive;
-use crate::families::{good, outside};
+use crate::families::{change_a_byte, good, one_outside};
 use crate::fields::{fields, Field};
+use crate::lent::Lent;
 use crate::make::{at_limits, random, Shape};
 use crate::rng::Rng;
-use crate::run::Run;
+use crate::run::{hex, Run, LEAST_INPUTS, LEAST_TIMES};
 use second_judge::hours::{contracted_hour, three_zone_hour, Hour, Version};
 use second_judge::limits::LEAST_BUFFER;
 use second_judge::{case_columned_as, case_restored_as, judge, ColumnBuild, OutputAnswer};
 
-/// So many files at least for each entry, and each number at least so many times.
-const LEAST_INPUTS: u64 = 50_000;
-const LEAST_TIMES: u64 = 100;
 const NUMBERS: [u32; 3] = [0, 71, 72];
 
-/// Bytes kept on either side of the lent room, which nobody may touch.
-const GUARD: usize = 32;
 /// The longest case: 64 branches of 16 zones, 64 links of version 2, 512 orders.
 const LONGEST: usize = 14 + 64 * 68 + 64 * 10 + 512 * 10;
 
@@ -110,46 +106,27 @@ impl Files<'_> {
         self.run.count();
         self.inputs[entry as usize] += 1;
         let copy = file.to_vec();
-        // A pattern of its own for each file, so that no byte is right by luck.
-        let salt = self.inputs[entry as usize] * 101 + 11;
-        let filled: Vec<u8> = (0..GUARD + room + GUARD)
-            .map(|n| (n as u64 * 37 + salt) as u8)
-            .collect();
-        let lent = GUARD..GUARD + room;
-        let mut their_space = filled.clone();
-        let theirs = entry.archive(file, &mut their_space[lent.clone()], null);
-        let mut space = filled.clone();
-        let ours = entry.second(ColumnBuild::Right, file, &mut space[lent.clone()]);
-
-        if theirs != ours {
-            self.fault(entry, file, room, || {
-                format!("archive {theirs:?}, second judge {ours:?}")
-            });
-        } else if let Some(at) = (0..space.len()).find(|&n| their_space[n] != space[n]) {
-            let (one, other) = (their_space[at], space[at]);
-            let at = at as i64 - GUARD as i64;
-            self.fault(entry, file, room, || {
-                format!("byte {at} of the room: archive {one}, second judge {other}")
-            });
+        let lent = Lent::bytes(room, self.inputs[entry as usize]);
+        let second = |build, out: &mut [u8]| entry.second(build, file, out);
+        let theirs = lent.to(|out| entry.archive(file, out, null));
+        let ours = lent.to(|out| second(ColumnBuild::Right, out));
+        if let Some(text) = theirs.unlike(&ours) {
+            self.fault(entry, file, room, || text);
         }
         if copy != file {
             self.fault(entry, file, room, || "the file was written".into());
         }
 
-        self.numbers[entry as usize][ours.number as usize] += 1;
-        for (found, (build, _)) in self.second_wrong.iter_mut().zip(ColumnBuild::WRONG) {
-            let mut wrong_space = filled.clone();
-            let wrong = entry.second(build, file, &mut wrong_space[lent.clone()]);
-            *found += u64::from(wrong != theirs || wrong_space != their_space);
-        }
-        (ours, space[lent].to_vec())
+        self.numbers[entry as usize][ours.answer.number as usize] += 1;
+        lent.tell(&theirs, &ColumnBuild::WRONG, &mut self.second_wrong, second);
+        (ours.answer, ours.room().to_vec())
     }
 
-    fn fault(&mut self, entry: Entry, file: &[u8], room: usize, text: impl Fn() -> String) {
+    fn fault(&mut self, entry: Entry, file: &[u8], room: usize, text: impl FnOnce() -> String) {
         self.run.fault(|| {
-            let hex: String = file.iter().map(|byte| format!("{byte:02x}")).collect();
             let (_, name) = ENTRIES[entry as usize];
-            format!("{name}: {}\n  room {room}\n  file {hex}", text())
+            let file = hex(&[("file", file)]);
+            format!("{name}: {}\n  room {room}{file}", text())
         });
     }
 
@@ -212,10 +189,7 @@ fn moved(hour: &Hour, case: &[u8]) -> Vec<u8> {
 }
 
 fn some_hour(rng: &mut Rng) -> Hour {
-    let shape = match rng.below(8) {
-        0 => Shape::any(rng),
-        _ => Shape::small(rng),
-    };
+    let shape = Shape::mostly_small(rng, 8);
     match rng.below(4) {
         0 => random(rng, shape),
         1 => at_limits(rng, shape),
@@ -229,13 +203,9 @@ fn fault_in(
     hour: &Hour,
     number: std::ops::RangeInclusive<u32>,
 ) -> Option<(Field, i64)> {
-    let mut list = fields(hour);
-    list.retain(|field| field.in_case && number.contains(&field.number));
-    if list.is_empty() {
-        return None;
-    }
-    let field = rng.pick(&list);
-    outside(rng, &field).map(|value| (field, value))
+    one_outside(rng, hour, |field| {
+        field.in_case && number.contains(&field.number)
+    })
 }
 
 pub fn files(run: &mut Run, rng: &mut Rng) {
@@ -283,33 +253,24 @@ pub fn files(run: &mut Run, rng: &mut Rng) {
     marks(&mut files, rng);
     by_bytes(&mut files, rng);
 
-    let Files {
-        run,
-        inputs,
-        numbers,
-        met,
-        second_wrong,
-    } = files;
+    let Files { run, inputs, .. } = files;
     run.section("columns, numbers, times met");
     for (entry, name) in ENTRIES {
         let inputs = inputs[entry as usize];
-        let enough = inputs >= LEAST_INPUTS;
-        run.check(format!("{name}, inputs"), enough, format!("{inputs}"));
+        run.check_times(format!("{name}, inputs"), inputs, LEAST_INPUTS);
         for number in NUMBERS {
-            let times = numbers[entry as usize][number as usize];
-            let enough = times >= LEAST_TIMES;
-            run.check(format!("{name}, {number}"), enough, format!("{times}"));
+            let times = files.numbers[entry as usize][number as usize];
+            run.check_times(format!("{name}, {number}"), times, LEAST_TIMES);
         }
     }
     run.section("columns, met, times");
-    for (name, times) in MET.iter().zip(met) {
-        run.check(name.to_string(), times > 0, format!("{times}"));
-    }
+    run.check_met(&MET, &files.met);
     run.section("columns, the second judge's wrong builds, times told from the archive");
-    let inputs = inputs[0] + inputs[1];
-    for ((_, name), times) in ColumnBuild::WRONG.iter().zip(second_wrong) {
-        run.check(name.to_string(), times > 0, format!("{times} of {inputs}"));
-    }
+    run.check_told(
+        &ColumnBuild::WRONG,
+        &files.second_wrong,
+        inputs[0] + inputs[1],
+    );
 }
 
 /// Outputs of every kind of length, of readable files and of others.
@@ -455,11 +416,7 @@ fn by_bytes(files: &mut Files, rng: &mut Rng) {
         ] {
             let mut file = file;
             for _ in 0..1 + rng.below(3) {
-                let at = rng.below(file.len());
-                file[at] ^= match rng.one_in(2) {
-                    true => 1 << rng.below(8),
-                    false => rng.next() as u8,
-                };
+                change_a_byte(rng, &mut file);
             }
             let room = file.len() - usize::from(rng.one_in(8));
             files.feed(entry, &file, room);

@@ -1,16 +1,14 @@
 //! The desk's lines of both, over every input the judgement gets.
 
 use crate::archive;
+use crate::lent::Lent;
 use crate::rng::Rng;
 use crate::run::Run;
 use second_judge::limits::LEAST_OUTPUT;
 use second_judge::{desk_output, OutputAnswer};
 
-/// Bytes kept on either side of the lent output, which nobody may touch.
-const GUARD: usize = 32;
 /// Outputs are longer than they must be by at most so many bytes.
 const MORE: usize = 64;
-const SPACE: usize = GUARD + LEAST_OUTPUT + MORE + GUARD;
 
 /// What was done to the joined files or to the output.
 const NAMES: [&str; 5] = [
@@ -69,23 +67,16 @@ impl Desk {
     /// Gives both this input and so much room.
     fn compare(&mut self, kind: usize, input: &[u8], room: usize) {
         self.inputs[kind] += 1;
-        // A pattern of its own for each input, so that no byte is right by luck.
-        let salt = self.rng.next() as usize;
-        let filled: [u8; SPACE] = std::array::from_fn(|n| (n * 37).wrapping_add(salt) as u8);
-        let lent = GUARD..GUARD + room;
-        let mut their_space = filled;
-        let theirs = archive::desk_lines(input, &mut their_space[lent.clone()]);
-        let mut space = filled;
-        let ours = desk_output(input, &mut space[lent.clone()]);
-        if (theirs, their_space) != (ours, space) {
+        let lent = Lent::bytes(LEAST_OUTPUT + MORE, self.rng.next()).only(room);
+        let theirs = lent.to(|out| archive::desk_lines(input, out));
+        let ours = lent.to(|out| desk_output(input, out));
+        if let Some(text) = theirs.unlike(&ours) {
             self.faults[kind] += 1;
             if self.faults[kind] == 1 {
-                println!(
-                    "amiss in the desk lines, {}, room {room}: {theirs:?}, archive:",
-                    NAMES[kind]
-                );
-                println!("{}", shown(&their_space[lent.clone()], theirs));
-                println!("second judge: {ours:?}\n{}", shown(&space[lent], ours));
+                let name = NAMES[kind];
+                println!("amiss in the desk lines, {name}, room {room}: {text}");
+                println!("archive:\n{}", shown(theirs.room(), theirs.answer));
+                println!("second judge:\n{}", shown(ours.room(), ours.answer));
             }
         }
     }

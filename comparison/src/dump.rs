@@ -7,20 +7,16 @@
 
 use crate::archive;
 use crate::families::good;
+use crate::lent::Lent;
 use crate::make::{tolerance, Shape};
 use crate::rng::Rng;
-use crate::run::Run;
+use crate::run::{count_met, hex, Run, LEAST_INPUTS, LEAST_TIMES};
 use second_judge::hours::{contracted_hour, three_zone_hour, Branch, Hour, Link, Version};
 use second_judge::limits::{LEAST_BUFFER, SELLS, WIDEST_TOLERANCE};
 use second_judge::{dump_proposal_as, judge, DumpBuild, OutputAnswer, Row};
 
-/// So many dumps at least, and each number at least so many times.
-const LEAST_INPUTS: u64 = 50_000;
-const LEAST_TIMES: u64 = 100;
 const NUMBERS: [u32; 6] = [0, 56, 57, 58, 59, 60];
 
-/// Bytes kept on either side of the lent room, which nobody may touch.
-const GUARD: usize = 32;
 /// Room for every proposal, and the bytes of one without rows.
 const ROOM: usize = 13 + 4 * (512 + 64 + 64);
 const HEADER: usize = 13;
@@ -170,27 +166,12 @@ impl Dumps<'_> {
         self.run.count();
         self.inputs += 1;
         let copies = (case.to_vec(), dump.to_vec());
-        // A pattern of its own for each dump, so that no byte is right by luck.
-        let filled: Vec<u8> = (0..GUARD + room + GUARD)
-            .map(|n| (n as u64 * 37 + self.inputs * 101 + 11) as u8)
-            .collect();
-        let lent = GUARD..GUARD + room;
-        let mut their_space = filled.clone();
-        let theirs = archive::dump_proposal(case, dump, &mut their_space[lent.clone()], null);
-        let mut space = filled.clone();
-        let right = DumpBuild::Right;
-        let ours = dump_proposal_as(right, case, dump, &mut space[lent.clone()]);
-
-        if theirs != ours {
-            self.fault(case, dump, room, || {
-                format!("archive {theirs:?}, second judge {ours:?}")
-            });
-        } else if let Some(at) = (0..space.len()).find(|&n| their_space[n] != space[n]) {
-            let (one, other) = (their_space[at], space[at]);
-            let at = at as i64 - GUARD as i64;
-            self.fault(case, dump, room, || {
-                format!("byte {at} of the room: archive {one}, second judge {other}")
-            });
+        let lent = Lent::bytes(room, self.inputs);
+        let second = |build, out: &mut [u8]| dump_proposal_as(build, case, dump, out);
+        let theirs = lent.to(|out| archive::dump_proposal(case, dump, out, null));
+        let ours = lent.to(|out| second(DumpBuild::Right, out));
+        if let Some(text) = theirs.unlike(&ours) {
+            self.fault(case, dump, room, || text);
         }
         if copies.0 != case || copies.1 != dump {
             self.fault(case, dump, room, || {
@@ -198,33 +179,22 @@ impl Dumps<'_> {
             });
         }
 
-        self.numbers[ours.number as usize] += 1;
-        if ours.number == 56 {
-            self.cases[ours.index as usize] += 1;
+        let answer = ours.answer;
+        self.numbers[answer.number as usize] += 1;
+        if answer.number == 56 {
+            self.cases[answer.index as usize] += 1;
         }
-        for (found, (build, _)) in self.second_wrong.iter_mut().zip(DumpBuild::WRONG) {
-            let mut wrong_space = filled.clone();
-            let wrong = dump_proposal_as(build, case, dump, &mut wrong_space[lent.clone()]);
-            *found += u64::from(wrong != theirs || wrong_space != their_space);
+        lent.tell(&theirs, &DumpBuild::WRONG, &mut self.second_wrong, second);
+        if answer.number == 0 {
+            self.judge(case, dump, &ours.room()[..answer.length as usize]);
         }
-        let out = space[lent].to_vec();
-        if ours.number == 0 {
-            self.judge(case, dump, &out[..ours.length as usize]);
-        }
-        (ours, out)
+        (answer, ours.room().to_vec())
     }
 
-    fn fault(&mut self, case: &[u8], dump: &[u8], room: usize, text: impl Fn() -> String) {
+    fn fault(&mut self, case: &[u8], dump: &[u8], room: usize, text: impl FnOnce() -> String) {
         self.run.fault(|| {
-            let hex = |bytes: &[u8]| -> String {
-                bytes.iter().map(|byte| format!("{byte:02x}")).collect()
-            };
-            let text = text();
-            format!(
-                "{text}\n  room {room}\n  case {}\n  dump {}",
-                hex(case),
-                hex(dump)
-            )
+            let files = hex(&[("case", case), ("dump", dump)]);
+            format!("{}\n  room {room}{files}", text())
         });
     }
 
@@ -233,11 +203,11 @@ impl Dumps<'_> {
     fn judge(&mut self, case: &[u8], dump: &[u8], proposal: &[u8]) {
         let (mut report, mut their_report) = ([0; LEAST_BUFFER], [0; LEAST_BUFFER]);
         let verdict = judge(case, proposal, &mut report);
-        let answer = archive::judge(case, proposal, &mut their_report);
+        let answer = archive::verdict(archive::judge(case, proposal, &mut their_report));
         let (number, index) = (verdict.number, verdict.index);
-        if answer != u64::from(number) + 256 * u64::from(index) || report != their_report {
+        if answer != verdict || report != their_report {
             self.fault(case, dump, proposal.len(), || {
-                format!("judged: archive {answer}, second judge {number} {index}, or their reports")
+                format!("judged: archive {answer:?}, second judge {verdict:?}, or their reports")
             });
         }
         let tolerance = case[10..14].try_into().map(u32::from_le_bytes);
@@ -317,9 +287,7 @@ impl Dumps<'_> {
         }
         met[15] = number == 0 && length == ROOM as u64;
         met[16] = number == 0 && length == HEADER as u64;
-        for (count, met) in self.met.iter_mut().zip(met) {
-            *count += u64::from(met);
-        }
+        count_met(&mut self.met, &met);
     }
 }
 
@@ -377,10 +345,7 @@ impl Made {
     }
 
     fn some(rng: &mut Rng) -> Made {
-        let shape = match rng.below(8) {
-            0 => Shape::any(rng),
-            _ => Shape::small(rng),
-        };
+        let shape = Shape::mostly_small(rng, 8);
         let mut hour = good(rng, shape);
         // S-12: a wide tolerance is read, and the proposal not judged.
         hour.tolerance = tolerance(rng);
@@ -701,38 +666,19 @@ pub fn dumps(run: &mut Run, rng: &mut Rng) {
     by_bits(&mut dumps, rng);
     by_bytes(&mut dumps, rng);
 
-    let Dumps {
-        run,
-        inputs,
-        numbers,
-        cases,
-        judged,
-        met,
-        second_wrong,
-    } = dumps;
+    let Dumps { run, inputs, .. } = dumps;
     run.section("solver's dumps, numbers, times met");
-    run.check("inputs".into(), inputs >= LEAST_INPUTS, format!("{inputs}"));
-    for number in NUMBERS {
-        let times = numbers[number as usize];
-        let note = format!("{times}");
-        run.check(format!("{number}"), times >= LEAST_TIMES, note);
-    }
-    for (number, times) in cases.iter().enumerate().skip(1) {
-        run.check(format!("56 {number}"), *times > 0, format!("{times}"));
+    run.check_times("inputs".into(), inputs, LEAST_INPUTS);
+    run.check_numbers(&NUMBERS, &dumps.numbers, LEAST_TIMES);
+    for (number, times) in dumps.cases.iter().enumerate().skip(1) {
+        run.check_times(format!("56 {number}"), *times, 1);
     }
     run.section("solver's dumps, verdicts on what was written, times met");
-    for number in [0, 22, 27, 23, 24, 25, 26] {
-        let times = judged[number];
-        run.check(format!("{number}"), times > 0, format!("{times}"));
-    }
+    run.check_numbers(&[0, 22, 27, 23, 24, 25, 26], &dumps.judged, 1);
     run.section("solver's dumps, met, times");
-    for (name, times) in MET.iter().zip(met) {
-        run.check(name.to_string(), times > 0, format!("{times}"));
-    }
+    run.check_met(&MET, &dumps.met);
     run.section("solver's dumps, the second judge's wrong builds, times told from the archive");
-    for ((_, name), times) in DumpBuild::WRONG.iter().zip(second_wrong) {
-        run.check(name.to_string(), times > 0, format!("{times} of {inputs}"));
-    }
+    run.check_told(&DumpBuild::WRONG, &dumps.second_wrong, inputs);
 }
 
 /// Dumps that give the proposals of good hours, which are judged as those are.
@@ -742,10 +688,7 @@ fn given_back(dumps: &mut Dumps, rng: &mut Rng) {
         dumps.feed_made(&giving_back(hour));
     }
     for _ in 0..8_000 {
-        let shape = match rng.below(8) {
-            0 => Shape::any(rng),
-            _ => Shape::small(rng),
-        };
+        let shape = Shape::mostly_small(rng, 8);
         let hour = good(rng, shape);
         let proposal = hour.proposal();
         let made = giving_back(hour);

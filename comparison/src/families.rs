@@ -40,6 +40,24 @@ fn feed_hour(run: &mut Run, rng: &mut Rng, hour: &Hour) {
     run.feed(&hour.case(), &hour.proposal(), enough(rng));
 }
 
+/// Feeds a good hour, whose report is there whatever its gap.
+pub fn breaks_no_rule(run: &mut Run, rng: &mut Rng, hour: &Hour) -> bool {
+    let verdict = run.feed(&hour.case(), &hour.proposal(), enough(rng));
+    let reported = matches!(verdict.number, 0 | 26);
+    if !reported {
+        run.fault(|| format!("{verdict:?} for an hour that breaks no rule"));
+    }
+    reported
+}
+
+/// A good hour fed at tolerance zero, and its gap.
+pub fn hour_and_gap(run: &mut Run, rng: &mut Rng) -> Option<(Hour, i64)> {
+    let shape = Shape::any(rng);
+    let mut hour = good(rng, shape);
+    hour.tolerance = 0;
+    breaks_no_rule(run, rng, &hour).then(|| (hour, run.total(GAP)))
+}
+
 /// A good hour: optimal or feasible.
 pub fn good(rng: &mut Rng, shape: Shape) -> Hour {
     if rng.one_in(2) {
@@ -86,15 +104,9 @@ fn optimal_hours(run: &mut Run, rng: &mut Rng) {
 }
 
 fn tolerance_about_the_gap(run: &mut Run, rng: &mut Rng) {
-    let shape = Shape::any(rng);
-    let mut hour = good(rng, shape);
-    hour.tolerance = 0;
-    let verdict = run.feed(&hour.case(), &hour.proposal(), enough(rng));
-    if verdict.number != 0 && verdict.number != 26 {
-        run.fault(|| format!("{verdict:?} for an hour that breaks no rule"));
+    let Some((mut hour, gap)) = hour_and_gap(run, rng) else {
         return;
-    }
-    let gap = run.total(GAP);
+    };
     let cents = gap.div_euclid(1_000_000) + i64::from(gap % 1_000_000 != 0);
     for (tolerance, number) in [(cents - 1, 26), (cents, 0), (cents + 1, 0)] {
         if (0..=1_000_000_000).contains(&tolerance) {
@@ -210,13 +222,32 @@ fn bytes_flipped(run: &mut Run, rng: &mut Rng) {
         } else {
             &mut proposal
         };
-        let at = rng.below(file.len());
-        file[at] ^= match rng.one_in(2) {
-            true => 1 << rng.below(8),
-            false => rng.next() as u8,
-        };
+        change_a_byte(rng, file);
     }
     run.feed(&case, &proposal, enough(rng));
+}
+
+/// One bit turned, or any of the eight.
+pub fn change_a_byte(rng: &mut Rng, file: &mut [u8]) {
+    let at = rng.below(file.len());
+    file[at] ^= match rng.one_in(2) {
+        true => 1 << rng.below(8),
+        false => rng.next() as u8,
+    };
+}
+
+/// Such a field of an hour that its bytes can put out of range, and such a value.
+pub fn one_outside(
+    rng: &mut Rng,
+    hour: &Hour,
+    such: impl Fn(&Field) -> bool,
+) -> Option<(Field, i64)> {
+    let list: Vec<Field> = fields(hour).into_iter().filter(such).collect();
+    if list.is_empty() {
+        return None;
+    }
+    let field = rng.pick(&list);
+    outside(rng, &field).map(|value| (field, value))
 }
 
 /// A value outside the field's range, if its bytes can hold one.

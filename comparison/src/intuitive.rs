@@ -5,25 +5,21 @@
 use crate::archive;
 use crate::exchange::*;
 use crate::families::good;
+use crate::lent::Lent;
 use crate::make::{random as random_hour, Shape};
 use crate::planted::{Cause, Planted, CAUSES};
 use crate::rng::Rng;
-use crate::run::Run;
+use crate::run::{count_met, Run, LEAST_INPUTS, LEAST_TIMES};
 use second_judge::hours::{stored, three_zone_hour, Hour};
 use second_judge::{hour_intuitive_as, intuitive_as, Board, CarriedAnswer, IntuitiveBuild};
 
-/// So many inputs at least, and each number at least so many times.
-const LEAST_INPUTS: u64 = 50_000;
+/// So many of the inputs at least are hours.
 const LEAST_HOURS: u64 = 10_000;
-const LEAST_TIMES: u64 = 100;
 const NUMBERS: [u32; 6] = [0, 81, 82, 83, 84, 85];
 /// Those of the judgement but 30, and the two that an accepted hour can have.
-const HOUR_NUMBERS: [usize; 25] = [
+const HOUR_NUMBERS: [u32; 25] = [
     0, 1, 2, 3, 4, 5, 6, 7, 8, 9, 10, 11, 12, 13, 14, 15, 21, 22, 23, 24, 25, 26, 27, 84, 85,
 ];
-
-/// Numbers kept on either side of the lent scratch.
-const GUARD: usize = 4;
 
 /// Things a good stream of inputs must come across, counted; the first so many
 /// of lta_intuitive, the others of lta_hour_intuitive.
@@ -149,9 +145,7 @@ impl Tally {
         };
         *inputs += 1;
         numbers[answer.number as usize] += 1;
-        for (times, found) in self.second_wrong.iter_mut().zip(wrong) {
-            *times += u64::from(*found);
-        }
+        count_met(&mut self.second_wrong, wrong);
     }
 }
 
@@ -216,28 +210,12 @@ impl Exchanges<'_> {
         // A pattern of its own for each input and no zero in it, so that no
         // number is right by luck.
         let salt = self.inputs as i64;
-        let filled: Vec<i64> = (0..GUARD + room + GUARD)
-            .map(|n| (n as i64 * 0x1_0001_0003 + salt * 0x51_7CC1) | 1)
-            .collect();
-        let lent = GUARD..GUARD + room;
-        let mut their_space = filled.clone();
-        let theirs = asked.archive(board, pairs, &mut their_space[lent.clone()], null);
-        let mut space = filled.clone();
-        let right = IntuitiveBuild::Right;
-        let ours = asked.second(right, board, pairs, &mut space[lent.clone()]);
-
-        if theirs != ours {
-            self.fault(asked, pairs, room, || {
-                format!("{board:?}: archive {theirs:?}, second judge {ours:?}")
-            });
-        } else if let Some(at) = (0..space.len()).find(|&n| their_space[n] != space[n]) {
-            let (one, other) = (their_space[at], space[at]);
-            let at = at as i64 - GUARD as i64;
-            self.fault(asked, pairs, room, || {
-                format!(
-                    "{board:?}: number {at} of the scratch: archive {one}, second judge {other}"
-                )
-            });
+        let lent = Lent::filled(room, |n| (n as i64 * 0x1_0001_0003 + salt * 0x51_7CC1) | 1);
+        let second = |build, scratch: &mut [i64]| asked.second(build, board, pairs, scratch);
+        let theirs = lent.to(|scratch| asked.archive(board, pairs, scratch, null));
+        let ours = lent.to(|scratch| second(IntuitiveBuild::Right, scratch));
+        if let Some(text) = theirs.unlike(&ours) {
+            self.fault(asked, pairs, room, || format!("{board:?}: {text}"));
         }
         if copies != (asked.copied(), pairs.to_vec()) {
             self.fault(asked, pairs, room, || "an argument was written".into());
@@ -249,17 +227,13 @@ impl Exchanges<'_> {
         };
         let wrong: Vec<bool> = builds
             .iter()
-            .map(|(build, _)| {
-                let mut wrong_space = filled.clone();
-                let wrong = asked.second(*build, board, pairs, &mut wrong_space[lent.clone()]);
-                wrong != theirs || wrong_space != their_space
-            })
+            .map(|(build, _)| lent.to(|scratch| second(*build, scratch)) != theirs)
             .collect();
-        tally.count(asked, ours, &wrong);
-        (ours, wrong)
+        tally.count(asked, ours.answer, &wrong);
+        (ours.answer, wrong)
     }
 
-    fn fault(&mut self, asked: Asked, pairs: &[u8], room: usize, text: impl Fn() -> String) {
+    fn fault(&mut self, asked: Asked, pairs: &[u8], room: usize, text: impl FnOnce() -> String) {
         self.run.fault(|| {
             let (text, shown) = (text(), asked.shown());
             format!("{text}\n  {shown}, pairs {pairs:?}, scratch {room}")
@@ -301,9 +275,7 @@ impl Exchanges<'_> {
                     number == 84 && index == 64,
                     number == 84 && index as usize == pairs.len() / 2 && index < 64,
                 ];
-                for (count, met) in self.met.iter_mut().zip(met) {
-                    *count += u64::from(met);
-                }
+                count_met(&mut self.met, &met);
             }
             Asked::Hour(..) => {
                 let met = [
@@ -314,9 +286,7 @@ impl Exchanges<'_> {
                     number == 84,
                     number == 85,
                 ];
-                for (count, met) in self.met[OF_AN_HOUR..].iter_mut().zip(met) {
-                    *count += u64::from(met);
-                }
+                count_met(&mut self.met[OF_AN_HOUR..], &met);
             }
         }
     }
@@ -369,35 +339,26 @@ pub fn exchanges(run: &mut Run, rng: &mut Rng) {
     at_the_limits(&mut all, rng);
     hours(&mut all, rng);
 
-    let Exchanges {
-        run,
-        wide,
-        small,
-        both_took,
-        met,
-        ..
-    } = all;
+    let run = all.run;
     let sections = [
         "intuitive hours, numbers of lta_intuitive, times met",
         "intuitive hours, numbers of lta_hour_intuitive, times met",
         "intuitive hours, the second judge's wrong builds, times told from the archive",
     ];
-    told(run, sections, &wide, &IntuitiveBuild::WRONG);
+    told(run, sections, &all.wide, &IntuitiveBuild::WRONG);
     run.section("intuitive hours, met, times");
-    for (name, times) in MET.iter().zip(met) {
-        run.check(name.to_string(), times > 0, format!("{times}"));
-    }
+    run.check_met(&MET, &all.met);
     let sections = [
         "the smaller board, numbers of lta_intuitive_small, times met",
         "the smaller board, numbers of lta_hour_intuitive_small, times met",
         "the smaller board, the second judge's wrong builds, times told from the archive",
     ];
-    told(run, sections, &small, &IntuitiveBuild::SMALL_WRONG);
+    told(run, sections, &all.small, &IntuitiveBuild::SMALL_WRONG);
     run.section("the smaller board, and the wide one on the same input");
-    run.check(
+    run.check_times(
         "both took it, and said the same".into(),
-        both_took >= LEAST_INPUTS,
-        format!("{both_took}"),
+        all.both_took,
+        LEAST_INPUTS,
     );
 }
 
@@ -410,26 +371,13 @@ fn told(
 ) {
     let Tally { inputs, hours, .. } = *tally;
     run.section(sections[0]);
-    run.check("inputs".into(), inputs >= LEAST_INPUTS, format!("{inputs}"));
-    run.check("hours".into(), hours >= LEAST_HOURS, format!("{hours}"));
-    for number in NUMBERS {
-        let times = tally.numbers[number as usize];
-        run.check(
-            format!("{number}"),
-            times >= LEAST_TIMES,
-            format!("{times}"),
-        );
-    }
+    run.check_times("inputs".into(), inputs, LEAST_INPUTS);
+    run.check_times("hours".into(), hours, LEAST_HOURS);
+    run.check_numbers(&NUMBERS, &tally.numbers, LEAST_TIMES);
     run.section(sections[1]);
-    for number in HOUR_NUMBERS {
-        let times = tally.hour_numbers[number];
-        run.check(format!("{number}"), times > 0, format!("{times}"));
-    }
+    run.check_numbers(&HOUR_NUMBERS, &tally.hour_numbers, 1);
     run.section(sections[2]);
-    for ((_, name), times) in builds.iter().zip(&tally.second_wrong) {
-        let of = inputs + hours;
-        run.check(name.to_string(), *times > 0, format!("{times} of {of}"));
-    }
+    run.check_told(builds, &tally.second_wrong, inputs + hours);
 }
 
 /// Exchanges that are answered.

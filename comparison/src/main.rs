@@ -21,6 +21,7 @@ mod families;
 mod fields;
 #[cfg(feature = "intuitive")]
 mod intuitive;
+mod lent;
 mod make;
 mod no_links;
 mod offsets;
@@ -50,7 +51,7 @@ use std::time::Instant;
 const SEED: u64 = 1;
 const INPUTS: u64 = 260_000;
 /// Every number of the verdict table.
-const NUMBERS: [usize; 24] = [
+const NUMBERS: [u32; 24] = [
     0, 1, 2, 3, 4, 5, 6, 7, 8, 9, 10, 11, 12, 13, 14, 15, 21, 22, 23, 24, 25, 26, 27, 30,
 ];
 
@@ -114,16 +115,13 @@ fn main() -> ExitCode {
     queue::queues(&mut run, &mut Rng::new(seed));
 
     run.section("verdicts, times met");
-    for number in NUMBERS {
-        let times = run.verdicts[number];
-        run.check(format!("{number}"), times > 0, format!("{times}"));
-    }
+    let verdicts = run.verdicts;
+    run.check_numbers(&NUMBERS, &verdicts, 1);
     places::named(&mut run);
     versions::counted(&mut run);
     run.section("met, times");
-    for (name, times) in MET.iter().zip(run.met) {
-        run.check(name.to_string(), times > 0, format!("{times}"));
-    }
+    let met = run.met;
+    run.check_met(&MET, &met);
     run.section("the second judge's wrong builds, times told from the archive");
     for ((_, name), found) in Build::WRONG.iter().zip(run.second_wrong) {
         let tried = run.second_wrong_tried;

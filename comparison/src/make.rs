@@ -50,6 +50,15 @@ impl Shape {
         }
     }
 
+    /// A small one, but for one out of so many.
+    #[allow(dead_code)] // by entries beside the judgement, where one is built
+    pub fn mostly_small(rng: &mut Rng, every: usize) -> Shape {
+        match rng.one_in(every) {
+            true => Shape::any(rng),
+            false => Shape::small(rng),
+        }
+    }
+
     fn within(rng: &mut Rng, most: [usize; 4]) -> Shape {
         let zones = 1 + rng.below(most[0]);
         Shape {

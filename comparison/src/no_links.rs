@@ -1,6 +1,6 @@
 //! Hours without links (S-6): no LTA share may be above 0, and the branch total alone is in the bound.
 
-use crate::families::{enough, good};
+use crate::families::{breaks_no_rule, enough, good};
 use crate::make::{flow_based_parts, least_ram, optimal, random, used, Shape, BOUND, GAP, RENT};
 use crate::offsets::at_least;
 use crate::rng::Rng;
@@ -166,9 +166,7 @@ fn link_added(run: &mut Run, rng: &mut Rng, moved: &mut [u64; 2]) {
         ..alone(rng)
     };
     let mut hour = good(rng, shape);
-    let verdict = run.feed(&hour.case(), &hour.proposal(), enough(rng));
-    if verdict.number != 0 && verdict.number != 26 {
-        run.fault(|| format!("{verdict:?} for an hour that breaks no rule"));
+    if !breaks_no_rule(run, rng, &hour) {
         return;
     }
     let (bound, total) = (run.total(BOUND), branch_total(&hour));

@@ -4,12 +4,10 @@ use crate::families::{enough, outside};
 use crate::fields::{fields, Field};
 use crate::make::{random, Shape};
 use crate::rng::Rng;
-use crate::run::Run;
+use crate::run::{Run, LEAST_TIMES};
 use second_judge::hours::{Hour, Version};
 
 const INPUTS: u64 = 60_000;
-/// Each number, each cause and each row at an end of its part is met so often.
-pub const LEAST: u64 = 100;
 
 /// What is done to the two zones of a link before any field is put outside.
 #[derive(Clone, Copy)]
@@ -131,7 +129,7 @@ pub fn offsets(run: &mut Run, rng: &mut Rng) {
 }
 
 pub fn at_least(run: &mut Run, name: String, times: u64) {
-    run.check(name, times >= LEAST, format!("{times}"));
+    run.check_times(name, times, LEAST_TIMES);
 }
 
 /// Plants a cause in one row, if there is such a row, and has it judged.

@@ -7,20 +7,18 @@
 //! list the same files are judged too, and that answer is as it was.
 
 use crate::archive;
-use crate::families::{enough, good, outside};
-use crate::fields::{fields, Field};
+use crate::families::{change_a_byte, enough, good, one_outside};
+use crate::fields::Field;
+use crate::lent::{Left, Lent};
 use crate::make::{at_limits, narrow, optimal, random, wide, Shape};
 use crate::rng::Rng;
-use crate::run::Run;
+use crate::run::{hex, Run, LEAST_INPUTS, LEAST_TIMES};
 use second_judge::hours::{three_zone_hour, Hour};
 use second_judge::limits::{BUYS, LEAST_BUFFER, SELLS};
 use second_judge::{
     judge, judge_families, judge_families_as, list_of, FamilyBuild, Row, Verdict, NO_PARENT,
 };
 
-/// So many inputs at least, and each number at least so many times.
-const LEAST_INPUTS: u64 = 50_000;
-const LEAST_TIMES: u64 = 100;
 const NUMBERS: [u32; 28] = [
     0, 1, 2, 3, 4, 5, 6, 7, 8, 9, 10, 11, 12, 13, 14, 15, 16, 17, 18, 21, 28, 22, 27, 23, 24, 25,
     26, 30,
@@ -28,8 +26,6 @@ const NUMBERS: [u32; 28] = [
 /// The numbers of the list, in the order in which they are asked among the others.
 const OF_THE_LIST: [u32; 4] = [16, 17, 18, 28];
 
-/// Bytes kept on either side of the lent buffer, which nobody may touch.
-const GUARD: usize = 32;
 const MOST_LENT: usize = 256;
 const MOST_ORDERS: usize = 512;
 
@@ -103,68 +99,40 @@ impl Lists<'_> {
             list,
         } = files;
         let copies = (case.clone(), proposal.clone(), list.clone());
-        // A pattern of its own for each input, so that no byte is right by luck.
-        let mut filled = [0; GUARD + MOST_LENT + GUARD];
-        for (n, byte) in filled.iter_mut().enumerate() {
-            *byte = (n as u64 * 37 + self.inputs * 101 + 11) as u8;
-        }
-        let lent = GUARD..GUARD + lent;
-        let mut their_space = filled;
-        let their_room = &mut their_space[lent.clone()];
-        let answer = archive::judge_families(case, proposal, list, their_room, null);
-        let mut space = filled;
-        let verdict = judge_families(case, proposal, list, &mut space[lent.clone()]);
-
-        let shown = |answer: u64| format!("{} {}", answer % 256, answer / 256);
-        let ours = returned(verdict);
-        if answer != ours {
-            self.fault(files, || {
-                format!("archive {}, second judge {}", shown(answer), shown(ours))
-            });
-        } else if let Some(at) = (0..space.len()).find(|&n| their_space[n] != space[n]) {
-            let (one, other) = (their_space[at], space[at]);
-            let at = at as i64 - GUARD as i64;
-            self.fault(files, || {
-                format!("byte {at} of the buffer: archive {one}, second judge {other}")
-            });
+        let lent = Lent::bytes(MOST_LENT, self.inputs).only(lent);
+        let second = |build, out: &mut [u8]| judge_families_as(build, case, proposal, list, out);
+        let theirs = lent.to(|report| {
+            let returned = archive::judge_families(case, proposal, list, report, null);
+            archive::verdict(returned)
+        });
+        let ours = lent.to(|report| judge_families(case, proposal, list, report));
+        if let Some(text) = theirs.unlike(&ours) {
+            self.fault(files, || text);
         }
         if (case, proposal, list) != (&copies.0, &copies.1, &copies.2) {
             self.fault(files, || "a file was written".into());
         }
-        self.without_list(files, verdict, &space, &filled, lent.clone());
+        self.without_list(files, &lent, &ours);
 
-        self.numbers[verdict.number as usize] += 1;
-        for (found, (build, _)) in self.second_wrong.iter_mut().zip(FamilyBuild::WRONG) {
-            let mut wrong_space = filled;
-            let room = &mut wrong_space[lent.clone()];
-            let wrong = judge_families_as(build, case, proposal, list, room);
-            *found += u64::from(returned(wrong) != answer || wrong_space != their_space);
-        }
-        verdict
+        self.numbers[ours.answer.number as usize] += 1;
+        lent.tell(&theirs, &FamilyBuild::WRONG, &mut self.second_wrong, second);
+        ours.answer
     }
 
     /// The same files by the entry without a list: both judges as they were, and the
     /// answer with the list is another for the list's own numbers alone.
-    fn without_list(
-        &mut self,
-        files: &Files,
-        verdict: Verdict,
-        space: &[u8],
-        filled: &[u8; GUARD + MOST_LENT + GUARD],
-        lent: std::ops::Range<usize>,
-    ) {
-        let (mut theirs, mut ours) = (*filled, *filled);
-        let answer = archive::judge(&files.case, &files.proposal, &mut theirs[lent.clone()]);
-        let free = judge(&files.case, &files.proposal, &mut ours[lent]);
-        if answer != returned(free) || theirs != ours {
-            self.fault(files, || {
-                format!("without the list: {answer}, and the second judge {free:?}")
-            });
+    fn without_list(&mut self, files: &Files, lent: &Lent<u8>, with: &Left<Verdict, u8>) {
+        let (case, proposal) = (&files.case, &files.proposal);
+        let theirs = lent.to(|report| archive::verdict(archive::judge(case, proposal, report)));
+        let ours = lent.to(|report| judge(case, proposal, report));
+        if let Some(text) = theirs.unlike(&ours) {
+            self.fault(files, || format!("without the list: {text}"));
         }
+        let (verdict, free) = (with.answer, ours.answer);
         let own = OF_THE_LIST.contains(&verdict.number);
         let kept = match own {
-            true => space == filled,
-            false => verdict == free && space == theirs,
+            true => *with == lent.to(|_| verdict),
+            false => *with == theirs,
         };
         // 16 to 18 are asked before all that the sums say, 28 after 21; 15 before them.
         let earlier = match verdict.number {
@@ -178,19 +146,14 @@ impl Lists<'_> {
         }
     }
 
-    fn fault(&mut self, files: &Files, text: impl Fn() -> String) {
-        self.run.fault(|| {
-            let hex = |file: &[u8]| match file.len() {
-                0..=400 => file.iter().map(|byte| format!("{byte:02x}")).collect(),
-                length => format!("of {length} bytes"),
-            };
-            let [case, proposal, list] =
-                [&files.case, &files.proposal, &files.list].map(|f| hex(f));
-            format!(
-                "{}\n  case {case}\n  proposal {proposal}\n  list {list}",
-                text()
-            )
-        });
+    fn fault(&mut self, files: &Files, text: impl FnOnce() -> String) {
+        let Files {
+            case,
+            proposal,
+            list,
+        } = files;
+        self.run
+            .fault(|| text() + &hex(&[("case", case), ("proposal", proposal), ("list", list)]));
     }
 
     /// The answer that is due.
@@ -221,10 +184,6 @@ impl Lists<'_> {
     fn meet(&mut self, at: usize, met: bool) {
         self.met[at] += u64::from(met);
     }
-}
-
-fn returned(verdict: Verdict) -> u64 {
-    u64::from(verdict.number) + 256 * u64::from(verdict.index)
 }
 
 /// Steps up, at most so many as there are orders: how many lead back, if any do.
@@ -316,10 +275,7 @@ fn close(parents: &mut [Option<u16>], circle: &[usize]) {
 }
 
 fn some_hour(rng: &mut Rng) -> Hour {
-    let shape = match rng.below(12) {
-        0 => Shape::any(rng),
-        _ => Shape::small(rng),
-    };
+    let shape = Shape::mostly_small(rng, 12);
     good(rng, shape)
 }
 
@@ -390,32 +346,14 @@ pub fn lists(run: &mut Run, rng: &mut Rng) {
     other_causes(&mut lists, rng);
     whatever(&mut lists, rng);
 
-    let Lists {
-        run,
-        inputs,
-        numbers,
-        met,
-        second_wrong,
-    } = lists;
+    let Lists { run, inputs, .. } = lists;
     run.section("families, numbers, times met");
-    let enough = inputs >= LEAST_INPUTS;
-    run.check("inputs".into(), enough, format!("{inputs}"));
-    for number in NUMBERS {
-        let times = numbers[number as usize];
-        run.check(
-            format!("{number}"),
-            times >= LEAST_TIMES,
-            format!("{times}"),
-        );
-    }
+    run.check_times("inputs".into(), inputs, LEAST_INPUTS);
+    run.check_numbers(&NUMBERS, &lists.numbers, LEAST_TIMES);
     run.section("families, met, times");
-    for (name, times) in MET.iter().zip(met) {
-        run.check(name.to_string(), times > 0, format!("{times}"));
-    }
+    run.check_met(&MET, &lists.met);
     run.section("families, the second judge's wrong builds, times told from the archive");
-    for ((_, name), times) in FamilyBuild::WRONG.iter().zip(second_wrong) {
-        run.check(name.to_string(), times > 0, format!("{times} of {inputs}"));
-    }
+    run.check_told(&FamilyBuild::WRONG, &lists.second_wrong, inputs);
 }
 
 /// Each single parent of each order of P1, two at a time too.
@@ -818,14 +756,9 @@ fn other_causes(lists: &mut Lists, rng: &mut Rng) {
     let mut made = 0;
     while made < 10_000 {
         let hour = some_hour(rng);
-        let mut list: Vec<Field> = fields(&hour);
         let number = rng.pick(&[2, 3, 4, 6, 7, 8, 10, 11, 13, 14, 21, 21, 21, 23]);
-        list.retain(|field| field.number == number && !field.tied);
-        if list.is_empty() {
-            continue;
-        }
-        let field = rng.pick(&list);
-        let Some(value) = outside(rng, &field) else {
+        let such = |field: &Field| field.number == number && !field.tied;
+        let Some((field, value)) = one_outside(rng, &hour, such) else {
             continue;
         };
         made += 1;
@@ -941,10 +874,7 @@ fn other_causes(lists: &mut Lists, rng: &mut Rng) {
 fn whatever(lists: &mut Lists, rng: &mut Rng) {
     lists.run.begin("hours of any kind");
     for _ in 0..8_000 {
-        let shape = match rng.below(8) {
-            0 => Shape::any(rng),
-            _ => Shape::small(rng),
-        };
+        let shape = Shape::mostly_small(rng, 8);
         let hour = match rng.one_in(4) {
             true => at_limits(rng, shape),
             false => random(rng, shape),
@@ -977,11 +907,7 @@ fn whatever(lists: &mut Lists, rng: &mut Rng) {
                         2 => &mut files.proposal,
                         _ => &mut files.list,
                     };
-                    let at = rng.below(file.len());
-                    file[at] ^= match rng.one_in(2) {
-                        true => 1 << rng.below(8),
-                        false => rng.next() as u8,
-                    };
+                    change_a_byte(rng, file);
                 }
             }
         }

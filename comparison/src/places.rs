@@ -4,9 +4,9 @@
 use crate::families::{enough, good, outside};
 use crate::fields::fields;
 use crate::make::{flow_based_parts, least_ram, most_flow, used, version, Shape};
-use crate::offsets::{at_least, LEAST};
+use crate::offsets::at_least;
 use crate::rng::Rng;
-use crate::run::Run;
+use crate::run::{Run, LEAST_TIMES};
 use second_judge::hours::{Branch, Hour};
 
 /// Number and index.
@@ -30,7 +30,7 @@ pub const PLACES: [(u32, u32); 13] = [
 pub fn made(run: &mut Run, rng: &mut Rng) {
     run.begin("first and last of each list");
     for (number, index) in PLACES {
-        for _ in 0..LEAST {
+        for _ in 0..LEAST_TIMES {
             let (case, proposal) = at_fault(rng, number, index);
             run.feed(&case, &proposal, enough(rng));
             run.expect(number, index);

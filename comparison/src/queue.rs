@@ -3,14 +3,13 @@
 
 use crate::archive;
 use crate::rng::Rng;
-use crate::run::Run;
+use crate::run::{Run, LEAST_TIMES};
 use second_judge::{queue_post_as, queue_serve_as, Queue, QueueBuild, ServedAnswer, QUEUE_BYTES};
 
-/// So many runs of so many events, and each number at least so many times.
+/// So many runs of so many events.
 const RUNS: u64 = 6_000;
 const EVENTS: usize = 500;
-const LEAST_TIMES: u64 = 100;
-const NUMBERS: [usize; 5] = [0, 61, 62, 63, 64];
+const NUMBERS: [u32; 5] = [0, 61, 62, 63, 64];
 /// The right queue, read and written as bytes.
 const RIGHT: QueueBuild = QueueBuild::Right;
 
@@ -285,30 +284,13 @@ pub fn queues(run: &mut Run, rng: &mut Rng) {
     longest_waits(&mut all);
     every_cell(&mut all, rng);
 
-    let Queues {
-        run,
-        runs,
-        numbers,
-        met,
-        second_wrong,
-    } = all;
+    let run = all.run;
     run.section("the desk queue, numbers, times met");
-    for number in NUMBERS {
-        let times = numbers[number];
-        run.check(
-            format!("{number}"),
-            times >= LEAST_TIMES,
-            format!("{times}"),
-        );
-    }
+    run.check_numbers(&NUMBERS, &all.numbers, LEAST_TIMES);
     run.section("the desk queue, met, times");
-    for (name, times) in MET.iter().zip(met) {
-        run.check(name.to_string(), times > 0, format!("{times}"));
-    }
+    run.check_met(&MET, &all.met);
     run.section("the desk queue, the second judge's wrong builds, runs told from the archive");
-    for ((_, name), times) in QueueBuild::WRONG.iter().zip(second_wrong) {
-        run.check(name.to_string(), times > 0, format!("{times} of {runs}"));
-    }
+    run.check_told(&QueueBuild::WRONG, &all.second_wrong, all.runs);
 }
 
 /// How a run goes: which areas and hours are posted, how often it serves.

@@ -1,13 +1,18 @@
 //! Feeds both judges the same input, compares all they leave behind, and counts.
 
 use crate::archive;
+use crate::lent::{Left, Lent};
 use crate::places::PLACES;
 use second_judge::{judge, judge_as, Build, Verdict};
 
-/// Bytes kept on either side of the lent buffer, which no judge may touch.
-const GUARD: usize = 32;
+/// The longest buffer that is lent.
 const MOST_LENT: usize = 256;
-const SPACE: usize = GUARD + MOST_LENT + GUARD;
+
+/// Each entry beside the judgement gets so many inputs at least.
+#[allow(dead_code)] // where one is built
+pub const LEAST_INPUTS: u64 = 50_000;
+/// What must be met often is met so many times at least.
+pub const LEAST_TIMES: u64 = 100;
 
 /// The second judge's wrong builds run along on one input out of so many.
 const WRONG_EVERY: u64 = 6;
@@ -86,7 +91,7 @@ pub struct Run {
     family_inputs: u64,
     family_faults: u64,
     verdict: Verdict,
-    space: [u8; SPACE],
+    buffer: Vec<u8>,
     copies: (Vec<u8>, Vec<u8>),
 }
 
@@ -113,7 +118,7 @@ impl Run {
                 number: 0,
                 index: 0,
             },
-            space: [0; SPACE],
+            buffer: Vec::new(),
             copies: Default::default(),
         }
     }
@@ -158,18 +163,36 @@ impl Run {
         });
     }
 
+    /// A check that something was met so many times at least.
+    pub fn check_times(&mut self, name: String, times: u64, least: u64) {
+        self.check(name, times >= least, format!("{times}"));
+    }
+
+    /// A check for each number, by how often it was answered.
+    pub fn check_numbers(&mut self, numbers: &[u32], times: &[u64], least: u64) {
+        for number in numbers {
+            self.check_times(format!("{number}"), times[*number as usize], least);
+        }
+    }
+
+    /// A check for each name that it was met.
+    pub fn check_met(&mut self, names: &[&str], times: &[u64]) {
+        for (name, times) in names.iter().zip(times) {
+            self.check_times(name.to_string(), *times, 1);
+        }
+    }
+
+    /// A check for each wrong build of the second judge that some of the inputs told it
+    /// from the archive.
+    #[allow(dead_code)] // by entries beside the judgement, where one is built
+    pub fn check_told<B>(&mut self, builds: &[(B, &str)], times: &[u64], inputs: u64) {
+        for ((_, name), times) in builds.iter().zip(times) {
+            self.check(name.to_string(), *times > 0, format!("{times} of {inputs}"));
+        }
+    }
+
     /// Counts an input that was compared elsewhere.
-    #[cfg(any(
-        feature = "book",
-        feature = "columns",
-        feature = "desk",
-        feature = "dump",
-        feature = "families",
-        feature = "intuitive",
-        feature = "queue",
-        feature = "sheet",
-        feature = "shortfalls"
-    ))]
+    #[allow(dead_code)] // by entries beside the judgement, where one is built
     pub fn count(&mut self) {
         self.family_inputs += 1;
     }
@@ -188,21 +211,15 @@ impl Run {
 
     /// Gives both judges this input and a buffer of this length.
     pub fn feed(&mut self, case: &[u8], proposal: &[u8], lent: usize) -> Verdict {
-        self.feed_by(archive::judge, case, proposal, lent)
+        self.feed_as(case, proposal, lent, false)
     }
 
     /// As `feed`, with null pointers for what is empty.
     pub fn feed_null(&mut self, case: &[u8], proposal: &[u8], lent: usize) -> Verdict {
-        self.feed_by(archive::judge_null, case, proposal, lent)
+        self.feed_as(case, proposal, lent, true)
     }
 
-    fn feed_by(
-        &mut self,
-        theirs: fn(&[u8], &[u8], &mut [u8]) -> u64,
-        case: &[u8],
-        proposal: &[u8],
-        lent: usize,
-    ) -> Verdict {
+    fn feed_as(&mut self, case: &[u8], proposal: &[u8], lent: usize, null: bool) -> Verdict {
         self.inputs += 1;
         self.family_inputs += 1;
         // Files are never written: what they held is kept to be compared.
@@ -211,38 +228,16 @@ impl Run {
         self.copies.1.clear();
         self.copies.1.extend(proposal);
 
-        // A pattern of its own for each input, so that no byte is right by luck.
-        let mut filled = [0; SPACE];
-        for (n, byte) in filled.iter_mut().enumerate() {
-            *byte = (n as u64 * 37 + self.inputs * 101 + 11) as u8;
-        }
-        let lent = GUARD..GUARD + lent;
-        let mut their_space = filled;
-        let answer = theirs(case, proposal, &mut their_space[lent.clone()]);
-        self.space = filled;
-        self.verdict = judge(case, proposal, &mut self.space[lent.clone()]);
-
-        let ours = returned(self.verdict);
-        if answer != ours {
-            self.fault(|| {
-                let shown = |answer| format!("{} {}", answer % 256, answer / 256);
-                let files = hex_of_both(case, proposal);
-                format!(
-                    "archive {}, second judge {}\n{files}",
-                    shown(answer),
-                    shown(ours)
-                )
-            });
-        } else if their_space != self.space {
-            let at = (0..SPACE)
-                .find(|&n| their_space[n] != self.space[n])
-                .expect("they differ");
-            let (one, other) = (their_space[at], self.space[at]);
-            let at = at as i64 - GUARD as i64;
-            let files = hex_of_both(case, proposal);
-            self.fault(|| {
-                format!("byte {at} of the buffer: archive {one}, second judge {other}\n{files}")
-            });
+        let lent = Lent::bytes(MOST_LENT, self.inputs).only(lent);
+        let theirs = lent.to(|report| {
+            let returned = archive::judge_as(case, proposal, report, null);
+            archive::verdict(returned)
+        });
+        let ours = lent.to(|report| judge(case, proposal, report));
+        self.verdict = ours.answer;
+        self.buffer = ours.room().to_vec();
+        if let Some(text) = theirs.unlike(&ours) {
+            self.fault(|| text + &hex(&[("case", case), ("proposal", proposal)]));
         }
         if self.copies.0 != case || self.copies.1 != proposal {
             self.fault(|| "a file was written".into());
@@ -262,7 +257,7 @@ impl Run {
         }
         self.meet(case, proposal);
         if self.of_paper || self.inputs.is_multiple_of(WRONG_EVERY) {
-            self.try_second_wrong(case, proposal, &filled, lent, (answer, &their_space));
+            self.try_second_wrong(case, proposal, &lent, &theirs);
         }
         #[cfg(feature = "desk")]
         self.desk.feed(case, proposal);
@@ -287,8 +282,8 @@ impl Run {
 
     /// A number of the last report: five totals, then the zone prices.
     pub fn total(&self, n: usize) -> i64 {
-        let at = GUARD + 8 + 8 * n;
-        i64::from_le_bytes(self.space[at..at + 8].try_into().expect("eight bytes"))
+        let at = 8 + 8 * n;
+        i64::from_le_bytes(self.buffer[at..at + 8].try_into().expect("eight bytes"))
     }
 
     fn meet(&mut self, case: &[u8], proposal: &[u8]) {
@@ -354,9 +349,7 @@ impl Run {
             accepted && alone && bound < -LARGE,
             accepted && alone && uncovered,
         ];
-        for (count, met) in self.met.iter_mut().zip(met) {
-            *count += u64::from(met);
-        }
+        count_met(&mut self.met, &met);
     }
 
     /// Each wrong build of the second judge in place of the right one: told from
@@ -365,15 +358,13 @@ impl Run {
         &mut self,
         case: &[u8],
         proposal: &[u8],
-        filled: &[u8; SPACE],
-        lent: std::ops::Range<usize>,
-        archive: (u64, &[u8; SPACE]),
+        lent: &Lent<u8>,
+        archive: &Left<Verdict, u8>,
     ) {
         self.second_wrong_tried += u64::from(!self.of_paper);
         for (found, (build, _)) in self.second_wrong.iter_mut().zip(Build::WRONG) {
-            let mut space = *filled;
-            let verdict = judge_as(build, case, proposal, &mut space[lent.clone()]);
-            if (returned(verdict), &space) != archive {
+            let wrong = lent.to(|report| judge_as(build, case, proposal, report));
+            if wrong != *archive {
                 *(if self.of_paper {
                     &mut found.of_paper
                 } else {
@@ -384,19 +375,22 @@ impl Run {
     }
 }
 
-/// A verdict as the archive returns one.
-fn returned(verdict: Verdict) -> u64 {
-    u64::from(verdict.number) + 256 * u64::from(verdict.index)
+/// Counts those that one input met.
+pub fn count_met(counts: &mut [u64], met: &[bool]) {
+    for (count, met) in counts.iter_mut().zip(met) {
+        *count += u64::from(*met);
+    }
 }
 
-/// Both files in hexadecimal digits, unless they are too long to be read.
-fn hex_of_both(case: &[u8], proposal: &[u8]) -> String {
-    let hex = |name: &str, file: &[u8]| match file.len() {
+/// A line for each file: its name and its bytes in hexadecimal digits, unless they are
+/// too many to be read.
+pub fn hex(files: &[(&str, &[u8])]) -> String {
+    let line = |(name, file): &(&str, &[u8])| match file.len() {
         0..=400 => {
             let digits: String = file.iter().map(|byte| format!("{byte:02x}")).collect();
-            format!("  {name} {digits}")
+            format!("\n  {name} {digits}")
         }
-        length => format!("  {name} of {length} bytes"),
+        length => format!("\n  {name} of {length} bytes"),
     };
-    format!("{}\n{}", hex("case", case), hex("proposal", proposal))
+    files.iter().map(line).collect()
 }

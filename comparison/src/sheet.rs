@@ -2,17 +2,13 @@
 //! others, every limit, damaged sheets, and all the short ones.
 
 use crate::archive;
+use crate::lent::Lent;
 use crate::rng::Rng;
-use crate::run::Run;
+use crate::run::{count_met, Run, LEAST_INPUTS, LEAST_TIMES};
 use second_judge::{sheet_branches_as, OutputAnswer, SheetBuild};
 
-/// So many sheets at least, and each number at least so many times.
-const LEAST_INPUTS: u64 = 50_000;
-const LEAST_TIMES: u64 = 100;
 const NUMBERS: [u32; 7] = [0, 50, 51, 52, 53, 54, 55];
 
-/// Bytes kept on either side of the lent room, which nobody may touch.
-const GUARD: usize = 32;
 const MOST_LINES: usize = 64;
 const MOST_ZONES: usize = 16;
 /// Room for every sheet.
@@ -61,43 +57,24 @@ impl Sheets<'_> {
         self.run.count();
         self.inputs += 1;
         let copy = sheet.to_vec();
-        // A pattern of its own for each sheet, so that no byte is right by luck.
-        let filled: Vec<u8> = (0..GUARD + room + GUARD)
-            .map(|n| (n as u64 * 37 + self.inputs * 101 + 11) as u8)
-            .collect();
-        let lent = GUARD..GUARD + room;
-        let mut their_space = filled.clone();
-        let theirs = archive::sheet_branches(sheet, zones, &mut their_space[lent.clone()], null);
-        let mut space = filled.clone();
-        let build = SheetBuild::Right;
-        let ours = sheet_branches_as(build, sheet, zones, &mut space[lent.clone()]);
-
-        if theirs != ours {
-            self.fault(sheet, zones, room, || {
-                format!("archive {theirs:?}, second judge {ours:?}")
-            });
-        } else if let Some(at) = (0..space.len()).find(|&n| their_space[n] != space[n]) {
-            let (one, other) = (their_space[at], space[at]);
-            let at = at as i64 - GUARD as i64;
-            self.fault(sheet, zones, room, || {
-                format!("byte {at} of the room: archive {one}, second judge {other}")
-            });
+        let lent = Lent::bytes(room, self.inputs);
+        let second = |build, out: &mut [u8]| sheet_branches_as(build, sheet, zones, out);
+        let theirs = lent.to(|out| archive::sheet_branches(sheet, zones, out, null));
+        let ours = lent.to(|out| second(SheetBuild::Right, out));
+        if let Some(text) = theirs.unlike(&ours) {
+            self.fault(sheet, zones, room, || text);
         }
         if copy != sheet {
             self.fault(sheet, zones, room, || "the sheet was written".into());
         }
 
-        self.numbers[ours.number as usize] += 1;
-        self.meet(sheet, zones, ours);
-        for (found, (build, _)) in self.second_wrong.iter_mut().zip(SheetBuild::WRONG) {
-            let mut wrong_space = filled.clone();
-            let wrong = sheet_branches_as(build, sheet, zones, &mut wrong_space[lent.clone()]);
-            *found += u64::from(wrong != theirs || wrong_space != their_space);
-        }
-        (ours, space[lent].to_vec())
+        self.numbers[ours.answer.number as usize] += 1;
+        self.meet(sheet, zones, ours.answer);
+        lent.tell(&theirs, &SheetBuild::WRONG, &mut self.second_wrong, second);
+        (ours.answer, ours.room().to_vec())
     }
 
-    fn fault(&mut self, sheet: &[u8], zones: usize, room: usize, text: impl Fn() -> String) {
+    fn fault(&mut self, sheet: &[u8], zones: usize, room: usize, text: impl FnOnce() -> String) {
         self.run.fault(|| {
             let shown = sheet[..sheet.len().min(200)].escape_ascii();
             let length = sheet.len();
@@ -124,9 +101,7 @@ impl Sheets<'_> {
             number == 0 && sheet.is_empty() && length == 0,
             number == 0 && !sheet.is_empty() && !ended,
         ];
-        for (count, met) in self.met.iter_mut().zip(met) {
-            *count += u64::from(met);
-        }
+        count_met(&mut self.met, &met);
     }
 
     /// Feeds a made sheet, whose answer and bytes are known beforehand.
@@ -516,31 +491,14 @@ pub fn sheets(run: &mut Run, rng: &mut Rng) {
     }
     sheets.run.end();
 
-    let Sheets {
-        run,
-        inputs,
-        numbers,
-        met,
-        second_wrong,
-    } = sheets;
+    let Sheets { run, inputs, .. } = sheets;
     run.section("margin sheets, numbers, times met");
-    run.check("inputs".into(), inputs >= LEAST_INPUTS, format!("{inputs}"));
-    for number in NUMBERS {
-        let times = numbers[number as usize];
-        run.check(
-            format!("{number}"),
-            times >= LEAST_TIMES,
-            format!("{times}"),
-        );
-    }
+    run.check_times("inputs".into(), inputs, LEAST_INPUTS);
+    run.check_numbers(&NUMBERS, &sheets.numbers, LEAST_TIMES);
     run.section("margin sheets, met, times");
-    for (name, times) in MET.iter().zip(met) {
-        run.check(name.to_string(), times > 0, format!("{times}"));
-    }
+    run.check_met(&MET, &sheets.met);
     run.section("margin sheets, the second judge's wrong builds, times told from the archive");
-    for ((_, name), times) in SheetBuild::WRONG.iter().zip(second_wrong) {
-        run.check(name.to_string(), times > 0, format!("{times} of {inputs}"));
-    }
+    run.check_told(&SheetBuild::WRONG, &sheets.second_wrong, inputs);
 }
 
 /// Each limit, one on either side of it, and everything else good.

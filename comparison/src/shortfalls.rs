@@ -8,21 +8,18 @@
 //! shares, and at gap zero each is zero.
 
 use crate::archive;
-use crate::families::{good, outside};
-use crate::fields::fields;
+use crate::families::{good, one_outside};
+use crate::lent::Lent;
 use crate::make::{
     at_limits, flow_based_parts, least_ram, most_flow, optimal, pairs, random, used, version,
     zone_price, Shape,
 };
 use crate::rng::Rng;
-use crate::run::Run;
+use crate::run::{count_met, hex, Run, LEAST_INPUTS, LEAST_TIMES};
 use second_judge::hours::{stored, Branch, Hour, Link, Version};
 use second_judge::limits::{BUYS, LEAST_BUFFER, SELLS, SHADOW_PRICE, ZONE_PRICE};
 use second_judge::{shortfalls_as, OutputAnswer, Row, ShortfallBuild};
 
-/// So many inputs at least, and each number at least so many times.
-const LEAST_INPUTS: u64 = 50_000;
-const LEAST_TIMES: u64 = 100;
 /// Every number that can be answered; 30 cannot.
 const NUMBERS: [u32; 24] = [
     0, 1, 2, 3, 4, 5, 6, 7, 8, 9, 10, 11, 12, 13, 14, 15, 21, 22, 23, 24, 25, 26, 27, 86,
@@ -34,8 +31,6 @@ const LEAST_GAPS: u64 = 10_000;
 const ONE: i128 = 100_000;
 /// Cents: the widest tolerance that S-12 leaves.
 const TOLERANCE: u32 = 10_000;
-/// Numbers kept on either side of the lent room, which nobody may touch.
-const GUARD: usize = 8;
 /// The wrong builds run along on one input out of so many.
 const WRONG_EVERY: u64 = 3;
 
@@ -272,62 +267,43 @@ impl Hours<'_> {
         let copies = (case.to_vec(), proposal.to_vec());
         // A pattern of its own for each input, so that no number is right by luck.
         let salt = self.inputs.wrapping_mul(0x9E37_79B9_7F4A_7C15);
-        let filled: Vec<i64> = (0..(GUARD + room + GUARD) as u64)
-            .map(|n| (n.wrapping_mul(0xBF58_476D_1CE4_E5B9) ^ salt) as i64)
-            .collect();
-        let lent = GUARD..GUARD + room;
-        let mut their_space = filled.clone();
-        let theirs = archive::shortfalls(case, proposal, &mut their_space[lent.clone()], null);
-        let mut space = filled.clone();
-        let ours = shortfalls_as(
-            ShortfallBuild::Right,
-            case,
-            proposal,
-            &mut space[lent.clone()],
-        );
-
-        if theirs != ours {
-            self.fault(case, proposal, room, || {
-                format!("archive {theirs:?}, second judge {ours:?}")
-            });
-        } else if let Some(at) = (0..space.len()).find(|&n| their_space[n] != space[n]) {
-            let (one, other) = (their_space[at], space[at]);
-            let at = at as i64 - GUARD as i64;
-            self.fault(case, proposal, room, || {
-                format!("number {at} of the room: archive {one}, second judge {other}")
-            });
+        let lent = Lent::filled(room, |n| {
+            (n.wrapping_mul(0xBF58_476D_1CE4_E5B9) ^ salt) as i64
+        });
+        let second = |build, out: &mut [i64]| shortfalls_as(build, case, proposal, out);
+        let theirs = lent.to(|out| archive::shortfalls(case, proposal, out, null));
+        let ours = lent.to(|out| second(ShortfallBuild::Right, out));
+        if let Some(text) = theirs.unlike(&ours) {
+            self.fault(case, proposal, room, || text);
         }
         if copies.0 != case || copies.1 != proposal {
             self.fault(case, proposal, room, || "a file was written".into());
         }
-        self.held(case, proposal, &theirs, &their_space[lent.clone()]);
+        self.held(case, proposal, &theirs.answer, theirs.room());
 
-        self.numbers[ours.number as usize] += 1;
+        self.numbers[ours.answer.number as usize] += 1;
         if self.inputs.is_multiple_of(WRONG_EVERY) {
             self.wrong_tried += 1;
-            for (found, (build, _)) in self.second_wrong.iter_mut().zip(ShortfallBuild::WRONG) {
-                let mut wrong_space = filled.clone();
-                let wrong = shortfalls_as(build, case, proposal, &mut wrong_space[lent.clone()]);
-                *found += u64::from(wrong != theirs || wrong_space != their_space);
-            }
+            let wrong = &ShortfallBuild::WRONG;
+            lent.tell(&theirs, wrong, &mut self.second_wrong, second);
         }
-        (ours, space[lent].to_vec())
+        (ours.answer, ours.room().to_vec())
     }
 
     /// It judges first; what it answers with 0 keeps what is promised.
     fn held(&mut self, case: &[u8], proposal: &[u8], answer: &OutputAnswer, out: &[i64]) {
         let mut report = [0; LEAST_BUFFER];
-        let verdict = archive::judge(case, proposal, &mut report);
-        let (number, index) = (verdict % 256, verdict / 256);
+        let returned = archive::judge(case, proposal, &mut report);
+        let files = Files {
+            case,
+            proposal,
+            report: &report,
+        };
+        let (number, index) = (returned % 256, returned / 256);
         let answered = (u64::from(answer.number), answer.index, answer.length);
         let due = match number {
             0 => {
-                let [_, branches, links, orders] = Files {
-                    case,
-                    proposal,
-                    report: &report,
-                }
-                .counts();
+                let [_, branches, links, orders] = files.counts();
                 let length = 2 * (orders + branches + links) as u64;
                 match (out.len() as u64) < length {
                     true => (86, 0, 0),
@@ -345,28 +321,17 @@ impl Hours<'_> {
         if due.0 != 0 {
             return;
         }
-        let files = Files {
-            case,
-            proposal,
-            report: &report,
-        };
         let Answered { fault, met } = files.held(&out[..due.2 as usize]);
-        for (count, met) in self.met.iter_mut().zip(met) {
-            *count += u64::from(met);
-        }
+        count_met(&mut self.met, &met);
         if let Some(words) = fault {
-            self.fault(case, proposal, out.len(), || words.clone());
+            self.fault(case, proposal, out.len(), || words);
         }
     }
 
-    fn fault(&mut self, case: &[u8], proposal: &[u8], room: usize, text: impl Fn() -> String) {
-        let hex = |file: &[u8]| -> String { file.iter().map(|b| format!("{b:02x}")).collect() };
+    fn fault(&mut self, case: &[u8], proposal: &[u8], room: usize, text: impl FnOnce() -> String) {
         self.run.fault(|| {
-            let (case, proposal) = (hex(case), hex(proposal));
-            format!(
-                "{}\n  room {room}\n  case {case}\n  proposal {proposal}",
-                text()
-            )
+            let files = hex(&[("case", case), ("proposal", proposal)]);
+            format!("{}\n  room {room}{files}", text())
         });
     }
 
@@ -599,32 +564,21 @@ pub fn hours(run: &mut Run, rng: &mut Rng) {
     refused(&mut hours, rng);
     largest(&mut hours, rng);
 
-    let Hours {
-        run,
-        inputs,
-        numbers,
-        met,
-        wrong_tried,
-        second_wrong,
-    } = hours;
+    let run = hours.run;
     run.section("shortfalls, numbers, times met");
-    let enough = inputs >= LEAST_INPUTS;
-    run.check("inputs".into(), enough, format!("{inputs}"));
-    for number in NUMBERS {
-        let times = numbers[number as usize];
-        let enough = times >= LEAST_TIMES;
-        run.check(format!("{number}"), enough, format!("{times}"));
-    }
+    run.check_times("inputs".into(), hours.inputs, LEAST_INPUTS);
+    run.check_numbers(&NUMBERS, &hours.numbers, LEAST_TIMES);
     run.section("shortfalls of accepted hours, met, times");
-    for (n, (name, times)) in MET.iter().zip(met).enumerate() {
+    for (n, (name, times)) in MET.iter().zip(hours.met).enumerate() {
         let least = if n == 1 { LEAST_GAPS } else { 1 };
-        run.check(name.to_string(), times >= least, format!("{times}"));
+        run.check_times(name.to_string(), times, least);
     }
     run.section("shortfalls, the second judge's wrong builds, times told from the archive");
-    for ((_, name), times) in ShortfallBuild::WRONG.iter().zip(second_wrong) {
-        let note = format!("{times} of {wrong_tried}");
-        run.check(name.to_string(), times > 0, note);
-    }
+    run.check_told(
+        &ShortfallBuild::WRONG,
+        &hours.second_wrong,
+        hours.wrong_tried,
+    );
 }
 
 /// The hours that the paper names, and P1 and P3 a 125th as large.
@@ -659,10 +613,7 @@ fn gap_zero(hours: &mut Hours, rng: &mut Rng) {
 fn gaps(hours: &mut Hours, rng: &mut Rng) {
     hours.run.begin("a little off");
     for _ in 0..26_000 {
-        let shape = match rng.below(12) {
-            0 => Shape::any(rng),
-            _ => Shape::small(rng),
-        };
+        let shape = Shape::mostly_small(rng, 12);
         let mut hour = near(rng, shape);
         if rng.one_in(6) {
             hour.tolerance = tolerance(rng);
@@ -931,15 +882,9 @@ fn refused(hours: &mut Hours, rng: &mut Rng) {
         let hour = good(rng, shape);
         let hour = to_refuse(rng, hour);
         let (mut case, mut proposal) = (hour.case(), hour.proposal());
-        let mut list = fields(&hour);
         // Each number as often as the others, whatever the rows.
         let number = rng.pick(&[2, 3, 4, 6, 7, 8, 10, 11, 13, 14, 21, 23]);
-        list.retain(|field| field.number == number);
-        if list.is_empty() {
-            continue;
-        }
-        let field = rng.pick(&list);
-        let Some(value) = outside(rng, &field) else {
+        let Some((field, value)) = one_outside(rng, &hour, |field| field.number == number) else {
             continue;
         };
         made += 1;

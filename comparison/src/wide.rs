@@ -1,8 +1,8 @@
 //! Wide tolerances retired (S-12): hours with tolerances about 10,000 cents and far
 //! above, alone and beside each other cause, and gaps about 10,000 cents.
 
-use crate::families::{enough, good, outside};
-use crate::fields::{fields, Field};
+use crate::families::{enough, good, hour_and_gap, one_outside};
+use crate::fields::Field;
 use crate::make::{narrow, random, version, wide, Shape, GAP};
 use crate::offsets::at_least;
 use crate::rng::Rng;
@@ -53,15 +53,9 @@ pub fn hours(run: &mut Run, rng: &mut Rng) {
 
 /// A good hour at tolerances on either side of the widest that is judged.
 fn about_the_widest(run: &mut Run, rng: &mut Rng, met: &mut [u64; MET.len()]) {
-    let shape = Shape::any(rng);
-    let mut hour = good(rng, shape);
-    hour.tolerance = 0;
-    let verdict = run.feed(&hour.case(), &hour.proposal(), enough(rng));
-    if verdict.number != 0 && verdict.number != 26 {
-        run.fault(|| format!("{verdict:?} for an hour that breaks no rule"));
+    let Some((mut hour, gap)) = hour_and_gap(run, rng) else {
         return;
-    }
-    let gap = run.total(GAP);
+    };
     let any = [narrow(rng), wide(rng)];
     for tolerance in [9_999, 10_000, 10_001, 1_000_000_000, 1_000_000_001]
         .into_iter()
@@ -97,17 +91,13 @@ fn another_cause(run: &mut Run, rng: &mut Rng, met: &mut [u64; MET.len()]) {
     let (mut case, mut proposal) = (hour.case(), hour.proposal());
     if rng.one_in(2) {
         let numbers = rng.pick(&[(2, 8), (6, 8), (10, 14), (14, 14), (21, 23)]);
-        let mut list: Vec<Field> = fields(&hour);
         // The tolerance itself is put below.
-        list.retain(|field| {
+        let such = |field: &Field| {
             (numbers.0..=numbers.1).contains(&field.number)
                 && (field.number, field.index) != (4, 10)
-        });
-        if !list.is_empty() {
-            let field = rng.pick(&list);
-            if let Some(value) = outside(rng, &field) {
-                field.put(&mut case, &mut proposal, value);
-            }
+        };
+        if let Some((field, value)) = one_outside(rng, &hour, such) {
+            field.put(&mut case, &mut proposal, value);
         }
     }
     let free = run.feed(&case, &proposal, enough(rng));

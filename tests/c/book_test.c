@@ -34,9 +34,9 @@ static bool is(struct lta_surplus a, uint32_t number, uint32_t index, int64_t su
 static void answered(const struct book *b, uint32_t number, uint32_t index, int64_t sum)
 {
     bool ok = true;
-    for (unsigned k = 0; k < PLACES * PLACES && ok; k++) {
-        const struct lta_order *rows = lend(row_arena, k % PLACES, b->row, b->rows * sizeof *b->row);
-        const int64_t *prices = lend(price_arena, k / PLACES, b->price, b->prices * sizeof *b->price);
+    for (unsigned way = 0; way < WAYS(2) && ok; way++) {
+        const struct lta_order *rows = lend(row_arena, place_of(way, 0), b->row, b->rows * sizeof *b->row);
+        const int64_t *prices = lend(price_arena, place_of(way, 1), b->price, b->prices * sizeof *b->price);
         ok = is(lta_book_surplus(rows, b->rows, prices, b->prices), number, index, sum);
     }
     check(ok);
@@ -178,7 +178,7 @@ static void refusals(void)
         {"price -50,001", 3, {0, LTA_BUYS, 1, -50001}, false},
         {"the least price", 3, {0, LTA_BUYS, 1, INT32_MIN}, false},
     };
-    for (size_t k = 0; k < sizeof rows / sizeof *rows; k++) {
+    for (size_t k = 0; k < COUNT(rows); k++) {
         /* rows without a surplus at a price of 2,000 cents */
         b = rows_alike(5, (struct lta_order){0, LTA_BUYS, 1, 0}, cents(2000));
         b.prices = 3;
@@ -187,27 +187,15 @@ static void refusals(void)
         answered(&b, rows[k].taken ? 0 : LTA_CASE_ORDER, rows[k].taken ? 0 : (uint32_t)rows[k].row, 0);
     }
 
-    static const struct {
-        const char *name;
-        int64_t price;
-        bool taken;
-    } prices[] = {
-        {"a zone price at its ceiling", INT64_C(40000000000), true},
-        {"a zone price a grain above its ceiling", INT64_C(40000000001), false},
-        {"the greatest zone price", INT64_MAX, false},
-        {"a zone price at its floor", INT64_C(-5000000000), true},
-        {"a zone price a grain below its floor", INT64_C(-5000000001), false},
-        {"the least zone price", INT64_MIN, false},
-    };
-    for (size_t k = 0; k < sizeof prices / sizeof *prices; k++) {
+    for (const struct price_limit *limit = price_limits; limit < price_limits + PRICE_LIMITS; limit++) {
         b = three_zone_book();
         b.rows = 0;
-        b.price[1] = prices[k].price;
-        about("%s, with no row", prices[k].name);
-        answered(&b, prices[k].taken ? 0 : LTA_ZONE_PRICE, prices[k].taken ? 0 : 1, 0);
-        b = rows_alike(1, (struct lta_order){0, LTA_SELLS, 1, 400000}, prices[k].price);
-        about("%s, at a row's zone", prices[k].name);
-        answered(&b, prices[k].taken ? 0 : LTA_ZONE_PRICE, 0, 0);
+        b.price[1] = limit->price;
+        about("%s, with no row", limit->name);
+        answered(&b, limit->taken ? 0 : LTA_ZONE_PRICE, limit->taken ? 0 : 1, 0);
+        b = rows_alike(1, (struct lta_order){0, LTA_SELLS, 1, 400000}, limit->price);
+        about("%s, at a row's zone", limit->name);
+        answered(&b, limit->taken ? 0 : LTA_ZONE_PRICE, 0, 0);
     }
 }
 
@@ -268,9 +256,9 @@ static void refused_unread(size_t rows, size_t prices, uint32_t index)
 {
     struct book b = three_zone_book();
     bool ok = true;
-    for (unsigned k = 0; k < PLACES * PLACES && ok; k++) {
-        const struct lta_order *nowhere = lend(row_arena, k % PLACES, b.row, 0);
-        const int64_t *lent = lend(price_arena, k / PLACES, b.price, prices * sizeof *b.price);
+    for (unsigned way = 0; way < WAYS(2) && ok; way++) {
+        const struct lta_order *nowhere = lend(row_arena, place_of(way, 0), b.row, 0);
+        const int64_t *lent = lend(price_arena, place_of(way, 1), b.price, prices * sizeof *b.price);
         ok = unreadable((const uint8_t *)nowhere) && is(lta_book_surplus(nowhere, rows, lent, prices), LTA_CASE_HEADER, index, 0);
     }
     check(ok);

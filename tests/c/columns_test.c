@@ -22,25 +22,19 @@ typedef struct lta_written entry(const uint8_t *, size_t, uint8_t *, size_t);
 static struct arena file_arena, out_arena;
 static const char *sample_case, *sample_columned;
 
-static bool is(struct lta_written a, uint32_t number, uint64_t length)
-{
-    bool ok = a.number == number && a.index == 0 && a.length == length;
-    if (!ok)
-        wrong("number %" PRIu32 " index %" PRIu64 " length %" PRIu64 ", and should be %" PRIu32 ", 0 and %" PRIu64, a.number, a.index,
-              a.length, number, length);
-    return ok;
-}
+/* Neither entry names an index. */
+static bool is(struct lta_written a, uint32_t number, uint64_t length) { return is_written(a, number, 0, length); }
 
 /* The answer, and the output's bytes, with both arguments at each of their places. */
 static void answered(entry *call, const struct file *f, size_t room, uint32_t number, const struct file *due)
 {
     bool ok = true;
-    for (unsigned k = 0; k < PLACES * PLACES && ok; k++) {
-        enum place file_place = k % PLACES, out_place = k / PLACES;
-        const uint8_t *bytes = lend(file_arena, file_place, f->bytes, f->length);
-        uint8_t *out = lend_room(out_arena, out_place, room);
+    for (unsigned way = 0; way < WAYS(2) && ok; way++) {
+        enum place place = place_of(way, 1);
+        const uint8_t *bytes = lend(file_arena, place_of(way, 0), f->bytes, f->length);
+        uint8_t *out = lend_room(out_arena, place, room);
         ok = is(call(bytes, f->length, out, room), number, due->length);
-        ok = holds(out_arena, out_place, room, due->bytes, due->length) && ok;
+        ok = holds(out_arena, place, room, due->bytes, due->length) && ok;
     }
     check(ok);
 }
@@ -93,27 +87,14 @@ static void layout(void)
     check(LTA_COLUMN_FILE == 71 && LTA_COLUMN_NO_ROOM == 72 && LTA_CASE_ROOM == CASE_ROOM);
 }
 
-static struct file read_file(const char *name)
-{
-    struct file f = {0};
-    FILE *file = fopen(name, "rb");
-    about("%s can be read", name);
-    check(file != NULL);
-    if (file != NULL) {
-        f.length = fread(f.bytes, 1, sizeof f.bytes, file);
-        fclose(file);
-    }
-    return f;
-}
-
 static void samples(void)
 {
     struct hour h = three_zone_hour();
     struct file c = case_file(&h), k = columned_file(&h), sample = read_file(sample_case), columns = read_file(sample_columned);
     about("the sample's case is P1's");
-    check(sample.length == c.length && memcmp(sample.bytes, c.bytes, c.length) == 0);
+    check(same_file(&sample, &c));
     about("the sample's columned file is its columns");
-    check(columns.length == k.length && memcmp(columns.bytes, k.bytes, k.length) == 0);
+    check(same_file(&columns, &k));
     /* its first column is the zones of its five orders, its second their sides */
     size_t at = k.length - ORDER_SIZE * h.orders;
     about("the sample's zones and sides");
@@ -124,13 +105,13 @@ static void samples(void)
 static void hours(void)
 {
     struct hour all[] = {three_zone_hour(), contracted_hour(), flow_based_hour(), unused_link_hour(), one_zone_hour(), negative_hour()};
-    for (size_t n = 0; n < sizeof all / sizeof *all; n++) {
+    for (size_t n = 0; n < COUNT(all); n++) {
         about("hour %zu and back", n);
         there_and_back(&all[n]);
     }
     /* request S-12: wide tolerances are columned and restored, and judged no more */
     static const uint32_t tolerances[] = {10000, 10001, 1000000000};
-    for (size_t n = 0; n < sizeof tolerances / sizeof *tolerances; n++) {
+    for (size_t n = 0; n < COUNT(tolerances); n++) {
         struct hour h = three_zone_hour();
         h.tolerance = tolerances[n];
         about("a tolerance of %" PRIu32, tolerances[n]);
@@ -170,7 +151,7 @@ static void causes(void)
         uint64_t value;
     } header[] = {{3, 2, 0}, {3, 2, 3}, {3, 2, 1}, {5, 1, 0}, {5, 1, 17}, {5, 1, 4}, {6, 1, 65}, {7, 1, 65}, {7, 1, 2},
                   {8, 2, 513}, {8, 2, 65535}, {8, 2, 4}, {8, 2, 0}, {10, 4, 1000000001}};
-    for (size_t n = 0; n < sizeof header / sizeof *header; n++) {
+    for (size_t n = 0; n < COUNT(header); n++) {
         about("%" PRIu64 " at %zu", header[n].value, header[n].at);
         other = c;
         put(&other, header[n].at, header[n].width, header[n].value);

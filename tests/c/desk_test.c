@@ -8,7 +8,6 @@
 #include "hours.h"
 #include "lta_judgement.h"
 
-#include <inttypes.h>
 #include <stdio.h>
 #include <string.h>
 
@@ -54,26 +53,20 @@ static const char largest_lines[] =
     "price 14 0.0000000\n"
     "price 15 0.0000000\n";
 
-static bool answers(struct lta_written answer, uint32_t number, size_t length)
-{
-    if (answer.number == number && answer.index == 0 && answer.length == length)
-        return true;
-    wrong("number %" PRIu32 ", index %" PRIu64 ", %" PRIu64 " bytes, and should be %" PRIu32 ", 0, %zu", answer.number, answer.index,
-          answer.length, number, length);
-    return false;
-}
+/* The entry names no index. */
+static bool is(struct lta_written answer, uint32_t number, size_t length) { return is_written(answer, number, 0, length); }
 
 /* The answer, and the output's bytes, with both arguments at each of their places. */
 static void answered_in(size_t room, const struct file *input, uint32_t number, const char *text)
 {
     bool ok = true;
-    for (unsigned k = 0; k < PLACES * PLACES && ok; k++) {
-        enum place input_place = k % PLACES, out_place = k / PLACES;
-        const uint8_t *bytes = lend(input_arena, input_place, input->bytes, input->length);
-        uint8_t *out = lend_room(out_arena, out_place, room);
+    for (unsigned way = 0; way < WAYS(2) && ok; way++) {
+        enum place place = place_of(way, 1);
+        const uint8_t *bytes = lend(input_arena, place_of(way, 0), input->bytes, input->length);
+        uint8_t *out = lend_room(out_arena, place, room);
         struct lta_written answer = lta_desk_lines(bytes, input->length, out, room);
-        ok = answers(answer, number, strlen(text));
-        ok = holds(out_arena, out_place, room, (const uint8_t *)text, strlen(text)) && ok;
+        ok = is(answer, number, strlen(text));
+        ok = holds(out_arena, place, room, (const uint8_t *)text, strlen(text)) && ok;
         if (!ok)
             wrong("it is: %.*s", (int)(answer.length < room ? answer.length : room), (const char *)out);
     }
@@ -274,7 +267,7 @@ static void rooms(void)
 {
     static const size_t rooms[] = {0, 1, 11, 12, LTA_REPORT_ROOM, LTA_DESK_ROOM - 1, LTA_DESK_ROOM, LTA_DESK_ROOM + 1, 4096};
     struct file none = {0};
-    for (size_t k = 0; k < sizeof rooms / sizeof *rooms; k++) {
+    for (size_t k = 0; k < COUNT(rooms); k++) {
         about("the sample, with an output of %zu bytes", rooms[k]);
         printed_or_refused(rooms[k], &sample, three_zone_lines);
         about("empty input, with an output of %zu bytes", rooms[k]);
@@ -289,11 +282,11 @@ static void nulls(void)
     const uint8_t *bytes = lend(input_arena, AT_END, sample.bytes, sample.length);
     uint8_t *out = lend_room(out_arena, AT_END, ROOM);
     about("null for the output");
-    check(answers(lta_desk_lines(bytes, sample.length, NULL, 0), 31, 0));
+    check(is(lta_desk_lines(bytes, sample.length, NULL, 0), 31, 0));
     about("null for both");
-    check(answers(lta_desk_lines(NULL, 0, NULL, 0), 31, 0));
+    check(is(lta_desk_lines(NULL, 0, NULL, 0), 31, 0));
     about("null for the input");
-    check(answers(lta_desk_lines(NULL, 0, out, ROOM), 0, 12) && holds(out_arena, AT_END, ROOM, (const uint8_t *)"verdict 1 0\n", 12));
+    check(is(lta_desk_lines(NULL, 0, out, ROOM), 0, 12) && holds(out_arena, AT_END, ROOM, (const uint8_t *)"verdict 1 0\n", 12));
 }
 
 static struct {
@@ -310,18 +303,7 @@ static void small_stack(void)
     call.input = input_of(&h);
     about("the largest hour on a stack of %d bytes", STACK_ENOUGH);
     on_stack(STACK_ENOUGH, call_lines);
-    check(answers(call.answer, 0, strlen(largest_lines)) && memcmp(call.out, largest_lines, strlen(largest_lines)) == 0);
-}
-
-static void append_file(struct file *f, const char *name)
-{
-    FILE *file = fopen(name, "rb");
-    if (file == NULL) {
-        perror(name);
-        return;
-    }
-    f->length += fread(f->bytes + f->length, 1, sizeof f->bytes - f->length, file);
-    fclose(file);
+    check(is(call.answer, 0, strlen(largest_lines)) && memcmp(call.out, largest_lines, strlen(largest_lines)) == 0);
 }
 
 int main(int count, char **words)
@@ -330,8 +312,8 @@ int main(int count, char **words)
         fprintf(stderr, "usage: desk_test CASE PROPOSAL\n");
         return 2;
     }
-    append_file(&sample, words[1]);
-    append_file(&sample, words[2]);
+    append_stored(&sample, words[1]);
+    append_stored(&sample, words[2]);
     input_arena = arena(sizeof sample.bytes);
     out_arena = arena(4096);
 

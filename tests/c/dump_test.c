@@ -48,27 +48,17 @@ static struct file dump_of(size_t count, const double *value)
     return f;
 }
 
-static bool is(struct lta_written a, uint32_t number, uint64_t index, uint64_t length)
-{
-    bool ok = a.number == number && a.index == index && a.length == length;
-    if (!ok)
-        wrong("number %" PRIu32 " index %" PRIu64 " length %" PRIu64 ", and should be %" PRIu32 ", %" PRIu64 " and %" PRIu64,
-              a.number, a.index, a.length, number, index, length);
-    return ok;
-}
-
 /* The answer, and the output's bytes, with all arguments at each of their places. */
 static void answered(const struct file *c, const struct file *d, size_t room, uint32_t number, uint64_t index, const struct file *proposal)
 {
     bool ok = true;
-    for (unsigned k = 0; k < PLACES * PLACES * PLACES && ok; k++) {
-        enum place case_place = k % PLACES, dump_place = k / PLACES % PLACES, out_place = k / PLACES / PLACES;
-        const uint8_t *case_bytes = lend(case_arena, case_place, c->bytes, c->length);
-        const uint8_t *dump = lend(dump_arena, dump_place, d->bytes, d->length);
-        uint8_t *out = lend_room(out_arena, out_place, room);
-        struct lta_written a = lta_dump_proposal(case_bytes, c->length, dump, d->length, out, room);
-        ok = is(a, number, index, proposal->length);
-        ok = holds(out_arena, out_place, room, proposal->bytes, proposal->length) && ok;
+    for (unsigned way = 0; way < WAYS(3) && ok; way++) {
+        enum place place = place_of(way, 2);
+        const uint8_t *case_bytes = lend(case_arena, place_of(way, 0), c->bytes, c->length);
+        const uint8_t *dump = lend(dump_arena, place_of(way, 1), d->bytes, d->length);
+        uint8_t *out = lend_room(out_arena, place, room);
+        ok = is_written(lta_dump_proposal(case_bytes, c->length, dump, d->length, out, room), number, index, proposal->length);
+        ok = holds(out_arena, place, room, proposal->bytes, proposal->length) && ok;
     }
     check(ok);
 }
@@ -133,19 +123,6 @@ static void layout(void)
           && LTA_DUMP_SIZE(512, 64, 64) == DUMP_ROOM);
 }
 
-static struct file read_file(const char *name)
-{
-    struct file f = {0};
-    FILE *file = fopen(name, "rb");
-    about("%s can be read", name);
-    check(file != NULL);
-    if (file != NULL) {
-        f.length = fread(f.bytes, 1, sizeof f.bytes, file);
-        fclose(file);
-    }
-    return f;
-}
-
 /* The three-zone hour as a dump gives P1's proposal, which is accepted. */
 static void three_zones(void)
 {
@@ -153,8 +130,7 @@ static void three_zones(void)
     struct file c = case_file(&h), c2 = case_file(&two), p = proposal_file(&h);
     struct file sample = read_file(sample_case), d = read_file(sample_dump), given = read_file(sample_proposal);
     about("the sample's case and proposal are P1's");
-    check(sample.length == c.length && memcmp(sample.bytes, c.bytes, c.length) == 0 && given.length == p.length
-          && memcmp(given.bytes, p.bytes, p.length) == 0);
+    check(same_file(&sample, &c) && same_file(&given, &p));
     about("the sample dump");
     answered(&c, &d, ROOM, 0, 0, &p);
     about("the sample dump, for the case of version 2");
@@ -257,7 +233,7 @@ static void not_finite(void)
         0x7ff0000000000000, 0xfff0000000000000, 0x7ff0000000000001, 0xfff0000000000001, 0x7ff7ffffffffffff, 0x7ff8000000000000,
         0xfff8000000000000, 0x7ffdeadbeef00000, 0x7fffffffffffffff, 0xffffffffffffffff,
     };
-    for (size_t k = 0; k < sizeof patterns / sizeof *patterns; k++)
+    for (size_t k = 0; k < COUNT(patterns); k++)
         for (size_t place = 0; place < PLACES_OF_EACH; place++)
             is_refused(place, patterns[k], LTA_DUMP_NOT_FINITE);
 }
@@ -365,7 +341,7 @@ static void one_array(void)
         const uint8_t *all = lend(case_arena, AT_START, joined.bytes, joined.length);
         uint8_t *out = lend_room(out_arena, AT_END, ROOM);
         about("case and dump in one array, from byte %zu on", offset);
-        check(is(lta_dump_proposal(all + offset, c.length, all + offset + c.length, d.length, out, ROOM), 0, 0, p.length)
+        check(is_written(lta_dump_proposal(all + offset, c.length, all + offset + c.length, d.length, out, ROOM), 0, 0, p.length)
               && holds(out_arena, AT_END, ROOM, p.bytes, p.length));
     }
     /* the last two bytes of a case of no rows, which are zero, are the first of its dump */
@@ -377,7 +353,7 @@ static void one_array(void)
     uint8_t *out = lend_room(out_arena, AT_END, ROOM);
     about("a dump that begins within the case");
     p = proposal_file(&(struct hour){.version = 1, .zones = 1});
-    check(is(lta_dump_proposal(all, c.length, all + c.length - 2, 16, out, ROOM), 0, 0, 13) && holds(out_arena, AT_END, ROOM, p.bytes, 13));
+    check(is_written(lta_dump_proposal(all, c.length, all + c.length - 2, 16, out, ROOM), 0, 0, 13) && holds(out_arena, AT_END, ROOM, p.bytes, 13));
 }
 
 /* A null pointer where the length is 0. */
@@ -389,13 +365,13 @@ static void nulls(void)
         const uint8_t *case_bytes = lend(case_arena, k, c.bytes, c.length), *dump = lend(dump_arena, k, d.bytes, d.length);
         uint8_t *out = lend_room(out_arena, k, ROOM);
         about("null for the case");
-        check(is(lta_dump_proposal(NULL, 0, dump, d.length, out, ROOM), LTA_DUMP_CASE, LTA_CASE_SHORT, 0));
+        check(is_written(lta_dump_proposal(NULL, 0, dump, d.length, out, ROOM), LTA_DUMP_CASE, LTA_CASE_SHORT, 0));
         about("null for the dump");
-        check(is(lta_dump_proposal(case_bytes, c.length, NULL, 0, out, ROOM), LTA_DUMP_LENGTH, 0, 0));
+        check(is_written(lta_dump_proposal(case_bytes, c.length, NULL, 0, out, ROOM), LTA_DUMP_LENGTH, 0, 0));
         about("null for the output");
-        check(is(lta_dump_proposal(case_bytes, c.length, dump, d.length, NULL, 0), LTA_DUMP_NO_ROOM, 0, 0));
+        check(is_written(lta_dump_proposal(case_bytes, c.length, dump, d.length, NULL, 0), LTA_DUMP_NO_ROOM, 0, 0));
         about("null for all");
-        check(is(lta_dump_proposal(NULL, 0, NULL, 0, NULL, 0), LTA_DUMP_CASE, LTA_CASE_SHORT, 0));
+        check(is_written(lta_dump_proposal(NULL, 0, NULL, 0, NULL, 0), LTA_DUMP_CASE, LTA_CASE_SHORT, 0));
         about("null, and something was written");
         check(holds(out_arena, k, ROOM, NULL, 0));
     }
@@ -450,7 +426,7 @@ static void largest(void)
     call.dump = largest_dump(&h);
     about("the largest hour on a stack of %d bytes", STACK_ENOUGH);
     on_stack(STACK_ENOUGH, call_proposal);
-    check(is(call.answer, 0, 0, LTA_PROPOSAL_ROOM) && memcmp(call.out, p.bytes, p.length) == 0);
+    check(is_written(call.answer, 0, 0, LTA_PROPOSAL_ROOM) && memcmp(call.out, p.bytes, p.length) == 0);
 }
 
 int main(int count, char **words)

@@ -21,25 +21,23 @@
 static struct arena case_arena, proposal_arena, list_arena, report_arena;
 static const char *sample_case, *sample_proposal, *sample_families;
 
+/* Of P1's five orders none leans on another; and what the sample list says. */
+static const uint16_t none[5] = {NONE, NONE, NONE, NONE, NONE}, sample_parents[5] = {NONE, 0, NONE, 2, 2};
+
 /* The verdict, and the report buffer's bytes, with the four arguments at each of their places. */
 static void judged(const struct file *c, const struct file *p, const struct file *f, size_t room, uint32_t number, uint32_t index,
                    const struct file *report)
 {
     bool ok = true;
-    for (unsigned k = 0; k < PLACES * PLACES * PLACES * PLACES && ok; k++) {
-        enum place case_place = k % PLACES, proposal_place = k / PLACES % PLACES;
-        enum place list_place = k / PLACES / PLACES % PLACES, report_place = k / PLACES / PLACES / PLACES;
-        const uint8_t *case_bytes = lend(case_arena, case_place, c->bytes, c->length);
-        const uint8_t *proposal = lend(proposal_arena, proposal_place, p->bytes, p->length);
-        const uint8_t *list = lend(list_arena, list_place, f->bytes, f->length);
-        uint8_t *buffer = lend_room(report_arena, report_place, room);
+    for (unsigned way = 0; way < WAYS(4) && ok; way++) {
+        enum place place = place_of(way, 3);
+        const uint8_t *case_bytes = lend(case_arena, place_of(way, 0), c->bytes, c->length);
+        const uint8_t *proposal = lend(proposal_arena, place_of(way, 1), p->bytes, p->length);
+        const uint8_t *list = lend(list_arena, place_of(way, 2), f->bytes, f->length);
+        uint8_t *buffer = lend_room(report_arena, place, room);
         uint64_t verdict = lta_judge_families(case_bytes, c->length, proposal, p->length, list, f->length, buffer, room);
-        if (verdict != number + 256 * (uint64_t)index) {
-            wrong("verdict %" PRIu32 " index %" PRIu32 ", and should be %" PRIu32 " index %" PRIu32,
-                  LTA_NUMBER(verdict), LTA_INDEX(verdict), number, index);
-            ok = false;
-        }
-        ok = holds(report_arena, report_place, room, report->bytes, report->length) && ok;
+        ok = is_verdict(verdict, number, index);
+        ok = holds(report_arena, place, room, report->bytes, report->length) && ok;
     }
     check(ok);
 }
@@ -73,19 +71,6 @@ static void reported(const struct hour *h, const uint16_t *parent, uint8_t numbe
     judged(&c, &p, &f, ROOM, number, 0, &report);
 }
 
-static struct file read_file(const char *name)
-{
-    struct file f = {0};
-    FILE *file = fopen(name, "rb");
-    about("%s can be read", name);
-    check(file != NULL);
-    if (file != NULL) {
-        f.length = fread(f.bytes, 1, sizeof f.bytes, file);
-        fclose(file);
-    }
-    return f;
-}
-
 static void constants(void)
 {
     about("the numbers that the header names");
@@ -97,11 +82,10 @@ static void constants(void)
 
 static void sample(void)
 {
-    const uint16_t parent[5] = {NONE, 0, NONE, 2, 2};
     struct hour h = three_zone_hour();
-    struct file c = read_file(sample_case), p = read_file(sample_proposal), f = read_file(sample_families), due = list_file(parent, 5);
+    struct file c = read_file(sample_case), p = read_file(sample_proposal), f = read_file(sample_families), due = list_file(sample_parents, 5);
     about("the sample's family list is the one described");
-    check(f.length == due.length && memcmp(f.bytes, due.bytes, due.length) == 0);
+    check(same_file(&f, &due));
     struct file report = report_file(LTA_ACCEPTED, h.zones, three_zone_totals());
     about("the sample hour with its families");
     judged(&c, &p, &f, ROOM, LTA_ACCEPTED, 0, &report);
@@ -128,7 +112,6 @@ static void each_parent(void)
     const uint16_t two[5] = {NONE, NONE, 1, NONE, 1};
     about("two children ahead of their parent: the first is named");
     refused(&h, two, LTA_FAMILY_FRACTION, 2);
-    const uint16_t none[5] = {NONE, NONE, NONE, NONE, NONE};
     struct hour over = unused_link_hour();
     about("P3 with a list without parents");
     reported(&over, none, LTA_GAP_ABOVE_TOLERANCE, unused_link_totals());
@@ -177,7 +160,7 @@ static void fractions(void)
         {100000, 100000, 100000, 100000, false},
     };
     const uint16_t parent[4] = {1, NONE, NONE, NONE};
-    for (size_t k = 0; k < sizeof all / sizeof *all; k++) {
+    for (size_t k = 0; k < COUNT(all); k++) {
         struct hour h = two_buys(all[k].volume, all[k].quantity, all[k].parent_volume, all[k].parent_quantity);
         about("%" PRIu32 " of %" PRIu32 " under %" PRIu32 " of %" PRIu32, all[k].volume, all[k].quantity, all[k].parent_volume,
               all[k].parent_quantity);
@@ -193,7 +176,6 @@ static void fractions(void)
 /* Mark, version and length, each of a list that is good otherwise. */
 static void lists(void)
 {
-    const uint16_t none[5] = {NONE, NONE, NONE, NONE, NONE};
     struct hour h = three_zone_hour();
     struct file good = list_file(none, 5), f;
     for (size_t at = 0; at < 3; at++) {
@@ -203,7 +185,7 @@ static void lists(void)
         refused_list(&h, &f, LTA_FAMILY_LIST, 0);
     }
     static const uint16_t versions[] = {0, 2, 256, 257, 65535};
-    for (size_t k = 0; k < sizeof versions / sizeof *versions; k++) {
+    for (size_t k = 0; k < COUNT(versions); k++) {
         f = good;
         put(&f, 3, 2, versions[k]);
         about("version %u", versions[k]);
@@ -234,7 +216,7 @@ static void parents(void)
 {
     static const uint16_t past[] = {5, 6, 255, 256, 260, 512, 32768, 65534};
     struct hour h = three_zone_hour();
-    for (size_t k = 0; k < sizeof past / sizeof *past; k++)
+    for (size_t k = 0; k < COUNT(past); k++)
         for (uint32_t child = 0; child < 5; child++) {
             uint16_t parent[5] = {NONE, NONE, NONE, NONE, NONE};
             parent[child] = past[k];
@@ -266,13 +248,13 @@ static void circles(void)
         {"everything leads to one that is its own parent", {2, 2, 2, 2, 2}, 2},
     };
     struct hour h = three_zone_hour();
-    for (size_t k = 0; k < sizeof all / sizeof *all; k++) {
+    for (size_t k = 0; k < COUNT(all); k++) {
         about("%s", all[k].name);
         refused(&h, all[k].parent, LTA_FAMILY_CIRCLE, all[k].index);
     }
     h = largest_hour(1, 0);
     static const uint16_t sizes[] = {1, 2, 3, 255, 256, 257, 511, 512};
-    for (size_t k = 0; k < sizeof sizes / sizeof *sizes; k++) {
+    for (size_t k = 0; k < COUNT(sizes); k++) {
         /* the last orders are the circle, and each order before it leads to the next */
         uint16_t parent[ORDERS], first = (uint16_t)(ORDERS - sizes[k]);
         for (uint16_t i = 0; i < ORDERS; i++)
@@ -285,7 +267,7 @@ static void circles(void)
 /* What is asked first is answered. */
 static void order_of_causes(void)
 {
-    const uint16_t circle[5] = {0, NONE, NONE, NONE, NONE}, ahead[5] = {NONE, NONE, NONE, NONE, 1}, none[5] = {NONE, NONE, NONE, NONE, NONE};
+    const uint16_t circle[5] = {0, NONE, NONE, NONE, NONE}, ahead[5] = {NONE, NONE, NONE, NONE, 1};
     const uint16_t stray[5] = {NONE, 5, NONE, NONE, NONE};
     struct file empty = {0};
     struct hour h = three_zone_hour();
@@ -345,11 +327,10 @@ static void order_of_causes(void)
 static void rooms(void)
 {
     static const size_t lengths[] = {0, 1, 71, 72, LTA_REPORT_ROOM - 1, LTA_REPORT_ROOM, LTA_REPORT_ROOM + 1, 300};
-    const uint16_t parent[5] = {NONE, 0, NONE, 2, 2};
     struct hour h = three_zone_hour();
-    struct file c = case_file(&h), p = proposal_file(&h), f = list_file(parent, 5), none = {0};
+    struct file c = case_file(&h), p = proposal_file(&h), f = list_file(sample_parents, 5), none = {0};
     struct file report = report_file(LTA_ACCEPTED, h.zones, three_zone_totals());
-    for (size_t k = 0; k < sizeof lengths / sizeof *lengths; k++) {
+    for (size_t k = 0; k < COUNT(lengths); k++) {
         size_t room = lengths[k];
         bool enough = room >= LTA_REPORT_ROOM;
         about("the sample with a report buffer of %zu bytes", room);
@@ -364,9 +345,8 @@ static void rooms(void)
 /* A null pointer where the length is 0. */
 static void nulls(void)
 {
-    const uint16_t parent[5] = {NONE, 0, NONE, 2, 2};
     struct hour h = three_zone_hour();
-    struct file c = case_file(&h), p = proposal_file(&h), f = list_file(parent, 5);
+    struct file c = case_file(&h), p = proposal_file(&h), f = list_file(sample_parents, 5);
     for (unsigned k = 0; k < PLACES; k++) {
         enum place place = k;
         const uint8_t *case_bytes = lend(case_arena, place, c.bytes, c.length);

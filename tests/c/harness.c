@@ -2,6 +2,7 @@
 #define _DEFAULT_SOURCE
 #include "harness.h"
 
+#include <inttypes.h>
 #include <signal.h>
 #include <stdarg.h>
 #include <stdio.h>
@@ -92,6 +93,24 @@ void group(const char *name, void (*checks)(void))
     printf("%-48s %5u passed %3u failed\n", name, counts()->passed - before.passed, counts()->failed - before.failed);
 }
 
+bool is_verdict(uint64_t verdict, uint32_t number, uint32_t index)
+{
+    bool ok = verdict == number + 256 * (uint64_t)index;
+    if (!ok)
+        wrong("verdict %" PRIu32 " index %" PRIu32 ", and should be %" PRIu32 " index %" PRIu32, LTA_NUMBER(verdict), LTA_INDEX(verdict),
+              number, index);
+    return ok;
+}
+
+bool is_written(struct lta_written answer, uint32_t number, uint64_t index, uint64_t length)
+{
+    bool ok = answer.number == number && answer.index == index && answer.length == length;
+    if (!ok)
+        wrong("number %" PRIu32 " index %" PRIu64 " length %" PRIu64 ", and should be %" PRIu32 ", %" PRIu64 " and %" PRIu64, answer.number,
+              answer.index, answer.length, number, index, length);
+    return ok;
+}
+
 int closing(void)
 {
     printf("%u passed, %u failed\n", counts()->passed, counts()->failed);
@@ -120,6 +139,8 @@ static uint8_t fill(enum place place, size_t at)
     uint8_t byte = (uint8_t)(at * 167 + at / 256 + 90);
     return place == AT_END ? byte : (uint8_t)~byte;
 }
+
+enum place place_of(unsigned way, unsigned argument) { return way >> argument & 1 ? AT_START : AT_END; }
 
 /* Where the lent bytes begin. Those of an empty array would, and nothing is there to be read. */
 static uint8_t *lent(struct arena a, enum place place, size_t length)

@@ -1,6 +1,9 @@
-/* What the C tests share: named checks, counted; groups of checks in processes of their own; memory between unreadable pages. */
+/* What the C tests share: named checks, counted; groups of checks in processes of their own; answers held to what is due; memory between
+ * unreadable pages. */
 #ifndef HARNESS_H
 #define HARNESS_H
+
+#include "lta_judgement.h"
 
 #include <stdbool.h>
 #include <stddef.h>
@@ -18,6 +21,13 @@ void group(const char *name, void (*checks)(void));
 /* Prints 'N passed, M failed' and gives the program's status: 0 only if some passed and none failed. */
 int closing(void);
 
+/* ANSWERS. Whether an entry answers what is due; if not, both are said. */
+bool is_verdict(uint64_t verdict, uint32_t number, uint32_t index);
+bool is_written(struct lta_written answer, uint32_t number, uint64_t index, uint64_t length);
+
+/* How many a list has. */
+#define COUNT(list) (sizeof(list) / sizeof *(list))
+
 /* MEMORY between two pages that can be neither read nor written. */
 struct arena {
     uint8_t *start; /* the first byte that can be used */
@@ -28,6 +38,10 @@ struct arena {
  * hold a fill, and a writable array too, before the call; the two places have complementary fills. */
 enum place { AT_END, AT_START };
 #define PLACES 2
+
+/* Every way to place the arguments of a call, counted from 0. */
+#define WAYS(arguments) (1u << (arguments))
+enum place place_of(unsigned way, unsigned argument);
 
 struct arena arena(size_t least);
 

@@ -41,7 +41,7 @@ static void readers(void)
     about("a price is another's");
     check(lta_report_price(r, 0) == -6 && lta_report_price(r, 1) == 7 && lta_report_price(r, 2) == INT64_MAX);
     const int64_t ends[] = {0, 1, -1, 255, 256, -256, INT32_MAX, INT32_MIN, INT64_MAX, INT64_MIN};
-    for (size_t k = 0; k < sizeof ends / sizeof *ends; k++)
+    for (size_t k = 0; k < COUNT(ends); k++)
         amount_reads(ends[k]);
 }
 

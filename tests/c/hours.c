@@ -1,6 +1,9 @@
 /* See hours.h. Nothing here is taken from the judge: offsets and values are those of document 01. */
 #include "hours.h"
 
+#include "harness.h"
+
+#include <stdio.h>
 #include <stdlib.h>
 #include <string.h>
 
@@ -55,6 +58,22 @@ struct hour unused_link_hour(void)
     return h;
 }
 
+struct hour divided(struct hour h, uint8_t by)
+{
+    for (size_t m = 0; m < h.branches; m++)
+        h.branch[m].ram /= by;
+    for (size_t l = 0; l < h.links; l++) {
+        h.link[l].capacity /= by;
+        h.link[l].contracted /= by;
+        h.flow[l] /= by;
+    }
+    for (size_t i = 0; i < h.orders; i++) {
+        h.order[i].quantity /= by;
+        h.volume[i] /= by;
+    }
+    return h;
+}
+
 struct hour one_zone_hour(void) { return (struct hour){.version = 1, .zones = 1, .system = 400000}; }
 
 struct hour negative_hour(void)
@@ -87,6 +106,31 @@ struct hour largest_hour(uint16_t version, uint32_t shadow)
         h.volume[i] = 100000;
     }
     return h;
+}
+
+bool same_file(const struct file *one, const struct file *other)
+{
+    return one->length == other->length && memcmp(one->bytes, other->bytes, one->length) == 0;
+}
+
+bool append_stored(struct file *f, const char *name)
+{
+    FILE *file = fopen(name, "rb");
+    if (file == NULL) {
+        wrong("no file %s", name);
+        return false;
+    }
+    f->length += fread(f->bytes + f->length, 1, sizeof f->bytes - f->length, file);
+    fclose(file);
+    return true;
+}
+
+struct file read_file(const char *name)
+{
+    struct file f = {0};
+    about("%s can be read", name);
+    check(append_stored(&f, name));
+    return f;
 }
 
 void put(struct file *f, size_t offset, size_t width, uint64_t number)
@@ -174,6 +218,15 @@ struct file report_file(uint8_t number, uint8_t zones, struct totals t)
 
 int64_t euros(int64_t amount) { return amount * 100000000; }
 int64_t cents(int64_t price) { return price * 100000; }
+
+const struct price_limit price_limits[PRICE_LIMITS] = {
+    {"a zone price at its ceiling", INT64_C(40000000000), true},
+    {"a zone price a grain above its ceiling", INT64_C(40000000001), false},
+    {"the greatest zone price", INT64_MAX, false},
+    {"a zone price at its floor", INT64_C(-5000000000), true},
+    {"a zone price a grain below its floor", INT64_C(-5000000001), false},
+    {"the least zone price", INT64_MIN, false},
+};
 
 struct totals three_zone_totals(void)
 {

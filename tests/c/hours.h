@@ -2,6 +2,7 @@
 #ifndef HOURS_H
 #define HOURS_H
 
+#include <stdbool.h>
 #include <stddef.h>
 #include <stdint.h>
 
@@ -43,6 +44,9 @@ struct hour one_zone_hour(void);
 /* P1 as a case of version 2, with 2,500 of its link's 4,000 contracted. */
 struct hour contracted_hour(void);
 
+/* An hour with every margin, capacity, flow, quantity and volume divided by a number. */
+struct hour divided(struct hour h, uint8_t by);
+
 /* A sell at 1 cent and a buy at 0 cents, both of a tenth, at a zone price of -1 cent: welfare -0.001 euros, bound 0.001, gap 0.002. The
  * tolerance is a cent. */
 struct hour negative_hour(void);
@@ -64,6 +68,14 @@ struct file {
 struct file case_file(const struct hour *h);
 struct file proposal_file(const struct hour *h);
 
+bool same_file(const struct file *one, const struct file *other);
+
+/* Puts the bytes of a stored file behind those of a file; no if it cannot be opened. */
+bool append_stored(struct file *f, const char *name);
+
+/* A stored file; that it can be read is a check. */
+struct file read_file(const char *name);
+
 /* A number of some bytes, little-endian, at an offset of a file. */
 void put(struct file *f, size_t offset, size_t width, uint64_t number);
 
@@ -77,6 +89,15 @@ struct file report_file(uint8_t number, uint8_t zones, struct totals t);
 /* Microcents of some euros; grains of some cents per MWh. */
 int64_t euros(int64_t amount);
 int64_t cents(int64_t price);
+
+/* Zone prices at their limits, a grain past them, and at the ends of what a number holds. */
+struct price_limit {
+    const char *name;
+    int64_t price;
+    bool taken;
+};
+#define PRICE_LIMITS 6
+extern const struct price_limit price_limits[PRICE_LIMITS];
 
 /* What the paper gives of P1, P2, and P3 and P4. */
 struct totals three_zone_totals(void);

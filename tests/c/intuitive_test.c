@@ -60,11 +60,11 @@ static bool scratch_is(enum place place, size_t room, uint32_t number)
 static void asked(const struct exchange *e, size_t room, uint32_t number, uint32_t index, uint32_t intuitive, int64_t total)
 {
     bool ok = true;
-    for (unsigned k = 0; k < 16 && ok; k++) {
-        enum place place = k / 8;
-        const int64_t *net = lend(net_arena, k % 2, e->net, 8 * e->zones);
-        const int64_t *price = lend(price_arena, k / 2 % 2, e->price, 8 * e->prices);
-        const uint8_t *pair = lend(pair_arena, k / 4 % 2, e->pair, e->bytes);
+    for (unsigned way = 0; way < WAYS(4) && ok; way++) {
+        enum place place = place_of(way, 3);
+        const int64_t *net = lend(net_arena, place_of(way, 0), e->net, 8 * e->zones);
+        const int64_t *price = lend(price_arena, place_of(way, 1), e->price, 8 * e->prices);
+        const uint8_t *pair = lend(pair_arena, place_of(way, 2), e->pair, e->bytes);
         int64_t *scratch = (int64_t *)(void *)lend_room(scratch_arena, place, 8 * room);
         struct lta_carried a = board->intuitive(net, e->zones, price, e->prices, pair, e->bytes, scratch, room);
         ok = is(a, number, index, intuitive, total);
@@ -240,7 +240,7 @@ static void positions(void)
         {"an import a tenth past its limit", -EXPORT_MOST - 1, false},
         {"the least number as an import", INT64_MIN, false},
     };
-    for (size_t k = 0; k < sizeof nets / sizeof *nets; k++) {
+    for (size_t k = 0; k < COUNT(nets); k++) {
         for (size_t zone = 0; zone < 3; zone++) {
             struct exchange e = idle(3);
             e.net[zone] = nets[k].net;
@@ -273,24 +273,12 @@ static void positions(void)
 
 static void prices(void)
 {
-    static const struct {
-        const char *name;
-        int64_t price;
-        bool taken;
-    } rows[] = {
-        {"a price at its ceiling", INT64_C(40000000000), true},
-        {"a price a grain above its ceiling", INT64_C(40000000001), false},
-        {"the greatest price", INT64_MAX, false},
-        {"a price at its floor", INT64_C(-5000000000), true},
-        {"a price a grain below its floor", INT64_C(-5000000001), false},
-        {"the least price", INT64_MIN, false},
-    };
-    for (size_t k = 0; k < sizeof rows / sizeof *rows; k++) {
+    for (const struct price_limit *limit = price_limits; limit < price_limits + PRICE_LIMITS; limit++) {
         for (size_t zone = 0; zone < 3; zone++) {
             struct exchange e = idle(3);
-            e.price[zone] = rows[k].price;
-            about("%s, at zone %zu", rows[k].name, zone);
-            if (rows[k].taken)
+            e.price[zone] = limit->price;
+            about("%s, at zone %zu", limit->name, zone);
+            if (limit->taken)
                 yes(&e, 0);
             else
                 refused(&e, LTA_INTUITIVE_PRICE, (uint32_t)zone);
@@ -319,7 +307,7 @@ static void pairs(void)
         {"a fault before a last byte alone", 3, {1, 1, 0}, 0},
         {"two faults", 6, {0, 1, 0, 0, 7, 7}, 1},
     };
-    for (size_t k = 0; k < sizeof rows / sizeof *rows; k++) {
+    for (size_t k = 0; k < COUNT(rows); k++) {
         struct exchange e = idle(3);
         e.bytes = rows[k].bytes;
         memcpy(e.pair, rows[k].pair, e.bytes);
@@ -330,7 +318,7 @@ static void pairs(void)
             refused(&e, LTA_INTUITIVE_PAIR, (uint32_t)rows[k].fault);
     }
     static const size_t counts[] = {0, 1, 63, 64, 65, 66, 128, 240};
-    for (size_t k = 0; k < sizeof counts / sizeof *counts; k++) {
+    for (size_t k = 0; k < COUNT(counts); k++) {
         struct exchange e = idle(ZONES_MOST);
         add_pairs(&e, counts[k]);
         about("%zu pairs", counts[k]);
@@ -353,7 +341,7 @@ static void scratches(void)
 {
     static const size_t rooms[] = {0, 1, 2, 80, 95, 96, 97, 256, 323, 324, 325, 364};
     struct exchange e = one_tenth(0, 0, 0, 1);
-    for (size_t k = 0; k < sizeof rooms / sizeof *rooms; k++) {
+    for (size_t k = 0; k < COUNT(rooms); k++) {
         about("a scratch of %zu numbers", rooms[k]);
         if (rooms[k] < board->scratch)
             asked(&e, rooms[k], LTA_INTUITIVE_NO_ROOM, 0, 0, 0);
@@ -394,11 +382,11 @@ static void causes(void)
 static void asked_hour(const struct file *c, const struct file *p, size_t bytes, const uint8_t *pair, size_t room, struct lta_carried due)
 {
     bool ok = true;
-    for (unsigned k = 0; k < 16 && ok; k++) {
-        enum place place = k / 8;
-        const uint8_t *case_bytes = lend(case_arena, k % 2, c->bytes, c->length);
-        const uint8_t *proposal = lend(proposal_arena, k / 2 % 2, p->bytes, p->length);
-        const uint8_t *pairs_lent = lend(pair_arena, k / 4 % 2, pair, bytes);
+    for (unsigned way = 0; way < WAYS(4) && ok; way++) {
+        enum place place = place_of(way, 3);
+        const uint8_t *case_bytes = lend(case_arena, place_of(way, 0), c->bytes, c->length);
+        const uint8_t *proposal = lend(proposal_arena, place_of(way, 1), p->bytes, p->length);
+        const uint8_t *pairs_lent = lend(pair_arena, place_of(way, 2), pair, bytes);
         int64_t *scratch = (int64_t *)(void *)lend_room(scratch_arena, place, 8 * room);
         struct lta_carried a = board->hour(case_bytes, c->length, proposal, p->length, pairs_lent, bytes, scratch, room);
         ok = is(a, due.number, due.index, due.intuitive, due.total);
@@ -452,7 +440,7 @@ static void hours(void)
     about("P1 with a pair of an unknown zone");
     hour_is(&h, 4, (uint8_t[]){0, 1, 0, 3}, ROOM, (struct lta_carried){LTA_INTUITIVE_PAIR, 1, 0, 0});
     static const size_t rooms[] = {95, 96, 97, 323, 324};
-    for (size_t k = 0; k < sizeof rooms / sizeof *rooms; k++) {
+    for (size_t k = 0; k < COUNT(rooms); k++) {
         about("P1 with a scratch of %zu numbers", rooms[k]);
         if (rooms[k] < board->scratch)
             hour_is(&h, 2, (uint8_t[]){0, 1}, rooms[k], (struct lta_carried){LTA_INTUITIVE_NO_ROOM, 0, 0, 0});
@@ -609,7 +597,7 @@ int main(void)
     proposal_arena = arena(sizeof((struct file *)0)->bytes);
 
     group("layout of the struct", layout);
-    for (size_t k = 0; k < sizeof boards / sizeof *boards; k++) {
+    for (size_t k = 0; k < COUNT(boards); k++) {
         board = boards + k;
         on_board("annex 5.1", annex);
         on_board("which pairs count", counted_pairs);

@@ -22,18 +22,13 @@ static const char *sample_case, *sample_proposal, *sample_contracted;
 static void judged(const struct file *c, const struct file *p, size_t room, uint32_t number, uint32_t index, const struct file *report)
 {
     bool ok = true;
-    for (unsigned k = 0; k < PLACES * PLACES * PLACES && ok; k++) {
-        enum place case_place = k % PLACES, proposal_place = k / PLACES % PLACES, report_place = k / PLACES / PLACES;
-        const uint8_t *case_bytes = lend(case_arena, case_place, c->bytes, c->length);
-        const uint8_t *proposal = lend(proposal_arena, proposal_place, p->bytes, p->length);
-        uint8_t *buffer = lend_room(report_arena, report_place, room);
-        uint64_t verdict = lta_judge(case_bytes, c->length, proposal, p->length, buffer, room);
-        if (verdict != number + 256 * (uint64_t)index) {
-            wrong("verdict %" PRIu32 " index %" PRIu32 ", and should be %" PRIu32 " index %" PRIu32,
-                  LTA_NUMBER(verdict), LTA_INDEX(verdict), number, index);
-            ok = false;
-        }
-        ok = holds(report_arena, report_place, room, report->bytes, report->length) && ok;
+    for (unsigned way = 0; way < WAYS(3) && ok; way++) {
+        enum place place = place_of(way, 2);
+        const uint8_t *case_bytes = lend(case_arena, place_of(way, 0), c->bytes, c->length);
+        const uint8_t *proposal = lend(proposal_arena, place_of(way, 1), p->bytes, p->length);
+        uint8_t *buffer = lend_room(report_arena, place, room);
+        ok = is_verdict(lta_judge(case_bytes, c->length, proposal, p->length, buffer, room), number, index);
+        ok = holds(report_arena, place, room, report->bytes, report->length) && ok;
     }
     check(ok);
 }
@@ -223,7 +218,7 @@ static void one_field(void)
         {"first shadow price 1,000,000, which prices zone 1 out", PROPOSAL, 37, 4, 1000000, LTA_ZONE_PRICE, 1},
     };
     struct hour h = three_zone_hour();
-    for (size_t k = 0; k < sizeof damages / sizeof *damages; k++) {
+    for (size_t k = 0; k < COUNT(damages); k++) {
         struct file c = case_file(&h), p = proposal_file(&h);
         put(damages[k].file == CASE ? &c : &p, damages[k].offset, damages[k].width, (uint64_t)damages[k].value);
         about("%s", damages[k].name);
@@ -236,7 +231,7 @@ static void one_field(void)
 static size_t field_damaged(const struct hour *h, int file, size_t offset, size_t width, int64_t least, int64_t greatest, uint32_t number)
 {
     const int64_t values[] = {least - 1, greatest + 1, INT64_C(1) << (8 * width - 1)};
-    for (size_t k = 0; k < sizeof values / sizeof *values; k++) {
+    for (size_t k = 0; k < COUNT(values); k++) {
         struct file files[2] = {case_file(h), proposal_file(h)};
         put(&files[file], offset, width, (uint64_t)values[k]);
         about("%" PRId64 " at offset %zu of the %s", values[k], offset, file == 0 ? "case" : "proposal");
@@ -308,14 +303,8 @@ static void contracted(void)
     about("P3 with nothing contracted: the gap of 3,000 euros is missed where the bound is by contracted volumes");
     reported(&h, LTA_GAP_ABOVE_TOLERANCE, t);
     /* at a hundredth of its size, so that the gap is 30 euros */
-    for (size_t b = 0; b < h.branches; b++)
-        h.branch[b].ram /= 100;
-    for (size_t i = 0; i < h.orders; i++) {
-        h.order[i].quantity /= 100;
-        h.volume[i] /= 100;
-    }
+    h = divided(h, 100);
     h.tolerance = 3000;
-    h.link[0].capacity = 40;
     h.link[0].contracted = 30;
     t = (struct totals){euros(195), euros(225), euros(30), euros(150), euros(135), {0}};
     memcpy(t.price, unused_link_totals().price, sizeof t.price);
@@ -536,7 +525,7 @@ static void wide_tolerances(void)
     reported(&h, LTA_GAP_ABOVE_TOLERANCE, t);
 
     static const uint32_t wide[] = {10001, 65536, 300000, 16777216, 999999999, 1000000000};
-    for (size_t k = 0; k < sizeof wide / sizeof *wide; k++) {
+    for (size_t k = 0; k < COUNT(wide); k++) {
         h = three_zone_hour();
         h.tolerance = wide[k];
         about("P1 at a tolerance of %" PRIu32, wide[k]);
@@ -546,7 +535,7 @@ static void wide_tolerances(void)
         refused(&h, LTA_SHADOW_PRICE, 41);
     }
     static const uint32_t narrow[] = {0, 1, 255, 256, 9999, 10000};
-    for (size_t k = 0; k < sizeof narrow / sizeof *narrow; k++) {
+    for (size_t k = 0; k < COUNT(narrow); k++) {
         h = three_zone_hour();
         h.tolerance = narrow[k];
         about("P1 at a tolerance of %" PRIu32, narrow[k]);
@@ -627,37 +616,34 @@ static void without_links(void)
     }
 }
 
-/* Case and proposal cut short at each length, and lengthened by zero bytes: the length is refused, and nothing past it is read. */
-static void case_lengths(void)
+/* An accepted hour's case cut short at each length, and lengthened by zero bytes: the length is refused, and nothing past it is read. */
+static void each_case_length(const struct hour *h, struct totals t, size_t whole)
 {
-    struct hour h = three_zone_hour();
-    struct file c = case_file(&h), p = proposal_file(&h), report = report_file(LTA_ACCEPTED, h.zones, three_zone_totals());
-    about("the three-zone case has 102 bytes");
-    check(c.length == 102);
+    struct file c = case_file(h), p = proposal_file(h), report = report_file(LTA_ACCEPTED, h->zones, t);
+    about("the three-zone case of version %u has %zu bytes", h->version, whole);
+    check(c.length == whole);
     for (c.length = 0; c.length <= 200; c.length++) {
-        about("case of %zu bytes", c.length);
-        if (c.length == 102)
+        about("case of version %u, of %zu bytes", h->version, c.length);
+        if (c.length == whole)
             judged(&c, &p, ROOM, LTA_ACCEPTED, 0, &report);
         else
             refused_files(&c, &p, c.length < 14 ? LTA_CASE_SHORT : LTA_CASE_LENGTH, 0);
     }
+}
+
+static void case_lengths(void)
+{
+    struct hour h = three_zone_hour();
+    each_case_length(&h, three_zone_totals(), 102);
 }
 
 static void contracted_case_lengths(void)
 {
     struct hour h = contracted_hour();
-    struct file c = case_file(&h), p = proposal_file(&h), report = report_file(LTA_ACCEPTED, h.zones, contracted_totals());
-    about("the three-zone case of version 2 has 106 bytes");
-    check(c.length == 106);
-    for (c.length = 0; c.length <= 200; c.length++) {
-        about("case of version 2, of %zu bytes", c.length);
-        if (c.length == 106)
-            judged(&c, &p, ROOM, LTA_ACCEPTED, 0, &report);
-        else
-            refused_files(&c, &p, c.length < 14 ? LTA_CASE_SHORT : LTA_CASE_LENGTH, 0);
-    }
+    each_case_length(&h, contracted_totals(), 106);
 }
 
+/* The same of a proposal. */
 static void proposal_lengths(void)
 {
     struct hour h = three_zone_hour();
@@ -681,7 +667,7 @@ static void rooms(void)
     struct file c = case_file(&h), p = proposal_file(&h), report = report_file(LTA_ACCEPTED, h.zones, three_zone_totals()), none = {0};
     struct file over_case = case_file(&over), over_proposal = proposal_file(&over);
     struct file over_report = report_file(LTA_GAP_ABOVE_TOLERANCE, over.zones, unused_link_totals());
-    for (size_t k = 0; k < sizeof lengths / sizeof *lengths; k++) {
+    for (size_t k = 0; k < COUNT(lengths); k++) {
         size_t room = lengths[k];
         bool enough = room >= LTA_REPORT_ROOM;
         about("P1 with a report buffer of %zu bytes", room);
@@ -716,6 +702,27 @@ static void nulls(void)
         about("a null pointer changes the report");
         check(holds(report_arena, place, ROOM, NULL, 0));
     }
+}
+
+/* The largest hour, the last zone's price a cent above the others'. */
+static struct hour ceiling_hour(uint16_t version)
+{
+    struct hour h = largest_hour(version, 0);
+    h.system = 399999;
+    h.branch[63].ptdf[15] = 1;
+    h.shadow[63] = 100000;
+    return h;
+}
+
+/* What a buy gains less by that a sell gains more. One branch of 500,000 at a shadow price of 100,000 has 5e15, and four links lead to the
+ * zone, of each of which so much is contracted. */
+static struct totals ceiling_totals(int64_t contracted)
+{
+    struct totals t = {.welfare = 1152000000000000000, .bound = 1157000000000000000, .gap = 5000000000000000};
+    t.owed = 4 * contracted * cents(1);
+    for (size_t z = 0; z < 16; z++)
+        t.price[z] = cents(z < 15 ? 399999 : 400000);
+    return t;
 }
 
 /* As many of each as there may be. Each order is served at 450,000 cents between its price and the other side's: 256 pairs of 100,000
@@ -768,16 +775,8 @@ static void largest(void)
     about("the last of 64 shadow prices too large");
     refused(&h, LTA_SHADOW_PRICE, 2569);
 
-    /* The last zone's price is a cent above the others'. What a buy gains less by that a sell gains more. One branch of 500,000 at a
-     * shadow price of 100,000 has 5e15, and four links of 100,000 lead to the zone. */
-    h = largest_hour(1, 0);
-    h.system = 399999;
-    h.branch[63].ptdf[15] = 1;
-    h.shadow[63] = 100000;
-    t = (struct totals){.welfare = 1152000000000000000, .bound = 1157000000000000000, .gap = 5000000000000000};
-    t.owed = 4 * 100000 * cents(1);
-    for (size_t z = 0; z < 16; z++)
-        t.price[z] = cents(z < 15 ? 399999 : 400000);
+    h = ceiling_hour(1);
+    t = ceiling_totals(100000);
     about("the last of 16 prices at the ceiling");
     reported(&h, LTA_GAP_ABOVE_TOLERANCE, t);
     h.shadow[63]++;
@@ -811,15 +810,8 @@ static void largest_contracted(void)
     about("the last of 512 orders out of range, behind 64 links of ten bytes");
     refused(&h, LTA_CASE_ORDER, 10122);
 
-    /* As above: four links of 100,000 lead to the zone whose price is a cent above the others', and half of each is contracted. */
-    h = largest_hour(2, 0);
-    h.system = 399999;
-    h.branch[63].ptdf[15] = 1;
-    h.shadow[63] = 100000;
-    t = (struct totals){.welfare = 1152000000000000000, .bound = 1157000000000000000, .gap = 5000000000000000};
-    t.owed = 4 * 50000 * cents(1);
-    for (size_t z = 0; z < 16; z++)
-        t.price[z] = cents(z < 15 ? 399999 : 400000);
+    h = ceiling_hour(2);
+    t = ceiling_totals(50000);
     about("half of four links is contracted");
     reported(&h, LTA_GAP_ABOVE_TOLERANCE, t);
     h.shadow[63] = 100000;
@@ -895,17 +887,10 @@ static void header(void)
     check(LTA_NUMBER(verdict) == LTA_ZONE_PRICE && LTA_INDEX(verdict) == 15 && LTA_INDEX(8 + 256 * UINT64_C(9866)) == 9866);
 }
 
-static bool same_file(const char *name, const struct file *f)
+static bool is_stored(const char *name, const struct file *f)
 {
-    uint8_t bytes[256];
-    FILE *file = fopen(name, "rb");
-    if (file == NULL) {
-        wrong("no file %s", name);
-        return false;
-    }
-    size_t length = fread(bytes, 1, sizeof bytes, file);
-    fclose(file);
-    return length == f->length && memcmp(bytes, f->bytes, length) == 0;
+    struct file stored = {0};
+    return append_stored(&stored, name) && same_file(&stored, f);
 }
 
 static void samples(void)
@@ -913,13 +898,13 @@ static void samples(void)
     struct hour h = three_zone_hour();
     struct file c = case_file(&h), p = proposal_file(&h);
     about("the sample case is P1's");
-    check(same_file(sample_case, &c));
+    check(is_stored(sample_case, &c));
     about("the sample proposal is P1's");
-    check(same_file(sample_proposal, &p));
+    check(is_stored(sample_proposal, &p));
     h = contracted_hour();
     c = case_file(&h);
     about("the sample case of version 2 is P1's with 2,500 contracted");
-    check(same_file(sample_contracted, &c));
+    check(is_stored(sample_contracted, &c));
 }
 
 int main(int count, char **words)

@@ -168,7 +168,7 @@ static void limits(void)
     posted(&q, 0, 0);
     const uint32_t areas[] = {4, 5, 255, 256, 65536, INT32_MAX, UINT32_C(1) << 31, UINT32_MAX};
     const uint32_t hours[] = {25, 26, 255, 256, 65536, INT32_MAX, UINT32_C(1) << 31, UINT32_MAX};
-    for (size_t k = 0; k < sizeof areas / sizeof *areas; k++) {
+    for (size_t k = 0; k < COUNT(areas); k++) {
         about("area %" PRIu32, areas[k]);
         refused(&q, areas[k], 1, LTA_QUEUE_AREA);
         about("hour %" PRIu32, hours[k]);

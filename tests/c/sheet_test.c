@@ -61,26 +61,16 @@ static void add_line(struct sheet *s, size_t zones, size_t place, const char *fi
     add(s, "\n");
 }
 
-static bool is(struct lta_written a, uint32_t number, uint64_t index, uint64_t length)
-{
-    bool ok = a.number == number && a.index == index && a.length == length;
-    if (!ok)
-        wrong("number %" PRIu32 " index %" PRIu64 " length %" PRIu64 ", and should be %" PRIu32 ", %" PRIu64 " and %" PRIu64,
-              a.number, a.index, a.length, number, index, length);
-    return ok;
-}
-
 /* The answer, and the output's bytes, with both arguments at each of their places. */
 static void answered(const struct sheet *s, size_t zones, size_t room, uint32_t number, uint64_t index, const struct file *branches)
 {
     bool ok = true;
-    for (unsigned k = 0; k < PLACES * PLACES && ok; k++) {
-        enum place sheet_place = k % PLACES, out_place = k / PLACES;
-        const uint8_t *sheet = lend(sheet_arena, sheet_place, s->text, s->length);
-        uint8_t *out = lend_room(out_arena, out_place, room);
-        struct lta_written a = lta_sheet_branches(sheet, s->length, zones, out, room);
-        ok = is(a, number, index, branches->length);
-        ok = holds(out_arena, out_place, room, branches->bytes, branches->length) && ok;
+    for (unsigned way = 0; way < WAYS(2) && ok; way++) {
+        enum place place = place_of(way, 1);
+        const uint8_t *sheet = lend(sheet_arena, place_of(way, 0), s->text, s->length);
+        uint8_t *out = lend_room(out_arena, place, room);
+        ok = is_written(lta_sheet_branches(sheet, s->length, zones, out, room), number, index, branches->length);
+        ok = holds(out_arena, place, room, branches->bytes, branches->length) && ok;
     }
     check(ok);
 }
@@ -134,18 +124,12 @@ static void layout(void)
 static void three_zones(void)
 {
     struct hour h = three_zone_hour();
-    struct file c = case_file(&h), branches = {.length = LTA_SHEET_SIZE(3, 2)};
+    struct file c = case_file(&h), branches = {.length = LTA_SHEET_SIZE(3, 2)}, given = read_file(sample);
     memcpy(branches.bytes, c.bytes + 14, branches.length);
-    struct sheet s = {0};
-    FILE *file = fopen(sample, "rb");
-    about("the sample sheet can be read");
-    check(file != NULL);
-    if (file != NULL) {
-        s.length = fread(s.text, 1, SHEET_MOST, file);
-        fclose(file);
-        about("the sample sheet");
-        answered(&s, 3, ROOM, 0, 0, &branches);
-    }
+    struct sheet s = {.length = given.length};
+    memcpy(s.text, given.bytes, given.length);
+    about("the sample sheet");
+    answered(&s, 3, ROOM, 0, 0, &branches);
     s = sheet_of("250,0,-0.75,-0.5\n1500,1,-0,0");
     about("the sample sheet in other words");
     answered(&s, 3, ROOM, 0, 0, &branches);
@@ -222,7 +206,7 @@ static void no_numbers(void)
         "", "-", "+1", ".5", "1.", "-.5", "-1.", "--1", "1-", "1e3", "1E3", " 1", "1 ", "1\r", "1\t", "1.2.3", "1..2", ".", "-.", "0x1",
         "1_0", "NaN", "inf", "\"1\"", "1;0", "\xd9\xa1", "\xff",
     };
-    for (size_t k = 0; k < sizeof texts / sizeof *texts; k++) {
+    for (size_t k = 0; k < COUNT(texts); k++) {
         for (size_t place = 0; place <= 2; place++) {
             struct sheet s = {0};
             add_line(&s, 2, place, "1");
@@ -261,16 +245,16 @@ static void refused_fields(uint32_t number, const char *const *texts, size_t cou
 static void measures(void)
 {
     static const char *const margin_decimals[] = {"0.01", "-0.01", "1.11", "0.0000000000001", "50000.01", "99999999999.01"};
-    refused_fields(LTA_SHEET_DECIMAL, margin_decimals, sizeof margin_decimals / sizeof *margin_decimals, 0);
+    refused_fields(LTA_SHEET_DECIMAL, margin_decimals, COUNT(margin_decimals), 0);
     static const char *const ptdf_decimals[] = {"0.000001", "-0.000001", "1.1234567", "0.00000000000000001", "2.000001", "99999.000001"};
-    refused_fields(LTA_SHEET_DECIMAL, ptdf_decimals, sizeof ptdf_decimals / sizeof *ptdf_decimals, 3);
+    refused_fields(LTA_SHEET_DECIMAL, ptdf_decimals, COUNT(ptdf_decimals), 3);
     /* among them 2^31, 2^32, 2^63 and 2^64 in tenths or hundred-thousandths, which narrower numbers would wrap into the range */
     static const char *const margins[] = {"50000.1", "-50000.1", "500000", "214748364.8", "429496729.6", "-429496729.6",
                                           "922337203685477580.8", "1844674407370955161.6", "340282366920938463463374607431768211456"};
-    refused_fields(LTA_SHEET_RANGE, margins, sizeof margins / sizeof *margins, 0);
+    refused_fields(LTA_SHEET_RANGE, margins, COUNT(margins), 0);
     static const char *const ptdfs[] = {"2.00001", "-2.00001", "3", "42949.67296", "-42949.67296", "184467440737095.51616",
                                         "340282366920938463463374607431768211456"};
-    refused_fields(LTA_SHEET_RANGE, ptdfs, sizeof ptdfs / sizeof *ptdfs, 3);
+    refused_fields(LTA_SHEET_RANGE, ptdfs, COUNT(ptdfs), 3);
 
     struct sheet s = {0};
     add_times(&s, 1000, "9");
@@ -301,7 +285,7 @@ static void zone_counts(void)
         refused(&s, zones - 1, zones == 1 ? LTA_SHEET_ZONES : LTA_SHEET_FIELD, 0);
     }
     static const size_t wrong_zones[] = {0, 17, 18, 255, 256, 257, 65537, SIZE_MAX / 4, SIZE_MAX / 4 + 1, SIZE_MAX - 1, SIZE_MAX};
-    for (size_t k = 0; k < sizeof wrong_zones / sizeof *wrong_zones; k++) {
+    for (size_t k = 0; k < COUNT(wrong_zones); k++) {
         about("%zu zones, no line", wrong_zones[k]);
         refused_text("", wrong_zones[k], LTA_SHEET_ZONES, 0);
         about("%zu zones, a line that is none", wrong_zones[k]);
@@ -315,7 +299,7 @@ static void rooms(void)
     const int32_t number[] = {10, -10000, -20000, -20, -30000, 40000};
     struct file branches = numbers(6, number);
     static const size_t rooms[] = {0, 1, 4, 11, 12, 20, 23, 24, 25, 100};
-    for (size_t k = 0; k < sizeof rooms / sizeof *rooms; k++) {
+    for (size_t k = 0; k < COUNT(rooms); k++) {
         about("two lines of two zones, with an output of %zu bytes", rooms[k]);
         if (rooms[k] < 24)
             refused_in(rooms[k], &s, 2, LTA_SHEET_NO_ROOM, 0);
@@ -368,7 +352,7 @@ static void causes(void)
         const char *line;
         uint32_t number;
     } late[] = {{"1,x", LTA_SHEET_FIELD}, {"1.01,1", LTA_SHEET_DECIMAL}, {"1,3", LTA_SHEET_RANGE}};
-    for (size_t k = 0; k < sizeof late / sizeof *late; k++) {
+    for (size_t k = 0; k < COUNT(late); k++) {
         s = (struct sheet){0};
         add_times(&s, 300, "1,1\n");
         add(&s, late[k].line);
@@ -384,13 +368,13 @@ static void nulls(void)
         const uint8_t *sheet = lend(sheet_arena, k, "1,1\n", 4);
         uint8_t *out = lend_room(out_arena, k, ROOM);
         about("null for the sheet");
-        check(is(lta_sheet_branches(NULL, 0, 1, out, ROOM), 0, 0, 0) && holds(out_arena, k, ROOM, NULL, 0));
+        check(is_written(lta_sheet_branches(NULL, 0, 1, out, ROOM), 0, 0, 0) && holds(out_arena, k, ROOM, NULL, 0));
         about("null for the output");
-        check(is(lta_sheet_branches(sheet, 4, 1, NULL, 0), LTA_SHEET_NO_ROOM, 0, 0));
+        check(is_written(lta_sheet_branches(sheet, 4, 1, NULL, 0), LTA_SHEET_NO_ROOM, 0, 0));
         about("null for both");
-        check(is(lta_sheet_branches(NULL, 0, 16, NULL, 0), 0, 0, 0));
+        check(is_written(lta_sheet_branches(NULL, 0, 16, NULL, 0), 0, 0, 0));
         about("null for both, and no zones");
-        check(is(lta_sheet_branches(NULL, 0, 0, NULL, 0), LTA_SHEET_ZONES, 0, 0));
+        check(is_written(lta_sheet_branches(NULL, 0, 0, NULL, 0), LTA_SHEET_ZONES, 0, 0));
     }
 }
 
@@ -412,7 +396,7 @@ static void small_stack(void)
     about("the largest sheet on a stack of %d bytes", STACK_ENOUGH);
     on_stack(STACK_ENOUGH, call_branches);
     struct file last = numbers(1, (int32_t[]){200000});
-    check(is(call.answer, 0, 0, LTA_SHEET_ROOM) && memcmp(call.out + LTA_SHEET_ROOM - 4, last.bytes, 4) == 0);
+    check(is_written(call.answer, 0, 0, LTA_SHEET_ROOM) && memcmp(call.out + LTA_SHEET_ROOM - 4, last.bytes, 4) == 0);
 }
 
 int main(int count, char **words)

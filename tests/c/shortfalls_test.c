@@ -22,25 +22,16 @@ struct due {
 
 static struct arena case_arena, proposal_arena, out_arena;
 
-static bool is(struct lta_written a, uint32_t number, uint64_t index, uint64_t length)
-{
-    bool ok = a.number == number && a.index == index && a.length == length;
-    if (!ok)
-        wrong("number %" PRIu32 " index %" PRIu64 " length %" PRIu64 ", and should be %" PRIu32 ", %" PRIu64 " and %" PRIu64, a.number,
-              a.index, a.length, number, index, length);
-    return ok;
-}
-
 /* The answer, and every number of the output, with all arguments at each of their places. */
 static void asked(const struct file *c, const struct file *p, size_t room, uint32_t number, uint64_t index, const struct due *due)
 {
     bool ok = true;
-    for (unsigned k = 0; k < 8 && ok; k++) {
-        enum place place = k / 4;
-        const uint8_t *case_bytes = lend(case_arena, k % 2, c->bytes, c->length);
-        const uint8_t *proposal = lend(proposal_arena, k / 2 % 2, p->bytes, p->length);
+    for (unsigned way = 0; way < WAYS(3) && ok; way++) {
+        enum place place = place_of(way, 2);
+        const uint8_t *case_bytes = lend(case_arena, place_of(way, 0), c->bytes, c->length);
+        const uint8_t *proposal = lend(proposal_arena, place_of(way, 1), p->bytes, p->length);
         int64_t *out = (int64_t *)(void *)lend_room(out_arena, place, 8 * room);
-        ok = is(lta_shortfalls(case_bytes, c->length, proposal, p->length, out, room), number, index, due->count);
+        ok = is_written(lta_shortfalls(case_bytes, c->length, proposal, p->length, out, room), number, index, due->count);
         ok = holds(out_arena, place, 8 * room, (const uint8_t *)due->number, 8 * due->count) && ok;
     }
     check(ok);
@@ -94,30 +85,16 @@ static void answered(const struct hour *h, const struct due *due)
 /* P1's hour with every volume, margin, capacity and flow a 125th. Prices 20, 63.75 and 50 euros; a tolerance of 100 euros. */
 static struct hour small_hour(void)
 {
-    struct hour h = three_zone_hour();
+    struct hour h = divided(three_zone_hour(), 125);
     h.tolerance = 10000;
-    for (size_t b = 0; b < h.branches; b++)
-        h.branch[b].ram /= 125;
-    h.link[0].capacity /= 125;
-    h.flow[0] /= 125;
-    for (size_t o = 0; o < h.orders; o++) {
-        h.order[o].quantity /= 125;
-        h.volume[o] /= 125;
-    }
     return h;
 }
 
 /* P3's in the same way: nothing flows, and no share is LTA. */
 static struct hour small_unused_link_hour(void)
 {
-    struct hour h = small_hour();
-    const uint32_t volume[] = {32, 4, 8, 0, 28};
-    memcpy(h.volume, volume, sizeof volume);
-    h.share = 0;
-    h.system = 2000;
-    h.flow[0] = 0;
-    h.shadow[0] = 6000;
-    h.shadow[1] = 0;
+    struct hour h = divided(unused_link_hour(), 125);
+    h.tolerance = 10000;
     return h;
 }
 
@@ -133,7 +110,7 @@ static void layout(void)
 static void gap_zero(void)
 {
     struct hour all[] = {three_zone_hour(), contracted_hour(), flow_based_hour(), one_zone_hour(), small_hour()};
-    for (size_t n = 0; n < sizeof all / sizeof *all; n++) {
+    for (size_t n = 0; n < COUNT(all); n++) {
         struct due due = nothing(&all[n]);
         about("hour %zu of gap zero", n);
         answered(&all[n], &due);
@@ -349,19 +326,19 @@ static void nulls(void)
         const uint8_t *case_bytes = lend(case_arena, k, c.bytes, c.length), *proposal = lend(proposal_arena, k, p.bytes, p.length);
         int64_t *out = (int64_t *)(void *)lend_room(out_arena, k, 8 * ROOM);
         about("null for all");
-        check(is(lta_shortfalls(NULL, 0, NULL, 0, NULL, 0), LTA_CASE_SHORT, 0, 0));
+        check(is_written(lta_shortfalls(NULL, 0, NULL, 0, NULL, 0), LTA_CASE_SHORT, 0, 0));
         about("null for the case");
-        check(is(lta_shortfalls(NULL, 0, proposal, p.length, out, ROOM), LTA_CASE_SHORT, 0, 0));
+        check(is_written(lta_shortfalls(NULL, 0, proposal, p.length, out, ROOM), LTA_CASE_SHORT, 0, 0));
         about("null for the proposal");
-        check(is(lta_shortfalls(case_bytes, c.length, NULL, 0, out, ROOM), LTA_PROPOSAL_SHORT, 0, 0));
+        check(is_written(lta_shortfalls(case_bytes, c.length, NULL, 0, out, ROOM), LTA_PROPOSAL_SHORT, 0, 0));
         about("null for the output");
-        check(is(lta_shortfalls(case_bytes, c.length, proposal, p.length, NULL, 0), LTA_SHORTFALL_NO_ROOM, 0, 0));
+        check(is_written(lta_shortfalls(case_bytes, c.length, proposal, p.length, NULL, 0), LTA_SHORTFALL_NO_ROOM, 0, 0));
         about("null, and something was written");
         check(holds(out_arena, k, 8 * ROOM, NULL, 0));
         case_bytes = lend(case_arena, k, bare_case.bytes, bare_case.length);
         proposal = lend(proposal_arena, k, bare_proposal.bytes, bare_proposal.length);
         about("null for the output of an hour of no rows");
-        check(is(lta_shortfalls(case_bytes, bare_case.length, proposal, bare_proposal.length, NULL, 0), 0, 0, 0));
+        check(is_written(lta_shortfalls(case_bytes, bare_case.length, proposal, bare_proposal.length, NULL, 0), 0, 0, 0));
     }
 }
 
@@ -411,7 +388,7 @@ static void largest(void)
         call.proposal = proposal_file(&h);
         about("the largest hour of version %u on a stack of %d bytes", version, STACK_ENOUGH);
         on_stack(STACK_ENOUGH, call_entry);
-        check(is(call.answer, 0, 0, LTA_SHORTFALL_ROOM) && memcmp(call.out, due.number, sizeof call.out) == 0);
+        check(is_written(call.answer, 0, 0, LTA_SHORTFALL_ROOM) && memcmp(call.out, due.number, sizeof call.out) == 0);
     }
 }
 

@@ -182,21 +182,7 @@ class Expected:
 
 
 def expected(text):
-    found = {}
-    for line, content in enumerate(text.split("\n"), 1):
-        content = content.rstrip("\r")
-        match = EXPECTATION.match(content)
-        if match is None:
-            continue
-        name, rest = match.groups()
-        values = (ANSWER if name == "expect" else BECOMES).fullmatch(rest)
-        if values is None:
-            raise hour.TextError(line, f"{short(content, 2 * hour.MOST_QUOTED)!r} is no {name} line")
-        if name in found:
-            raise hour.TextError(line, f"a second {name} line")
-        found[name] = values.groups()
-    if "expect" not in found:
-        raise ValueError("no expect line")
+    found = hour.expectations(text, EXPECTATION, lambda name, _: ANSWER if name == "expect" else BECOMES)
     number, index, length, judged = (None if word is None else int(word) for word in found["expect"])
     if (judged is not None) != (number == 0) or ("becomes" in found and number):
         raise ValueError("judged stands where the number is 0, and nowhere else, and becomes nowhere else either")

@@ -467,20 +467,16 @@ def build_families(text, folder=""):
 # What a stored hour expects.
 
 
-def expected(text, other="expect-apart"):
-    """The verdict of the joined file, that of the two files apart, and the totals in microcents by name. Of an hour with
-    families the two are the verdicts with the list and without it, and the other line is expect-without.
-    """
+def expectations(text, pattern, form_of):
+    """What the lines of a text say that have the pattern, by name; each is of its form and stands once, and expect does."""
     found = {}
     for line, content in enumerate(text.split("\n"), 1):
         content = content.rstrip("\r")
-        match = EXPECTATION.match(content)
+        match = pattern.match(content)
         if match is None:
             continue
         name, rest = match.groups()
-        if name not in ("expect", other, "totals"):
-            raise TextError(line, f"{name} stands where {other} would")
-        values = (EUROS if name == "totals" else VERDICT).fullmatch(rest)
+        values = form_of(name, line).fullmatch(rest)
         if values is None:
             raise TextError(line, f"{short(content, 2 * MOST_QUOTED)!r} is no {name} line")
         if name in found:
@@ -488,6 +484,20 @@ def expected(text, other="expect-apart"):
         found[name] = values.groups()
     if "expect" not in found:
         raise ValueError("no expect line")
+    return found
+
+
+def expected(text, other="expect-apart"):
+    """The verdict of the joined file, that of the two files apart, and the totals in microcents by name. Of an hour with
+    families the two are the verdicts with the list and without it, and the other line is expect-without.
+    """
+
+    def form_of(name, line):
+        if name not in ("expect", other, "totals"):
+            raise TextError(line, f"{name} stands where {other} would")
+        return EUROS if name == "totals" else VERDICT
+
+    found = expectations(text, EXPECTATION, form_of)
     joined = tuple(map(int, found["expect"]))
     apart = tuple(map(int, found.get(other, joined)))
     if other in found and apart == joined:

@@ -8,86 +8,56 @@
 #[path = "../archive.rs"]
 #[allow(dead_code)] // two of its entries are asked
 mod archive;
+#[path = "../said.rs"]
+mod said;
 
+use said::{bytes, hex, of_each, written};
 use second_judge::limits::LEAST_BUFFER;
-use second_judge::OutputAnswer;
-use std::io::{Error, Write};
+use second_judge::{OutputAnswer, Verdict};
 
 fn main() -> std::io::Result<()> {
-    let mut out = std::io::stdout().lock();
-    for line in std::io::stdin().lines() {
-        let line = line?;
-        let fields: Vec<&str> = line.split(' ').collect();
-        let read = match fields[..] {
-            [name, room, case, dump] => {
-                let files = bytes(case).zip(bytes(dump));
-                files
-                    .zip(room.parse::<usize>().ok())
-                    .map(|read| (name, read))
-            }
-            _ => None,
-        };
-        let (name, ((case, dump), room)) = read.ok_or_else(|| Error::other("a line is no dump"))?;
-        for (judge, (answer, written)) in [
-            ("archive", archive_says(&case, &dump, room)),
-            ("second", second_says(&case, &dump, room)),
-        ] {
-            let digits: String = written.iter().map(|byte| format!("{byte:02x}")).collect();
-            writeln!(out, "{name} {judge} {answer}")?;
-            writeln!(out, "{name} {judge} written {digits}")?;
-        }
-    }
-    out.flush()
+    of_each("dump", |[room, case, dump]| {
+        let (room, case, dump) = (room.parse().ok()?, bytes(case)?, bytes(dump)?);
+        Some([
+            archive_says(&case, &dump, room),
+            second_says(&case, &dump, room),
+        ])
+    })
 }
 
-/// The bytes of pairs of hexadecimal digits.
-fn bytes(digits: &str) -> Option<Vec<u8>> {
-    digits
-        .as_bytes()
-        .chunks(2)
-        .map(|pair| u8::from_str_radix(std::str::from_utf8(pair).ok()?, 16).ok())
-        .collect()
-}
-
-fn archive_says(case: &[u8], dump: &[u8], room: usize) -> (String, Vec<u8>) {
-    said(
+fn archive_says(case: &[u8], dump: &[u8], room: usize) -> Vec<String> {
+    said_of(
         room,
         |out| archive::dump_proposal(case, dump, out, false),
-        |proposal| archive::judge(case, proposal, &mut [0; LEAST_BUFFER]) % 256,
+        |proposal| archive::verdict(archive::judge(case, proposal, &mut [0; LEAST_BUFFER])),
     )
 }
 
-fn second_says(case: &[u8], dump: &[u8], room: usize) -> (String, Vec<u8>) {
-    said(
+fn second_says(case: &[u8], dump: &[u8], room: usize) -> Vec<String> {
+    said_of(
         room,
         |out| second_judge::dump_proposal(case, dump, out),
-        |proposal| {
-            let verdict = second_judge::judge(case, proposal, &mut [0; LEAST_BUFFER]);
-            verdict.number.into()
-        },
+        |proposal| second_judge::judge(case, proposal, &mut [0; LEAST_BUFFER]),
     )
 }
 
-/// The line, and the bytes up to the last that was changed in one of two outputs
-/// that have no byte in common.
-fn said(
+fn said_of(
     room: usize,
     convert: impl Fn(&mut [u8]) -> OutputAnswer,
-    judge: impl Fn(&[u8]) -> u64,
-) -> (String, Vec<u8>) {
-    let (mut zeros, mut ones) = (vec![0; room], vec![0xFF; room]);
-    let answer = convert(&mut zeros);
-    convert(&mut ones);
-    let last = (0..room).rev().find(|&n| zeros[n] != 0 || ones[n] != 0xFF);
-    let written = zeros[..last.map_or(0, |n| n + 1)].to_vec();
+    judge: impl Fn(&[u8]) -> Verdict,
+) -> Vec<String> {
+    let (answer, out, count) = written(room, [0, 0xFF], convert);
     let OutputAnswer {
         number,
         index,
         length,
     } = answer;
     let judged = match number {
-        0 => format!(" judged {}", judge(&zeros[..length as usize])),
+        0 => format!(" judged {}", judge(&out[..length as usize]).number),
         _ => String::new(),
     };
-    (format!("{number} {index} {length}{judged}"), written)
+    vec![
+        format!("{number} {index} {length}{judged}"),
+        format!("written {}", hex(&out[..count])),
+    ]
 }

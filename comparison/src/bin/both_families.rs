@@ -8,72 +8,57 @@
 #[path = "../archive.rs"]
 #[allow(dead_code)] // two of its entries are asked
 mod archive;
+#[path = "../said.rs"]
+#[allow(dead_code)] // no output is lent
+mod said;
 
+use said::{bytes, hex, of_each};
 use second_judge::limits::LEAST_BUFFER;
 use second_judge::Verdict;
-use std::io::{Error, Write};
 
 fn main() -> std::io::Result<()> {
-    let mut out = std::io::stdout().lock();
-    for line in std::io::stdin().lines() {
-        let line = line?;
-        let fields: Vec<&str> = line.split(' ').collect();
-        let read = match fields[..] {
-            [name, case, proposal, list] => bytes(case)
-                .zip(bytes(proposal))
-                .zip(bytes(list))
-                .map(|files| (name, files)),
-            _ => None,
-        };
-        let (name, ((case, proposal), list)) =
-            read.ok_or_else(|| Error::other("a line is no hour with families"))?;
-        for (judge, said) in [
-            ("archive", archive_says(&case, &proposal, &list)),
-            ("second", second_says(&case, &proposal, &list)),
-        ] {
-            writeln!(out, "{name} {judge} {said}")?;
-        }
-    }
-    out.flush()
+    of_each("hour with families", |[case, proposal, list]| {
+        let (case, proposal, list) = (bytes(case)?, bytes(proposal)?, bytes(list)?);
+        Some([
+            archive_says(&case, &proposal, &list),
+            second_says(&case, &proposal, &list),
+        ])
+    })
 }
 
-/// The bytes of pairs of hexadecimal digits.
-fn bytes(digits: &str) -> Option<Vec<u8>> {
-    digits
-        .as_bytes()
-        .chunks(2)
-        .map(|pair| u8::from_str_radix(std::str::from_utf8(pair).ok()?, 16).ok())
-        .collect()
-}
-
-fn archive_says(case: &[u8], proposal: &[u8], list: &[u8]) -> String {
-    let answer = |answer: u64| (answer % 256, answer / 256);
-    said(
-        |report| answer(archive::judge_families(case, proposal, list, report, false)),
-        |report| answer(archive::judge(case, proposal, report)),
+fn archive_says(case: &[u8], proposal: &[u8], list: &[u8]) -> Vec<String> {
+    said_of(
+        |report| {
+            let returned = archive::judge_families(case, proposal, list, report, false);
+            archive::verdict(returned)
+        },
+        |report| archive::verdict(archive::judge(case, proposal, report)),
     )
 }
 
-fn second_says(case: &[u8], proposal: &[u8], list: &[u8]) -> String {
-    let answer = |verdict: Verdict| (verdict.number.into(), verdict.index.into());
-    said(
-        |report| answer(second_judge::judge_families(case, proposal, list, report)),
-        |report| answer(second_judge::judge(case, proposal, report)),
+fn second_says(case: &[u8], proposal: &[u8], list: &[u8]) -> Vec<String> {
+    said_of(
+        |report| second_judge::judge_families(case, proposal, list, report),
+        |report| second_judge::judge(case, proposal, report),
     )
 }
 
-/// The line. A report that is written with the list is the one without it.
-fn said(
-    with: impl Fn(&mut [u8]) -> (u64, u64),
-    without: impl Fn(&mut [u8]) -> (u64, u64),
-) -> String {
-    let (mut report, mut free) = ([0; LEAST_BUFFER], [0; LEAST_BUFFER]);
-    let (number, index) = with(&mut report);
-    let (free_number, free_index) = without(&mut free);
-    let digits: String = report.iter().map(|byte| format!("{byte:02x}")).collect();
-    let other = match report == free || report == [0; LEAST_BUFFER] {
+/// A report that is written with the list is the one without it.
+fn said_of(
+    with: impl Fn(&mut [u8]) -> Verdict,
+    without: impl Fn(&mut [u8]) -> Verdict,
+) -> Vec<String> {
+    let (mut report, mut free_report) = ([0; LEAST_BUFFER], [0; LEAST_BUFFER]);
+    let Verdict { number, index } = with(&mut report);
+    let free = without(&mut free_report);
+    let other = match report == free_report || report == [0; LEAST_BUFFER] {
         true => "",
         false => ", with another report",
     };
-    format!("{number} {index} {digits} without {free_number} {free_index}{other}")
+    vec![format!(
+        "{number} {index} {} without {} {}{other}",
+        hex(&report),
+        free.number,
+        free.index
+    )]
 }

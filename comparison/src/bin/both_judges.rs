@@ -9,72 +9,52 @@
 #[path = "../archive.rs"]
 #[allow(dead_code)] // two of its entries are asked
 mod archive;
+#[path = "../said.rs"]
+#[allow(dead_code)] // no output is lent
+mod said;
 
+use said::{bytes, of_each};
 use second_judge::limits::{LEAST_BUFFER, LEAST_OUTPUT, REPORT_FIELD, REPORT_HEADER};
-use std::io::{Error, Write};
+use second_judge::Verdict;
 
 const TOTALS: [&str; 5] = ["welfare", "bound", "gap", "rent", "owed"];
 
 fn main() -> std::io::Result<()> {
-    let mut out = std::io::stdout().lock();
-    for line in std::io::stdin().lines() {
-        let line = line?;
-        let fields: Vec<&str> = line.split(' ').collect();
-        let hour = match fields[..] {
-            [name, case, proposal] => bytes(case)
-                .zip(bytes(proposal))
-                .map(|(case, proposal)| (name, case, proposal)),
-            _ => None,
-        };
-        let (name, case, proposal) = hour.ok_or_else(|| Error::other("a line is no hour"))?;
+    of_each("hour", |[case, proposal]| {
+        let (case, proposal) = (bytes(case)?, bytes(proposal)?);
         let joined = [&case[..], &proposal].concat();
-        for (judge, apart, lines) in [
-            (
-                "archive",
-                archive_apart(&case, &proposal),
-                archive_lines(&joined),
-            ),
-            (
-                "second",
+        Some([
+            both_ways(archive_apart(&case, &proposal), &archive_lines(&joined)),
+            both_ways(
                 second_apart(&case, &proposal),
-                second_judge::desk_lines(&joined),
+                &second_judge::desk_lines(&joined),
             ),
-        ] {
-            for said in apart {
-                writeln!(out, "{name} {judge} apart {said}")?;
-            }
-            for said in String::from_utf8_lossy(&lines).lines() {
-                writeln!(out, "{name} {judge} joined {said}")?;
-            }
-        }
-    }
-    out.flush()
+        ])
+    })
 }
 
-/// The bytes of pairs of hexadecimal digits.
-fn bytes(digits: &str) -> Option<Vec<u8>> {
-    digits
-        .as_bytes()
-        .chunks(2)
-        .map(|pair| u8::from_str_radix(std::str::from_utf8(pair).ok()?, 16).ok())
-        .collect()
+fn both_ways(apart: Vec<String>, lines: &[u8]) -> Vec<String> {
+    let lines = String::from_utf8_lossy(lines);
+    let apart = apart.iter().map(|said| format!("apart {said}"));
+    let joined = lines.lines().map(|said| format!("joined {said}"));
+    apart.chain(joined).collect()
 }
 
 fn archive_apart(case: &[u8], proposal: &[u8]) -> Vec<String> {
     let mut report = [0; LEAST_BUFFER];
-    let answer = archive::judge(case, proposal, &mut report);
-    verdict_and_totals(answer % 256, answer / 256, &report)
+    let verdict = archive::verdict(archive::judge(case, proposal, &mut report));
+    verdict_and_totals(verdict, &report)
 }
 
 fn second_apart(case: &[u8], proposal: &[u8]) -> Vec<String> {
     let mut report = [0; LEAST_BUFFER];
     let verdict = second_judge::judge(case, proposal, &mut report);
-    verdict_and_totals(verdict.number.into(), verdict.index.into(), &report)
+    verdict_and_totals(verdict, &report)
 }
 
 /// The totals are read from the report whatever the number, if one is there.
-fn verdict_and_totals(number: u64, index: u64, report: &[u8]) -> Vec<String> {
-    let mut said = vec![format!("verdict {number} {index}")];
+fn verdict_and_totals(verdict: Verdict, report: &[u8]) -> Vec<String> {
+    let mut said = vec![format!("verdict {} {}", verdict.number, verdict.index)];
     if report.iter().any(|byte| *byte != 0) {
         for (name, field) in TOTALS
             .iter()

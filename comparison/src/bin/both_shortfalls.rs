@@ -10,67 +10,39 @@
 #[path = "../archive.rs"]
 #[allow(dead_code)] // one of its entries is asked
 mod archive;
+#[path = "../said.rs"]
+#[allow(dead_code)] // what is written is no bytes
+mod said;
 
+use said::{bytes, of_each, written};
 use second_judge::OutputAnswer;
-use std::io::{Error, Write};
 
 fn main() -> std::io::Result<()> {
-    let mut out = std::io::stdout().lock();
-    for line in std::io::stdin().lines() {
-        let line = line?;
-        let fields: Vec<&str> = line.split(' ').collect();
-        let read = match fields[..] {
-            [name, room, case, proposal] => {
-                let files = bytes(case).zip(bytes(proposal));
-                files
-                    .zip(room.parse::<usize>().ok())
-                    .map(|read| (name, read))
-            }
-            _ => None,
-        };
-        let (name, ((case, proposal), room)) =
-            read.ok_or_else(|| Error::other("a line is no hour"))?;
-        let archive = said(room, |out| {
-            archive::shortfalls(&case, &proposal, out, false)
-        });
-        let second = said(room, |out| second_judge::shortfalls(&case, &proposal, out));
-        for (judge, (answer, written)) in [("archive", archive), ("second", second)] {
-            writeln!(out, "{name} {judge} {answer}")?;
-            writeln!(out, "{name} {judge} written{}", joined(&written))?;
-        }
-    }
-    out.flush()
-}
-
-/// The bytes of pairs of hexadecimal digits.
-fn bytes(digits: &str) -> Option<Vec<u8>> {
-    if digits == "-" {
-        return Some(Vec::new());
-    }
-    digits
-        .as_bytes()
-        .chunks(2)
-        .map(|pair| u8::from_str_radix(std::str::from_utf8(pair).ok()?, 16).ok())
-        .collect()
+    of_each("hour", |[room, case, proposal]| {
+        let (room, case, proposal) = (room.parse().ok()?, bytes(case)?, bytes(proposal)?);
+        Some([
+            said_of(room, |out| {
+                archive::shortfalls(&case, &proposal, out, false)
+            }),
+            said_of(room, |out| second_judge::shortfalls(&case, &proposal, out)),
+        ])
+    })
 }
 
 fn joined(numbers: &[i64]) -> String {
     numbers.iter().map(|number| format!(" {number}")).collect()
 }
 
-/// The line, and the numbers up to the last that was changed in one of two outputs that
-/// have no number in common.
-fn said(room: usize, asked: impl Fn(&mut [i64]) -> OutputAnswer) -> (String, Vec<i64>) {
-    let (mut zeros, mut ones) = (vec![0; room], vec![-1; room]);
-    let answer = asked(&mut zeros);
-    asked(&mut ones);
-    let last = (0..room).rev().find(|&n| zeros[n] != 0 || ones[n] != -1);
-    let written = zeros[..last.map_or(0, |n| n + 1)].to_vec();
+fn said_of(room: usize, entry: impl Fn(&mut [i64]) -> OutputAnswer) -> Vec<String> {
+    let (answer, out, count) = written(room, [0, -1], entry);
     let OutputAnswer {
         number,
         index,
         length,
     } = answer;
-    let numbers = joined(&zeros[..(length as usize).min(room)]);
-    (format!("{number} {index} {length}{numbers}"), written)
+    let numbers = joined(&out[..(length as usize).min(room)]);
+    vec![
+        format!("{number} {index} {length}{numbers}"),
+        format!("written{}", joined(&out[..count])),
+    ]
 }

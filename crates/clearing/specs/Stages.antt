@@ -1,13 +1,16 @@
 -- What the verdicts before a stage leave, and that the sums of the stage fit. Assumes nothing.
 use mathlib.Core.Path.{_≡_}
+use mathlib.Core.List.{List}
 use mathlib.Core.Option.{none}
 use Prim.Native.Nat.{ℕ, _+_, _≤_, _<_}
 use native.Mathlib.Omega.{arith}
+use lib.ListN.{getD}
 use lib.Dec.{nltb→le}
 use lib.IntN.{ℤ}
 use mir.Syntax.{w64}
 use Rattle.integers.specs.Sums.{sum-ext}
 use Rattle.integers.specs.Machine.{SumsFit, sfits-by}
+use Rattle.rules.specs.Meaning.Layout.{u32At}
 use Rattle.rules.specs.Meaning.Hour.{Case, Plan, linkUse, linkRoom}
 use Rattle.rows.specs.Meaning.Rows.{failing}
 use Rattle.rows.specs.Promised.RowLaws.{not-below}
@@ -28,6 +31,14 @@ volumes-in {c} {p} e = record { within = λ i h. nltb→le (c .quantity i) (p .v
 
 pub flows-in : {c : Case} {p : Plan} → CaseSound c → p .share ≤ 100000 → failing (overusedLink c p) ≡ none → FlowsIn c p
 flows-in {c} {p} cs share e = record { within = λ l h. flow-in c cs p share l h (nltb→le (linkRoom c p l) (linkUse c p l) (not-below _ _ e l h)) }
+
+-- an unsigned field of 32 bits, whose bytes are bytes
+pub record Bytes (s : List ℕ) : Type 0 where
+  pub byte : (i : ℕ) → getD s i 0 < 256
+
+pub word-small : (s : List ℕ) (k : ℕ) → Bytes s → u32At s k ≤ 4294967295
+unfolding u32At
+word-small s k b = omega (arith, b .byte k, b .byte (k + 1), b .byte (k + 2), b .byte (k + 3))
 
 -- sums that fit, of terms that are equal
 pub fit-ext : (f g : ℕ → ℤ) (n : ℕ) → ((i : ℕ) → i < n → g i ≡ f i) → SumsFit f n → SumsFit g n

@@ -1,0 +1,64 @@
+"""What the tests of stored hours and dumps share: what is said of them, by both judges and in a program's stored output,
+and what is counted. It is imported first, since it puts tools/ on the path. The archive is there before.
+"""
+
+import pathlib
+import subprocess
+import sys
+
+ROOT = pathlib.Path(__file__).resolve().parent.parent
+sys.path.insert(0, str(ROOT / "tools"))
+
+PROGRAM = "cargo run --release --offline --quiet -j2 --manifest-path comparison/Cargo.toml --features {} --bin {}"
+ARCHIVE, SECOND = "archive", "second"
+WRITTEN = "written"
+
+
+def word(field):
+    """A number, or a file in hexadecimal digits, as the programs read them."""
+    return str(field) if isinstance(field, int) else field.hex() or "-"
+
+
+def lines_of_both_judges(feature, program, records):
+    """Name, judge and words of each line that the program of comparison/ prints for records: numbers and files, by name."""
+    lines = "".join(f"{name} {' '.join(map(word, record))}\n" for name, record in records.items())
+    command = PROGRAM.format(feature, program).split()
+    run = subprocess.run(command, cwd=ROOT, input=lines, stdout=subprocess.PIPE, text=True, check=True)
+    return [line.split(" ", 2) for line in run.stdout.split("\n")[:-1]]
+
+
+def said_by_both_judges(feature, program, records):
+    """What each judge says of each record: its line by name and judge, and under WRITTEN too what it wrote."""
+    said = {}
+    for name, judge, words in lines_of_both_judges(feature, program, records):
+        if words.startswith(WRITTEN):
+            said[name, judge, WRITTEN] = words.removeprefix(WRITTEN)
+        else:
+            said[name, judge] = words
+    return said
+
+
+def stored_output(crate, names):
+    """What stands in the stored output of a crate, in the same way, a line for each name in order; and how many lines."""
+    lines = (ROOT / "crates" / crate / "stdout").read_text().splitlines()
+    return {(name, crate): line for name, line in zip(names, lines)}, len(lines)
+
+
+class Count:
+    """Checks, counted; what fails is said."""
+
+    def __init__(self):
+        self.passed = self.failed = 0
+
+    def check(self, good, words):
+        self.passed, self.failed = self.passed + bool(good), self.failed + (not good)
+        if not good:
+            print(f"FAILED: {words}")
+
+    def so_far(self, what):
+        print(f"{what}: {self.passed} as expected, {self.failed} not")
+
+    def closing(self):
+        """The last line, and the status."""
+        print(f"{self.passed} passed, {self.failed} failed")
+        return 0 if self.passed and not self.failed else 1
