@@ -362,12 +362,12 @@ enum lta_intuitive_number {
     LTA_INTUITIVE_PRICE = 83,       /* a price is out of its range, which is LTA_ZONE_PRICE's; index: the zone */
     LTA_INTUITIVE_PAIR = 84,        /* a pair has an unknown zone or equal ones, repeats an earlier one or is past the 64th; index: the
                                      * pair */
-    LTA_INTUITIVE_NO_ROOM = 85      /* scratch_count is under LTA_INTUITIVE_SCRATCH, on the smaller board LTA_INTUITIVE_SMALL_SCRATCH */
+    LTA_INTUITIVE_NO_ROOM = 85      /* scratch_count is under LTA_INTUITIVE_SCRATCH, for the small entries LTA_INTUITIVE_SMALL_SCRATCH */
 };
 
 #define LTA_INTUITIVE_PAIRS 64      /* pairs at most */
 #define LTA_INTUITIVE_SCRATCH 324   /* numbers that a scratch must have, whatever the zones */
-#define LTA_INTUITIVE_SMALL_SCRATCH 96 /* the same on the smaller board: one per pair, one per zone for export used, one per zone for
+#define LTA_INTUITIVE_SMALL_SCRATCH 96 /* the same for the small entries: one per pair, one per zone for export used, one per zone for
                                         * import used */
 
 /* The answer. */
@@ -425,7 +425,7 @@ struct lta_carried lta_hour_intuitive(const uint8_t *case_bytes, size_t case_len
                                       const uint8_t *pairs, size_t pairs_len,
                                       int64_t *scratch, size_t scratch_count);
 
-/* The same two on a smaller board. Arguments, answers, numbers and their order are those of lta_intuitive and of lta_hour_intuitive, but
+/* The same two with a smaller scratch. Arguments, answers, numbers and their order are those of lta_intuitive and lta_hour_intuitive, but
  * that LTA_INTUITIVE_SMALL_SCRATCH stands for LTA_INTUITIVE_SCRATCH: LTA_INTUITIVE_NO_ROOM is given for a scratch under 96 numbers, and of
  * an answer the first 96 are zero, and all past them as they were [outcome] [yes] [no] [yes_or_no] [largest] [scratch] [refused].
  *
@@ -700,7 +700,7 @@ static inline const char *lta_number_text(uint32_t number)
     case LTA_INTUITIVE_POSITION: return "net position out of range, or their sum is not zero";
     case LTA_INTUITIVE_PRICE: return "price of a zone out of range";
     case LTA_INTUITIVE_PAIR: return "pair with an unknown zone, equal zones, repeated or past the 64th";
-    case LTA_INTUITIVE_NO_ROOM: return "scratch under 324 numbers, or under 96 on the smaller board";
+    case LTA_INTUITIVE_NO_ROOM: return "scratch under 324 numbers, or under 96 for the small entries";
     case LTA_SHORTFALL_NO_ROOM: return "output too short for the shortfalls";
     default: return "unknown number";
     }

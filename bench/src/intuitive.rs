@@ -1,6 +1,6 @@
 //! S-3's entries against plain Rust on the same inputs: annex 5.1's two price
 //! sets, no pairs, random exchanges, the worst that a search finds, and hours.
-//! Then S-13's, on the smaller board, against them on the same.
+//! Then S-13's, with the smaller scratch, against them on the same.
 
 #[path = "plain_flow.rs"]
 mod plain;
@@ -94,8 +94,8 @@ fn of(name: &str, exchanges: &[Exchange]) {
     }
 }
 
-/// Measures both boards on the same exchanges.
-fn of_boards(name: &str, exchanges: &[Exchange]) {
+/// Measures both sizes of scratch on the same exchanges.
+fn of_sizes(name: &str, exchanges: &[Exchange]) {
     let (mut small, mut wide) = ([1; SMALL_SCRATCH], [2; SCRATCH]);
     for given in exchanges {
         assert_eq!(given.small(&mut small), given.proved(&mut wide), "{name}");
@@ -116,7 +116,7 @@ fn of_boards(name: &str, exchanges: &[Exchange]) {
 }
 
 /// The same on one hour.
-fn hour_of_boards(name: &str, hour: &Hour) {
+fn hour_of_sizes(name: &str, hour: &Hour) {
     let (case, proposal) = (hour.case(), hour.proposal());
     let pairs = links(hour);
     let (mut small, mut wide) = ([1; SMALL_SCRATCH], [2; SCRATCH]);
@@ -327,9 +327,9 @@ pub fn exchanges() {
     asked.iter().for_each(|(name, some)| of(name, some));
     heading_against("intuitive hours, links as pairs", "Rust ns");
     hours.iter().for_each(|(name, hour)| of_hour(name, hour));
-    heading_against("the smaller board, against the wide one", "wide ns");
-    asked.iter().for_each(|(name, some)| of_boards(name, some));
+    heading_against("the smaller scratch, against the wide one", "wide ns");
+    asked.iter().for_each(|(name, some)| of_sizes(name, some));
     hours
         .iter()
-        .for_each(|(name, hour)| hour_of_boards(name, hour));
+        .for_each(|(name, hour)| hour_of_sizes(name, hour));
 }

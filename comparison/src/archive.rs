@@ -482,7 +482,7 @@ pub fn hour_intuitive(
     carried_by(lta_hour_intuitive, case, proposal, pairs, scratch, null)
 }
 
-/// Both on the smaller board.
+/// Both with the smaller scratch.
 #[cfg(feature = "intuitive")]
 #[allow(dead_code)]
 pub fn intuitive_small(

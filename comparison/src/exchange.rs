@@ -9,7 +9,7 @@ pub const MOST_PAIRS: usize = 64;
 pub const MOST_EXPORT: i64 = 51_200_000;
 /// Numbers of scratch that are enough.
 pub const SCRATCH: usize = 324;
-/// The same on the smaller board.
+/// The same for S-13's entries.
 pub const SMALL_SCRATCH: usize = 96;
 pub const LOWEST: i64 = -50_000 * 100_000;
 pub const HIGHEST: i64 = 400_000 * 100_000;

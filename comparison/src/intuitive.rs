@@ -11,7 +11,7 @@ use crate::planted::{Cause, Planted, CAUSES};
 use crate::rng::Rng;
 use crate::run::{count_met, Run, LEAST_INPUTS, LEAST_TIMES};
 use second_judge::hours::{stored, three_zone_hour, Hour};
-use second_judge::{hour_intuitive_as, intuitive_as, Board, CarriedAnswer, IntuitiveBuild};
+use second_judge::{hour_intuitive_as, intuitive_as, CarriedAnswer, IntuitiveBuild, ScratchSize};
 
 /// So many of the inputs at least are hours.
 const LEAST_HOURS: u64 = 10_000;
@@ -60,32 +60,36 @@ impl Asked<'_> {
     fn second(
         self,
         build: IntuitiveBuild,
-        board: Board,
+        size: ScratchSize,
         pairs: &[u8],
         scratch: &mut [i64],
     ) -> CarriedAnswer {
         match self {
-            Asked::Positions(net, prices) => {
-                intuitive_as(build, board, net, prices, pairs, scratch)
-            }
+            Asked::Positions(net, prices) => intuitive_as(build, size, net, prices, pairs, scratch),
             Asked::Hour(case, proposal) => {
-                hour_intuitive_as(build, board, case, proposal, pairs, scratch)
+                hour_intuitive_as(build, size, case, proposal, pairs, scratch)
             }
         }
     }
 
-    fn archive(self, board: Board, pairs: &[u8], scratch: &mut [i64], null: bool) -> CarriedAnswer {
-        match (self, board) {
-            (Asked::Positions(net, prices), Board::Wide) => {
+    fn archive(
+        self,
+        size: ScratchSize,
+        pairs: &[u8],
+        scratch: &mut [i64],
+        null: bool,
+    ) -> CarriedAnswer {
+        match (self, size) {
+            (Asked::Positions(net, prices), ScratchSize::Wide) => {
                 archive::intuitive(net, prices, pairs, scratch, null)
             }
-            (Asked::Positions(net, prices), Board::Small) => {
+            (Asked::Positions(net, prices), ScratchSize::Small) => {
                 archive::intuitive_small(net, prices, pairs, scratch, null)
             }
-            (Asked::Hour(case, proposal), Board::Wide) => {
+            (Asked::Hour(case, proposal), ScratchSize::Wide) => {
                 archive::hour_intuitive(case, proposal, pairs, scratch, null)
             }
-            (Asked::Hour(case, proposal), Board::Small) => {
+            (Asked::Hour(case, proposal), ScratchSize::Small) => {
                 archive::hour_intuitive_small(case, proposal, pairs, scratch, null)
             }
         }
@@ -118,7 +122,7 @@ impl Asked<'_> {
     }
 }
 
-/// What one board met.
+/// What one size of scratch met.
 struct Tally {
     inputs: u64,
     hours: u64,
@@ -167,17 +171,17 @@ impl Exchanges<'_> {
 
     fn feed_as(&mut self, asked: Asked, pairs: &[u8], room: usize, null: bool) -> CarriedAnswer {
         self.inputs += 1;
-        let (wide, wrong) = self.compare(asked, Board::Wide, pairs, room, null);
+        let (wide, wrong) = self.compare(asked, ScratchSize::Wide, pairs, room, null);
         self.meet(asked, pairs, wide, &wrong);
 
-        // The smaller board has by turns the same scratch and one that is as much
-        // too long or too short for it.
+        // The small entries have by turns the same scratch and one that is as much
+        // too long or too short for them.
         let small_room = match room.checked_sub(SCRATCH) {
             _ if self.inputs % 3 == 0 => room,
             Some(past) => SMALL_SCRATCH + past,
             None => room * SMALL_SCRATCH / SCRATCH,
         };
-        let (small, _) = self.compare(asked, Board::Small, pairs, small_room, null);
+        let (small, _) = self.compare(asked, ScratchSize::Small, pairs, small_room, null);
         let enough = (small_room >= SMALL_SCRATCH, room >= SCRATCH);
         let due = match wide.number {
             // Asked last, so that there is no other cause.
@@ -188,19 +192,19 @@ impl Exchanges<'_> {
         };
         if !due {
             self.fault(asked, pairs, room, || {
-                format!("wide board {wide:?}, smaller {small:?} with scratch {small_room}")
+                format!("wide entry {wide:?}, small one {small:?} with scratch {small_room}")
             });
         }
         self.both_took += u64::from(enough == (true, true) && wide.number == 0);
         wide
     }
 
-    /// One board's entry against the second judge's: the right answer, and which
+    /// One entry against the second judge's: the right answer, and which
     /// of the wrong builds were told from it.
     fn compare(
         &mut self,
         asked: Asked,
-        board: Board,
+        size: ScratchSize,
         pairs: &[u8],
         room: usize,
         null: bool,
@@ -211,19 +215,19 @@ impl Exchanges<'_> {
         // number is right by luck.
         let salt = self.inputs as i64;
         let lent = Lent::filled(room, |n| (n as i64 * 0x1_0001_0003 + salt * 0x51_7CC1) | 1);
-        let second = |build, scratch: &mut [i64]| asked.second(build, board, pairs, scratch);
-        let theirs = lent.to(|scratch| asked.archive(board, pairs, scratch, null));
+        let second = |build, scratch: &mut [i64]| asked.second(build, size, pairs, scratch);
+        let theirs = lent.to(|scratch| asked.archive(size, pairs, scratch, null));
         let ours = lent.to(|scratch| second(IntuitiveBuild::Right, scratch));
         if let Some(text) = theirs.unlike(&ours) {
-            self.fault(asked, pairs, room, || format!("{board:?}: {text}"));
+            self.fault(asked, pairs, room, || format!("{size:?}: {text}"));
         }
         if copies != (asked.copied(), pairs.to_vec()) {
             self.fault(asked, pairs, room, || "an argument was written".into());
         }
 
-        let (builds, tally) = match board {
-            Board::Wide => (&IntuitiveBuild::WRONG[..], &mut self.wide),
-            Board::Small => (&IntuitiveBuild::SMALL_WRONG[..], &mut self.small),
+        let (builds, tally) = match size {
+            ScratchSize::Wide => (&IntuitiveBuild::WRONG[..], &mut self.wide),
+            ScratchSize::Small => (&IntuitiveBuild::SMALL_WRONG[..], &mut self.small),
         };
         let wrong: Vec<bool> = builds
             .iter()
@@ -349,12 +353,12 @@ pub fn exchanges(run: &mut Run, rng: &mut Rng) {
     run.section("intuitive hours, met, times");
     run.check_met(&MET, &all.met);
     let sections = [
-        "the smaller board, numbers of lta_intuitive_small, times met",
-        "the smaller board, numbers of lta_hour_intuitive_small, times met",
-        "the smaller board, the second judge's wrong builds, times told from the archive",
+        "the smaller scratch, numbers of lta_intuitive_small, times met",
+        "the smaller scratch, numbers of lta_hour_intuitive_small, times met",
+        "the smaller scratch, the second judge's wrong builds, times told from the archive",
     ];
     told(run, sections, &all.small, &IntuitiveBuild::SMALL_WRONG);
-    run.section("the smaller board, and the wide one on the same input");
+    run.section("the smaller scratch, and the wide one on the same input");
     run.check_times(
         "both took it, and said the same".into(),
         all.both_took,
@@ -362,7 +366,7 @@ pub fn exchanges(run: &mut Run, rng: &mut Rng) {
     );
 }
 
-/// What one board's entries met: inputs, each number, and the wrong builds.
+/// What the entries of one size met: inputs, each number, and the wrong builds.
 fn told(
     run: &mut Run,
     sections: [&'static str; 3],
@@ -614,7 +618,7 @@ fn at_the_limits(all: &mut Exchanges, rng: &mut Rng) {
     for room in (0..=660)
         .filter(|n| *n < 4 || (90..=102).contains(n) || (318..=332).contains(n) || n % 50 == 0)
     {
-        // By threes, so that each length goes to both boards as it is.
+        // By threes, so that each length goes to both entries as it is.
         for zones in [1, 5, MOST_ZONES] {
             let mut made = Planted::good(rng, zones);
             made.room = room;

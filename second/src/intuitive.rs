@@ -23,21 +23,20 @@ pub struct CarriedAnswer {
     pub total: i64,
 }
 
-/// The board that an answer takes, by the numbers of scratch that it asks for
-/// and leaves as zeros.
+/// The scratch of an answer: how many numbers it asks for and leaves as zeros.
 #[derive(Clone, Copy, Debug, PartialEq, Eq)]
-pub enum Board {
+pub enum ScratchSize {
     /// S-3.
     Wide,
     /// S-13.
     Small,
 }
 
-impl Board {
+impl ScratchSize {
     pub fn numbers(self) -> usize {
         match self {
-            Board::Wide => SCRATCH,
-            Board::Small => SMALL_SCRATCH,
+            ScratchSize::Wide => SCRATCH,
+            ScratchSize::Small => SMALL_SCRATCH,
         }
     }
 }
@@ -65,7 +64,7 @@ pub enum IntuitiveBuild {
     PairTooMany,
     LoneByteDropped,
     GapAnswered,
-    // The smaller board.
+    // The smaller scratch.
     NumberTooFew,
     WideZeros,
     WideRoom,
@@ -101,10 +100,13 @@ impl IntuitiveBuild {
         (IntuitiveBuild::GapAnswered, "26 answered as accepted"),
     ];
 
-    /// Those of the smaller board.
+    /// Those of the smaller scratch.
     pub const SMALL_WRONG: [(IntuitiveBuild, &'static str); 6] = [
         (IntuitiveBuild::NumberTooFew, "95 numbers let through"),
-        (IntuitiveBuild::WideZeros, "the wide board's zeros written"),
+        (
+            IntuitiveBuild::WideZeros,
+            "the wide scratch's zeros written",
+        ),
         (IntuitiveBuild::WideRoom, "85 under 324 numbers"),
         (IntuitiveBuild::ImportUsedKept, "import used not given back"),
         (IntuitiveBuild::ScratchNotCleared, "scratch not cleared"),
@@ -120,7 +122,7 @@ impl IntuitiveBuild {
 pub fn intuitive(net: &[i64], prices: &[i64], pairs: &[u8], scratch: &mut [i64]) -> CarriedAnswer {
     intuitive_as(
         IntuitiveBuild::Right,
-        Board::Wide,
+        ScratchSize::Wide,
         net,
         prices,
         pairs,
@@ -128,7 +130,7 @@ pub fn intuitive(net: &[i64], prices: &[i64], pairs: &[u8], scratch: &mut [i64])
     )
 }
 
-/// The same on the smaller board.
+/// The same with the smaller scratch.
 pub fn intuitive_small(
     net: &[i64],
     prices: &[i64],
@@ -137,7 +139,7 @@ pub fn intuitive_small(
 ) -> CarriedAnswer {
     intuitive_as(
         IntuitiveBuild::Right,
-        Board::Small,
+        ScratchSize::Small,
         net,
         prices,
         pairs,
@@ -148,13 +150,13 @@ pub fn intuitive_small(
 /// The same as one of the builds answers.
 pub fn intuitive_as(
     build: IntuitiveBuild,
-    board: Board,
+    size: ScratchSize,
     net: &[i64],
     prices: &[i64],
     pairs: &[u8],
     scratch: &mut [i64],
 ) -> CarriedAnswer {
-    match carried(build, board, net, prices, pairs, scratch) {
+    match carried(build, size, net, prices, pairs, scratch) {
         Ok((intuitive, total)) => CarriedAnswer {
             number: 0,
             index: 0,
@@ -174,7 +176,7 @@ pub fn hour_intuitive(
 ) -> CarriedAnswer {
     hour_intuitive_as(
         IntuitiveBuild::Right,
-        Board::Wide,
+        ScratchSize::Wide,
         case,
         proposal,
         pairs,
@@ -182,7 +184,7 @@ pub fn hour_intuitive(
     )
 }
 
-/// The same on the smaller board.
+/// The same with the smaller scratch.
 pub fn hour_intuitive_small(
     case: &[u8],
     proposal: &[u8],
@@ -191,7 +193,7 @@ pub fn hour_intuitive_small(
 ) -> CarriedAnswer {
     hour_intuitive_as(
         IntuitiveBuild::Right,
-        Board::Small,
+        ScratchSize::Small,
         case,
         proposal,
         pairs,
@@ -202,7 +204,7 @@ pub fn hour_intuitive_small(
 /// The same as one of the builds answers.
 pub fn hour_intuitive_as(
     build: IntuitiveBuild,
-    board: Board,
+    size: ScratchSize,
     case: &[u8],
     proposal: &[u8],
     pairs: &[u8],
@@ -221,7 +223,7 @@ pub fn hour_intuitive_as(
         .map(|field| i64::from_le_bytes(field.try_into().expect("eight bytes")))
         .collect();
     let exports = net_exports(build, case, proposal, prices.len());
-    intuitive_as(build, board, &exports, &prices, pairs, scratch)
+    intuitive_as(build, size, &exports, &prices, pairs, scratch)
 }
 
 fn refusal(number: u32, index: u32) -> CarriedAnswer {
@@ -256,7 +258,7 @@ fn net_exports(build: IntuitiveBuild, case: &[u8], proposal: &[u8], zones: usize
 /// Yes or no and the total, or number and index of the refusal.
 fn carried(
     build: IntuitiveBuild,
-    board: Board,
+    size: ScratchSize,
     net: &[i64],
     prices: &[i64],
     pairs: &[u8],
@@ -293,9 +295,9 @@ fn carried(
     }
     let pairs = listed(build, pairs, zones)?;
     let least = match build {
-        IntuitiveBuild::NumberTooFew => board.numbers() - 1,
+        IntuitiveBuild::NumberTooFew => size.numbers() - 1,
         IntuitiveBuild::WideRoom => SCRATCH,
-        _ => board.numbers(),
+        _ => size.numbers(),
     };
     if scratch.len() < least {
         return Err((85, 0));
@@ -333,9 +335,9 @@ fn carried(
     };
     let cleared = match build {
         IntuitiveBuild::ScratchNotCleared => 0,
-        IntuitiveBuild::ScratchClearedPast => board.numbers() + 1,
+        IntuitiveBuild::ScratchClearedPast => size.numbers() + 1,
         IntuitiveBuild::WideZeros => SCRATCH,
-        _ => board.numbers(),
+        _ => size.numbers(),
     };
     let cleared = cleared.min(scratch.len());
     scratch[..cleared].fill(0);
@@ -571,19 +573,19 @@ mod tests {
         }
     }
 
-    /// The answer of a build, whose scratch must be as it should, on both boards.
+    /// The answer of a build, whose scratch must be as it should, of either size.
     fn asked_as(build: IntuitiveBuild, net: &[i64], prices: &[i64], pairs: &[u8]) -> CarriedAnswer {
-        let on = |board: Board| {
-            let mut scratch = vec![FILL; board.numbers() + 3];
-            let answer = intuitive_as(build, board, net, prices, pairs, &mut scratch);
-            let (lent, past) = scratch.split_at(board.numbers());
+        let with = |size: ScratchSize| {
+            let mut scratch = vec![FILL; size.numbers() + 3];
+            let answer = intuitive_as(build, size, net, prices, pairs, &mut scratch);
+            let (lent, past) = scratch.split_at(size.numbers());
             let due = if answer.number == 0 { 0 } else { FILL };
             assert!(lent.iter().all(|number| *number == due), "{answer:?}");
             assert_eq!(past, [FILL; 3]);
             answer
         };
-        let answer = on(Board::Wide);
-        assert_eq!(on(Board::Small), answer);
+        let answer = with(ScratchSize::Wide);
+        assert_eq!(with(ScratchSize::Small), answer);
         answer
     }
 
@@ -768,11 +770,11 @@ mod tests {
     }
 
     #[test]
-    fn wrong_builds_of_the_smaller_board_do_what_is_said_of_them() {
+    fn wrong_builds_of_the_smaller_scratch_do_what_is_said_of_them() {
         use IntuitiveBuild::*;
         let wrong = |build, room| {
             let mut scratch = vec![FILL; room];
-            let small = Board::Small;
+            let small = ScratchSize::Small;
             let answer = intuitive_as(build, small, &[9, -9], &[1, 2], &[0, 1], &mut scratch);
             (answer.number, scratch)
         };
@@ -825,7 +827,7 @@ mod tests {
         use IntuitiveBuild::*;
         let wrong = |build, net: &[i64], prices: &[i64], pairs: &[u8]| {
             let mut scratch = vec![FILL; SCRATCH + 1];
-            let answer = intuitive_as(build, Board::Wide, net, prices, pairs, &mut scratch);
+            let answer = intuitive_as(build, ScratchSize::Wide, net, prices, pairs, &mut scratch);
             let cleared = scratch.iter().filter(|number| **number == 0).count();
             (
                 answer.number,
@@ -875,7 +877,14 @@ mod tests {
         let hour = |build, hour: &Hour, pairs: &[u8]| {
             let mut scratch = [FILL; SCRATCH];
             let (case, proposal) = (hour.case(), hour.proposal());
-            hour_intuitive_as(build, Board::Wide, &case, &proposal, pairs, &mut scratch)
+            hour_intuitive_as(
+                build,
+                ScratchSize::Wide,
+                &case,
+                &proposal,
+                pairs,
+                &mut scratch,
+            )
         };
         assert_eq!(hour(NotTurned, &p1, &[0, 1, 0, 2]), answer(0, 0, 0, 0));
         let mut over = p1.clone();

@@ -28,7 +28,7 @@ pub use dump::{dump_proposal, dump_proposal_as, DumpBuild};
 pub use families::{list_of, FamilyBuild, LIST_HEADER, NO_PARENT};
 pub use intuitive::{
     hour_intuitive, hour_intuitive_as, hour_intuitive_small, intuitive, intuitive_as,
-    intuitive_small, Board, CarriedAnswer, IntuitiveBuild,
+    intuitive_small, CarriedAnswer, IntuitiveBuild, ScratchSize,
 };
 pub use judge::{judge, judge_as, judge_families, judge_families_as, Build};
 pub use queue::{

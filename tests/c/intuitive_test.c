@@ -1,4 +1,4 @@
-/* lta_intuitive and lta_hour_intuitive through the archive, and the same on the smaller board: annex 5.1's two price sets, which pairs
+/* lta_intuitive and lta_hour_intuitive through the archive, and both with the smaller scratch: annex 5.1's two price sets, which pairs
  * count, exports that make way for each other, each limit and one past it, each cause and their order, hours accepted and refused, null
  * pointers. Calls are made with every argument at both places between unreadable pages, all but the scratch unwritable, and every number
  * of the scratch is compared. */
@@ -16,20 +16,20 @@
 #define PAIR_BYTES_MOST 600
 /* Numbers past those that an answer clears. */
 #define PAST 40
-#define ROOM (board->scratch + PAST)
+#define ROOM (entries->scratch + PAST)
 
-/* The wide board and the smaller: how much scratch they take, and their entries. */
-struct board {
+/* The wide scratch and the smaller: how many numbers they have, and the entries that take them. */
+struct entries {
     const char *name;
     size_t scratch;
     struct lta_carried (*intuitive)(const int64_t *, size_t, const int64_t *, size_t, const uint8_t *, size_t, int64_t *, size_t);
     struct lta_carried (*hour)(const uint8_t *, size_t, const uint8_t *, size_t, const uint8_t *, size_t, int64_t *, size_t);
 };
-static const struct board boards[] = {
-    {"the wide board", LTA_INTUITIVE_SCRATCH, lta_intuitive, lta_hour_intuitive},
-    {"the smaller board", LTA_INTUITIVE_SMALL_SCRATCH, lta_intuitive_small, lta_hour_intuitive_small},
+static const struct entries sizes[] = {
+    {"the wide scratch", LTA_INTUITIVE_SCRATCH, lta_intuitive, lta_hour_intuitive},
+    {"the smaller scratch", LTA_INTUITIVE_SMALL_SCRATCH, lta_intuitive_small, lta_hour_intuitive_small},
 };
-static const struct board *board = boards;
+static const struct entries *entries = sizes;
 
 /* What is asked, with room for some zones and many pairs too many. */
 struct exchange {
@@ -53,7 +53,7 @@ static bool is(struct lta_carried a, uint32_t number, uint32_t index, uint32_t i
 /* The scratch afterwards: zeros in an answer, and else all as it was. */
 static bool scratch_is(enum place place, size_t room, uint32_t number)
 {
-    return holds(scratch_arena, place, 8 * room, zeros, number == 0 ? 8 * board->scratch : 0);
+    return holds(scratch_arena, place, 8 * room, zeros, number == 0 ? 8 * entries->scratch : 0);
 }
 
 /* The answer, and the scratch, with all arguments at each of their places. */
@@ -66,7 +66,7 @@ static void asked(const struct exchange *e, size_t room, uint32_t number, uint32
         const int64_t *price = lend(price_arena, place_of(way, 1), e->price, 8 * e->prices);
         const uint8_t *pair = lend(pair_arena, place_of(way, 2), e->pair, e->bytes);
         int64_t *scratch = (int64_t *)(void *)lend_room(scratch_arena, place, 8 * room);
-        struct lta_carried a = board->intuitive(net, e->zones, price, e->prices, pair, e->bytes, scratch, room);
+        struct lta_carried a = entries->intuitive(net, e->zones, price, e->prices, pair, e->bytes, scratch, room);
         ok = is(a, number, index, intuitive, total);
         ok = scratch_is(place, room, number) && ok;
     }
@@ -343,7 +343,7 @@ static void scratches(void)
     struct exchange e = one_tenth(0, 0, 0, 1);
     for (size_t k = 0; k < COUNT(rooms); k++) {
         about("a scratch of %zu numbers", rooms[k]);
-        if (rooms[k] < board->scratch)
+        if (rooms[k] < entries->scratch)
             asked(&e, rooms[k], LTA_INTUITIVE_NO_ROOM, 0, 0, 0);
         else
             asked(&e, rooms[k], 0, 0, 1, 1);
@@ -388,7 +388,7 @@ static void asked_hour(const struct file *c, const struct file *p, size_t bytes,
         const uint8_t *proposal = lend(proposal_arena, place_of(way, 1), p->bytes, p->length);
         const uint8_t *pairs_lent = lend(pair_arena, place_of(way, 2), pair, bytes);
         int64_t *scratch = (int64_t *)(void *)lend_room(scratch_arena, place, 8 * room);
-        struct lta_carried a = board->hour(case_bytes, c->length, proposal, p->length, pairs_lent, bytes, scratch, room);
+        struct lta_carried a = entries->hour(case_bytes, c->length, proposal, p->length, pairs_lent, bytes, scratch, room);
         ok = is(a, due.number, due.index, due.intuitive, due.total);
         ok = scratch_is(place, room, due.number) && ok;
     }
@@ -442,7 +442,7 @@ static void hours(void)
     static const size_t rooms[] = {95, 96, 97, 323, 324};
     for (size_t k = 0; k < COUNT(rooms); k++) {
         about("P1 with a scratch of %zu numbers", rooms[k]);
-        if (rooms[k] < board->scratch)
+        if (rooms[k] < entries->scratch)
             hour_is(&h, 2, (uint8_t[]){0, 1}, rooms[k], (struct lta_carried){LTA_INTUITIVE_NO_ROOM, 0, 0, 0});
         else
             hour_is(&h, 2, (uint8_t[]){0, 1}, rooms[k], part);
@@ -518,28 +518,28 @@ static void nulls(void)
         const uint8_t *pair = lend(pair_arena, k, (uint8_t[]){0, 1}, 2);
         int64_t *scratch = (int64_t *)(void *)lend_room(scratch_arena, k, 8 * ROOM);
         about("null for all");
-        check(is(board->intuitive(NULL, 0, NULL, 0, NULL, 0, NULL, 0), LTA_INTUITIVE_ZONES, 0, 0, 0));
+        check(is(entries->intuitive(NULL, 0, NULL, 0, NULL, 0, NULL, 0), LTA_INTUITIVE_ZONES, 0, 0, 0));
         about("null for the net positions");
-        check(is(board->intuitive(NULL, 0, price, 2, pair, 2, scratch, ROOM), LTA_INTUITIVE_ZONES, 0, 0, 0));
+        check(is(entries->intuitive(NULL, 0, price, 2, pair, 2, scratch, ROOM), LTA_INTUITIVE_ZONES, 0, 0, 0));
         about("null for the prices");
-        check(is(board->intuitive(net, 2, NULL, 0, pair, 2, scratch, ROOM), LTA_INTUITIVE_ZONES, 0, 0, 0));
+        check(is(entries->intuitive(net, 2, NULL, 0, pair, 2, scratch, ROOM), LTA_INTUITIVE_ZONES, 0, 0, 0));
         about("null for the scratch");
-        check(is(board->intuitive(net, 2, price, 2, pair, 2, NULL, 0), LTA_INTUITIVE_NO_ROOM, 0, 0, 0));
+        check(is(entries->intuitive(net, 2, price, 2, pair, 2, NULL, 0), LTA_INTUITIVE_NO_ROOM, 0, 0, 0));
         about("no refusal wrote to the scratch");
         check(scratch_is(k, ROOM, LTA_INTUITIVE_ZONES));
         about("null for the pairs");
-        check(is(board->intuitive(net, 2, price, 2, NULL, 0, scratch, ROOM), 0, 0, 1, 0) && scratch_is(k, ROOM, 0));
+        check(is(entries->intuitive(net, 2, price, 2, NULL, 0, scratch, ROOM), 0, 0, 1, 0) && scratch_is(k, ROOM, 0));
 
         const uint8_t *case_bytes = lend(case_arena, k, c.bytes, c.length), *proposal = lend(proposal_arena, k, p.bytes, p.length);
         scratch = (int64_t *)(void *)lend_room(scratch_arena, k, 8 * ROOM);
         about("an hour, null for all");
-        check(is(board->hour(NULL, 0, NULL, 0, NULL, 0, NULL, 0), LTA_CASE_SHORT, 0, 0, 0));
+        check(is(entries->hour(NULL, 0, NULL, 0, NULL, 0, NULL, 0), LTA_CASE_SHORT, 0, 0, 0));
         about("an hour, null for the proposal");
-        check(is(board->hour(case_bytes, c.length, NULL, 0, pair, 2, scratch, ROOM), LTA_PROPOSAL_SHORT, 0, 0, 0));
+        check(is(entries->hour(case_bytes, c.length, NULL, 0, pair, 2, scratch, ROOM), LTA_PROPOSAL_SHORT, 0, 0, 0));
         about("an hour, null for the scratch");
-        check(is(board->hour(case_bytes, c.length, proposal, p.length, pair, 2, NULL, 0), LTA_INTUITIVE_NO_ROOM, 0, 0, 0));
+        check(is(entries->hour(case_bytes, c.length, proposal, p.length, pair, 2, NULL, 0), LTA_INTUITIVE_NO_ROOM, 0, 0, 0));
         about("an hour, null for the pairs");
-        check(is(board->hour(case_bytes, c.length, proposal, p.length, NULL, 0, scratch, ROOM), 0, 0, 0, 0)
+        check(is(entries->hour(case_bytes, c.length, proposal, p.length, NULL, 0, scratch, ROOM), 0, 0, 0, 0)
               && scratch_is(k, ROOM, 0));
     }
 }
@@ -554,13 +554,13 @@ static struct {
 static void call_intuitive(void)
 {
     const struct exchange *e = &call.exchange;
-    call.answer = board->intuitive(e->net, e->zones, e->price, e->prices, e->pair, e->bytes, call.scratch, board->scratch);
+    call.answer = entries->intuitive(e->net, e->zones, e->price, e->prices, e->pair, e->bytes, call.scratch, entries->scratch);
 }
 
 static void call_hour(void)
 {
-    call.answer = board->hour(call.hour.bytes, call.hour.length, call.proposal.bytes, call.proposal.length, call.exchange.pair,
-                              call.exchange.bytes, call.scratch, board->scratch);
+    call.answer = entries->hour(call.hour.bytes, call.hour.length, call.proposal.bytes, call.proposal.length, call.exchange.pair,
+                                call.exchange.bytes, call.scratch, entries->scratch);
 }
 
 static void small_stack(void)
@@ -580,10 +580,10 @@ static void small_stack(void)
     check(is(call.answer, 0, 0, 1, 256 * 100000));
 }
 
-static void on_board(const char *name, void (*tests)(void))
+static void with_scratch(const char *name, void (*tests)(void))
 {
     char text[80];
-    snprintf(text, sizeof text, "%s, on %s", name, board->name);
+    snprintf(text, sizeof text, "%s, with %s", name, entries->name);
     group(text, tests);
 }
 
@@ -597,21 +597,21 @@ int main(void)
     proposal_arena = arena(sizeof((struct file *)0)->bytes);
 
     group("layout of the struct", layout);
-    for (size_t k = 0; k < COUNT(boards); k++) {
-        board = boards + k;
-        on_board("annex 5.1", annex);
-        on_board("which pairs count", counted_pairs);
-        on_board("what is carried", carried);
-        on_board("counts of zones", zone_counts);
-        on_board("net positions", positions);
-        on_board("prices", prices);
-        on_board("pairs", pairs);
-        on_board("scratches", scratches);
-        on_board("which cause and which place", causes);
-        on_board("hours", hours);
-        on_board("hours that are refused", refused_hours);
-        on_board("null with length 0", nulls);
-        on_board("a small stack", small_stack);
+    for (size_t k = 0; k < COUNT(sizes); k++) {
+        entries = sizes + k;
+        with_scratch("annex 5.1", annex);
+        with_scratch("which pairs count", counted_pairs);
+        with_scratch("what is carried", carried);
+        with_scratch("counts of zones", zone_counts);
+        with_scratch("net positions", positions);
+        with_scratch("prices", prices);
+        with_scratch("pairs", pairs);
+        with_scratch("scratches", scratches);
+        with_scratch("which cause and which place", causes);
+        with_scratch("hours", hours);
+        with_scratch("hours that are refused", refused_hours);
+        with_scratch("null with length 0", nulls);
+        with_scratch("a small stack", small_stack);
     }
     return closing();
 }

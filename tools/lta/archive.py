@@ -355,7 +355,7 @@ def answer_of(carried):
 
 
 def new_scratch():
-    """Room for the wide board, on which the command and lta.carried ask; the smaller board's entries answer the same."""
+    """Room for the wide entries, which the command and lta.carried ask; the small ones answer the same."""
     return (ctypes.c_int64 * rules.INTUITIVE_SCRATCH)()
 
 

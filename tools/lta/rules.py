@@ -73,7 +73,7 @@ INTUITIVE_NUMBERS = {
     82: "net position out of range, or their sum is not zero",
     83: "price of a zone out of range",
     84: "pair with an unknown zone, equal zones, repeated or past the 64th",
-    85: "scratch under 324 numbers, or under 96 on the smaller board",
+    85: "scratch under 324 numbers, or under 96 for the small entries",
 }
 
 # The same of request S-5's.

@@ -10,7 +10,7 @@ use lib.Dec.{eqb}
 use borrow.Author.Tests.{eq-eqb, ne-eqb}
 use Rattle.integers.specs.NaturalSums.{sumNat, only, sum-ext, sum-one, only-add}
 use Rattle.transports.specs.Meaning.Network.{Network, Transport, inflow, outflow, Carries, carried}
-use Rattle.flow_board.specs.Board.{FlowSet, SentSet, GotSet}
+use Rattle.flow_scratch.specs.Scratch.{FlowSet, SentSet, GotSet}
 
 -- flows in which zone z lacks d: with d more it would be even
 pub record Lacking (c : Network) (b : Transport) (total d z : ℕ) : Type 0 where
@@ -21,7 +21,7 @@ pub record Lacking (c : Network) (b : Transport) (total d z : ℕ) : Type 0 wher
   pub sum : carried c b ≡ total
   pub flows : (k : ℕ) → k < c .pairs → b .flow k ≤ total + d
 
--- a board that carries a total, with no flow above it
+-- a transport that carries a total, with no flow above it
 pub record State (c : Network) (b : Transport) (total : ℕ) : Type 0 where
   pub carries : Carries c b
   pub sum : carried c b ≡ total

@@ -6,7 +6,7 @@ use Prim.Native.Nat.{ℕ, _+_, _-_, _≤_, _<_}
 use native.Mathlib.Omega.{arith}
 use native.Mathlib.Decide.{ℕ-discrete}
 use Rattle.transports.specs.Meaning.Network.{Network, Transport}
-use Rattle.flow_board.specs.Board.{FlowSet, GotSet}
+use Rattle.flow_scratch.specs.Scratch.{FlowSet, GotSet}
 
 pub record Trail : Type 0 where
   pub lab : ℕ → ℕ

@@ -1,4 +1,4 @@
--- An augmenting path over the lent lists: the pairs' bytes, the board and the marks. Assumes nothing.
+-- An augmenting path over the lent lists: the pairs' bytes, the scratch and the marks. Assumes nothing.
 use mathlib.Core.Path.{_≡_, sym, ap, _∙_}
 use mathlib.Core.List.{List}
 use Prim.Native.Nat.{ℕ, _+_, _*_, _-_, _≤_, _<_}
@@ -9,7 +9,7 @@ use lib.IntN.{ℤ, pos}
 use Rattle.integers.specs.Difference.{up, dn}
 use Rattle.transports.specs.Meaning.Network.{Network, Placed}
 use Rattle.zone_pairs.specs.Meaning.Pairs.{pairCount, firstZone, secondZone, networkOf}
-use Rattle.flow_board.specs.Board.{amountAt, boardOf, Rest, rest-set, set-flow, set-sent, set-got}
+use Rattle.flow_scratch.specs.Scratch.{amountAt, transportOf, Rest, rest-set, set-flow, set-sent, set-got}
 use Rattle.augmenting_path.specs.Lacking.{Lacking, State, more-along, less-along, use-got, use-sent}
 use Rattle.augmenting_path.specs.Links.{Trail, Link, Links, links-on, links-back, links-got}
 
@@ -32,8 +32,8 @@ pub record Sized (net prices : List ℤ) (bytes : List ℕ) : Type 0 where
 pub record PathBack (net prices : List ℤ) (total : ℕ) (bytes : List ℕ) (s : List ℤ) (m : Trail) (d z : ℕ) : Type 0 where
   pub sized : Sized net prices bytes
   pub room : 96 ≤ length s
-  pub lacking : Lacking (networkOf net prices bytes) (boardOf s) total d z
-  pub links : Links (networkOf net prices bytes) (boardOf s) total m (m .dep z)
+  pub lacking : Lacking (networkOf net prices bytes) (transportOf s) total d z
+  pub links : Links (networkOf net prices bytes) (transportOf s) total m (m .dep z)
   pub inside : z < length net
   pub some : 0 < d
   pub lab : d ≤ m .lab z
@@ -54,7 +54,7 @@ module _ (net prices : List ℤ) (total : ℕ) (bytes : List ℕ) (s : List ℤ)
   abbrev network : Network
   network = networkOf net prices bytes
 
-  pub here : Link network (boardOf s) total m z
+  pub here : Link network (transportOf s) total m z
   here = ch .links z (ch .inside) (omega (arith, ch .some, ch .lab)) (omega arith)
 
   pub path-on : 0 < m .dep z → secondZone bytes (m .by z) ≡ z → PathBack net prices total bytes (set s (m .by z) (pos (amountAt s (m .by z) + d))) m d (firstZone bytes (m .by z))
@@ -63,12 +63,12 @@ module _ (net prices : List ℤ) (total : ℕ) (bytes : List ℕ) (s : List ℤ)
       let o = here .on h e in
       let p = here .pair h in
       let g = set-flow network s k (amountAt s k + d) (ch .sized .zones) (ch .sized .pairs) (ch .room) p in
-      let b' = boardOf (set s k (pos (amountAt s k + d))) in
+      let b' = transportOf (set s k (pos (amountAt s k + d))) in
       record {
         sized = ch .sized;
         room = simp length-set (ch .room);
-        lacking = more-along network (boardOf s) b' total d k z (ch .lacking) p e (o .counts) (o .room) g;
-        links = links-on network (boardOf s) b' total d m z (ch .links) e g (m .dep (firstZone bytes k)) (o .dep-lt);
+        lacking = more-along network (transportOf s) b' total d k z (ch .lacking) p e (o .counts) (o .room) g;
+        links = links-on network (transportOf s) b' total d m z (ch .links) e g (m .dep (firstZone bytes k)) (o .dep-lt);
         inside = ch .sized .placed .from-in k p;
         some = ch .some;
         lab = omega (arith, ch .lab, o .lab-le);
@@ -81,12 +81,12 @@ module _ (net prices : List ℤ) (total : ℕ) (bytes : List ℕ) (s : List ℤ)
       let o = here .back h e in
       let p = here .pair h in
       let g = set-flow network s k (amountAt s k - d) (ch .sized .zones) (ch .sized .pairs) (ch .room) p in
-      let b' = boardOf (set s k (pos (amountAt s k - d))) in
+      let b' = transportOf (set s k (pos (amountAt s k - d))) in
       record {
         sized = ch .sized;
         room = simp length-set (ch .room);
-        lacking = less-along network (boardOf s) b' total d k z (ch .lacking) p (o .leaves) (omega (arith, ch .lab, o .enough)) g;
-        links = links-back network (boardOf s) b' total d m z (ch .links) (o .leaves) g (m .dep (secondZone bytes k)) (o .dep-lt);
+        lacking = less-along network (transportOf s) b' total d k z (ch .lacking) p (o .leaves) (omega (arith, ch .lab, o .enough)) g;
+        links = links-back network (transportOf s) b' total d m z (ch .links) (o .leaves) g (m .dep (secondZone bytes k)) (o .dep-lt);
         inside = ch .sized .placed .to-in k p;
         some = ch .some;
         lab = omega (arith, ch .lab, o .lab-le);
@@ -127,8 +127,8 @@ module _ (bytes : List ℕ) (s s' : List ℤ) (k z d r b x : ℕ) (second : b �
 pub record Augment (net prices : List ℤ) (total : ℕ) (bytes : List ℕ) (s : List ℤ) (m : Trail) (d t : ℕ) : Type 0 where
   pub sized : Sized net prices bytes
   pub room : 96 ≤ length s
-  pub state : State (networkOf net prices bytes) (boardOf s) total
-  pub links : (n : ℕ) → Links (networkOf net prices bytes) (boardOf s) total m n
+  pub state : State (networkOf net prices bytes) (transportOf s) total
+  pub links : (n : ℕ) → Links (networkOf net prices bytes) (transportOf s) total m n
   pub inside : t < length net
   pub some : 0 < d
   pub lab : d ≤ m .lab t
@@ -142,7 +142,7 @@ pub record SomeAugment (bytes : List ℕ) (s : List ℤ) (m : Trail) (d t : ℕ)
   pub augment : Augment net prices total bytes s m d t
 
 pub record Augmented (bytes : List ℕ) (s s' : List ℤ) (m : Trail) (d t : ℕ) : Type 0 where
-  pub state : (net prices : List ℤ) (total : ℕ) → Augment net prices total bytes s m d t → State (networkOf net prices bytes) (boardOf s') (total + d)
+  pub state : (net prices : List ℤ) (total : ℕ) → Augment net prices total bytes s m d t → State (networkOf net prices bytes) (transportOf s') (total + d)
   pub rest : Rest s s'
 
 module _ (net prices : List ℤ) (total : ℕ) (bytes : List ℕ) (s : List ℤ) (m : Trail) (d t : ℕ) where
@@ -154,8 +154,8 @@ module _ (net prices : List ℤ) (total : ℕ) (bytes : List ℕ) (s : List ℤ)
       record {
         sized = p .sized;
         room = simp length-set (p .room);
-        lacking = use-got c (boardOf s) (boardOf (set s (80 + t) (pos v))) total d t (p .state) (p .inside) g (p .left);
-        links = links-got c (boardOf s) (boardOf (set s (80 + t) (pos v))) total d m t v (m .dep t) (p .links (m .dep t)) g;
+        lacking = use-got c (transportOf s) (transportOf (set s (80 + t) (pos v))) total d t (p .state) (p .inside) g (p .left);
+        links = links-got c (transportOf s) (transportOf (set s (80 + t) (pos v))) total d m t v (m .dep t) (p .links (m .dep t)) g;
         inside = p .inside;
         some = p .some;
         lab = p .lab;
@@ -165,17 +165,17 @@ module _ (net prices : List ℤ) (total : ℕ) (bytes : List ℕ) (s : List ℤ)
   pub root-left : PathBack net prices total bytes s m d t → m .dep t ≡ 0 → amountAt s (64 + t) + d ≤ up (getD net t (pos 0))
   root-left ch e = omega (arith, here net prices total bytes s m d t ch .root e, ch .lab)
 
-  pub path-end : PathBack net prices total bytes s m d t → m .dep t ≡ 0 → State (networkOf net prices bytes) (boardOf (set s (64 + t) (pos (amountAt s (64 + t) + d)))) (total + d)
+  pub path-end : PathBack net prices total bytes s m d t → m .dep t ≡ 0 → State (networkOf net prices bytes) (transportOf (set s (64 + t) (pos (amountAt s (64 + t) + d)))) (total + d)
   path-end ch e =
       let c = networkOf net prices bytes in
       let v = amountAt s (64 + t) + d in
       let g = set-sent c s t v (ch .sized .zones) (ch .sized .pairs) (ch .room) (ch .inside) in
-      use-sent c (boardOf s) (boardOf (set s (64 + t) (pos v))) total d t (ch .lacking) (ch .inside) g (root-left ch e)
+      use-sent c (transportOf s) (transportOf (set s (64 + t) (pos v))) total d t (ch .lacking) (ch .inside) g (root-left ch e)
 
   pub path-start-at : (i : ℕ) (s' : List ℤ) → i ≡ amountAt s (80 + t) → s' ≡ set s (80 + t) (pos (i + d)) → Augment net prices total bytes s m d t
       → PathBack net prices total bytes s' m d t
   path-start-at i s' e f p = rw (f, e) (path-start p)
 
   pub path-end-at : (i : ℕ) (s' : List ℤ) → i ≡ amountAt s (64 + t) → s' ≡ set s (64 + t) (pos (i + d)) → PathBack net prices total bytes s m d t → m .dep t ≡ 0
-      → State (networkOf net prices bytes) (boardOf s') (total + d)
+      → State (networkOf net prices bytes) (transportOf s') (total + d)
   path-end-at i s' e f ch z = rw (f, e) (path-end ch z)

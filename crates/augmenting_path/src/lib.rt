@@ -3,12 +3,12 @@ ghost use mathlib.Core.Path.{_≡_};
 ghost use Prim.Native.Nat.{_+_, _*_, _≤_, _<_};
 ghost use lib.ListN.{length};
 ghost use Rattle.zone_pairs.specs.Meaning.Pairs.{secondZone};
-ghost use Rattle.flow_board.specs.Board.{amountAt};
+ghost use Rattle.flow_scratch.specs.Scratch.{amountAt};
 ghost use Rattle.augmenting_path.specs.Path.{trailOf, Shifted, SomePath, Walked, SomeAugment, Augmented};
-use flow_board::GOT;
-use flow_board::SENT;
-use flow_board::amount;
-use flow_board::store;
+use flow_scratch::GOT;
+use flow_scratch::SENT;
+use flow_scratch::amount;
+use flow_scratch::store;
 use zone_pairs::zone_at;
 
 // The marks of a search, four numbers for each of sixteen zones: how much can be brought to it (0: not reached), its depth, the pair by which it was reached, and

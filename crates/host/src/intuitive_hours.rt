@@ -7,7 +7,7 @@ ghost use Rattle.rows.specs.Meaning.Rows.{verdict};
 ghost use Rattle.zone_pairs.specs.Meaning.Pairs.{networkOf};
 ghost use Rattle.transports.specs.Meaning.Network.{CarriesAll, Excess};
 ghost use Rattle.intuitive.specs.Meaning.Intuitive.{scratchRoom, intuitiveOutcome, LargestTotal, intuitiveScratch};
-ghost use Rattle.intuitive.specs.Meaning.SmallBoard.{smallRoom};
+ghost use Rattle.intuitive.specs.Meaning.SmallScratch.{smallRoom};
 ghost use Rattle.hour_intuitive.specs.Meaning.Hour.{hourOutcome, hourNetwork, hourScratch};
 use hour_intuitive::hour_intuitive;
 use hour_intuitive::hour_intuitive_small;

@@ -1,3 +1,3 @@
--- What holds of an hour's answer, and on either board
+-- What holds of an hour's answer, and with either scratch
 pub mod Asked
-pub mod BothBoards
+pub mod BothSizes

@@ -10,7 +10,7 @@ ghost use Rattle.clearing.specs.Held.{tenthsAt};
 ghost use Rattle.network.specs.Prices.{grainsAt};
 ghost use Rattle.transports.specs.Meaning.Network.{CarriesAll, Excess};
 ghost use Rattle.intuitive.specs.Meaning.Intuitive.{scratchRoom, LargestTotal};
-ghost use Rattle.intuitive.specs.Meaning.SmallBoard.{smallRoom};
+ghost use Rattle.intuitive.specs.Meaning.SmallScratch.{smallRoom};
 ghost use Rattle.hour_intuitive.specs.Meaning.Hour.{hourOutcome, hourNetwork, hourScratch};
 ghost use Rattle.hour_intuitive.specs.Steps.Lent.{FitsTo, Lists, refusedAs};
 ghost use Rattle.hour_intuitive.specs.Steps.Kept.{Kept};

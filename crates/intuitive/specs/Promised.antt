@@ -1,4 +1,4 @@
--- WHAT HOLDS of it: the order of its causes, and that the answer is a function of the input, on either board
+-- WHAT HOLDS of it: the order of its causes, and that the answer is a function of the input, with either scratch
 pub mod Causes
 pub mod OneAnswer
-pub mod BothBoards
+pub mod BothSizes

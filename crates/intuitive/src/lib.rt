@@ -7,7 +7,7 @@ ghost use Rattle.rows.specs.Meaning.Rows.{verdict};
 ghost use Rattle.zone_pairs.specs.Meaning.Pairs.{networkOf};
 ghost use Rattle.transports.specs.Meaning.Network.{CarriesAll, Excess};
 ghost use Rattle.intuitive.specs.Meaning.Intuitive.{intuitiveOutcome, LargestTotal, intuitiveScratch};
-ghost use Rattle.intuitive.specs.Meaning.SmallBoard.{smallRoom};
+ghost use Rattle.intuitive.specs.Meaning.SmallScratch.{smallRoom};
 ghost use Rattle.intuitive.specs.Steps.Answers.{flagOf, Met};
 use largest_transport::largest_transport;
 use measures::Raw;
@@ -31,7 +31,7 @@ pub struct Carried {
     pub total: Tenths,
 }
 
-// So many numbers of scratch are lent, and on the smaller board.
+// So many numbers of scratch are lent, and so many in S-13.
 pub const SCRATCH: usize = 324;
 
 pub const SMALL_SCRATCH: usize = 96;
@@ -91,7 +91,7 @@ fn volume(total: u64) -> Tenths
     Tenths::of(Raw::unsigned(total as u32))
 }
 
-// With n numbers of scratch, of which the board takes 96.
+// With n numbers of scratch, of which a transport takes 96.
 pub fn intuitive_in(
     net: &[i64],
     prices: &[i64],

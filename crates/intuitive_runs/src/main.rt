@@ -1,6 +1,6 @@
 // Hours through the entries of requests S-3 and S-13: 001's two price sets, hours whose answer is known, and one input for each cause. Printed for each is its
-// name, then on the wide board and after it on the smaller number, index, 1 for a yes or 0, the total in tenths, and how many numbers at the scratch's start are
-// zero; all are 7 before.
+// name, then with the wide scratch and after it with the smaller: number, index, 1 for a yes or 0, the total in tenths, and how many numbers at the scratch's start
+// are zero; all are 7 before.
 use intuitive::Carried;
 use runs::print;
 use runs::print_next;
@@ -47,15 +47,15 @@ fn small(net: &[i64], prices: &[i64], pairs: &[u8], scratch: &mut [i64]) {
 fn run(name: &[u8], net: &[i64], prices: &[i64], pairs: &[u8]) {
     let mut scratch = [7i64; ROOM];
     wide(name, net, prices, pairs, &mut scratch);
-    let mut board = [7i64; SMALL_ROOM];
-    small(net, prices, pairs, &mut board);
+    let mut small_scratch = [7i64; SMALL_ROOM];
+    small(net, prices, pairs, &mut small_scratch);
 }
 
 fn run_short(name: &[u8], net: &[i64], prices: &[i64], pairs: &[u8]) {
     let mut scratch = [7i64; 323];
     wide(name, net, prices, pairs, &mut scratch);
-    let mut board = [7i64; 95];
-    small(net, prices, pairs, &mut board);
+    let mut small_scratch = [7i64; 95];
+    small(net, prices, pairs, &mut small_scratch);
 }
 
 // 001, annex 5.1: five zones, with pairs AB, AC, BE, CD and DE both ways.

@@ -17,8 +17,8 @@ use Rattle.transports.specs.Steps.Saturated.{Saturated, largest-of, yes-of, no-
 use Rattle.net_positions.specs.Meaning.Positions.{positionAt}
 use Rattle.zone_pairs.specs.Meaning.Pairs.{networkOf}
 use Rattle.zone_pairs.specs.Steps.Table.{Distinct}
-use Rattle.flow_board.specs.Board.{amountAt, boardOf}
-use Rattle.flow_board.specs.Cleared.{Cleared}
+use Rattle.flow_scratch.specs.Scratch.{amountAt, transportOf}
+use Rattle.flow_scratch.specs.Cleared.{Cleared}
 use Rattle.augmenting_path.specs.Lacking.{State}
 use Rattle.augmenting_path.specs.Path.{trailOf, Sized, Augment}
 use Rattle.residual_search.specs.Joins.{Searched}
@@ -49,7 +49,7 @@ module _ (net prices : List ℤ) (bytes : List ℕ) (z : Sized net prices bytes)
   pub exports-few : allExports c ≤ 819200000
   exports-few = omega (arith, sum-bound (length net) 51200000 (λ y. up (positionAt net y)) (z .exports-le), mul-le-mul-right 51200000 (z .zones))
 
-  module _ (s : List ℤ) (total : ℕ) (room : 96 ≤ length s) (st : State c (boardOf s) total) (marks : List ℕ) (t : ℕ) (r : Searched net prices bytes s marks t) where
+  module _ (s : List ℤ) (total : ℕ) (room : 96 ≤ length s) (st : State c (transportOf s) total) (marks : List ℕ) (t : ℕ) (r : Searched net prices bytes s marks t) where
     -- a zone was found: d more can be brought to it
     pub augment-of : (d : ℕ) → t < length net → 0 < d → d ≤ getD marks (4 * t) 0 → d ≤ dn (positionAt net t) - amountAt s (80 + t) → Augment net prices total bytes s (trailOf marks) d t
     augment-of d h some l i = record {
@@ -61,13 +61,13 @@ module _ (net prices : List ℤ) (bytes : List ℕ) (z : Sized net prices bytes)
       some = some;
       lab = l;
       left = omega (arith, some, i);
-      few = omega (arith, total-le c (boardOf s) total st, exports-few, i, z .imports-le t h);
+      few = omega (arith, total-le c (transportOf s) total st, exports-few, i, z .imports-le t h);
     }
 
-    pub filled : length net ≤ t → Filled c (boardOf s) total
+    pub filled : length net ≤ t → Filled c (transportOf s) total
     filled h = record { state = st; set = _; saturated = r .none h (st .carries) }
 
--- AN EMPTY BOARD
+-- AN EMPTY TRANSPORT
 none-sum : (n : ℕ) (q : ℕ → Bool) (f : ℕ → ℕ) → ((k : ℕ) → k < n → f k ≡ 0) → sumNat n (λ k. only (q k) (f k)) ≡ 0
 none-sum n q f h = sum-ext n _ (λ k. 0) (λ k l. ap (only (q k)) (h k l) ∙ only-zero (q k)) ∙ sum-zero n
 
@@ -83,9 +83,9 @@ empty-state c b f e i = record {
   flows = λ k l. omega (arith, f k l);
 }
 
-pub cleared-state : (net prices : List ℤ) (bytes : List ℕ) (n : ℕ) (s s' : List ℤ) → Sized net prices bytes → 96 ≤ n → Cleared n s s' → State (networkOf net prices bytes) (boardOf s') 0
+pub cleared-state : (net prices : List ℤ) (bytes : List ℕ) (n : ℕ) (s s' : List ℤ) → Sized net prices bytes → 96 ≤ n → Cleared n s s' → State (networkOf net prices bytes) (transportOf s') 0
 cleared-state net prices bytes n s s' z h w =
-    empty-state (networkOf net prices bytes) (boardOf s') (λ k l. ap up (w .zeros k (omega (arith, z .pairs)))) (λ y l. ap up (w .zeros (64 + y) (omega (arith, z .zones))))
+    empty-state (networkOf net prices bytes) (transportOf s') (λ k l. ap up (w .zeros k (omega (arith, z .pairs)))) (λ y l. ap up (w .zeros (64 + y) (omega (arith, z .zones))))
     (λ y l. ap up (w .zeros (80 + y) (omega (arith, z .zones))))
 
 -- THE ANSWER: the largest total, a transport of every export for a yes, and an excess for a no

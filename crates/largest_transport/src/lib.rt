@@ -1,4 +1,4 @@
-// The largest transport of an hour (request S-3), by augmenting paths on a board in the lent scratch.
+// The largest transport of an hour (request S-3), by augmenting paths, in a lent scratch.
 ghost use mathlib.Core.Path.{_≡_};
 ghost use Prim.Native.Nat.{ℕ, _≤_, _<_};
 ghost use lib.ListN.{length, getD};
@@ -6,18 +6,18 @@ ghost use lib.IntN.{pos};
 ghost use Rattle.integers.specs.Difference.{up};
 ghost use Rattle.integers.specs.NaturalSums.{sumNat};
 ghost use Rattle.zone_pairs.specs.Meaning.Pairs.{networkOf};
-ghost use Rattle.flow_board.specs.Board.{boardOf, Rest};
-ghost use Rattle.flow_board.specs.Cleared.{Cleared};
+ghost use Rattle.flow_scratch.specs.Scratch.{transportOf, Rest};
+ghost use Rattle.flow_scratch.specs.Cleared.{Cleared};
 ghost use Rattle.augmenting_path.specs.Lacking.{State};
 ghost use Rattle.augmenting_path.specs.Path.{Sized};
 ghost use Rattle.largest_transport.specs.Filled.{Filled, Answer};
 use augmenting_path::MARK;
 use augmenting_path::MARKS;
 use augmenting_path::augment;
-use flow_board::BOARD;
-use flow_board::amount;
-use flow_board::clear;
-use flow_board::import_left;
+use flow_scratch::AMOUNTS;
+use flow_scratch::amount;
+use flow_scratch::clear;
+use flow_scratch::import_left;
 use residual_search::least;
 use residual_search::search;
 use zone_pairs::pair_table;
@@ -28,12 +28,12 @@ pub struct LargestTransport {
     pub total: u64,
 }
 
-// Augments as long as a zone with import left is reached. The board is empty at first.
+// Augments as long as a zone with import left is reached. The transport is empty at first.
 fn fill(net: &[i64], prices: &[i64], pairs: &[u8], s: &mut [i64]) -> u64
     requires { ⌜ Sized (now net) (now prices) (now pairs) ⌝ }
     requires { ⌜ 96 ≤ length (now s) ⌝ }
-    requires { ⌜ State (networkOf (now net) (now prices) (now pairs)) (boardOf (now s)) 0 ⌝ }
-    ensures filled { λ r. ⌜ Filled (networkOf (now (net .entry)) (now (prices .entry)) (now (pairs .entry))) (boardOf (now (s .exit))) r ⌝ }
+    requires { ⌜ State (networkOf (now net) (now prices) (now pairs)) (transportOf (now s)) 0 ⌝ }
+    ensures filled { λ r. ⌜ Filled (networkOf (now (net .entry)) (now (prices .entry)) (now (pairs .entry))) (transportOf (now (s .exit))) r ⌝ }
     ensures rest { λ r. ⌜ Rest (now (s .entry)) (now (s .exit)) ⌝ }
 {
     let table = pair_table(pairs);
@@ -63,7 +63,7 @@ fn all_exports(net: &[i64]) -> u64
     sum
 }
 
-// With a scratch of at least n numbers, whose first n are zero afterwards. The board takes 96.
+// With a scratch of at least n numbers, whose first n are zero afterwards. A transport takes 96.
 pub fn largest_transport(
     net: &[i64],
     prices: &[i64],
@@ -77,7 +77,7 @@ pub fn largest_transport(
     ensures total { λ r. ⌜ r .total ≤ 819200000 ⌝ }
     ensures scratch { λ r. ⌜ Cleared n (now (s .entry)) (now (s .exit)) ⌝ }
 {
-    clear(s, BOARD);
+    clear(s, AMOUNTS);
     let carried = fill(net, prices, pairs, s);
     clear(s, n);
     let exports = all_exports(net);

@@ -1,4 +1,4 @@
--- The search over the lent lists: the pairs' bytes, the board and the marks. Assumes nothing.
+-- The search over the lent lists: the pairs' bytes, the scratch and the marks. Assumes nothing.
 use mathlib.Core.Path.{_≡_, refl, sym, ap, subst, _∙_}
 use mathlib.Core.Bool.{Bool, true, false}
 use mathlib.Core.List.{List}
@@ -15,7 +15,7 @@ use Rattle.transports.specs.Steps.Saturated.{Saturated}
 use Rattle.net_positions.specs.Meaning.Positions.{positionAt}
 use Rattle.zone_pairs.specs.Meaning.Pairs.{pairCount, firstZone, secondZone, networkOf, priceAt}
 use Rattle.zone_pairs.specs.Steps.Table.{pairIn, Tabled}
-use Rattle.flow_board.specs.Board.{amountAt, boardOf}
+use Rattle.flow_scratch.specs.Scratch.{amountAt, transportOf}
 use Rattle.augmenting_path.specs.Links.{Link}
 use Rattle.augmenting_path.specs.Path.{trailOf, Sized}
 use Rattle.residual_search.specs.Listing.{Marked, few, fewer}
@@ -25,11 +25,11 @@ use Rattle.residual_search.specs.Marks.{orderOf, countOf, markedBy, mark
 -- by the lists
 pub record SearchAt (net prices : List ℤ) (bytes : List ℕ) (s : List ℤ) (marks : List ℕ) (h : ℕ) : Type 0 where
   pub wide : length marks ≡ 68
-  pub search : Searching (networkOf net prices bytes) (boardOf s) (trailOf marks) (orderOf marks) (countOf marks) h
+  pub search : Searching (networkOf net prices bytes) (transportOf s) (trailOf marks) (orderOf marks) (countOf marks) h
 
 pub record ScanAt (net prices : List ℤ) (bytes : List ℕ) (s : List ℤ) (marks : List ℕ) (h u v : ℕ) : Type 0 where
   pub wide : length marks ≡ 68
-  pub scan : Scanning (networkOf net prices bytes) (boardOf s) (trailOf marks) (orderOf marks) (countOf marks) h u v
+  pub scan : Scanning (networkOf net prices bytes) (transportOf s) (trailOf marks) (orderOf marks) (countOf marks) h u v
 
 pub record SomeScan (net prices : List ℤ) (bytes : List ℕ) (s : List ℤ) (marks : List ℕ) (u v : ℕ) : Type 0 where
   pub place : ℕ
@@ -40,7 +40,7 @@ pub record FoundAt (net prices : List ℤ) (bytes : List ℕ) (s : List ℤ) (ma
   pub wide : length marks ≡ 68
   pub some : 0 < countOf marks
   pub few : countOf marks ≤ 16
-  pub found : Found (networkOf net prices bytes) (boardOf s) (trailOf marks) (orderOf marks (countOf marks - 1))
+  pub found : Found (networkOf net prices bytes) (transportOf s) (trailOf marks) (orderOf marks (countOf marks - 1))
 
 -- AFTER ONE ZONE: it is reached and has import left, or none that is reached has
 pub record Joined (net prices : List ℤ) (bytes : List ℕ) (s : List ℤ) (marks marks' : List ℕ) (u w : ℕ) (r : Bool) : Type 0 where
@@ -55,9 +55,9 @@ module _ (net prices : List ℤ) (bytes : List ℕ) (s : List ℤ) (marks : List
   c = networkOf net prices bytes
 
   -- nothing new
-  pub joined-skip : DoneTo c (boardOf s) (trailOf marks) u w → Joined net prices bytes s marks marks u w false
+  pub joined-skip : DoneTo c (transportOf s) (trailOf marks) u w → Joined net prices bytes s marks marks u w false
   joined-skip d = record {
-    next = λ e h o. record { wide = o .wide; scan = zone-skipped c (boardOf s) (trailOf marks) (orderOf marks) (countOf marks) h u w (o .scan) d };
+    next = λ e h o. record { wide = o .wide; scan = zone-skipped c (transportOf s) (trailOf marks) (orderOf marks) (countOf marks) h u w (o .scan) d };
     found = λ e. clash (sym e);
   }
 
@@ -85,11 +85,11 @@ module _ (net prices : List ℤ) (bytes : List ℕ) (s : List ℤ) (marks : List
       wide : length M ≡ 68
       wide = marked-wide marks w v (countOf marks) k (o .wide) (omega arith) low
 
-      module _ (own : (total : ℕ) → ((j : ℕ) → j < pairCount bytes → amountAt s j ≤ total) → Link c (boardOf s) total (trailOf M) w) where
+      module _ (own : (total : ℕ) → ((j : ℕ) → j < pairCount bytes → amountAt s j ≤ total) → Link c (transportOf s) total (trailOf M) w) where
         next-scan : r ≡ false → ScanAt net prices bytes s M h u (w + 1)
         next-scan e = record {
           wide = wide;
-          scan = rw count (pair-reaches c (boardOf s) (trailOf marks) (orderOf marks) (countOf marks) h u w (o .scan) (trailOf M) (orderOf M) w v k refl mk new some win kin last same own
+          scan = rw count (pair-reaches c (transportOf s) (trailOf marks) (orderOf marks) (countOf marks) h u w (o .scan) (trailOf M) (orderOf M) w v k refl mk new some win kin last same own
               (omega (arith, ltb-false 0 (dn (positionAt net w) - amountAt s (80 + w)) (sym left ∙ e))));
         }
 
@@ -98,28 +98,28 @@ module _ (net prices : List ℤ) (bytes : List ℕ) (s : List ℤ) (marks : List
           wide = wide;
           some = omega (arith, count);
           few = omega (arith, count, low);
-          found = subst (λ (t : ℕ). Found c (boardOf s) (trailOf M) t) (sym (ap (λ (n : ℕ). orderOf M (n - 1)) count ∙ ap (orderOf M) back ∙ last))
-              (pair-found c (boardOf s) (trailOf marks) (orderOf marks) (countOf marks) h u w (o .scan) (trailOf M) (orderOf M) w v k refl mk new some win kin last same own
+          found = subst (λ (t : ℕ). Found c (transportOf s) (trailOf M) t) (sym (ap (λ (n : ℕ). orderOf M (n - 1)) count ∙ ap (orderOf M) back ∙ last))
+              (pair-found c (transportOf s) (trailOf marks) (orderOf marks) (countOf marks) h u w (o .scan) (trailOf M) (orderOf M) w v k refl mk new some win kin last same own
               (omega (arith, ltb-true 0 (dn (positionAt net w) - amountAt s (80 + w)) (sym left ∙ e))));
         }
           where
             back : (countOf marks + 1) - 1 ≡ countOf marks
             back = omega arith
 
-    joined : SomeScan net prices bytes s marks u w → ((h : ℕ) (o : ScanAt net prices bytes s marks h u w) (total : ℕ) → ((j : ℕ) → j < pairCount bytes → amountAt s j ≤ total) → Link c (boardOf s) total (trailOf (M h o)) w)
+    joined : SomeScan net prices bytes s marks u w → ((h : ℕ) (o : ScanAt net prices bytes s marks h u w) (total : ℕ) → ((j : ℕ) → j < pairCount bytes → amountAt s j ≤ total) → Link c (transportOf s) total (trailOf (M h o)) w)
         → Joined net prices bytes s marks marks' u w r
     joined x own = rw is (record { next = λ e h o. next-scan h o (own h o) e; found = λ e. found-zone (x .place) (x .at) (own (x .place) (x .at)) e })
 
     pub joined-on : SomeScan net prices bytes s marks u w → firstZone bytes k ≡ u → secondZone bytes k ≡ w → v ≡ getD marks (4 * u) 0 → leZ (priceAt prices (firstZone bytes k)) (priceAt prices (secondZone bytes k)) ≡ true
         → Joined net prices bytes s marks marks' u w r
-    joined-on x f g l t = joined x (λ h o. link-on c (boardOf s) (trailOf marks) (orderOf marks) (countOf marks) h u w (o .scan) (trailOf (M h o)) (orderOf (M h o)) w v k refl (mk h o) new some win kin (last h o) (same h o) f g l t)
+    joined-on x f g l t = joined x (λ h o. link-on c (transportOf s) (trailOf marks) (orderOf marks) (countOf marks) h u w (o .scan) (trailOf (M h o)) (orderOf (M h o)) w v k refl (mk h o) new some win kin (last h o) (same h o) f g l t)
 
     pub joined-back : SomeScan net prices bytes s marks u w → secondZone bytes k ≡ u → firstZone bytes k ≡ w → v ≤ getD marks (4 * u) 0 → v ≤ amountAt s k → Joined net prices bytes s marks marks' u w r
-    joined-back x f g l t = joined x (λ h o. link-back c (boardOf s) (trailOf marks) (orderOf marks) (countOf marks) h u w (o .scan) (trailOf (M h o)) (orderOf (M h o)) w v k refl (mk h o) new some win kin (last h o) (same h o) f g l t)
+    joined-back x f g l t = joined x (λ h o. link-back c (transportOf s) (trailOf marks) (orderOf marks) (countOf marks) h u w (o .scan) (trailOf (M h o)) (orderOf (M h o)) w v k refl (mk h o) new some win kin (last h o) (same h o) f g l t)
 
   -- the zone from which the search goes on
   pub scan-zone : (h : ℕ) → ScanAt net prices bytes s marks h u w → (u < length net) × (0 < getD marks (4 * u) 0)
-  scan-zone h o = let x = of-scan c (boardOf s) (trailOf marks) (orderOf marks) (countOf marks) h u w (o .scan) in (x .0, x .1 .0)
+  scan-zone h o = let x = of-scan c (transportOf s) (trailOf marks) (orderOf marks) (countOf marks) h u w (o .scan) in (x .0, x .1 .0)
 
 -- the pair from u to w that counts, or that none does
 pub record PairOn (prices : List ℤ) (bytes : List ℕ) (u w r : ℕ) : Type 0 where
@@ -166,10 +166,10 @@ pub record Scanned (net prices : List ℤ) (bytes : List ℕ) (s : List ℤ) (ma
   pub found : r ≡ true → FoundAt net prices bytes s marks'
 
 pub scan-at-start : (net prices : List ℤ) (bytes : List ℕ) (s : List ℤ) (marks : List ℕ) (h u : ℕ) → SearchAt net prices bytes s marks h → h < countOf marks → u ≡ orderOf marks h → ScanAt net prices bytes s marks h u 0
-scan-at-start net prices bytes s marks h u w l e = record { wide = w .wide; scan = scan-start (networkOf net prices bytes) (boardOf s) (trailOf marks) (orderOf marks) (countOf marks) h u (w .search) l (sym e) }
+scan-at-start net prices bytes s marks h u w l e = record { wide = w .wide; scan = scan-start (networkOf net prices bytes) (transportOf s) (trailOf marks) (orderOf marks) (countOf marks) h u (w .search) l (sym e) }
 
 pub scan-at-end : (net prices : List ℤ) (bytes : List ℕ) (s : List ℤ) (marks : List ℕ) (h u v : ℕ) → Sized net prices bytes → ScanAt net prices bytes s marks h u v → v ≡ length net → SearchAt net prices bytes s marks (h + 1)
-scan-at-end net prices bytes s marks h u v z w e = record { wide = w .wide; search = scan-end (networkOf net prices bytes) (boardOf s) (trailOf marks) (orderOf marks) (countOf marks) h (z .placed) u v (w .scan) e }
+scan-at-end net prices bytes s marks h u v z w e = record { wide = w .wide; search = scan-end (networkOf net prices bytes) (transportOf s) (trailOf marks) (orderOf marks) (countOf marks) h (z .placed) u v (w .scan) e }
 
 -- AS THE SEARCH BEGINS
 one-way : (x : ℤ) → 0 < up x → dn x ≡ 0
@@ -179,13 +179,13 @@ one-way (negsuc n) h = absurd (omega arith)
 pub search-at-start : (net prices : List ℤ) (bytes : List ℕ) (s : List ℤ) (marks : List ℕ) (z : ℕ) → Rooted net s marks z → z ≡ length net → SearchAt net prices bytes s marks 0
 search-at-start net prices bytes s marks z r e = record {
   wide = r .wide;
-  search = search-start (networkOf net prices bytes) (boardOf s) (trailOf marks) (orderOf marks) (countOf marks) (rw e at (r .listing)) (λ y p. r .left y (omega (arith, e))) (λ y p l. r .flat y (omega (arith, e)) l) (λ y p l. one-way (positionAt net y) l);
+  search = search-start (networkOf net prices bytes) (transportOf s) (trailOf marks) (orderOf marks) (countOf marks) (rw e at (r .listing)) (λ y p. r .left y (omega (arith, e))) (λ y p l. r .flat y (omega (arith, e)) l) (λ y p l. one-way (positionAt net y) l);
 }
 
 -- WHAT IS FOUND: a zone to bring more to, or that no augmenting path is left
 pub record Searched (net prices : List ℤ) (bytes : List ℕ) (s : List ℤ) (marks : List ℕ) (t : ℕ) : Type 0 where
-  pub found : t < length net → Found (networkOf net prices bytes) (boardOf s) (trailOf marks) t
-  pub none : length net ≤ t → Carries (networkOf net prices bytes) (boardOf s) → Saturated (networkOf net prices bytes) (boardOf s) (λ z. ltb 0 (getD marks (4 * z) 0))
+  pub found : t < length net → Found (networkOf net prices bytes) (transportOf s) (trailOf marks) t
+  pub none : length net ≤ t → Carries (networkOf net prices bytes) (transportOf s) → Saturated (networkOf net prices bytes) (transportOf s) (λ z. ltb 0 (getD marks (4 * z) 0))
 
 pub searched-found : (net prices : List ℤ) (bytes : List ℕ) (s : List ℤ) (marks : List ℕ) (t : ℕ) → FoundAt net prices bytes s marks → t ≡ orderOf marks (countOf marks - 1) → Searched net prices bytes s marks t
 searched-found net prices bytes s marks t f e = record {
@@ -196,5 +196,5 @@ searched-found net prices bytes s marks t f e = record {
 pub searched-none : (net prices : List ℤ) (bytes : List ℕ) (s : List ℤ) (marks : List ℕ) (h : ℕ) → Sized net prices bytes → SearchAt net prices bytes s marks h → countOf marks ≤ h → Searched net prices bytes s marks (length net)
 searched-none net prices bytes s marks h z w all = record {
   found = λ l. absurd (omega arith);
-  none = λ l ca. saturated (networkOf net prices bytes) (z .placed) (boardOf s) ca (trailOf marks) (orderOf marks) (countOf marks) h (w .search) all;
+  none = λ l ca. saturated (networkOf net prices bytes) (z .placed) (transportOf s) ca (trailOf marks) (orderOf marks) (countOf marks) h (w .search) all;
 }

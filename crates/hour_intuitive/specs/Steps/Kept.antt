@@ -25,12 +25,12 @@ use Rattle.network.specs.Prices.{grainsAt}
 use Rattle.zone_pairs.specs.Meaning.Pairs.{networkOf}
 use Rattle.intuitive.specs.declared.Carried.{Carried}
 use Rattle.intuitive.specs.Meaning.Intuitive.{scratchBy, intuitiveRefusal, intuitiveOutcome, intuitiveScratch}
-use Rattle.intuitive.specs.Promised.BothBoards.{Clauses}
+use Rattle.intuitive.specs.Promised.BothSizes.{Clauses}
 use Rattle.findings.specs.declared.Found.{Found}
 use Rattle.findings.specs.Found.{Finds, hourRows}
 use Rattle.hour_intuitive.specs.Meaning.Hour.{listTo, hourExports, hourPrices, hourNetwork, askedRows, hourOutcome, hourScratch}
 use Rattle.hour_intuitive.specs.Promised.Asked.{refused-first, asked-then, none-refused, position-near, price-in}
-use Rattle.hour_intuitive.specs.Promised.BothBoards.{Contract}
+use Rattle.hour_intuitive.specs.Promised.BothSizes.{Contract}
 use Rattle.hour_intuitive.specs.Steps.Lent.{FitsTo, Lists, part-is, same-list, refusedAs}
 
 module _ (s t pairs : List ℕ) (n : ℕ) (scratch : List ℤ) where

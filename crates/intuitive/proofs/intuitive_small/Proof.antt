@@ -1,6 +1,6 @@
 -- `intuitive::intuitive_small` meets its contract, clause by clause. Assumes nothing.
 use denote.Ref.{now}
-use Rattle.intuitive.specs.Meaning.SmallBoard.{smallRoom}
+use Rattle.intuitive.specs.Meaning.SmallScratch.{smallRoom}
 use Rattle.intuitive.specs.Steps.Answers.{clauses}
 use borrow.Author.Needs.{needs}
 use Rattle.intuitive.proofs.intuitive_small.Statement.{statement}

@@ -17,7 +17,7 @@ use Rattle.net_positions.specs.Meaning.Positions.{positionOutside, unbalanced}
 use Rattle.zone_pairs.specs.Meaning.Pairs.{pairCount, badPair, priceAt}
 use Rattle.transports.specs.Meaning.Network.{Network, Largest}
 
--- so many numbers of scratch are lent; on the smaller board of S-13 `SmallBoard.smallRoom`
+-- so many numbers of scratch are lent; in S-13 `SmallScratch.smallRoom`
 abbrev pub scratchRoom : ℕ
 scratchRoom = 324
 

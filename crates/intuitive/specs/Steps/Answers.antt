@@ -20,12 +20,12 @@ use Rattle.net_positions.specs.Meaning.Positions.{positionOutside, unbalanced}
 use Rattle.zone_pairs.specs.Meaning.Pairs.{pairCount, badPair, networkOf}
 use Rattle.zone_pairs.specs.Steps.Tests.{pair-past}
 use Rattle.transports.specs.Meaning.Network.{CarriesAll, Excess}
-use Rattle.flow_board.specs.Cleared.{Cleared}
+use Rattle.flow_scratch.specs.Cleared.{Cleared}
 use Rattle.largest_transport.specs.Filled.{Answer}
 use Rattle.intuitive.specs.declared.Carried.{Carried}
 use Rattle.intuitive.specs.Meaning.Intuitive.{unfit, priceOutside, intuitiveRows, intuitiveRefusal, intuitiveOutcome, LargestTotal, scratchBy, intuitiveScratch}
 use Rattle.intuitive.specs.Promised.Causes.{intuitive-none, scratch-refused, scratch-answered}
-use Rattle.intuitive.specs.Promised.BothBoards.{Contract}
+use Rattle.intuitive.specs.Promised.BothSizes.{Contract}
 
 module _ (net prices : List ℤ) (pairs : List ℕ) (n room : ℕ) where
   abbrev pub From : ℕ → Type 0

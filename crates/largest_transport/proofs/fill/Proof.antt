@@ -1,4 +1,4 @@
--- `largest_transport::fill` meets its contract. The loop's invariant: the board carries the total, and past it the scratch is as it was. The measure is what
+-- `largest_transport::fill` meets its contract. The loop's invariant: the transport carries the total, and past it the scratch is as it was. The measure is what
 -- is left of all exports. Assumes nothing.
 use mathlib.Core.Path.{_≡_, refl}
 use mathlib.Core.List.{List}
@@ -10,7 +10,7 @@ use denote.Ref.{now}
 use borrow.Author.Needs.{needs}
 use Rattle.transports.specs.Meaning.Network.{allExports}
 use Rattle.zone_pairs.specs.Meaning.Pairs.{networkOf}
-use Rattle.flow_board.specs.Board.{boardOf, Rest, rest-refl, rest-trans}
+use Rattle.flow_scratch.specs.Scratch.{transportOf, Rest, rest-refl, rest-trans}
 use Rattle.augmenting_path.specs.Lacking.{State}
 use Rattle.augmenting_path.specs.Path.{trailOf, Augment}
 use Rattle.largest_transport.specs.Filled.{total-le, exports-few, distinct, augment-of, filled}
@@ -18,7 +18,7 @@ use Rattle.largest_transport.proofs.fill.Statement.{statement}
 use Rattle.largest_transport.proofs.fill.Tie as tie
 
 abbrev Inv-loop : tie.InvT-loop
-Inv-loop net prices pairs s₀ table marks₀ total₀ s marks total = State (networkOf net prices pairs) (boardOf s) total × (Rest s₀ s × (length marks ≡ 68))
+Inv-loop net prices pairs s₀ table marks₀ total₀ s marks total = State (networkOf net prices pairs) (transportOf s) total × (Rest s₀ s × (length marks ≡ 68))
 
 abbrev μ-loop : tie.MeasureT-loop
 μ-loop net prices pairs s₀ table marks₀ total₀ s marks total = allExports (networkOf net prices pairs) - total
@@ -109,7 +109,7 @@ module _ (c : tie.After-s Inv-loop μ-loop) where
   abbrev l : tie.After-least Inv-loop μ-loop
   l = c .before .before .before .before
 
-  next : State (networkOf (net (h l)) (prices (h l)) (bytes (h l))) (boardOf (c .before .augment .last .1 .0)) (h l .loop .total + l .least .result)
+  next : State (networkOf (net (h l)) (prices (h l)) (bytes (h l))) (transportOf (c .before .augment .last .1 .0)) (h l .loop .total + l .least .result)
   next = c .before .augment .ensures .state (net (h l)) (prices (h l)) (h l .loop .total) (bringing l)
 
   next-le : h l .loop .total + l .least .result ≤ allExports (networkOf (net (h l)) (prices (h l)) (bytes (h l)))

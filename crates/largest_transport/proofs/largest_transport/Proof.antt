@@ -1,11 +1,11 @@
--- `largest_transport::largest_transport` meets its contract: an empty board, filled until no augmenting path is left, and cleared. Assumes nothing.
+-- `largest_transport::largest_transport` meets its contract: an empty transport, filled until no augmenting path is left, and cleared. Assumes nothing.
 use mathlib.Core.Path.{_≡_, sym, subst}
 use Prim.Native.Nat.{ℕ, _≤_}
 use native.Mathlib.Omega.{arith}
 use lib.Dec.{eqb}
 use denote.Ref.{now}
 use Rattle.zone_pairs.specs.Meaning.Pairs.{networkOf}
-use Rattle.flow_board.specs.Cleared.{cleared-again}
+use Rattle.flow_scratch.specs.Cleared.{cleared-again}
 use Rattle.largest_transport.specs.Filled.{Answer, total-le, exports-few, cleared-state, answer-of}
 use borrow.Author.Needs.{needs}
 use Rattle.largest_transport.proofs.largest_transport.Statement.{statement}

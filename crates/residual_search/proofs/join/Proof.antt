@@ -10,7 +10,7 @@ use lib.IntN.{ℤ}
 use lib.Signed.{leZ}
 use denote.Ref.{now}
 use Rattle.zone_pairs.specs.Meaning.Pairs.{pairCount, firstZone, secondZone, priceAt}
-use Rattle.flow_board.specs.Board.{amountAt}
+use Rattle.flow_scratch.specs.Scratch.{amountAt}
 use Rattle.residual_search.specs.Listing.{fewer}
 use Rattle.residual_search.specs.Marks.{countOf}
 use Rattle.residual_search.specs.Joins.{Joined, joined-skip, joined-on, joined-back, scan-zone, in-table, not-in-table, none-back}
@@ -32,8 +32,8 @@ module _ (t : tie.Start) where
   abbrev table : List ℕ
   table = now (t .args .table)
 
-  abbrev board : List ℤ
-  board = now (t .args .s)
+  abbrev scratch : List ℤ
+  scratch = now (t .args .s)
 
   abbrev marks : List ℕ
   marks = now (t .args .marks)
@@ -51,7 +51,7 @@ module _ (t : tie.Start) where
   w16 = omega (arith, win, t .pre .0 .zones)
 
   u-is : (u < length net) × (0 < getD marks (4 * u) 0)
-  u-is = scan-zone net prices bytes board marks u w (t .pre .1 .1 .1 .place) (t .pre .1 .1 .1 .at)
+  u-is = scan-zone net prices bytes scratch marks u w (t .pre .1 .1 .1 .place) (t .pre .1 .1 .1 .at)
 
   u16 : u < 16
   u16 = omega (arith, u-is .0, t .pre .0 .zones)
@@ -79,7 +79,7 @@ returns : tie.Need-returns
 returns c =
     let t = c .before .before .before in
     let now-reached = positive (c .if1 .taken) in
-    joined-skip (net t) (prices t) (bytes t) (board t) (marks t) (u t) (w t) (record { on = λ j l f g x. now-reached; back = λ j l f g x. now-reached })
+    joined-skip (net t) (prices t) (bytes t) (scratch t) (marks t) (u t) (w t) (record { on = λ j l f g x. now-reached; back = λ j l f g x. now-reached })
 
 abbrev start : tie.After-pair-count → tie.Start
 start c = c .before .before .before .before
@@ -118,7 +118,7 @@ returns-2 c =
     let t = start q in
     let kin : o .pair-on .result < pairCount (bytes t) = omega (arith, y .if2 .taken, q .pair-count .ensures) in
     let f = o .pair-on .ensures .found kin in
-    joined-on (net t) (prices t) (bytes t) (board t) (marks t) (u t) (w t) (t .pre .0 .zones) (getD (marks t) (4 * u t) 0) (o .pair-on .result) kin (win t) (new q) (u-is t .1)
+    joined-on (net t) (prices t) (bytes t) (scratch t) (marks t) (u t) (w t) (t .pre .0 .zones) (getD (marks t) (4 * u t) 0) (o .pair-on .result) kin (win t) (new q) (u-is t .1)
     (c .reach .last .1 .1 .0) (c .reach .ensures .0) (c .reach .result) (c .reach .ensures .1) (t .pre .1 .1 .1) (f .0) (f .1 .0) refl (f .1 .1)
 
 -- no pair that counts leads to the zone
@@ -132,7 +132,7 @@ returns-3 : tie.Need-returns-3
 returns-3 c =
     let p = c .before in
     let t = start (p .before .before .before) in
-    joined-skip (net t) (prices t) (bytes t) (board t) (marks t) (u t) (w t) (record {
+    joined-skip (net t) (prices t) (bytes t) (scratch t) (marks t) (u t) (w t) (record {
       on = λ j l f g x. absurd (none-on (p .before) j l f g x);
       back = λ j l f g x. absurd (not-in-table (prices t) (bytes t) (table t) (t .pre .1 .0) (t .pre .0 .pairs) (w t) (u t) (w16 t) (u16 t)
           (omega (arith, c .if3 .taken, p .before .before .before .pair-count .ensures, p .pair-at .ensures)) j l g f);
@@ -179,7 +179,7 @@ returns-4 c =
     let t = start q in
     let k = p .pair-at .result in
     let z = table-zones e in
-    joined-back (net t) (prices t) (bytes t) (board t) (marks t) (u t) (w t) (t .pre .0 .zones) (l .least .result) k (back-in e) (win t) (new q) (y .if4 .taken)
+    joined-back (net t) (prices t) (bytes t) (scratch t) (marks t) (u t) (w t) (t .pre .0 .zones) (l .least .result) k (back-in e) (win t) (new q) (y .if4 .taken)
     (c .reach2 .last .1 .1 .0) (c .reach2 .ensures .0) (c .reach2 .result) (c .reach2 .ensures .1) (t .pre .1 .1 .1) (z .1) (z .0) (l .least .ensures .0) (omega (arith, l .least .ensures .1 .0, l .before .amount .ensures))
 
 abbrev pairOf : tie.After-least → ℕ
@@ -191,15 +191,15 @@ returns-5 c =
     let e = l .before .before .before in
     let p = e .before in
     let t = start (p .before .before .before) in
-    joined-skip (net t) (prices t) (bytes t) (board t) (marks t) (u t) (w t) (record {
+    joined-skip (net t) (prices t) (bytes t) (scratch t) (marks t) (u t) (w t) (record {
       on = λ j h f g x. absurd (none-on (p .before) j h f g x);
-      back = λ j h f g x. absurd (none-back (prices t) (bytes t) (table t) (t .pre .1 .0) (t .pre .0 .pairs) (w t) (u t) (w16 t) (u16 t) (board t) (omega (arith, back-in e, p .pair-at .ensures))
+      back = λ j h f g x. absurd (none-back (prices t) (bytes t) (table t) (t .pre .1 .0) (t .pre .0 .pairs) (w t) (u t) (w16 t) (u16 t) (scratch t) (omega (arith, back-in e, p .pair-at .ensures))
           (empty l (decLt 0 (l .before .amount .result)) (c .if4 .left)) j h g f x);
     })
   where
-    empty : (l : tie.After-least) → Dec (0 < l .before .amount .result) → l .least .result ≤ 0 → amountAt (board (start (l .before .before .before .before .before .before .before))) (pairOf l) ≤ 0
+    empty : (l : tie.After-least) → Dec (0 < l .before .amount .result) → l .least .result ≤ 0 → amountAt (scratch (start (l .before .before .before .before .before .before .before))) (pairOf l) ≤ 0
     empty l (yes h) z = absurd (omega (arith, z, l .least .ensures .1 .1 (u-is (start (l .before .before .before .before .before .before .before)) .1) h))
-    empty l (no h) z = omega (arith, l .before .amount .ensures, ap (amountAt (board (start (l .before .before .before .before .before .before .before)))) (l .before .before .before .before .pair-at .ensures))
+    empty l (no h) z = omega (arith, l .before .amount .ensures, ap (amountAt (scratch (start (l .before .before .before .before .before .before .before)))) (l .before .before .before .before .pair-at .ensures))
 
 pub join-spec : {M : Type 1} → statement M
 join-spec =

@@ -1,4 +1,4 @@
--- `flow_board::store` meets its contract: an amount below 2 ^ 63 is the number that it is stored as. Assumes nothing.
+-- `flow_scratch::store` meets its contract: an amount below 2 ^ 63 is the number that it is stored as. Assumes nothing.
 use borrow.Author.Needs.{needs}
 use mathlib.Core.Path.{_≡_, ap}
 use lib.IntN.{ℤ}
@@ -7,8 +7,8 @@ use denote.Ref.{now}
 use native.Mathlib.Omega.{arith}
 use mir.Facts.{toZ-pos}
 use mir.Syntax.{w64}
-use Rattle.flow_board.proofs.store.Statement.{statement}
-use Rattle.flow_board.proofs.store.Tie as tie
+use Rattle.flow_scratch.proofs.store.Statement.{statement}
+use Rattle.flow_scratch.proofs.store.Tie as tie
 
 cast-s : tie.Need-cast-s
 cast-s c = search needs

@@ -1,4 +1,4 @@
--- THE SMALLER BOARD ANSWERS AS THE WIDE ONE (S-13): of any two results that meet the two contracts with number 0 on one input, yes or no and the total are equal;
+-- BOTH SIZES OF SCRATCH GIVE ONE ANSWER (S-13): of any two results that meet the two contracts with number 0 on one input, yes or no and the total are equal;
 -- what the wide one takes the smaller takes too; and 81 to 84 are the same. It rests on what the contracts say, and on nothing of how they are met. Assumes nothing.
 use mathlib.Core.Path.{_≡_, refl, sym, ap, _∙_}
 use mathlib.Core.Bool.{Bool, true, false}
@@ -16,10 +16,10 @@ use Rattle.rules.specs.Meaning.Verdict.{under}
 use Rattle.net_positions.specs.Meaning.Positions.{positionOutside, unbalanced}
 use Rattle.zone_pairs.specs.Meaning.Pairs.{pairCount, badPair, networkOf}
 use Rattle.transports.specs.Meaning.Network.{Network, Placed, CarriesAll, Excess}
-use Rattle.flow_board.specs.Board.{amountAt, boardOf}
+use Rattle.flow_scratch.specs.Scratch.{amountAt, transportOf}
 use Rattle.intuitive.specs.declared.Carried.{Carried}
 use Rattle.intuitive.specs.Meaning.Intuitive.{scratchRoom, unfit, priceOutside, intuitiveRows, intuitiveRefusal, intuitiveOutcome, LargestTotal, intuitiveScratch}
-use Rattle.intuitive.specs.Meaning.SmallBoard.{flowPlace, exportPlace, importPlace, smallRoom}
+use Rattle.intuitive.specs.Meaning.SmallScratch.{flowPlace, exportPlace, importPlace, smallRoom}
 use Rattle.intuitive.specs.Promised.Causes.{intuitive-none}
 use Rattle.intuitive.specs.Promised.OneAnswer.{one-answer}
 use Rattle.intuitive.specs.Steps.Sizes.{placed, room-in}
@@ -49,9 +49,9 @@ module _ (net prices : List ℤ) (pairs : List ℕ) where
   Contract n s = Clauses (intuitiveOutcome net prices pairs n (length s)) (networkOf net prices pairs) (intuitiveScratch net prices pairs n s)
 
   -- YES OR NO AND THE TOTAL ARE EQUAL on each input that both take, whatever scratches are lent
-  pub boards-agree : (s t : List ℤ) (r q : Carried) (s' t' : List ℤ) → Contract scratchRoom s r s' → Contract smallRoom t q t' → r .number ≡ 0 → q .number ≡ 0
+  pub answers-agree : (s t : List ℤ) (r q : Carried) (s' t' : List ℤ) → Contract scratchRoom s r s' → Contract smallRoom t q t' → r .number ≡ 0 → q .number ≡ 0
       → (r .intuitive ≡ q .intuitive) × (r .total .0 ≡ q .total .0)
-  boards-agree s t r q s' t' a b e f =
+  answers-agree s t r q s' t' a b e f =
       let taken = intuitive-none net prices pairs scratchRoom (length s) (sym (ap (λ (o : Outcome). o .number) (a .0)) ∙ e) in
       clauses-agree (networkOf net prices pairs) (placed net prices pairs scratchRoom (length s) taken) _ _ _ _ r q s' t' a b e f
 
@@ -102,6 +102,6 @@ module _ (net prices : List ℤ) (pairs : List ℕ) where
       by (some x) q = ap answer (split n other (some x) q ∙ sym (split m room (some x) q))
       by none q = absurd (last-else m room (rw (split m room none q) at h) (rw (split m room none q) at l))
 
--- THE BOARD IS LAID OUT as S-13 says: what flows, is exported and is imported on the way to an answer stands at these places and at no other
-pub board-places : (s : List ℤ) → boardOf s ≡ record { flow = λ k. amountAt s (flowPlace k); sent = λ z. amountAt s (exportPlace z); got = λ z. amountAt s (importPlace z) }
-board-places s = refl
+-- THE SCRATCH IS LAID OUT as S-13 says: what flows, is exported and is imported on the way to an answer stands at these places and at no other
+pub scratch-places : (s : List ℤ) → transportOf s ≡ record { flow = λ k. amountAt s (flowPlace k); sent = λ z. amountAt s (exportPlace z); got = λ z. amountAt s (importPlace z) }
+scratch-places s = refl

@@ -1,13 +1,13 @@
--- `flow_board::clear` meets its contract. The loop's invariant: the first i numbers are zero and the others as they were. Assumes nothing.
+-- `flow_scratch::clear` meets its contract. The loop's invariant: the first i numbers are zero and the others as they were. Assumes nothing.
 use mathlib.Core.Path.{_≡_, refl, ap, sym, _∙_}
 use Prim.Native.Nat.{ℕ, _+_, _-_, _≤_, _<_}
 use native.Mathlib.Omega.{arith}
 use denote.Ref.{now}
 use lib.ListN.{length}
 use lib.Dec.{lit<}
-use Rattle.flow_board.specs.Cleared.{Cleared, cleared-none, cleared-more}
-use Rattle.flow_board.proofs.clear.Statement.{statement}
-use Rattle.flow_board.proofs.clear.Tie as tie
+use Rattle.flow_scratch.specs.Cleared.{Cleared, cleared-none, cleared-more}
+use Rattle.flow_scratch.proofs.clear.Statement.{statement}
+use Rattle.flow_scratch.proofs.clear.Tie as tie
 
 abbrev Inv-loop : tie.InvT-loop
 Inv-loop s₀ n i₀ s i = (i ≤ n) × Cleared i s₀ s

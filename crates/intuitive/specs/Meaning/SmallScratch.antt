@@ -1,5 +1,5 @@
--- REQUEST S-13, the smaller board: S-3's answer from 96 numbers of scratch, one per pair, one per zone for export used, one per zone for import used. All else
--- is said in S-3's words: its table asks for n numbers and its scratch afterwards has n zeros, 324 on the wide board and 96 on this one. Assumes nothing.
+-- REQUEST S-13, the smaller scratch: S-3's answer from 96 numbers of scratch, one per pair, one per zone for export used, one per zone for import used. All else
+-- is said in S-3's words: its table asks for n numbers and its scratch afterwards has n zeros, 324 in the wide one and 96 in this one. Assumes nothing.
 use Prim.Native.Nat.{ℕ, _+_}
 
 -- one per pair, of which there are up to 64

@@ -7,7 +7,7 @@ use native.Mathlib.Decide.{ℕ-discrete}
 use lib.ListN.{length, getD, set, length-set}
 use lib.Seq.{getD-set-same, getD-set-other}
 use lib.IntN.{ℤ, pos}
-use Rattle.flow_board.specs.Board.{Rest}
+use Rattle.flow_scratch.specs.Scratch.{Rest}
 
 pub record Cleared (n : ℕ) (s s' : List ℤ) : Type 0 where
   pub len : length s' ≡ length s

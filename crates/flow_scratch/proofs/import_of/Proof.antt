@@ -1,4 +1,4 @@
--- `flow_board::import_of` meets its contract. Assumes nothing.
+-- `flow_scratch::import_of` meets its contract. Assumes nothing.
 use mir.Syntax.{w64}
 use lib.ListN.{getD}
 use lib.IntN.{pos}
@@ -7,8 +7,8 @@ use mathlib.Core.Path.{_≡_, ap, _∙_}
 use mir.Facts.{toZ-ofZ}
 use Rattle.integers.specs.Difference.{dn}
 use borrow.Author.Needs.{needs}
-use Rattle.flow_board.proofs.import_of.Statement.{statement}
-use Rattle.flow_board.proofs.import_of.Tie as tie
+use Rattle.flow_scratch.proofs.import_of.Statement.{statement}
+use Rattle.flow_scratch.proofs.import_of.Tie as tie
 
 mul-negative : tie.Need-mul-negative
 mul-negative c = search needs

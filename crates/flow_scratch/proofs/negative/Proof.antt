@@ -1,4 +1,4 @@
--- `flow_board::negative` meets its contract: what is below zero and near it has a size that fits. Assumes nothing.
+-- `flow_scratch::negative` meets its contract: what is below zero and near it has a size that fits. Assumes nothing.
 use mathlib.Core.Path.{_≡_, ap, sym, subst, _∙_}
 use native.Mathlib.Omega.{arith}
 use lib.Dec.{T}
@@ -10,9 +10,9 @@ use mir.Facts.{toZ-ofZ}
 use Rattle.integers.specs.Difference.{dn}
 use Rattle.integers.specs.Machine.{sfits-by}
 use Rattle.integers.specs.Size.{near-fits, near-pos}
-use Rattle.flow_board.specs.Amounts.{dn-below, dn-else}
-use Rattle.flow_board.proofs.negative.Statement.{statement}
-use Rattle.flow_board.proofs.negative.Tie as tie
+use Rattle.flow_scratch.specs.Amounts.{dn-below, dn-else}
+use Rattle.flow_scratch.proofs.negative.Statement.{statement}
+use Rattle.flow_scratch.proofs.negative.Tie as tie
 
 module _ (c : tie.Then1) where
   abbrev x : ℤ

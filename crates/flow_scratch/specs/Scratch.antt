@@ -13,8 +13,8 @@ use Rattle.transports.specs.Meaning.Network.{Network, Transport}
 abbrev pub amountAt : List ℤ → ℕ → ℕ
 amountAt s i = up (getD s i (pos 0))
 
-abbrev pub boardOf : List ℤ → Transport
-boardOf s = record { flow = λ k. amountAt s k; sent = λ z. amountAt s (64 + z); got = λ z. amountAt s (80 + z) }
+abbrev pub transportOf : List ℤ → Transport
+transportOf s = record { flow = λ k. amountAt s k; sent = λ z. amountAt s (64 + z); got = λ z. amountAt s (80 + z) }
 
 -- the same list but for its first 96 numbers
 pub record Rest (s s' : List ℤ) : Type 0 where
@@ -56,7 +56,7 @@ module _ (c : Network) (s : List ℤ) (k v : ℕ) (zones : c .zones ≤ 16) (pai
   other : (i j : ℕ) → (j ≡ i → ⊥) → amountAt (set s i (pos v)) j ≡ amountAt s j
   other i j h = ap up (getD-set-other s i j (pos v) (pos 0) h)
 
-  pub set-flow : k < c .pairs → FlowSet c (boardOf s) (boardOf (set s k (pos v))) k v
+  pub set-flow : k < c .pairs → FlowSet c (transportOf s) (transportOf (set s k (pos v))) k v
   set-flow h = record {
     at = ap up (getD-set-same s k (pos v) (pos 0) (omega arith));
     rest = λ j l e. other k j e;
@@ -64,7 +64,7 @@ module _ (c : Network) (s : List ℤ) (k v : ℕ) (zones : c .zones ≤ 16) (pai
     got = λ z l. other k (80 + z) (λ e. omega arith);
   }
 
-  pub set-sent : k < c .zones → SentSet c (boardOf s) (boardOf (set s (64 + k) (pos v))) k v
+  pub set-sent : k < c .zones → SentSet c (transportOf s) (transportOf (set s (64 + k) (pos v))) k v
   set-sent h = record {
     at = ap up (getD-set-same s (64 + k) (pos v) (pos 0) (omega arith));
     rest = λ z l e. other (64 + k) (64 + z) (λ w. e (omega arith));
@@ -72,7 +72,7 @@ module _ (c : Network) (s : List ℤ) (k v : ℕ) (zones : c .zones ≤ 16) (pai
     got = λ z l. other (64 + k) (80 + z) (λ e. omega arith);
   }
 
-  pub set-got : k < c .zones → GotSet c (boardOf s) (boardOf (set s (80 + k) (pos v))) k v
+  pub set-got : k < c .zones → GotSet c (transportOf s) (transportOf (set s (80 + k) (pos v))) k v
   set-got h = record {
     at = ap up (getD-set-same s (80 + k) (pos v) (pos 0) (omega arith));
     rest = λ z l e. other (80 + k) (80 + z) (λ w. e (omega arith));

@@ -1,4 +1,4 @@
--- `flow_board::amount` meets its contract. Assumes nothing.
+-- `flow_scratch::amount` meets its contract. Assumes nothing.
 use mir.Syntax.{w64}
 use lib.ListN.{getD}
 use lib.IntN.{pos}
@@ -7,8 +7,8 @@ use mathlib.Core.Path.{_≡_, ap, _∙_}
 use mir.Facts.{toZ-ofZ}
 use Rattle.integers.specs.Difference.{up}
 use borrow.Author.Needs.{needs}
-use Rattle.flow_board.proofs.amount.Statement.{statement}
-use Rattle.flow_board.proofs.amount.Tie as tie
+use Rattle.flow_scratch.proofs.amount.Statement.{statement}
+use Rattle.flow_scratch.proofs.amount.Tie as tie
 
 mul-positive : tie.Need-mul-positive
 mul-positive c = search needs

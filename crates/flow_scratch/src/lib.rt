@@ -1,16 +1,16 @@
-// The board of a transport (request S-3): 96 numbers of a lent scratch, one per pair for what flows along it, one per zone for export used, one per zone
-// for import used. Amounts are tenths; they are bare numbers here since a lent list holds no measure.
+// A transport in a lent scratch (requests S-3 and S-13): 96 amounts, one per pair for what flows along it, one per zone for export used, one per zone for
+// import used. They are tenths, and bare numbers here since a lent list holds no measure.
 ghost use mathlib.Core.Path.{_≡_};
 ghost use Prim.Native.Nat.{_+_, _-_, _≤_, _<_};
 ghost use lib.ListN.{length, getD, set};
 ghost use lib.IntN.{pos};
 ghost use lib.Signed.{leZ};
 ghost use Rattle.integers.specs.Difference.{up, dn};
-ghost use Rattle.flow_board.specs.Board.{amountAt};
-ghost use Rattle.flow_board.specs.Cleared.{Cleared};
+ghost use Rattle.flow_scratch.specs.Scratch.{amountAt};
+ghost use Rattle.flow_scratch.specs.Cleared.{Cleared};
 
-// So many numbers, and where the zones' own begin.
-pub const BOARD: usize = 96;
+// So many amounts, and where the zones' own begin.
+pub const AMOUNTS: usize = 96;
 
 pub const SENT: usize = 64;
 

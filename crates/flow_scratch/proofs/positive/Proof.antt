@@ -1,4 +1,4 @@
--- `flow_board::positive` meets its contract. Assumes nothing.
+-- `flow_scratch::positive` meets its contract. Assumes nothing.
 use mathlib.Core.Path.{_≡_, refl, ap, sym, subst, _∙_}
 use Prim.Native.Nat.{ℕ}
 use lib.Dec.{T}
@@ -7,9 +7,9 @@ use lib.Signed.{ltZ, nonNeg}
 use mir.Syntax.{w64}
 use mir.Val.{Fits, toZ, ofZ}
 use mir.Facts.{toZ-ofZ, fits-natAbs}
-use Rattle.flow_board.specs.Amounts.{up-below, up-else, not-below}
-use Rattle.flow_board.proofs.positive.Statement.{statement}
-use Rattle.flow_board.proofs.positive.Tie as tie
+use Rattle.flow_scratch.specs.Amounts.{up-below, up-else, not-below}
+use Rattle.flow_scratch.proofs.positive.Statement.{statement}
+use Rattle.flow_scratch.proofs.positive.Tie as tie
 
 cast-result : tie.Need-cast-result
 cast-result c =

@@ -1,5 +1,5 @@
--- AN HOUR ON THE SMALLER BOARD IS ANSWERED AS ON THE WIDE ONE (S-13): of any two results that meet the two contracts with number 0, yes or no and the total are
--- equal; what the wide entry takes the smaller takes too; and every refusal but 85 is the same. Assumes nothing.
+-- BOTH SIZES OF SCRATCH GIVE AN HOUR ONE ANSWER (S-13): of any two results that meet the two contracts with number 0, yes or no and the total are equal;
+-- what the wide entry takes the smaller takes too; and every refusal but 85 is the same. Assumes nothing.
 use mathlib.Core.Path.{_≡_, sym, ap, _∙_}
 use mathlib.Core.List.{List, _++_}
 use mathlib.Core.Option.{none}
@@ -16,9 +16,9 @@ use Rattle.rules.specs.Meaning.Hour.{caseOf, planOf, pricesOf}
 use Rattle.rules.specs.Meaning.Verdict.{roomRows, caseRows, proposalRows, clearingRows, table, outcome}
 use Rattle.intuitive.specs.declared.Carried.{Carried}
 use Rattle.intuitive.specs.Meaning.Intuitive.{scratchRoom, intuitiveRows, intuitiveRefusal, intuitiveOutcome}
-use Rattle.intuitive.specs.Meaning.SmallBoard.{smallRoom}
+use Rattle.intuitive.specs.Meaning.SmallScratch.{smallRoom}
 use Rattle.intuitive.specs.Promised.Causes.{intuitive-none}
-use Rattle.intuitive.specs.Promised.BothBoards.{Clauses, clauses-agree, same-rows, refused-alike}
+use Rattle.intuitive.specs.Promised.BothSizes.{Clauses, clauses-agree, same-rows, refused-alike}
 use Rattle.intuitive.specs.Steps.Sizes.{placed, room-in}
 use Rattle.hour_intuitive.specs.Meaning.Hour.{hourExports, hourPrices, hourNetwork, askedRows, hourOutcome, hourScratch}
 use Rattle.hour_intuitive.specs.Promised.Asked.{not-accepted, accepted-asks}
@@ -37,9 +37,9 @@ module _ (s t pairs : List ℕ) where
   answered n room e = intuitive-none (hourExports s t) (hourPrices s t) pairs n room ((later 0 judged (intuitiveRows (hourExports s t) (hourPrices s t) pairs n room) tt e) .then-second)
 
   -- YES OR NO AND THE TOTAL ARE EQUAL on each hour that both take, whatever scratches are lent
-  pub boards-agree : (a b : List ℤ) (r q : Carried) (a' b' : List ℤ) → Contract scratchRoom a r a' → Contract smallRoom b q b' → r .number ≡ 0 → q .number ≡ 0
+  pub answers-agree : (a b : List ℤ) (r q : Carried) (a' b' : List ℤ) → Contract scratchRoom a r a' → Contract smallRoom b q b' → r .number ≡ 0 → q .number ≡ 0
       → (r .intuitive ≡ q .intuitive) × (r .total .0 ≡ q .total .0)
-  boards-agree a b r q a' b' x y e f =
+  answers-agree a b r q a' b' x y e f =
       let taken = answered scratchRoom (length a) (sym (ap (λ (o : Outcome). o .number) (x .0)) ∙ e) in
       clauses-agree (hourNetwork s t pairs) (placed (hourExports s t) (hourPrices s t) pairs scratchRoom (length a) taken) _ _ _ _ r q a' b' x y e f
 
