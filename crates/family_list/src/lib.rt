@@ -26,10 +26,10 @@ const VERSION: u32 = 1;
 
 const HEADER: usize = 5;
 
-// What stands for no parent, as a number and in the list's own width.
-pub const NO_PARENT: usize = 65535;
+// What stands for no parent, in the list's own 16 bits and as a number.
+const NONE: u16 = 65535;
 
-const ABSENT: u16 = 65535;
+pub const NO_PARENT: usize = NONE as usize;
 
 pub enum FamilyAnswer {
     Sound,
@@ -78,7 +78,7 @@ pub fn parent_at(families: &[u8], orders: usize, i: usize) -> usize
 fn is_absent(orders: u16, parent: u16) -> bool
     ensures { λ r. ⌜ r ≡ missing orders (named parent) ⌝ }
 {
-    if parent == ABSENT {
+    if parent == NONE {
         return false;
     }
     orders <= parent

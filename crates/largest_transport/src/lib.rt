@@ -1,4 +1,4 @@
-// The largest transport of an hour (request S-3), by augmenting paths, in a lent scratch.
+// The largest transport of an hour (requests S-3 and S-13), by augmenting paths, in a lent scratch.
 ghost use mathlib.Core.Path.{_≡_};
 ghost use Prim.Native.Nat.{ℕ, _≤_, _<_};
 ghost use lib.ListN.{length, getD};

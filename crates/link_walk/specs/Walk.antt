@@ -5,14 +5,15 @@ use mathlib.Core.List.{List}
 use mathlib.Core.Option.{none}
 use Prim.Native.Nat.{ℕ, _+_, _≤_, _<_}
 use native.Mathlib.Omega.{arith}
-use lib.Dec.{T, eqb}
+use lib.Dec.{T, eqb, eqb→eq}
 use lib.IntN.{pos}
 use lib.ListN.{length}
-use Rattle.integers.specs.Ranges.{outside}
+use Rattle.integers.specs.Ranges.{outside, is-true, and-left, and-right}
 use Rattle.measures.specs.Meaning.Limits as limits
 use Rattle.rules.specs.Meaning.Layout.{u8At, u32At, caseVersion, zonesIn, linksIn, contracts, contractedSize, linkAt, linkFields, linkFieldAt, orderAt, fromIn, toIn, capacityIn, contractedIn}
 use Rattle.rules.specs.Meaning.Hour.{caseOf}
-use Rattle.rows.specs.Meaning.Rows.{firstBelow}
+use Rattle.rows.specs.Meaning.Rows.{firstBelow, firstField}
+use Rattle.rows.specs.Promised.RowLaws.{not-below, no-place, first-field}
 use Rattle.rules.specs.Meaning.Verdict.{over, unknown, repeated, linkFault}
 use Rattle.fields.specs.declared.Walked.{Walked}
 use Rattle.fields.specs.declared.Cursor.{Cursor}
@@ -21,7 +22,7 @@ use Rattle.fields.specs.declared.WordField.the-variants.{Taken, Short}
 use Rattle.fields.specs.Walk.{cursor, wordField, Took, word-took, word-short}
 use Rattle.fields.specs.Walked.{refusedAt, walked, clear-0, clear-1, clear-2, clear-3, clear-4, field-stops, row-passes}
 use Rattle.case_header.specs.Opened.{linkRow}
-use Rattle.zone_set.specs.Pairs.{holds, Seen}
+use Rattle.zone_set.specs.Pairs.{holds, samePair, Seen}
 
 -- THE CONTRACTED VOLUME that a walk takes at a cursor: of 32 bits where the version has them, else the capacity, and the cursor stays (S-4)
 abbrev pub contractedAt : List ℕ → ℕ → ℕ → ℕ → ℕ
@@ -90,6 +91,25 @@ module _ (s : List ℕ) (l : ℕ) (h : l < linksIn s) (clear : firstBelow l (lin
 
   pub from-stops : unknown (zonesIn s) from ≡ true → refusedAt 7 at ≡ walk
   from-stops e = stops 0 (omega arith) (clear-0 fault) (from-fault ∙ ap (λ (b : Bool). b || holds seen from to) e)
+
+  -- a pair that was seen passed: its second zone is known, and not the first
+  seen-passed : T (holds seen from to) → T (not (unknown (zonesIn s) to || eqb from to))
+  unfolding linkFault caseOf
+  seen-passed t =
+      let pair = samePair (fromIn s) (toIn s) from to in
+      let k = firstField l pair in
+      let p = first-field l pair (subst T (w .held from to) t) in
+      let f : fromIn s k ≡ from = eqb→eq (fromIn s k) from (and-left (eqb (fromIn s k) from) (eqb (toIn s k) to) (p .holds)) in
+      let g : toIn s k ≡ to = eqb→eq (toIn s k) to (and-right (eqb (fromIn s k) from) (eqb (toIn s k) to) (p .holds)) in
+      subst (λ (b : Bool). T (not b)) (λ j. unknown (zonesIn s) (g j) || eqb (f j) (g j))
+      (no-place linkFields (linkFault (caseOf s) k) (not-below l (linkRow s .fails) clear k (p .place-in)) 1 (omega arith))
+
+  pub unseen : (unknown (zonesIn s) to || eqb from to) ≡ true → holds seen from to ≡ false
+  unseen e = by (holds seen from to) refl
+    where
+      by : (b : Bool) → holds seen from to ≡ b → b ≡ false
+      by true q = absurd (subst (λ (b : Bool). T (not b)) e (seen-passed (is-true q)))
+      by false q = refl
 
   module _ (from-known : unknown (zonesIn s) from ≡ false) where
     pub repeated-stops : holds seen from to ≡ true → refusedAt 7 at ≡ walk

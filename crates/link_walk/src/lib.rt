@@ -31,7 +31,7 @@ fn contracted_field(case: &[u8], k: Counts, start: Cursor, capacity: u32) -> Wor
 
 // The links, field by field: from, to, capacity, contracted volume, with the zones seen after each zone. The first three are walked over their own six bytes,
 // whose length is known; where one link ends, the next begins. Row 5 passed, so that no field is missing.
-// A repeated pair names its first byte, so it is asked before the second zone's own tests (S-2).
+// A repeated pair names its first byte (S-2). It passed once, so that the second zone's own tests do not hold of it and may go first; it adds nothing to the set.
 pub fn walk_links(case: &[u8], k: Counts, start: Cursor) -> Walked
     requires { ⌜ Whole (now «case») k ⌝ }
     requires { ⌜ start .at ≡ linkAt (now «case») 0 ⌝ }
@@ -53,14 +53,16 @@ pub fn walk_links(case: &[u8], k: Counts, start: Cursor) -> Walked
             return at_to.refuse_in(at, FAULT);
         };
         let to = index_of(second);
-        if zone_set::has(seen[from], to) {
-            return at_from.refuse_in(at, FAULT);
-        }
         if k.zones <= to {
             return at_to.refuse_in(at, FAULT);
         }
         if from == to {
             return at_to.refuse_in(at, FAULT);
+        }
+        let before = seen[from];
+        let after = zone_set::with(before, to);
+        if after == before {
+            return at_from.refuse_in(at, FAULT);
         }
         let WordField::Taken(capacity, _) = at_capacity.word(link) else {
             return at_capacity.refuse_in(at, FAULT);
@@ -76,7 +78,7 @@ pub fn walk_links(case: &[u8], k: Counts, start: Cursor) -> Walked
         if Tenths::of(Raw::unsigned(contracted)).exceeds(offered) {
             return at_contracted.refuse(FAULT);
         }
-        seen[from] = zone_set::with(seen[from], to);
+        seen[from] = after;
         at = next.at;
     }
     Walked::Past(Cursor::new(at))
