@@ -1,3 +1,4 @@
 -- WHAT IS PROVED OF THE MEANING, for its reader
 pub mod Machine
 pub mod Within
+pub mod Taken

@@ -1,3 +1,4 @@
 -- WHAT IS PROVED OF THE MEANING, for its reader
 pub mod Causes
 pub mod ReadBack
+pub mod Amounts

@@ -1,3 +1,4 @@
 -- What holds of an hour's answer, and with either scratch
 pub mod Asked
 pub mod BothSizes
+pub mod Rent

@@ -2,3 +2,4 @@
 pub mod Causes
 pub mod OneAnswer
 pub mod BothSizes
+pub mod Worth

@@ -2,4 +2,5 @@
 pub mod Joined
 pub mod Causes
 pub mod Answered
+pub mod TooFine
 pub mod ReadBack

@@ -2,3 +2,4 @@
 pub mod Spelled
 pub mod Exact
 pub mod Printed
+pub mod Finer

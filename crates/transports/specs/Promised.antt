@@ -1,2 +1,3 @@
 -- What is proved of it for him.
 pub mod Duality
+pub mod Worth

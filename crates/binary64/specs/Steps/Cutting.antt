@@ -212,14 +212,14 @@ share-in-range (fin false m e) q s h =
 
 -- within one of the exact product
 -- r * c < a + c, by which r - 1 < a / c
-over-by : (a c r : ℕ) → 0 < c → ((n : ℕ) → n ≤ r → a ≤ n * c → r ≤ n) → r * c < a + c
+pub over-by : (a c r : ℕ) → 0 < c → ((n : ℕ) → n ≤ r → a ≤ n * c → r ≤ n) → r * c < a + c
 over-by a c zero C h = subst (λ (x : ℕ). x < a + c) (sym (zero-mul c)) (other a c C)
 over-by a c (suc r) C h = lt-of-not-le (λ (g : a + c ≤ suc r * c). lt-irrefl r (h r (le-suc r) (less a c (r * c) (subst (λ (x : ℕ). a + c ≤ x) (suc-mul r c) g))))
   where
     less : (a c p : ℕ) → a + c ≤ p + c → a ≤ p
     less a c p h = omega arith
 
-under-by : (a c r : ℕ) → (suc r * c ≤ a → suc r ≤ r) → a < r * c + c
+pub under-by : (a c r : ℕ) → (suc r * c ≤ a → suc r ≤ r) → a < r * c + c
 under-by a c r h = lt-of-not-le (λ (g : r * c + c ≤ a). lt-irrefl r (h (subst (λ (x : ℕ). x ≤ a) (sym (suc-mul r c)) g)))
 
 step : (r q p : ℕ) → r ≤ q → q < p → suc r ≤ p

@@ -32,7 +32,7 @@ module _ (s t pairs : List ℕ) where
   judged = table none s t reportRoom (caseOf s) (planOf s t) (pricesOf s t)
 
   -- an hour that is answered is one whose exports, prices and pairs are
-  answered : (n room : ℕ) → (hourOutcome s t pairs n room) .number ≡ 0 → intuitiveRefusal (hourExports s t) (hourPrices s t) pairs n room ≡ none
+  pub answered : (n room : ℕ) → (hourOutcome s t pairs n room) .number ≡ 0 → intuitiveRefusal (hourExports s t) (hourPrices s t) pairs n room ≡ none
   unfolding hourOutcome askedRows intuitiveOutcome intuitiveRefusal table roomRows caseRows proposalRows clearingRows lacks
   answered n room e = intuitive-none (hourExports s t) (hourPrices s t) pairs n room ((later 0 judged (intuitiveRows (hourExports s t) (hourPrices s t) pairs n room) tt e) .then-second)
 

@@ -11,11 +11,12 @@ use lib.Dec.{T, eqb, nltb→le}
 use lib.ListN.{length, getD, List·getD-eq-default}
 use lib.IntN.{ℤ, pos, negsuc}
 use Rattle.integers.specs.Difference.{up, dn, at, le-fact}
-use Rattle.integers.specs.Ranges.{outside, within, nat-within, nor-left, nor-right, not-is}
+use Rattle.integers.specs.Ranges.{outside, within, nat-within, nor-left, nor-right, not-is, is-true, isZero, zero-is}
+use Rattle.integers.specs.Sums.{sumTo}
 use Rattle.measures.specs.Meaning.Limits as limits
 use Rattle.rows.specs.Meaning.Rows.{Pass}
 use Rattle.rows.specs.Promised.RowLaws.{empty, all-pass}
-use Rattle.net_positions.specs.Meaning.Positions.{positionAt, positionOutside}
+use Rattle.net_positions.specs.Meaning.Positions.{positionAt, positionOutside, unbalanced}
 use Rattle.zone_pairs.specs.Meaning.Pairs.{pairCount, firstZone, secondZone, badPair, networkOf}
 use Rattle.zone_pairs.specs.Steps.Tests.{Good, good}
 use Rattle.transports.specs.Meaning.Network.{Placed}
@@ -52,6 +53,10 @@ module _ (net prices : List ℤ) (pairs : List ℕ) (n room : ℕ) (passed : int
   pub position-in : (z : ℕ) → z < length net → (up (positionAt net z) ≤ 51200000) × (dn (positionAt net z) ≤ 51200000)
   unfolding intuitiveRows
   position-in z h = near (positionAt net z) ((row 1) .pass z h)
+
+  pub balanced : sumTo (length net) (positionAt net) ≡ pos 0
+  unfolding intuitiveRows
+  balanced = zero-is _ (is-true (not-false (isZero (sumTo (length net) (positionAt net))) (not-is (unbalanced net) ((row 2) .pass 0 (omega arith)))))
 
   pub pair-good : (k : ℕ) → k < pairCount pairs → Good (length net) pairs k
   unfolding intuitiveRows

@@ -38,7 +38,7 @@ first-all [] = refl
 first-all (d ∷ ds) = ap (λ (l : List ℕ). d ∷ l) (first-all ds)
 
 -- digits after a number
-value-shift : (v : ℕ) (ds : List ℕ) → valueFrom v ds ≡ v * 10 ^ length ds + valueFrom 0 ds
+pub value-shift : (v : ℕ) (ds : List ℕ) → valueFrom v ds ≡ v * 10 ^ length ds + valueFrom 0 ds
 unfolding valueFrom
 value-shift v [] = omega arith
 value-shift v (d ∷ ds) =

@@ -1,0 +1,2 @@
+-- WHAT HOLDS of the number that a value becomes, in plain numbers
+pub mod Taken

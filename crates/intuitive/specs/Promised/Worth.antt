@@ -1,0 +1,37 @@
+-- A YES GOES FROM LOWER PRICE TO HIGHER: of an input that is taken and answered yes, the net exports turned to imports, each at its zone's price, sum to what
+-- the flows of the yes gain, pair by pair, from the price of the first zone to that of the second; no flow loses, so the sum is not negative. An export that
+-- counted as an import, or a pair that counted from higher price to lower, would make it false. Assumes nothing.
+use mathlib.Core.Path.{_≡_, sym, ap, _∙_}
+use mathlib.Core.List.{List}
+use mathlib.Core.Option.{none}
+use Prim.Native.Nat.{ℕ}
+use lib.ListN.{length}
+use lib.IntN.{ℤ, pos}
+use lib.Signed.{_≤ℤ_}
+use Rattle.integers.specs.Sums.{sumTo}
+use Rattle.rows.specs.declared.Outcome.{Outcome}
+use Rattle.zone_pairs.specs.Meaning.Pairs.{pairCount, networkOf}
+use Rattle.zone_pairs.specs.Promised.Worth as pairs-worth
+use Rattle.zone_pairs.specs.Promised.Worth.{importsWorth, pairGain}
+use Rattle.transports.specs.Meaning.Network.{CarriesAll}
+use Rattle.intuitive.specs.declared.Carried.{Carried}
+use Rattle.intuitive.specs.Meaning.Intuitive.{intuitiveRefusal, intuitiveOutcome}
+use Rattle.intuitive.specs.Promised.Causes.{intuitive-none}
+use Rattle.intuitive.specs.Promised.BothSizes.{Contract}
+use Rattle.intuitive.specs.Steps.Sizes.{placed, balanced}
+
+module _ (net prices : List ℤ) (pairs : List ℕ) where
+  -- OF AN INPUT THAT IS TAKEN, with either scratch, and has such flows
+  module _ (n room : ℕ) (e : (intuitiveOutcome net prices pairs n room) .number ≡ 0) (i : CarriesAll (networkOf net prices pairs)) where
+    passed : intuitiveRefusal net prices pairs n room ≡ none
+    passed = intuitive-none net prices pairs n room e
+
+    pub flows-gain : importsWorth net prices ≡ sumTo (pairCount pairs) (λ k. pairGain prices pairs (i .transport .flow k) k)
+    flows-gain = pairs-worth.flows-gain net prices pairs (placed net prices pairs n room passed) (balanced net prices pairs n room passed) i
+
+    pub worth-nonneg : pos 0 ≤ℤ importsWorth net prices
+    worth-nonneg = pairs-worth.worth-nonneg net prices pairs (placed net prices pairs n room passed) (balanced net prices pairs n room passed) i
+
+  -- OF THE ENTRY: what it answers yes
+  pub yes-worth-nonneg : (n : ℕ) (s : List ℤ) (r : Carried) (s' : List ℤ) → Contract net prices pairs n s r s' → r .number ≡ 0 → r .intuitive ≡ 1 → pos 0 ≤ℤ importsWorth net prices
+  yes-worth-nonneg n s r s' a e y = worth-nonneg n (length s) (sym (ap (λ (o : Outcome). o .number) (a .0)) ∙ e) (a .1 .0 e y)

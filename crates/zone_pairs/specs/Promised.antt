@@ -1,0 +1,2 @@
+-- WHAT HOLDS of the network of an hour, in plain numbers
+pub mod Worth

@@ -1,0 +1,54 @@
+-- THE NETWORK OF AN HOUR in plain numbers: a counted pair goes from its first zone to its second and never to a lower price, a zone's imports less its exports
+-- are its position turned, and where the positions sum to zero there is as much to import as to export. So what a yes carries is worth, at the zones' prices,
+-- what its flows gain (`transports`), and that is not negative. Assumes nothing.
+use mathlib.Core.Path.{_≡_, sym, ap, _∙_}
+use mathlib.Core.List.{List}
+use Prim.Native.Nat.{ℕ}
+use native.Mathlib.Omega.{arith}
+use lib.ListN.{length}
+use lib.IntN.{ℤ, pos, negsuc, negℤ, _-ℤ_, _*ℤ_}
+use lib.Signed.{_≤ℤ_, leZ-yes}
+use Rattle.integers.specs.Difference.{up, dn, at, _⊖_, ⊝_, eq-by}
+use Rattle.integers.specs.Ranges.{is-true}
+use Rattle.integers.specs.Sums.{sumTo, sum-ext}
+use Rattle.integers.specs.NaturalSums.{sumNat, sum-parts}
+use Rattle.net_positions.specs.Meaning.Positions.{positionAt}
+use Rattle.transports.specs.Meaning.Network.{Placed, allExports, CarriesAll}
+use Rattle.transports.specs.Promised.Worth.{Rising, yes-worth, yes-nonneg}
+use Rattle.zone_pairs.specs.Meaning.Pairs.{pairCount, firstZone, secondZone, priceAt, networkOf}
+
+-- imports positive, at the zones' prices
+abbrev pub importsWorth : List ℤ → List ℤ → ℤ
+importsWorth net prices = sumTo (length net) (λ z. negℤ (positionAt net z) *ℤ priceAt prices z)
+
+-- what so much gains along pair k, from its first zone to its second
+abbrev pub pairGain : List ℤ → List ℕ → ℕ → ℕ → ℤ
+pairGain prices pairs flow k = pos flow *ℤ (priceAt prices (secondZone pairs k) -ℤ priceAt prices (firstZone pairs k))
+
+module _ (net prices : List ℤ) (pairs : List ℕ) where
+  -- A COUNTED PAIR goes from lower or equal price to higher
+  pub counted-rises : Rising (networkOf net prices pairs) (priceAt prices)
+  counted-rises k l e = leZ-yes (is-true e)
+
+  -- A POSITION is export less import
+  turned : (x : ℤ) → negℤ x ≡ pos (dn x) -ℤ pos (up x)
+  turned (pos n) = eq-by (⊝_ (at (pos n))) (at (pos 0) ⊖ at (pos n)) (omega arith)
+  turned (negsuc n) = eq-by (⊝_ (at (negsuc n))) (at (pos (dn (negsuc n))) ⊖ at (pos 0)) (omega arith)
+
+  pub imports-less-exports : (z : ℕ) → pos ((networkOf net prices pairs) .imports z) -ℤ pos ((networkOf net prices pairs) .exports z) ≡ negℤ (positionAt net z)
+  imports-less-exports z = sym (turned (positionAt net z))
+
+  worth-parts : importsWorth net prices ≡ sumTo (length net) (λ z. (pos ((networkOf net prices pairs) .imports z) -ℤ pos ((networkOf net prices pairs) .exports z)) *ℤ priceAt prices z)
+  worth-parts = sum-ext (length net) _ _ (λ z l. ap (λ (x : ℤ). x *ℤ priceAt prices z) (sym (imports-less-exports z)))
+
+  -- AS MUCH TO IMPORT AS TO EXPORT
+  pub as-much-imported : sumTo (length net) (positionAt net) ≡ pos 0 → allExports (networkOf net prices pairs) ≡ sumNat (length net) ((networkOf net prices pairs) .imports)
+  as-much-imported e = omega (arith, sum-parts (positionAt net) (length net), ap up e, ap dn e)
+
+  -- OF A YES, over the flows that it has
+  module _ (ok : Placed (networkOf net prices pairs)) (e : sumTo (length net) (positionAt net) ≡ pos 0) (i : CarriesAll (networkOf net prices pairs)) where
+    pub flows-gain : importsWorth net prices ≡ sumTo (pairCount pairs) (λ k. pairGain prices pairs (i .transport .flow k) k)
+    flows-gain = worth-parts ∙ yes-worth (networkOf net prices pairs) ok i (as-much-imported e) (priceAt prices)
+
+    pub worth-nonneg : pos 0 ≤ℤ importsWorth net prices
+    worth-nonneg = rw worth-parts (yes-nonneg (networkOf net prices pairs) ok i (as-much-imported e) (priceAt prices) counted-rises)
