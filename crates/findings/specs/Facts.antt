@@ -1,5 +1,5 @@
 -- What a stage behind the readers knows of the hour: its counts, its opening, and the limits that the readers asked. Assumes nothing.
-use mathlib.Core.Path.{_≡_, ap}
+use mathlib.Core.Path.{_≡_, sym, ap}
 use mathlib.Core.List.{List}
 use Prim.Native.Nat.{ℕ, _≤_}
 use native.Mathlib.Omega.{arith}
@@ -10,6 +10,7 @@ use Rattle.case_header.specs.declared.Counts.{Counts}
 use Rattle.proposal_file.specs.declared.Opening.{Opening}
 use Rattle.proposal_file.specs.Proposed.{Proposed}
 use Rattle.proposal_file.specs.Answer.{openingOf}
+use Rattle.findings.specs.Listed.{Counted}
 
 pub record HourFacts (s : List ℕ) (k : Counts) (t : List ℕ) (o : Opening) : Type 0 where
   pub sound : CaseSound (caseOf s)
@@ -36,3 +37,11 @@ hour-facts s k t o p e =
       share-in = (proposal-sound s t (p .passed)) .share-in;
       system-is = ap (λ (o : Opening). o .system .0) e;
     }
+
+-- the case that has these counts
+pub counted : {s : List ℕ} {k : Counts} {t : List ℕ} → Proposed s k t → Counted (caseOf s) k
+unfolding caseOf
+counted p = record { tolerance-is = ap (λ (k : Counts). k .tolerance .0) (p .opened .counts); orders-is = sym (ap (λ (k : Counts). k .orders) (p .opened .counts)) }
+
+pub few-orders : {s : List ℕ} {k : Counts} {t : List ℕ} → Proposed s k t → k .orders ≤ 512
+few-orders {s} p = omega (arith, (counted p) .orders-is, (case-sound s (p .opened .readable)) .orders-in)

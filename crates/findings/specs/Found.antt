@@ -1,26 +1,29 @@
 -- What the driver finds in an hour by a list of rows: the verdict, and of an hour that is valued what the report holds, with its net positions. Assumes nothing.
 use mathlib.Core.Path.{_≡_, refl, sym, ap, subst, _∙_}
-use mathlib.Core.Bool.{Bool, true, false, not, _||_}
-use mathlib.Core.List.{List, [], _∷_, _++_}
+use mathlib.Core.Bool.{Bool, true, false, not, cond, _&&_, _||_}
+use mathlib.Core.List.{List, [], _∷_, _++_, append-assoc}
 use mathlib.Core.Option.{Option, none, some}
-use Prim.Native.Nat.{ℕ, _≤_}
+use Prim.Native.Nat.{ℕ, _≤_, _<_}
 use native.Mathlib.Omega.{arith}
 use lib.ListN.{replicate}
 use lib.Dec.{T, eqb, eqb→eq}
 use lib.IntN.{pos}
-use Rattle.rules.specs.Meaning.Hour.{Case, Plan, Prices, caseOf, planOf, pricesOf, net}
+use Rattle.integers.specs.Ranges.{isZero}
+use Rattle.rules.specs.Meaning.Hour.{Case, Plan, Prices, caseOf, planOf, pricesOf, net, netSum, fbPart, noLink}
 use Rattle.rules.specs.Meaning.Report.{totalsOf, reports}
-use Rattle.rules.specs.Meaning.Verdict.{caseRows, proposalRows, overloadedBranch, priceOutside, wideGap, judgementRows}
+use Rattle.rules.specs.Meaning.Verdict.{over, caseRows, proposalRows, wideTolerance, familyRows, excessVolume, fractionRows, unbalanced, shareWithoutLink, overusedLink, exchangeRows, clearingRows, judgementRows}
 use Rattle.rows.specs.declared.Outcome.{Outcome}
-use Rattle.rows.specs.Meaning.Rows.{Row, verdict, refusal, answer}
-use Rattle.rows.specs.Promised.RowLaws.{else-refusal, refusal-append, lacks, not-refused, Comes}
-use Rattle.measures.specs.declared.Tenths.{Tenths}
-use Rattle.measures.specs.declared.Grains.{Grains}
+use Rattle.rows.specs.Meaning.Rows.{Row, verdict, firstBelow, failing, rowElse, refusal, answer, once}
+use Rattle.rows.specs.Promised.RowLaws.{else-refusal, refusal-append, lacks, not-refused, zero-none, behind}
 use Rattle.measures.specs.declared.Microcents.{Microcents}
+use Rattle.case_header.specs.declared.Counts.{Counts}
+use Rattle.proposal_file.specs.declared.Opening.{Opening}
+use Rattle.proposal_file.specs.Proposed.{Proposed}
+use Rattle.proposal_file.specs.Answer.{openingOf}
 use Rattle.clearing.specs.Held.{Holds, noTenths}
 use Rattle.network.specs.Prices.{Priced, noGrains}
-use Rattle.report.specs.declared.Totals.{Totals}
 use Rattle.report.specs.Written.{totalsIn}
+use Rattle.findings.specs.declared.Files.{Files}
 use Rattle.findings.specs.declared.Found.{Found}
 
 -- the family list that is given (S-11), or none
@@ -32,16 +35,39 @@ listOf false f = none
 abbrev pub hourRows : Option (List ℕ) → List ℕ → List ℕ → List Row
 hourRows fs s t = caseRows s (caseOf s) ++ (proposalRows s t (caseOf s) (planOf s t) (pricesOf s t) ++ judgementRows fs (caseOf s) (planOf s t) (pricesOf s t))
 
--- of it, the rows behind 23
+-- THE STAGES of it, in its order: 1 to 18, of what is read; 21 and 28, of the orders; 22, 27 and 23, of the links; 24 to 26, behind 23
+abbrev pub admittedRows : Option (List ℕ) → Case → List Row
+admittedRows fs c = wideTolerance c ∷ familyRows fs c
+
+abbrev pub fileRows : Option (List ℕ) → List ℕ → List ℕ → List Row
+fileRows fs s t = caseRows s (caseOf s) ++ (proposalRows s t (caseOf s) (planOf s t) (pricesOf s t) ++ admittedRows fs (caseOf s))
+
+abbrev pub orderRows : Option (List ℕ) → Case → Plan → List Row
+orderRows fs c p = excessVolume c p ∷ fractionRows fs c p
+
+abbrev pub linkRows : Case → Plan → List Row
+linkRows c p = unbalanced c p ∷ shareWithoutLink c p ∷ overusedLink c p ∷ []
+
 abbrev pub networkRows : Case → Plan → Prices → List Row
-networkRows c p d = overloadedBranch c p ∷ priceOutside c d ∷ wideGap c p d ∷ []
+networkRows c p d = behind 23 (exchangeRows c p d)
+
+pub stages : (fs : Option (List ℕ)) (s t : List ℕ) → hourRows fs s t ≡ fileRows fs s t ++ (orderRows fs (caseOf s) (planOf s t) ++ (linkRows (caseOf s) (planOf s t) ++ networkRows (caseOf s) (planOf s t) (pricesOf s t)))
+unfolding clearingRows
+stages fs s t =
+    let of-case = caseRows s (caseOf s) in
+    let of-proposal = proposalRows s t (caseOf s) (planOf s t) (pricesOf s t) in
+    let rest = orderRows fs (caseOf s) (planOf s t) ++ (linkRows (caseOf s) (planOf s t) ++ networkRows (caseOf s) (planOf s t) (pricesOf s t)) in
+    sym (append-assoc of-case (of-proposal ++ admittedRows fs (caseOf s)) rest ∙ ap (λ (rows : List Row). of-case ++ rows) (append-assoc of-proposal (admittedRows fs (caseOf s)) rest))
 
 pub record Finds (rows : List Row) (s t : List ℕ) (r : Found) : Type 0 where
   pub verdict-is : r .verdict ≡ answer (refusal rows)
   pub valued-is : r .valued ≡ reports (r .verdict .number)
-  pub few-zones : r .zones ≤ 16
-  pub zones-are : r .valued ≡ true → r .zones ≡ (caseOf s) .zones
+  pub few-zones : r .counts .zones ≤ 16
+  pub zones-are : r .valued ≡ true → r .counts .zones ≡ (caseOf s) .zones
+  pub counts-are : r .valued ≡ true → Proposed s (r .counts) t
+  pub opening-is : r .valued ≡ true → r .opening ≡ openingOf t
   pub nets-are : r .valued ≡ true → Holds (net (caseOf s) (planOf s t)) (r .nets)
+  pub parts-are : r .valued ≡ true → Holds (fbPart (caseOf s) (planOf s t)) (r .parts)
   pub prices-are : r .valued ≡ true → Priced (caseOf s) (pricesOf s t) (r .prices)
   pub totals-are : r .valued ≡ true → totalsIn (r .totals) ≡ totalsOf (caseOf s) (planOf s t) (pricesOf s t)
 
@@ -49,18 +75,26 @@ pub record Finds (rows : List Row) (s t : List ℕ) (r : Found) : Type 0 where
 abbrev noMoney : Microcents
 noMoney = record { 0 = pos 0 }
 
+abbrev noCounts : Counts
+noCounts = record { version = 0; zones = 0; branches = 0; links = 0; orders = 0; tolerance = noMoney }
+
+abbrev noOpening : Opening
+noOpening = record { share = record { 0 = pos 0 }; system = record { 0 = pos 0 } }
+
+abbrev pub unreadAs : Outcome → Files
+unreadAs o = record { verdict = o; counts = noCounts; opening = noOpening }
+
 abbrev pub refusedAs : Outcome → Found
 refusedAs o = record {
   verdict = o;
   valued = false;
-  zones = 0;
+  counts = noCounts;
+  opening = noOpening;
   nets = replicate 16 noTenths;
+  parts = replicate 16 noTenths;
   prices = replicate 16 noGrains;
   totals = record { welfare = noMoney; bound = noMoney; gap = noMoney; rent = noMoney; owed = noMoney };
 }
-
-abbrev pub valuedAs : ℕ → ℕ → List Tenths → List Grains → Totals → Found
-valuedAs n zones nets prices x = record { verdict = verdict n 0; valued = true; zones = zones; nets = nets; prices = prices; totals = x }
 
 false-true : {X : Type 0} → false ≡ true → X
 false-true e = absurd (subst (λ (b : Bool). T (not b)) e tt)
@@ -72,21 +106,12 @@ module _ {rows : List Row} {s t : List ℕ} where
     valued-is = sym w;
     few-zones = omega arith;
     zones-are = λ f. false-true f;
+    counts-are = λ f. false-true f;
+    opening-is = λ f. false-true f;
     nets-are = λ f. false-true f;
+    parts-are = λ f. false-true f;
     prices-are = λ f. false-true f;
     totals-are = λ f. false-true f;
-  })
-
-  pub finds-valued : (n zones : ℕ) (nets : List Tenths) (prices : List Grains) (x : Totals) (o : Option Outcome) {r : Found} → r ≡ valuedAs n zones nets prices x → verdict n 0 ≡ answer o → reports n ≡ true → Comes rows o
-      → zones ≤ 16 → zones ≡ (caseOf s) .zones → Holds (net (caseOf s) (planOf s t)) nets → Priced (caseOf s) (pricesOf s t) prices → totalsIn x ≡ totalsOf (caseOf s) (planOf s t) (pricesOf s t) → Finds rows s t r
-  finds-valued n zones nets prices x o e a w q few z h d g = subst (λ (r : Found). Finds rows s t r) (sym e) (record {
-    verdict-is = a ∙ sym (ap answer (q .is));
-    valued-is = sym w;
-    few-zones = few;
-    zones-are = λ f. z;
-    nets-are = λ f. h;
-    prices-are = λ f. d;
-    totals-are = λ f. g;
   })
 
   -- rows that come to the same
@@ -96,7 +121,10 @@ module _ {rows : List Row} {s t : List ℕ} where
     valued-is = f .valued-is;
     few-zones = f .few-zones;
     zones-are = f .zones-are;
+    counts-are = f .counts-are;
+    opening-is = f .opening-is;
     nets-are = f .nets-are;
+    parts-are = f .parts-are;
     prices-are = f .prices-are;
     totals-are = f .totals-are;
   }
@@ -118,3 +146,77 @@ unfolding reports
 writes-no-report rows o a b e = λ j.
     not-by (eqb (o .number) 0) (λ t. not-refused 0 rows a o e (eqb→eq (o .number) 0 t)) j
     || not-by (eqb (o .number) 26) (λ t. not-refused 26 rows b o e (eqb→eq (o .number) 26 t)) j
+
+-- A STAGE, whose rows lack 0 and 26: it refuses by its verdict, or its verdict is 0 and the stages behind it are asked
+pub record Silent (qs : List Row) : Type 0 where
+  pub not-0 : T (lacks 0 qs)
+  pub not-26 : T (lacks 26 qs)
+
+module _ {qs : List Row} (rs : List Row) {v : Outcome} (l : Silent qs) (e : v ≡ answer (refusal qs)) where
+  pub stage-refuses : {s t : List ℕ} {r : Found} → 0 < v .number → r ≡ refusedAs v → Finds (qs ++ rs) s t r
+  stage-refuses {s} {t} {r} h q = by (refusal qs) refl
+    where
+      by : (o : Option Outcome) → refusal qs ≡ o → Finds (qs ++ rs) s t r
+      by (some x) p = let w = p ∙ ap (λ (o : Outcome). some o) (sym (e ∙ ap answer p)) in finds-refused v q (writes-no-report qs v (l .not-0) (l .not-26) w) (first-refuses qs rs v w)
+      by none p = absurd (omega (arith, h, ap (λ (o : Outcome). o .number) (e ∙ ap answer p)))
+
+  pub stage-passes : {s t : List ℕ} {r : Found} → v .number ≡ 0 → Finds rs s t r → Finds (qs ++ rs) s t r
+  stage-passes h f = same-rows (first-passes qs rs (zero-none qs (l .not-0) (sym (ap (λ (o : Outcome). o .number) e) ∙ h))) f
+
+pub files-silent : (fs : Option (List ℕ)) (s t : List ℕ) → Silent (fileRows fs s t)
+unfolding caseRows proposalRows lacks
+files-silent none s t = record { not-0 = tt; not-26 = tt }
+files-silent (some f) s t = record { not-0 = tt; not-26 = tt }
+
+pub orders-silent : (fs : Option (List ℕ)) (c : Case) (p : Plan) → Silent (orderRows fs c p)
+unfolding lacks
+orders-silent none c p = record { not-0 = tt; not-26 = tt }
+orders-silent (some f) c p = record { not-0 = tt; not-26 = tt }
+
+pub links-silent : (c : Case) (p : Plan) → Silent (linkRows c p)
+unfolding lacks
+links-silent c p = record { not-0 = tt; not-26 = tt }
+
+-- A STAGE'S ANSWER: the verdict of rows that refuse, and what holds where they pass
+pub answers : (rows : List Row) {o : Outcome} {v : Outcome} → v ≡ o → refusal rows ≡ some o → v ≡ answer (refusal rows)
+answers rows e q = e ∙ sym (ap answer q)
+
+pub never-0 : {X : Type 0} {v : Outcome} (n k : ℕ) → v ≡ verdict n k → 0 < n → v .number ≡ 0 → X
+never-0 n k e h z = absurd (omega (arith, h, z, ap (λ (o : Outcome). o .number) e))
+
+-- ROWS 22, 27 AND 23, by their tests
+abbrev pub linkAnswer : Bool → Bool → Option ℕ → Outcome
+linkAnswer true b o = verdict 22 0
+linkAnswer false true o = verdict 27 0
+linkAnswer false false (some l) = verdict 23 l
+linkAnswer false false none = verdict 0 0
+
+pub links-answer : (c : Case) (p : Plan) → answer (refusal (linkRows c p)) ≡ linkAnswer (not (isZero (netSum c p))) (noLink c && over 0 (p .share)) (failing (overusedLink c p))
+unfolding refusal firstBelow
+links-answer c p = by (not (isZero (netSum c p))) (noLink c && over 0 (p .share)) (failing (overusedLink c p))
+  where
+    by : (a b : Bool) (o : Option ℕ) → answer (rowElse (once 22 a) (failing (once 22 a)) (rowElse (once 27 b) (failing (once 27 b)) (rowElse (overusedLink c p) o none))) ≡ linkAnswer a b o
+    by true b o = refl
+    by false true o = refl
+    by false false (some l) = refl
+    by false false none = refl
+
+pub links-pass : (c : Case) (p : Plan) → (answer (refusal (linkRows c p))) .number ≡ 0 → failing (overusedLink c p) ≡ none
+links-pass c p e = by (not (isZero (netSum c p))) (noLink c && over 0 (p .share)) (failing (overusedLink c p)) (sym (ap (λ (o : Outcome). o .number) (links-answer c p)) ∙ e)
+  where
+    by : (a b : Bool) (o : Option ℕ) → (linkAnswer a b o) .number ≡ 0 → o ≡ none
+    by true b o e = absurd (omega (arith, e))
+    by false true o e = absurd (omega (arith, e))
+    by false false (some l) e = absurd (omega (arith, e))
+    by false false none e = refl
+
+-- THE GAP, row 26: its number, which like 0 writes a report
+pub gap-answers : (b : Bool) → verdict (cond b 26 0) 0 ≡ answer (refusal (once 26 b ∷ []))
+unfolding refusal firstBelow
+gap-answers true = refl
+gap-answers false = refl
+
+pub gap-reports : (b : Bool) → reports (cond b 26 0) ≡ true
+unfolding reports
+gap-reports true = refl
+gap-reports false = refl

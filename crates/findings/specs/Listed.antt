@@ -1,21 +1,23 @@
 -- What the driver asks of a family list, where there is one (S-11), and what it comes to in the table's rows. Assumes nothing.
 use mathlib.Core.Path.{_≡_, refl, subst}
 use mathlib.Core.Bool.{Bool, true, false, not}
-use mathlib.Core.List.{List, _∷_, _++_}
+use mathlib.Core.List.{List, []}
 use mathlib.Core.Option.{Option, none, some, Option·none-ne-some}
 use Prim.Native.Nat.{ℕ, _≤_, _<_}
 use native.Mathlib.Omega.{arith}
 use lib.Dec.{T}
+use lib.IntN.{pos}
+use Rattle.measures.specs.Meaning.Limits as limits
 use Rattle.rules.specs.Meaning.Hour.{Case, Plan}
 use Rattle.rows.specs.declared.Outcome.{Outcome}
-use Rattle.rows.specs.Meaning.Rows.{Row, verdict, failing, refusal}
-use Rattle.rows.specs.Promised.RowLaws.{row-found, row-clear, lacks, place-below}
+use Rattle.rows.specs.Meaning.Rows.{Row, verdict, failing, refusal, answer}
+use Rattle.rows.specs.Promised.RowLaws.{row-found, row-clear, lacks, not-refused, place-below}
 use Rattle.rules.specs.Meaning.Verdict.{excessFraction, fractionRows, familyRows}
-use Rattle.rules.specs.Meaning.Report.{reports}
+use Rattle.case_header.specs.declared.Counts.{Counts}
 use Rattle.family_list.specs.declared.FamilyAnswer.{FamilyAnswer}
 use Rattle.family_list.specs.declared.FamilyAnswer.the-variants.{Sound, Refused}
 use Rattle.family_list.specs.Steps.Answer.{Known, familyAnswer, refused-of, passed-of, known-of}
-use Rattle.findings.specs.Found.{listOf, writes-no-report}
+use Rattle.findings.specs.Found.{listOf, admittedRows}
 
 -- ROWS 16 TO 18
 abbrev pub listedAnswer : Bool → List ℕ → ℕ → FamilyAnswer
@@ -36,24 +38,34 @@ module _ (f : List ℕ) (c : Case) {orders : ℕ} (count : c .orders ≡ orders)
   families-known true h e q = known-of f c count h e
   families-known false h e q = absurd (subst (λ (b : Bool). T (not b)) q tt)
 
+-- ROWS 15 TO 18, of every case with these counts: the verdict, and where they pass a list that is known
+pub record Counted (c : Case) (k : Counts) : Type 0 where
+  pub tolerance-is : k .tolerance .0 ≡ limits.microcentsOf (pos (c .tolerance))
+  pub orders-is : c .orders ≡ k .orders
+
+pub record Admitted (k : Counts) (listed : Bool) (f : List ℕ) (r : Outcome) : Type 0 where
+  pub verdict-is : (c : Case) → Counted c k → r ≡ answer (refusal (admittedRows (listOf listed f) c))
+  pub known : (c : Case) → Counted c k → r .number ≡ 0 → listed ≡ true → Known f (k .orders)
+
 -- ROW 28
 abbrev pub fractionPlace : Option (List ℕ) → Case → Plan → Option ℕ
 fractionPlace none c p = none
 fractionPlace (some f) c p = failing (excessFraction f c p)
 
-pub fraction-over : (fs : Option (List ℕ)) (c : Case) (p : Plan) (rs : List Row) (k : ℕ) → fractionPlace fs c p ≡ some k → refusal (fractionRows fs c p ++ rs) ≡ some (verdict 28 k)
-fraction-over none c p rs k e = cc
-fraction-over (some f) c p rs k e = row-found (excessFraction f c p) rs k e
+pub fraction-over : (fs : Option (List ℕ)) (c : Case) (p : Plan) (k : ℕ) → fractionPlace fs c p ≡ some k → refusal (fractionRows fs c p) ≡ some (verdict 28 k)
+fraction-over none c p k e = cc
+fraction-over (some f) c p k e = row-found (excessFraction f c p) [] k e
 
-pub fractions-within : (fs : Option (List ℕ)) (c : Case) (p : Plan) (rs : List Row) → fractionPlace fs c p ≡ none → refusal (fractionRows fs c p ++ rs) ≡ refusal rs
-fractions-within none c p rs e = refl
-fractions-within (some f) c p rs e = row-clear (excessFraction f c p) rs e
+pub fractions-within : (fs : Option (List ℕ)) (c : Case) (p : Plan) → fractionPlace fs c p ≡ none → refusal (fractionRows fs c p) ≡ none
+unfolding refusal
+fractions-within none c p e = refl
+fractions-within (some f) c p e = row-clear (excessFraction f c p) [] e
 
--- a refusal by 16 to 18 writes no report
-pub families-report-nothing : (fs : Option (List ℕ)) (c : Case) (o : Outcome) → refusal (familyRows fs c) ≡ some o → reports (o .number) ≡ false
+-- a refusal by 16 to 18 is not 0
+pub families-not-0 : (fs : Option (List ℕ)) (c : Case) {o : Outcome} {X : Type 0} → refusal (familyRows fs c) ≡ some o → o .number ≡ 0 → X
 unfolding lacks refusal
-families-report-nothing none c o e = cc
-families-report-nothing (some f) c o e = writes-no-report (familyRows (some f) c) o tt tt e
+families-not-0 none c {o} e z = absurd (Option·none-ne-some o e)
+families-not-0 (some f) c e z = absurd (not-refused 0 (familyRows (some f) c) tt _ e z)
 
 -- a child's place fits an index
 pub place-few : (fs : Option (List ℕ)) (c : Case) (p : Plan) {k : ℕ} → c .orders ≤ 512 → fractionPlace fs c p ≡ some k → k < 4294967296

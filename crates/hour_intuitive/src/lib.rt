@@ -18,7 +18,7 @@ use findings::find;
 use intuitive::Carried;
 use intuitive::SCRATCH;
 use intuitive::SMALL_SCRATCH;
-use intuitive::intuitive_in;
+use intuitive::intuitive_of;
 use measures::Bits;
 use measures::Grains;
 use measures::Tenths;
@@ -89,12 +89,12 @@ fn hour_intuitive_in(
     if judged.number != 0 {
         return refused(judged);
     }
-    let zones = found.zones;
+    let zones = found.counts.zones;
     let nets = found.nets;
     let prices = found.prices;
     let exports = turned(nets, zones);
     let list = listed(prices, zones);
-    intuitive_in(&exports[..zones], &list[..zones], pairs, scratch, n)
+    intuitive_of(&exports[..zones], &list[..zones], pairs, scratch, n)
 }
 
 // The judgement's number and index where the hour is not accepted; else the answer for its exports, its prices and these pairs. As `host` exports it.

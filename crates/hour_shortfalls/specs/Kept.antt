@@ -1,30 +1,26 @@
 -- From what was found in an hour, and from what was written, to the contract. Assumes nothing.
 use mathlib.Core.Path.{_≡_, refl, sym, ap, subst, _∙_}
 use mathlib.Core.List.{List, _++_}
-use mathlib.Core.Option.{Option, none, some, Option·none-ne-some}
+use mathlib.Core.Bool.{true}
+use mathlib.Core.Option.{Option, none, some}
 use Prim.Native.Nat.{ℕ, _≤_, _<_}
 use native.Mathlib.Nat.{zero-add}
 use native.Mathlib.Omega.{arith}
-use borrow.Author.Tests.{le-ltb}
 use lib.Dec.{T}
 use lib.ListN.{length, drop}
 use lib.Seq.{sets, sets-eq}
 use lib.IntN.{ℤ}
-use Rattle.integers.specs.Ranges.{is-false}
 use Rattle.rows.specs.declared.Outcome.{Outcome}
-use Rattle.rows.specs.Meaning.Rows.{verdict, refusal, answer, failing}
-use Rattle.rows.specs.Promised.RowLaws.{first-none}
+use Rattle.rows.specs.Meaning.Rows.{verdict, refusal, answer}
 use Rattle.rules.specs.Meaning.Layout.{reportRoom}
-use Rattle.rules.specs.Meaning.Hour.{caseOf, planOf, pricesOf, linkUse, linkRoom}
+use Rattle.rules.specs.Meaning.Hour.{caseOf, planOf, pricesOf}
 use Rattle.rules.specs.Meaning.Report.{reports}
-use Rattle.rules.specs.Meaning.Verdict.{outcome, overusedLink}
+use Rattle.rules.specs.Meaning.Verdict.{outcome}
 use Rattle.rules.specs.Steps.Passed.{Sound, sound}
 use Rattle.rules.specs.Promised.Guarantee.{Accepted, allowed}
 use Rattle.output.specs.declared.Written.{Written}
 use Rattle.case_header.specs.declared.Counts.{Counts}
-use Rattle.case_header.specs.declared.HeaderAnswer.the-variants as header
-use Rattle.case_header.specs.Answer.{countsOf, headerAnswer}
-use Rattle.case_header.specs.Opened.{Limited, headed, limited, headed-of, header-refused-of}
+use Rattle.case_header.specs.Opened.{Limited, headed, limited}
 use Rattle.findings.specs.declared.Found.{Found}
 use Rattle.findings.specs.Found.{Finds, hourRows}
 use Rattle.shortfalls.specs.Meaning.Answer.{shortfallNumbers, shortfallCount, shortfallRows, shortfallOutcome, writtenBy, shortfallWritten, shortfallOutput, Answers}
@@ -86,34 +82,28 @@ module _ (s t : List ℕ) (out : List ℤ) where
     unfolding outcome
     found-accepted e = record { answer = ap (λ (o : Option Outcome). (answer o) .number) (room-passes s t (length out)) ∙ ap (λ (o : Outcome). o .number) (sym (h .verdict-is)) ∙ e }
 
--- AN ACCEPTED HOUR, as the stages have it
-module _ (s t : List ℕ) (a : Accepted s t reportRoom) where
-  passed : Sound s t reportRoom
-  unfolding reports
-  passed = sound s t reportRoom (subst (λ (n : ℕ). T (reports n)) (sym (a .answer)) tt)
+    -- ACCEPTED, as the stages have it
+    module _ (e : f .verdict .number ≡ 0) where
+      passed : Sound s t reportRoom
+      unfolding reports
+      passed = sound s t reportRoom (subst (λ (n : ℕ). T (reports n)) (sym ((found-accepted e) .answer)) tt)
 
-  pub good-header : {r : Outcome} → headerAnswer s ≡ header.Refused r → ⊥
-  good-header e = clash (headed {s = s} {k = countsOf s} (record { readable = passed .readable; counts = refl }) .passed) (header-refused-of s e)
-    where
-      clash : {o : Option Outcome} {r : Outcome} → o ≡ none → o ≡ some r → ⊥
-      clash {o} {r} p q = Option·none-ne-some r (sym p ∙ q)
+      pub valued : f .valued ≡ true
+      unfolding reports
+      valued = h .valued-is ∙ ap reports e
 
-  pub judged : {k : Counts} → headerAnswer s ≡ header.Good k → Judged s k t
-  judged e = record {
-    proposed = record { opened = record { readable = passed .readable; counts = (headed-of s e) .counts }; passed = passed .proposed };
-    clearing = allowed s t reportRoom a;
-    prices-in = record { within = passed .cleared .zonePrice-in };
-    accounted = hour-accounted s t reportRoom a;
-    gap-small = gap-small s t reportRoom a;
-  }
+      pub judged : Judged s (f .counts) t
+      judged = record {
+        proposed = h .counts-are valued;
+        clearing = allowed s t reportRoom (found-accepted e);
+        prices-in = record { within = passed .cleared .zonePrice-in };
+        accounted = hour-accounted s t reportRoom (found-accepted e);
+        gap-small = gap-small s t reportRoom (found-accepted e);
+      }
 
-  pub count-is : {k : Counts} → headerAnswer s ≡ header.Good k → countOf k ≡ shortfallCount (caseOf s)
-  unfolding shortfallCount caseOf
-  count-is e = ap countOf ((headed-of s e) .counts)
-
--- row 23 passes
-pub no-overuse : {s : List ℕ} {k : Counts} {t : List ℕ} → Judged s k t → failing (overusedLink (caseOf s) (planOf s t)) ≡ none
-no-overuse {s} {k} {t} j = first-none _ _ (λ l h. is-false (le-ltb (linkRoom (caseOf s) (planOf s t) l) (linkUse (caseOf s) (planOf s t) l) (j .clearing .link l h)))
+      pub count-is : countOf (f .counts) ≡ shortfallCount (caseOf s)
+      unfolding shortfallCount caseOf
+      count-is = ap countOf ((h .counts-are valued) .opened .counts)
 
 -- the counts are few
 pub few : {s : List ℕ} {k : Counts} {t : List ℕ} → Judged s k t → Limited k

@@ -6,9 +6,9 @@ ghost use lib.Seq.{sets};
 ghost use lib.IntN.{pos, _-ℤ_};
 ghost use Rattle.measures.specs.Meaning.Limits as limits;
 ghost use Rattle.rows.specs.Meaning.Rows.{verdict};
-ghost use Rattle.rules.specs.Meaning.Hour.{caseOf, planOf, pricesOf, net, fbPart};
+ghost use Rattle.rules.specs.Meaning.Hour.{caseOf, planOf, pricesOf, fbPart};
 ghost use Rattle.case_branches.specs.Table.{tableOf};
-ghost use Rattle.proposal_file.specs.Proposed.{Proposed};
+ghost use Rattle.proposal_file.specs.Answer.{openingOf};
 ghost use Rattle.clearing.specs.Held.{Holds};
 ghost use Rattle.network.specs.Prices.{Priced};
 ghost use Rattle.shortfalls.specs.Meaning.Shortfalls.{orderShortfall, branchShortfall, linkShortfall};
@@ -17,25 +17,17 @@ ghost use Rattle.single_shortfall.specs.Judged.{Judged};
 ghost use Rattle.hour_shortfalls.specs.Pairs.{numbersIn, Writable, countOf};
 use case_branches::ptdf_table;
 use case_header::Counts;
-use case_header::HeaderAnswer;
-use case_header::read_header;
-use clearing::link_sums;
-use fields::word_at;
+use findings::Found;
 use findings::find;
 use measures::ExactMicrocents;
 use measures::Grains;
-use measures::Raw;
 use measures::Share;
-use measures::ShareAnswer;
 use measures::Tenths;
 use output::Written;
 use output::refused;
 use single_shortfall::branch_shortfall;
 use single_shortfall::link_shortfall;
 use single_shortfall::order_shortfall;
-
-// Where a proposal has its LTA share.
-const SHARE_AT: usize = 5;
 
 // The n-th pair: whole microcents, and the parts past them.
 fn put(out: &mut [i64], n: usize, x: ExactMicrocents)
@@ -108,35 +100,19 @@ fn put_links(
     }
 }
 
-// The LTA share of a proposal that rows 9 to 14 pass. Row 13 passed, so that its constructor does not refuse.
-fn share_of(case: &[u8], k: Counts, proposal: &[u8]) -> Share
-    requires { ⌜ Proposed (now «case») k (now proposal) ⌝ }
-    ensures { λ r. ⌜ r .0 ≡ pos ((planOf (now («case» .entry)) (now (proposal .entry))) .share) ⌝ }
-{
-    let ShareAnswer::Held(share) = Share::new(Raw::unsigned(word_at(proposal, SHARE_AT))) else {
-        return Share::LEAST;
-    };
-    share
-}
-
-// All of them, of an accepted hour with these net positions and prices. The flow-based parts are the judgement's stage over the links, asked once more.
-fn put_all(
-    case: &[u8],
-    k: Counts,
-    proposal: &[u8],
-    nets: [Tenths; 16],
-    prices: [Grains; 16],
-    out: &mut [i64],
-)
-    requires { ⌜ Judged (now «case») k (now proposal) ⌝ }
-    requires { ⌜ Holds (net (caseOf (now «case»)) (planOf (now «case») (now proposal))) nets ⌝ }
-    requires { ⌜ Priced (caseOf (now «case»)) (pricesOf (now «case») (now proposal)) prices ⌝ }
-    requires { ⌜ 2 * countOf k ≤ length (now out) ⌝ }
+// All of them, of an accepted hour, from what was found in it.
+fn put_all(case: &[u8], proposal: &[u8], found: Found, out: &mut [i64])
+    requires { ⌜ Judged (now «case») (found .counts) (now proposal) ⌝ }
+    requires { ⌜ found .opening ≡ openingOf (now proposal) ⌝ }
+    requires { ⌜ Holds (fbPart (caseOf (now «case»)) (planOf (now «case») (now proposal))) (found .parts) ⌝ }
+    requires { ⌜ Priced (caseOf (now «case»)) (pricesOf (now «case») (now proposal)) (found .prices) ⌝ }
+    requires { ⌜ 2 * countOf (found .counts) ≤ length (now out) ⌝ }
     ensures { λ _. ⌜ now (out .exit) ≡ sets (now (out .entry)) 0 (shortfallNumbers (caseOf (now («case» .entry))) (planOf (now («case» .entry)) (now (proposal .entry))) (pricesOf (now («case» .entry)) (now (proposal .entry)))) ⌝ }
 {
-    let share = share_of(case, k, proposal);
-    let exchange = link_sums(case, k, proposal, share, nets);
-    let parts = exchange.parts;
+    let k = found.counts;
+    let share = found.opening.share;
+    let parts = found.parts;
+    let prices = found.prices;
     let table = ptdf_table(case, k);
     put_orders(case, k, proposal, prices, out);
     put_branches(case, k, proposal, table, parts, share.rest(), out);
@@ -155,17 +131,12 @@ pub fn hour_shortfalls(case: &[u8], proposal: &[u8], out: &mut [i64]) -> Written
     if judged.number != 0 {
         return refused(judged.number, judged.index as usize);
     }
-    // An accepted hour's header is good.
-    let HeaderAnswer::Good(k) = read_header(case) else {
-        return refused(judged.number, 0);
-    };
+    let k = found.counts;
     let length = 2 * (k.orders + k.branches + k.links);
     if out.len() < length {
         return refused(86, 0);
     }
-    let nets = found.nets;
-    let prices = found.prices;
-    put_all(case, k, proposal, nets, prices, out);
+    put_all(case, proposal, found, out);
     Written {
         number: 0,
         index: 0,

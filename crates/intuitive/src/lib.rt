@@ -3,12 +3,12 @@ ghost use mathlib.Core.Path.{_≡_};
 ghost use Prim.Native.Nat.{_≤_, _<_};
 ghost use lib.ListN.{length};
 ghost use lib.IntN.{pos};
-ghost use Rattle.rows.specs.Meaning.Rows.{verdict};
+ghost use Rattle.rows.specs.Meaning.Rows.{verdict, refusal, answer};
 ghost use Rattle.zone_pairs.specs.Meaning.Pairs.{networkOf};
 ghost use Rattle.transports.specs.Meaning.Network.{CarriesAll, Excess};
 ghost use Rattle.intuitive.specs.Meaning.Intuitive.{intuitiveOutcome, LargestTotal, intuitiveScratch};
 ghost use Rattle.intuitive.specs.Meaning.SmallScratch.{smallRoom};
-ghost use Rattle.intuitive.specs.Steps.Answers.{flagOf, Met};
+ghost use Rattle.intuitive.specs.Steps.Answers.{restRows, ListsPass, flagOf, Met};
 use largest_transport::largest_transport;
 use measures::Raw;
 use measures::Tenths;
@@ -46,7 +46,22 @@ fn outcome(number: u32, index: usize) -> Outcome
     }
 }
 
-// 81 to 85 with their index, or 0, for a scratch of `room` numbers of which n are asked for.
+// 84 and 85 with their index, or 0, for a scratch of `room` numbers of which n are asked for.
+fn examine_rest(pairs: &[u8], zones: usize, n: usize, room: usize) -> Outcome
+    requires { ⌜ zones ≤ 16 ⌝ }
+    ensures { λ r. ⌜ r ≡ answer (refusal (restRows zones (now (pairs .entry)) n room)) ⌝ }
+{
+    let pair = first_bad_pair(pairs, zones);
+    if let Place::At(k) = pair {
+        return outcome(84, k);
+    }
+    if room < n {
+        return outcome(85, 0);
+    }
+    outcome(0, 0)
+}
+
+// 81 to 85.
 fn examine(net: &[i64], prices: &[i64], pairs: &[u8], n: usize, room: usize) -> Outcome
     ensures { λ r. ⌜ r ≡ intuitiveOutcome (now (net .entry)) (now (prices .entry)) (now (pairs .entry)) n room ⌝ }
 {
@@ -67,14 +82,7 @@ fn examine(net: &[i64], prices: &[i64], pairs: &[u8], n: usize, room: usize) -> 
     if let Place::At(zone) = price {
         return outcome(83, zone);
     }
-    let pair = first_bad_pair(pairs, net.len());
-    if let Place::At(k) = pair {
-        return outcome(84, k);
-    }
-    if room < n {
-        return outcome(85, 0);
-    }
-    outcome(0, 0)
+    examine_rest(pairs, net.len(), n, room)
 }
 
 fn flag(all: bool) -> u32
@@ -91,18 +99,19 @@ fn volume(total: u64) -> Tenths
     Tenths::of(Raw::unsigned(total as u32))
 }
 
-// With n numbers of scratch, of which a transport takes 96.
-pub fn intuitive_in(
+// The refusal that was found, or the answer. A transport takes 96 of the n numbers of scratch.
+fn answered(
     net: &[i64],
     prices: &[i64],
     pairs: &[u8],
     scratch: &mut [i64],
     n: usize,
+    o: Outcome,
 ) -> Carried
     requires { ⌜ 96 ≤ n ⌝ }
+    requires { ⌜ o ≡ intuitiveOutcome (now net) (now prices) (now pairs) n (length (now scratch)) ⌝ }
     ensures { λ r. ⌜ Met (now (net .entry)) (now (prices .entry)) (now (pairs .entry)) n (now (scratch .entry)) r (now (scratch .exit)) ⌝ }
 {
-    let o = examine(net, prices, pairs, n, scratch.len());
     let number = o.number;
     if number != 0 {
         return Carried {
@@ -119,6 +128,37 @@ pub fn intuitive_in(
         intuitive: flag(r.all),
         total: volume(r.total),
     }
+}
+
+// With n numbers of scratch.
+pub fn intuitive_in(
+    net: &[i64],
+    prices: &[i64],
+    pairs: &[u8],
+    scratch: &mut [i64],
+    n: usize,
+) -> Carried
+    requires { ⌜ 96 ≤ n ⌝ }
+    ensures { λ r. ⌜ Met (now (net .entry)) (now (prices .entry)) (now (pairs .entry)) n (now (scratch .entry)) r (now (scratch .exit)) ⌝ }
+{
+    let o = examine(net, prices, pairs, n, scratch.len());
+    answered(net, prices, pairs, scratch, n, o)
+}
+
+// The same of lists that 81 to 83 pass, as those of an accepted hour do.
+pub fn intuitive_of(
+    net: &[i64],
+    prices: &[i64],
+    pairs: &[u8],
+    scratch: &mut [i64],
+    n: usize,
+) -> Carried
+    requires { ⌜ 96 ≤ n ⌝ }
+    requires { ⌜ ListsPass (now net) (now prices) ⌝ }
+    ensures { λ r. ⌜ Met (now (net .entry)) (now (prices .entry)) (now (pairs .entry)) n (now (scratch .entry)) r (now (scratch .exit)) ⌝ }
+{
+    let o = examine_rest(pairs, net.len(), n, scratch.len());
+    answered(net, prices, pairs, scratch, n, o)
 }
 
 // Net positions with export positive, zone prices in grains and pairs of zones, two bytes to a pair; as `host` exports it.

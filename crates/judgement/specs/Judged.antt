@@ -54,7 +54,7 @@ same-report number zones x price c p d b e t h =
 
 -- WHAT IS CONCLUDED from what was found: the buffer afterwards
 abbrev pub reportOf : Found → List ℕ → List ℕ
-reportOf r b = reportText (r .verdict .number) (r .zones) (totalsIn (r .totals)) (priceIn (r .prices)) ++ drop (zonePriceAt (r .zones)) b
+reportOf r b = reportText (r .verdict .number) (r .counts .zones) (totalsIn (r .totals)) (priceIn (r .prices)) ++ drop (zonePriceAt (r .counts .zones)) b
 
 abbrev pub concluded : Found → List ℕ → List ℕ
 concluded r b = cond (r .valued) (reportOf r b) b
@@ -62,7 +62,7 @@ concluded r b = cond (r .valued) (reportOf r b) b
 -- what is needed to write it
 pub record Reportable (r : Found) : Type 0 where
   pub valued-is : r .valued ≡ reports (r .verdict .number)
-  pub few-zones : r .zones ≤ 16
+  pub few-zones : r .counts .zones ≤ 16
 
 or-either : (a b : Bool) {X : Type 0} → (T a → X) → (T b → X) → T (a || b) → X
 or-either true b f g t = f tt
@@ -87,7 +87,7 @@ judged rows s t b f h e q = record {
 }
   where
     by : (v : Bool) → f .valued ≡ v → cond v (reportOf f b) b ≡ written (f .verdict) (caseOf s) (planOf s t) (pricesOf s t) b
-    by true q = same-report (f .verdict .number) (f .zones) (totalsIn (f .totals)) (priceIn (f .prices)) (caseOf s) (planOf s t) (pricesOf s t) b (h .zones-are q) (h .totals-are q) ((h .prices-are q) .each)
+    by true q = same-report (f .verdict .number) (f .counts .zones) (totalsIn (f .totals)) (priceIn (f .prices)) (caseOf s) (planOf s t) (pricesOf s t) b (h .zones-are q) (h .totals-are q) ((h .prices-are q) .each)
         ∙ ap (λ (x : Bool). cond x (reportBytes (f .verdict .number) (caseOf s) (planOf s t) (pricesOf s t) ++ drop (reportSize (caseOf s)) b) b) (sym q ∙ h .valued-is)
     by false q = ap (λ (x : Bool). cond x (reportBytes (f .verdict .number) (caseOf s) (planOf s t) (pricesOf s t) ++ drop (reportSize (caseOf s)) b) b) (sym q ∙ h .valued-is)
 

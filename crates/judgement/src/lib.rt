@@ -46,7 +46,7 @@ fn conclude(found: Found, report: &mut [u8]) -> Outcome
     write_report(
         report,
         number_of(verdict),
-        byte_of(found.zones),
+        byte_of(found.counts.zones),
         totals,
         prices,
     );

@@ -10,7 +10,7 @@ use lib.Seq.{length-take-le}
 use lib.IntN.{ℤ}
 use Rattle.findings.specs.Found.{Finds, hourRows}
 use Rattle.intuitive.specs.Steps.Answers.{clauses}
-use Rattle.hour_intuitive.specs.Steps.Kept.{kept-refused, exports-fit, prices-fit, exports-are, prices-are, kept-answer}
+use Rattle.hour_intuitive.specs.Steps.Kept.{kept-refused, exports-fit, prices-fit, exports-are, prices-are, pass, kept-answer}
 use Rattle.hour_intuitive.proofs.hour_intuitive_in.Statement.{statement}
 use Rattle.hour_intuitive.proofs.hour_intuitive_in.Tie as tie
 
@@ -60,17 +60,25 @@ listed-requires c κs =
 array-share-prefix-exports : tie.Need-array-share-prefix-exports
 array-share-prefix-exports c = search needs
 
-slice-aggregate-intuitive-in : tie.Need-slice-aggregate-intuitive-in
-slice-aggregate-intuitive-in c = sym (length-take-le _ (c .before .before .turned .result) (omega (arith, c .before .before .before .before .before .before .before .before .find .ensures .few-zones, c .before .before .turned .ensures .long)))
+slice-aggregate-intuitive-of : tie.Need-slice-aggregate-intuitive-of
+slice-aggregate-intuitive-of c = sym (length-take-le _ (c .before .before .turned .result) (omega (arith, c .before .before .before .before .before .before .before .before .find .ensures .few-zones, c .before .before .turned .ensures .long)))
 
 array-share-prefix-list : tie.Need-array-share-prefix-list
 array-share-prefix-list c = search needs
 
-slice-aggregate-intuitive-in-2 : tie.Need-slice-aggregate-intuitive-in-2
-slice-aggregate-intuitive-in-2 c = sym (length-take-le _ (c .before .before .listed .result) (omega (arith, c .before .before .before .before .before .before .before .before .before .find .ensures .few-zones, c .before .before .listed .ensures .long)))
+slice-aggregate-intuitive-of-2 : tie.Need-slice-aggregate-intuitive-of-2
+slice-aggregate-intuitive-of-2 c = sym (length-take-le _ (c .before .before .listed .result) (omega (arith, c .before .before .before .before .before .before .before .before .before .find .ensures .few-zones, c .before .before .listed .ensures .long)))
 
-intuitive-in-requires : tie.Need-intuitive-in-requires
-intuitive-in-requires c κs = search needs
+intuitive-of-requires : tie.Need-intuitive-of-requires
+intuitive-of-requires c κs =
+    let f = c .before .before .before .before .before .before .before .before .before .before in
+    let e = accepted (c .before .before .before .before .before .before .before) in
+    let l = c .before .before .before in (
+      entry f .pre,
+      pass (file f) (plan f) (pairs f) (n f) (scratch f) (f .find .result) (f .find .ensures) e _ _
+          (exports-are (file f) (plan f) (pairs f) (n f) (scratch f) (f .find .result) (f .find .ensures) e _ (l .before .turned .ensures))
+          (prices-are (file f) (plan f) (pairs f) (n f) (scratch f) (f .find .result) (f .find .ensures) e _ (l .listed .ensures)),
+    )
 
 same-length : tie.Need-same-length
 same-length c = search needs
@@ -83,7 +91,7 @@ returns-2 c =
     kept-answer (file f) (plan f) (pairs f) (n f) (scratch f) (f .find .result) (f .find .ensures) e _ _
     (exports-are (file f) (plan f) (pairs f) (n f) (scratch f) (f .find .result) (f .find .ensures) e _ (l .before .turned .ensures))
     (prices-are (file f) (plan f) (pairs f) (n f) (scratch f) (f .find .result) (f .find .ensures) e _ (l .listed .ensures))
-    (clauses _ _ (pairs f) (n f) (scratch f) _ _ (c .before .intuitive-in .ensures))
+    (clauses _ _ (pairs f) (n f) (scratch f) _ _ (c .before .intuitive-of .ensures))
 
 pub hour-intuitive-in-spec : {M : Type 1} → statement M
 hour-intuitive-in-spec =
@@ -95,9 +103,9 @@ hour-intuitive-in-spec =
     turned-requires
     listed-requires
     array-share-prefix-exports
-    slice-aggregate-intuitive-in
+    slice-aggregate-intuitive-of
     array-share-prefix-list
-    slice-aggregate-intuitive-in-2
-    intuitive-in-requires
+    slice-aggregate-intuitive-of-2
+    intuitive-of-requires
     same-length
     returns-2)

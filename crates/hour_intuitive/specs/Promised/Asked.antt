@@ -29,6 +29,7 @@ use Rattle.rules.specs.Promised.Fits.{net-near, volumes-in}
 use Rattle.net_positions.specs.Meaning.Positions.{positionOutside, unbalanced}
 use Rattle.zone_pairs.specs.Meaning.Pairs.{pairCount, badPair}
 use Rattle.intuitive.specs.Meaning.Intuitive.{unfit, priceOutside, intuitiveRows, intuitiveRefusal, intuitiveOutcome}
+use Rattle.intuitive.specs.Steps.Answers.{ListsPass}
 use Rattle.hour_intuitive.specs.Meaning.Hour.{listTo, hourExports, hourPrices, askedRows, hourOutcome}
 
 -- A LIST BY ITS PLACES
@@ -111,9 +112,11 @@ module _ (s t pairs : List ℕ) (n room : ℕ) where
     or-off : (a b : Bool) → a ≡ false → b ≡ false → (a || b) ≡ false
     or-off a b p q = λ j. p j || q j
 
+    count-in : outside zoneCounts (pos (length (hourExports s t))) ≡ false
+    count-in = ap (λ (k : ℕ). outside zoneCounts (pos k)) zones-many ∙ not-is _ (nat-inside 1 16 ((caseOf s) .zones) ((case-sound s (passed .readable)) .zones-in .0) ((case-sound s (passed .readable)) .zones-in .1))
+
     fits-lists : unfit (hourExports s t) (hourPrices s t) ≡ false
-    fits-lists = or-off _ _
-        (ap (λ (k : ℕ). outside zoneCounts (pos k)) zones-many ∙ not-is _ (nat-inside 1 16 ((caseOf s) .zones) ((case-sound s (passed .readable)) .zones-in .0) ((case-sound s (passed .readable)) .zones-in .1)))
+    fits-lists = or-off _ _ count-in
         (ap not (eq-eqb _ _ (prices-many ∙ sym zones-many)))
 
     pub position-near : (z : ℕ) → Near 51200000 (pos 0 -ℤ net (caseOf s) (planOf s t) z)
@@ -145,6 +148,9 @@ module _ (s t pairs : List ℕ) (n room : ℕ) where
     prices-pass : failing (each 83 (length (hourPrices s t)) (priceOutside (hourPrices s t))) ≡ none
     prices-pass = first-none _ _ (λ z h. let l : z < (caseOf s) .zones = omega (arith, prices-many) in
         subst (λ (x : ℤ). T (not (outside limits.zonePrice x))) (sym (price-is z l)) (inside limits.zonePrice _ (price-in z l)))
+
+    pub lists-pass : ListsPass (hourExports s t) (hourPrices s t)
+    lists-pass = record { count-in = count-in; lengths = prices-many ∙ sym zones-many; positions-in = positions-pass; balanced = balanced; prices-in = prices-pass }
 
     -- so that the pairs and the scratch are all that is left
     abbrev left : List Row

@@ -24,12 +24,13 @@ use Rattle.clearing.specs.Held.{tenthsAt}
 use Rattle.network.specs.Prices.{grainsAt}
 use Rattle.zone_pairs.specs.Meaning.Pairs.{networkOf}
 use Rattle.intuitive.specs.declared.Carried.{Carried}
+use Rattle.intuitive.specs.Steps.Answers.{ListsPass}
 use Rattle.intuitive.specs.Meaning.Intuitive.{scratchBy, intuitiveRefusal, intuitiveOutcome, intuitiveScratch}
 use Rattle.intuitive.specs.Promised.BothSizes.{Clauses}
 use Rattle.findings.specs.declared.Found.{Found}
 use Rattle.findings.specs.Found.{Finds, hourRows}
 use Rattle.hour_intuitive.specs.Meaning.Hour.{listTo, hourExports, hourPrices, hourNetwork, askedRows, hourOutcome, hourScratch}
-use Rattle.hour_intuitive.specs.Promised.Asked.{refused-first, asked-then, none-refused, position-near, price-in}
+use Rattle.hour_intuitive.specs.Promised.Asked.{refused-first, asked-then, none-refused, position-near, price-in, lists-pass}
 use Rattle.hour_intuitive.specs.Promised.BothSizes.{Contract}
 use Rattle.hour_intuitive.specs.Steps.Lent.{FitsTo, Lists, part-is, same-list, refusedAs}
 
@@ -72,26 +73,30 @@ module _ (s t pairs : List ℕ) (n : ℕ) (scratch : List ℤ) where
       unfolding reports
       valued = h .valued-is ∙ ap reports e
 
-      net-is : (z : ℕ) → z < f .zones → pos 0 -ℤ tenthsAt (f .nets) z ≡ pos 0 -ℤ net (caseOf s) (planOf s t) z
+      net-is : (z : ℕ) → z < f .counts .zones → pos 0 -ℤ tenthsAt (f .nets) z ≡ pos 0 -ℤ net (caseOf s) (planOf s t) z
       net-is z l = ap (λ (x : ℤ). pos 0 -ℤ x) ((h .nets-are valued) .each z (omega (arith, h .few-zones)))
 
-      price-is : (z : ℕ) → z < f .zones → grainsAt (f .prices) z ≡ zonePrice (caseOf s) (pricesOf s t) z
+      price-is : (z : ℕ) → z < f .counts .zones → grainsAt (f .prices) z ≡ zonePrice (caseOf s) (pricesOf s t) z
       price-is z l = (h .prices-are valued) .each z (omega (arith, h .zones-are valued))
 
-      pub exports-fit : FitsTo (λ z. pos 0 -ℤ tenthsAt (f .nets) z) (f .zones)
+      pub exports-fit : FitsTo (λ z. pos 0 -ℤ tenthsAt (f .nets) z) (f .counts .zones)
       exports-fit = record { fits = λ z l. sfits-by w64 (net-is z l) (near-fits w64 (omega arith) (position-near s t pairs n (length scratch) accepted z)) }
 
-      pub prices-fit : FitsTo (λ z. grainsAt (f .prices) z) (f .zones)
+      pub prices-fit : FitsTo (λ z. grainsAt (f .prices) z) (f .counts .zones)
       prices-fit = record { fits = λ z l. sfits-by w64 (price-is z l) (near-fits w64 (omega arith) (near-zone-price _ (price-in s t pairs n (length scratch) accepted z (omega (arith, h .zones-are valued))))) }
 
       -- the lists that are lent are the hour's
-      pub exports-are : (xs : List ℤ) → Lists (λ z. pos 0 -ℤ tenthsAt (f .nets) z) (f .zones) xs → take (f .zones) xs ≡ hourExports s t
+      pub exports-are : (xs : List ℤ) → Lists (λ z. pos 0 -ℤ tenthsAt (f .nets) z) (f .counts .zones) xs → take (f .counts .zones) xs ≡ hourExports s t
       unfolding hourExports
-      exports-are xs l = part-is _ (f .zones) xs (h .few-zones) l ∙ same-list (f .zones) _ _ net-is ∙ ap (λ (k : ℕ). listTo k (λ z. pos 0 -ℤ net (caseOf s) (planOf s t) z)) (h .zones-are valued)
+      exports-are xs l = part-is _ (f .counts .zones) xs (h .few-zones) l ∙ same-list (f .counts .zones) _ _ net-is ∙ ap (λ (k : ℕ). listTo k (λ z. pos 0 -ℤ net (caseOf s) (planOf s t) z)) (h .zones-are valued)
 
-      pub prices-are : (xs : List ℤ) → Lists (λ z. grainsAt (f .prices) z) (f .zones) xs → take (f .zones) xs ≡ hourPrices s t
+      pub prices-are : (xs : List ℤ) → Lists (λ z. grainsAt (f .prices) z) (f .counts .zones) xs → take (f .counts .zones) xs ≡ hourPrices s t
       unfolding hourPrices
-      prices-are xs l = part-is _ (f .zones) xs (h .few-zones) l ∙ same-list (f .zones) _ _ price-is ∙ ap (λ (k : ℕ). listTo k (λ z. zonePrice (caseOf s) (pricesOf s t) z)) (h .zones-are valued)
+      prices-are xs l = part-is _ (f .counts .zones) xs (h .few-zones) l ∙ same-list (f .counts .zones) _ _ price-is ∙ ap (λ (k : ℕ). listTo k (λ z. zonePrice (caseOf s) (pricesOf s t) z)) (h .zones-are valued)
+
+      -- they pass 81 to 83
+      pub pass : (exports prices : List ℤ) → exports ≡ hourExports s t → prices ≡ hourPrices s t → ListsPass exports prices
+      pass exports prices x y = subst (λ (p : List ℤ). ListsPass p prices) (sym x) (subst (λ (q : List ℤ). ListsPass (hourExports s t) q) (sym y) (lists-pass s t pairs n (length scratch) accepted))
 
       -- so that their answer is the hour's
       pub kept-answer : (exports prices : List ℤ) → exports ≡ hourExports s t → prices ≡ hourPrices s t → {r : Carried} {b : List ℤ}

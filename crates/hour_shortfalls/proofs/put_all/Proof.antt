@@ -14,9 +14,9 @@ use Rattle.measures.specs.Meaning.Limits.{partsInOne}
 use Rattle.rules.specs.Meaning.Hour.{Case, Plan, Prices, caseOf, planOf, pricesOf}
 use Rattle.shortfalls.specs.Meaning.Shortfalls.{orderShortfall, branchShortfall, linkShortfall}
 use Rattle.shortfalls.specs.Meaning.Answer.{pairsTo, shortfallNumbers}
-use Rattle.single_shortfall.specs.Judged.{orders-is, branches-is, links-is, proposal-in, volume-in}
+use Rattle.proposal_file.specs.declared.Opening.{Opening}
+use Rattle.single_shortfall.specs.Judged.{orders-is, branches-is, links-is, proposal-in}
 use Rattle.hour_shortfalls.specs.Pairs.{countOf, three-runs}
-use Rattle.hour_shortfalls.specs.Kept.{no-overuse}
 use Rattle.hour_shortfalls.proofs.put_all.Statement.{statement}
 use Rattle.hour_shortfalls.proofs.put_all.Tie as tie
 
@@ -31,20 +31,20 @@ abbrev rates : tie.Start → Prices
 rates a = pricesOf (now (a .args .«case»)) (now (a .args .proposal))
 
 abbrev of-orders : tie.Start → List ℤ
-of-orders a = pairsTo (a .args .k .orders) (orderShortfall (hour a) (plan a) (rates a))
+of-orders a = pairsTo (a .args .found .counts .orders) (orderShortfall (hour a) (plan a) (rates a))
 
 abbrev of-branches : tie.Start → List ℤ
-of-branches a = pairsTo (a .args .k .branches) (branchShortfall (hour a) (plan a) (rates a))
+of-branches a = pairsTo (a .args .found .counts .branches) (branchShortfall (hour a) (plan a) (rates a))
 
 abbrev of-links : tie.Start → List ℤ
-of-links a = pairsTo (a .args .k .links) (linkShortfall (hour a) (plan a) (rates a))
+of-links a = pairsTo (a .args .found .counts .links) (linkShortfall (hour a) (plan a) (rates a))
 
 -- where the branches and the links stand
 abbrev branches-at : tie.Start → ℕ
-branches-at a = 2 * a .args .k .orders
+branches-at a = 2 * a .args .found .counts .orders
 
 abbrev links-at : tie.Start → ℕ
-links-at a = 2 * (a .args .k .orders + a .args .k .branches)
+links-at a = 2 * (a .args .found .counts .orders + a .args .found .counts .branches)
 
 -- the output keeps its length
 long-1 : (a : tie.Start) → length (sets (now (a .args .out)) 0 (of-orders a)) ≡ length (now (a .args .out))
@@ -56,22 +56,18 @@ long-2 a = length-sets (sets (now (a .args .out)) 0 (of-orders a)) (branches-at 
 long-3 : (a : tie.Start) → length (sets (sets (sets (now (a .args .out)) 0 (of-orders a)) (branches-at a) (of-branches a)) (links-at a) (of-links a)) ≡ length (now (a .args .out))
 long-3 a = length-sets (sets (sets (now (a .args .out)) 0 (of-orders a)) (branches-at a) (of-branches a)) (links-at a) (of-links a) ∙ long-2 a
 
-share-of-requires : tie.Need-share-of-requires
-share-of-requires c κs = c .before .before .pre .0 .proposed
-
-link-sums-requires : tie.Need-link-sums-requires
-link-sums-requires c κs =
-    let a = c .before .before .before in
-    (a .pre .0 .proposed, (record { within = volume-in (a .pre .0) }, (c .share-of .ensures, a .pre .1 .0)))
+share-is : (a : tie.Start) → a .args .found .opening .share .0 ≡ pos (plan a .share)
+unfolding planOf
+share-is a = ap (λ (o : Opening). o .share .0) (a .pre .1 .0)
 
 ptdf-table-requires : tie.Need-ptdf-table-requires
-ptdf-table-requires c κs = c .before .before .before .before .before .pre .0 .proposed .opened
+ptdf-table-requires c κs = (c .before .before .before .before .before .before) .pre .0 .proposed .opened
 
 abbrev start : tie.After-ptdf-table → tie.Start
-start c = c .before .before .before .before .before .before
+start c = c .before .before .before .before .before .before .before
 
 put-orders-requires : tie.Need-put-orders-requires
-put-orders-requires c κs = let a = start (c .before) in (a .pre .0, (a .pre .1 .1 .0, omega (arith, a .pre .1 .1 .1)))
+put-orders-requires c κs = let a = start (c .before) in (a .pre .0, (a .pre .1 .1 .1 .0, omega (arith, a .pre .1 .1 .1 .1)))
 
 abbrev table : tie.After-put-orders → tie.After-ptdf-table
 table o = o .before .before
@@ -79,22 +75,21 @@ table o = o .before .before
 rest-requires : tie.Need-rest-requires
 rest-requires c κs =
     let a = start (table (c .before)) in
-    sfits-by w64 (ap (λ (x : ℤ). pos partsInOne -ℤ x) (table (c .before) .before .before .before .share-of .ensures)) (near-fits w64 (omega arith) (near-sub (near-pos partsInOne) (near-unsigned (plan a .share) 100000 ((proposal-in (a .pre .0)) .share-in))))
+    sfits-by w64 (ap (λ (x : ℤ). pos partsInOne -ℤ x) (share-is a)) (near-fits w64 (omega arith) (near-sub (near-pos partsInOne) (near-unsigned (plan a .share) 100000 ((proposal-in (a .pre .0)) .share-in))))
 
 put-branches-requires : tie.Need-put-branches-requires
 put-branches-requires c κs =
     let o = c .before .before .before in
     let t = table o in
-    let l = t .before .before in
     let a = start t in (
       a .pre .0,
       (
         t .ptdf-table .ensures,
         (
-          l .link-sums .ensures .1 (l .link-sums .ensures .0 ∙ no-overuse (a .pre .0)),
+          a .pre .1 .1 .0,
           (
-            c .before .rest .ensures ∙ ap (λ (x : ℤ). pos partsInOne -ℤ x) (l .before .share-of .ensures),
-            subst (λ (n : ℕ). 2 * (a .args .k .orders + a .args .k .branches) ≤ n) (sym (ap length (o .put-orders .ensures) ∙ long-1 a)) (omega (arith, a .pre .1 .1 .1)),
+            c .before .rest .ensures ∙ ap (λ (x : ℤ). pos partsInOne -ℤ x) (share-is a),
+            subst (λ (n : ℕ). 2 * (a .args .found .counts .orders + a .args .found .counts .branches) ≤ n) (sym (ap length (o .put-orders .ensures) ∙ long-1 a)) (omega (arith, a .pre .1 .1 .1 .1)),
           ),
         ),
       ),
@@ -110,10 +105,10 @@ put-links-requires c κs =
     let a = start (table o) in (
       a .pre .0,
       (
-        a .pre .1 .1 .0,
+        a .pre .1 .1 .1 .0,
         (
-          table o .before .before .before .share-of .ensures,
-          subst (λ (n : ℕ). 2 * countOf (a .args .k) ≤ n) (sym (ap length (b .put-branches .ensures ∙ (λ i. sets (o .put-orders .ensures i) (branches-at a) (of-branches a))) ∙ long-2 a)) (a .pre .1 .1 .1),
+          share-is a,
+          subst (λ (n : ℕ). 2 * countOf (a .args .found .counts) ≤ n) (sym (ap length (b .put-branches .ensures ∙ (λ i. sets (o .put-orders .ensures i) (branches-at a) (of-branches a))) ∙ long-2 a)) (a .pre .1 .1 .1 .1),
         ),
       ),
     )
@@ -131,7 +126,7 @@ returns c =
     let b = c .before .before .before .before in
     let o = orders b in
     let a = start (table o) in
-    let k = a .args .k in
+    let k = a .args .found .counts in
     let j = a .pre .0 in
     let f = orderShortfall (hour a) (plan a) (rates a) in
     let g = branchShortfall (hour a) (plan a) (rates a) in
@@ -145,8 +140,6 @@ pub put-all-spec : {M : Type 1} → statement M
 put-all-spec =
     tie.close
     (tie.spec
-    share-of-requires
-    link-sums-requires
     ptdf-table-requires
     put-orders-requires
     rest-requires

@@ -13,9 +13,8 @@ use Rattle.rows.specs.Promised.RowLaws.{placeOf, place-below, not-below}
 use Rattle.rules.specs.Meaning.Layout.{zoneCounts}
 use Rattle.order_book.specs.Steps.Account.{firstPriceOutside}
 use Rattle.net_positions.specs.Meaning.Positions.{positionOutside}
-use Rattle.zone_pairs.specs.Meaning.Pairs.{pairCount, badPair}
 use Rattle.intuitive.specs.Meaning.Intuitive.{priceOutside}
-use Rattle.intuitive.specs.Steps.Answers.{From, refused-count, refused-lengths, past-81, refused-82, past-82, refused-sum, past-sum, refused-83, past-83, refused-84, past-84, refused-85, all-passed, outcome-by, pair-named}
+use Rattle.intuitive.specs.Steps.Answers.{From, refused-count, refused-lengths, past-81, refused-82, past-82, refused-sum, past-sum, refused-83, past-83, by-rest, outcome-by}
 use borrow.Author.Needs.{needs}
 use Rattle.intuitive.proofs.examine.Statement.{statement}
 use Rattle.intuitive.proofs.examine.Tie as tie
@@ -66,15 +65,8 @@ no-price t = sym (t .before .before .first-price-outside .ensures) ∙ ap placeO
 from-4 : (t : tie.After-enum-told2) → L (start-2 (of-price t)) 4
 from-4 t = past-83 _ _ _ _ _ (from-3 (of-price t)) (no-price t)
 
--- row 84
-abbrev of-pair : tie.After-enum-told3 → tie.After-enum-told2
-of-pair t = t .before .before .before
-
 abbrev start-3 : tie.After-enum-told2 → tie.Start
 start-3 t = start-2 (of-price t)
-
-from-5 : (t : tie.After-enum-told3) → L (start-3 (of-pair t)) 5
-from-5 t = past-84 _ _ _ _ _ (from-4 (of-pair t)) (sym (t .before .before .first-bad-pair .ensures) ∙ ap placeOf (t .enum-told3 .given .1))
 
 outcome-requires : tie.Need-outcome-requires
 outcome-requires c κs = search needs
@@ -156,46 +148,12 @@ returns-5 c =
 enum-told-2 : tie.Need-enum-told-2
 enum-told-2 c = search needs
 
-first-bad-pair-requires : tie.Need-first-bad-pair-requires
-first-bad-pair-requires c κs = few (of-position (of-price c .before .before) .before)
-
-enum-known-pair : tie.Need-enum-known-pair
-enum-known-pair c = search needs
-
-outcome-requires-6 : tie.Need-outcome-requires-6
-outcome-requires-6 c κs =
-    let p = c .before in
-    let f = p .before .before in
-    let t = start-3 (f .before) in
-    omega (arith, pair-named (length (now (t .args .net))) (now (t .args .pairs)) _ (sym (f .first-bad-pair .ensures) ∙ ap placeOf (p .pair .given .1)))
+-- the rest
+examine-rest-requires : tie.Need-examine-rest-requires
+examine-rest-requires c κs = few (of-position (of-price c .before .before) .before)
 
 returns-6 : tie.Need-returns-6
-returns-6 c =
-    let p = c .before .before in
-    let f = p .before .before in
-    let t = start-3 (f .before) in
-    c .outcome6 .ensures ∙ outcome-by _ _ _ (t .args .n) (t .args .room) (refused-84 (now (t .args .net)) (now (t .args .prices)) (now (t .args .pairs)) _ _ (from-4 (f .before)) (sym (f .first-bad-pair .ensures) ∙ ap placeOf (p .pair .given .1)))
-
-enum-told-3 : tie.Need-enum-told-3
-enum-told-3 c = search needs
-
-outcome-requires-7 : tie.Need-outcome-requires-7
-outcome-requires-7 c κs = search needs
-
-returns-7 : tie.Need-returns-7
-returns-7 c =
-    let x = c .before .before in
-    let t = start-3 (of-pair x) in
-    c .outcome7 .ensures ∙ outcome-by _ _ _ (t .args .n) (t .args .room) (refused-85 (now (t .args .net)) (now (t .args .prices)) (now (t .args .pairs)) _ _ (from-5 x) (c .before .if4 .taken))
-
-outcome-requires-8 : tie.Need-outcome-requires-8
-outcome-requires-8 c κs = search needs
-
-returns-8 : tie.Need-returns-8
-returns-8 c =
-    let x = c .before .before in
-    let t = start-3 (of-pair x) in
-    c .outcome8 .ensures ∙ outcome-by _ _ _ (t .args .n) (t .args .room) (all-passed (now (t .args .net)) (now (t .args .prices)) (now (t .args .pairs)) _ _ (from-5 x) (c .before .if4 .left))
+returns-6 c = let t = c .before in let a = start-3 t in c .examine-rest .ensures ∙ by-rest (now (a .args .net)) (now (a .args .prices)) (now (a .args .pairs)) (a .args .n) (a .args .room) (from-4 t)
 
 pub examine-spec : {M : Type 1} → statement M
 examine-spec =
@@ -219,12 +177,5 @@ examine-spec =
     outcome-requires-5
     returns-5
     enum-told-2
-    first-bad-pair-requires
-    enum-known-pair
-    outcome-requires-6
-    returns-6
-    enum-told-3
-    outcome-requires-7
-    returns-7
-    outcome-requires-8
-    returns-8)
+    examine-rest-requires
+    returns-6)

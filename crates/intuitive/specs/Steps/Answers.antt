@@ -1,7 +1,7 @@
 -- The table's rows as the entry asks them, and what it then owes of the number, the answer and every number of the scratch. Assumes nothing.
 use mathlib.Core.Path.{_≡_, refl, sym, ap, _∙_}
 use mathlib.Core.Bool.{Bool, true, false, not, _||_}
-use mathlib.Core.List.{List, [], _++_}
+use mathlib.Core.List.{List, [], _∷_, _++_}
 use mathlib.Core.Option.{Option, none, some}
 use Prim.Native.Nat.{ℕ, _+_, _-_, _≤_, _<_}
 use native.Mathlib.Omega.{arith}
@@ -11,11 +11,12 @@ use lib.Dec.{eqb, T-not}
 use lib.ListN.{length, getD, drop, replicate, length-append, length-drop, length-replicate, getD-replicate, List·getD-append}
 use lib.Seq.{ext-getD, getD-append-add, getD-drop}
 use lib.IntN.{ℤ, pos}
-use Rattle.integers.specs.Ranges.{outside, is-true}
+use Rattle.integers.specs.Ranges.{outside, is-true, is-false, nat-within}
 use Rattle.rows.specs.declared.Outcome.{Outcome}
-use Rattle.rows.specs.Meaning.Rows.{verdict, firstBelow, refusal, answer, each}
+use Rattle.rows.specs.Meaning.Rows.{Row, verdict, firstBelow, refusal, answer, once, each}
 use Rattle.rows.specs.Promised.RowLaws.{row-found, row-clear, field-fails, field-passes, first-is}
 use Rattle.rules.specs.Meaning.Layout.{zoneCounts}
+use Rattle.rules.specs.Meaning.Verdict.{under}
 use Rattle.net_positions.specs.Meaning.Positions.{positionOutside, unbalanced}
 use Rattle.zone_pairs.specs.Meaning.Pairs.{pairCount, badPair, networkOf}
 use Rattle.zone_pairs.specs.Steps.Tests.{pair-past}
@@ -26,6 +27,18 @@ use Rattle.intuitive.specs.declared.Carried.{Carried}
 use Rattle.intuitive.specs.Meaning.Intuitive.{unfit, priceOutside, intuitiveRows, intuitiveRefusal, intuitiveOutcome, LargestTotal, scratchBy, intuitiveScratch}
 use Rattle.intuitive.specs.Promised.Causes.{intuitive-none, scratch-refused, scratch-answered}
 use Rattle.intuitive.specs.Promised.BothSizes.{Contract}
+
+-- 84 and 85, of so many zones
+abbrev pub restRows : ℕ → List ℕ → ℕ → ℕ → List Row
+restRows zones pairs n room = each 84 (pairCount pairs) (badPair zones pairs) ∷ once 85 (under n room) ∷ []
+
+-- lists that 81 to 83 pass
+pub record ListsPass (net prices : List ℤ) : Type 0 where
+  pub count-in : outside zoneCounts (pos (length net)) ≡ false
+  pub lengths : length prices ≡ length net
+  pub positions-in : firstBelow (length net) (positionOutside net) ≡ none
+  pub balanced : unbalanced net ≡ false
+  pub prices-in : firstBelow (length prices) (priceOutside prices) ≡ none
 
 module _ (net prices : List ℤ) (pairs : List ℕ) (n room : ℕ) where
   abbrev pub From : ℕ → Type 0
@@ -64,7 +77,7 @@ module _ (net prices : List ℤ) (pairs : List ℕ) (n room : ℕ) where
   unfolding intuitiveRefusal intuitiveRows
   past-sum p e = p ∙ field-passes 82 0 _ e
 
-  -- 83 and 84, at their first zone and pair
+  -- 83, at its first zone
   pub refused-83 : {k : ℕ} → From 3 → firstBelow (length prices) (priceOutside prices) ≡ some k → Refused 83 k
   unfolding intuitiveRefusal intuitiveRows
   refused-83 {k} p e = p ∙ row-found (each 83 (length prices) (priceOutside prices)) _ k e
@@ -73,27 +86,21 @@ module _ (net prices : List ℤ) (pairs : List ℕ) (n room : ℕ) where
   unfolding intuitiveRefusal intuitiveRows
   past-83 p e = p ∙ row-clear (each 83 (length prices) (priceOutside prices)) _ e
 
-  pub refused-84 : {k : ℕ} → From 4 → firstBelow (pairCount pairs) (badPair (length net) pairs) ≡ some k → Refused 84 k
-  unfolding intuitiveRefusal intuitiveRows
-  refused-84 {k} p e = p ∙ row-found (each 84 (pairCount pairs) (badPair (length net) pairs)) _ k e
-
-  pub past-84 : From 4 → firstBelow (pairCount pairs) (badPair (length net) pairs) ≡ none → From 5
-  unfolding intuitiveRefusal intuitiveRows
-  past-84 p e = p ∙ row-clear (each 84 (pairCount pairs) (badPair (length net) pairs)) _ e
-
-  -- 85
-  pub refused-85 : From 5 → room < n → Refused 85 0
-  unfolding intuitiveRefusal intuitiveRows
-  refused-85 p h = p ∙ field-fails 85 0 _ (lt-ltb room n h)
-
-  pub all-passed : From 5 → n ≤ room → intuitiveRefusal net prices pairs n room ≡ none
-  unfolding intuitiveRefusal intuitiveRows refusal
-  all-passed p h = p ∙ field-passes 85 0 [] (le-ltb room n h)
-
   -- as the outcome
   pub outcome-by : {x : Option Outcome} → intuitiveRefusal net prices pairs n room ≡ x → answer x ≡ intuitiveOutcome net prices pairs n room
   unfolding intuitiveOutcome
   outcome-by e = sym (ap answer e)
+
+  -- the rest, behind 83
+  pub by-rest : From 4 → answer (refusal (restRows (length net) pairs n room)) ≡ intuitiveOutcome net prices pairs n room
+  unfolding intuitiveOutcome intuitiveRows
+  by-rest p = sym (ap answer p)
+
+  pub lists-past : ListsPass net prices → From 4
+  lists-past l = past-83 (past-sum (past-82 (past-81 (l .count-in) (l .lengths)) (l .positions-in)) (l .balanced)) (l .prices-in)
+
+pub few-listed : {net prices : List ℤ} → ListsPass net prices → length net ≤ 16
+few-listed {net} l = nat-within 1 16 (length net) (is-false (l .count-in)) .1
 
 -- a pair that is named is at most the 65th
 pub pair-named : (zones : ℕ) (pairs : List ℕ) (k : ℕ) → firstBelow (pairCount pairs) (badPair zones pairs) ≡ some k → k ≤ 64

@@ -1,7 +1,7 @@
--- `findings::find_network` meets its contract: a row of the table for each stage, in the table's order, past each that passes to the one that fails.
+-- `findings::value_hour` meets its contract: a row of the table for each stage, in the table's order, past each that passes to the one that fails.
 -- A stage reaches what it rests on through the stage before it, so that a row put between two others is met by the one that follows it. Assumes nothing.
 use mathlib.Core.Path.{_≡_, refl, ap, sym, subst, _∙_}
-use mathlib.Core.Bool.{not}
+use mathlib.Core.Bool.{Bool, not, cond}
 use mathlib.Core.Option.{Option, none, some}
 use Prim.Native.Nat.{ℕ, _<_}
 use native.Mathlib.Omega.{arith}
@@ -19,8 +19,8 @@ use Rattle.measures.specs.Meaning.Limits as limits
 use Rattle.measures.specs.Meaning.Limits.{microcentsOf}
 use Rattle.rules.specs.Meaning.Hour.{Case, Plan, Prices, caseOf, planOf, pricesOf, net, zonePrice, gap, rent}
 use Rattle.rows.specs.declared.Outcome.{Outcome}
-use Rattle.rows.specs.Meaning.Rows.{verdict, failing, firstBelow}
-use Rattle.rows.specs.Promised.RowLaws.{placeOf, Comes, clear, fails-at, none-left, once-fails, once-passes, behind, not-below, at-place, at-none, first-ext, place-below}
+use Rattle.rows.specs.Meaning.Rows.{verdict, failing, firstBelow, answer}
+use Rattle.rows.specs.Promised.RowLaws.{placeOf, Comes, clear, fails-at, behind, not-below, at-place, at-none, first-ext, place-below}
 use Rattle.rules.specs.Meaning.Verdict.{over, overZ, overloadedBranch, priceOutside}
 use Rattle.rules.specs.Steps.Passed.{proposal-sound}
 use Rattle.rules.specs.Promised.Fits.{rent-sums, system-near}
@@ -30,10 +30,10 @@ use Rattle.case_header.specs.declared.Counts.{Counts}
 use Rattle.clearing.specs.Held.{tenthsAt, Holds}
 use Rattle.clearing.specs.Stages.{VolumesIn, fit-ext}
 use Rattle.network.specs.Prices.{grainsAt, Priced}
-use Rattle.findings.specs.Found.{networkRows, finds-refused, finds-valued}
+use Rattle.findings.specs.Found.{networkRows, refusedAs, finds-refused, gap-answers, gap-reports}
 use Rattle.findings.specs.Facts.{HourFacts, hour-facts}
-use Rattle.findings.proofs.find_network.Statement.{statement}
-use Rattle.findings.proofs.find_network.Tie as tie
+use Rattle.findings.proofs.value_hour.Statement.{statement}
+use Rattle.findings.proofs.value_hour.Tie as tie
 
 -- the hour that is judged, what is known of it, and its rows
 abbrev hour : tie.Start → Case
@@ -99,14 +99,17 @@ enum-known-overloaded c = search needs
 overloaded-at : (c : tie.After-overloaded) → failing (overloadedBranch (hour (branches-asked (c .before .before))) (plan (branches-asked (c .before .before)))) ≡ some (c .overloaded .given .0 .0)
 overloaded-at c = at-place _ _ _ (c .before .before .branch-sums .ensures .0) (c .overloaded .given .1)
 
-refused-requires : tie.Need-refused-requires
-refused-requires c κs = let o = c .before in place-below _ _ _ 4294967296 (overloaded-at o) (omega (arith, ((facts (branches-asked (o .before .before))) .sound) .branches-in))
+outcome-requires : tie.Need-outcome-requires
+outcome-requires c κs = let o = c .before in place-below _ _ _ 4294967296 (overloaded-at o) (omega (arith, ((facts (branches-asked (o .before .before))) .sound) .branches-in))
+
+refused-by-requires : tie.Need-refused-by-requires
+refused-by-requires c κs = search needs
 
 returns : tie.Need-returns
 unfolding reports
 returns c =
-    let o = c .before .before in
-    finds-refused (verdict 24 _) (c .refused .ensures) refl ((fails-at _ (overloaded-at o)) .is)
+    let o = c .before .before .before in
+    finds-refused (verdict 24 _) (c .refused-by .ensures ∙ ap refusedAs (c .before .outcome .ensures)) refl ((fails-at _ (overloaded-at o)) .is)
 
 enum-told : tie.Need-enum-told
 enum-told c = search needs
@@ -162,14 +165,17 @@ enum-known-outside c = search needs
 outside-at : (c : tie.After-outside) → failing (priceOutside (hour (prices-asked (c .before .before))) (rates (prices-asked (c .before .before)))) ≡ some (c .outside .given .0 .0)
 outside-at c = let f = c .before .before in sym (searched f) ∙ at-place _ _ _ (f .zone-sums .ensures .0) (c .outside .given .1)
 
-refused-requires-2 : tie.Need-refused-requires-2
-refused-requires-2 c κs = let o = c .before in let a = prices-asked (o .before .before) in place-below _ _ _ 4294967296 (outside-at o) (omega (arith, ((facts a) .sound) .zones-in .1))
+outcome-requires-2 : tie.Need-outcome-requires-2
+outcome-requires-2 c κs = let o = c .before in let a = prices-asked (o .before .before) in place-below _ _ _ 4294967296 (outside-at o) (omega (arith, ((facts a) .sound) .zones-in .1))
+
+refused-by-requires-2 : tie.Need-refused-by-requires-2
+refused-by-requires-2 c κs = search needs
 
 returns-2 : tie.Need-returns-2
 unfolding reports
 returns-2 c =
-    let o = c .before .before in
-    finds-refused (verdict 25 _) (c .refused2 .ensures) refl ((past-branches (before-prices (o .before .before)) _ (fails-at _ (outside-at o))) .is)
+    let o = c .before .before .before in
+    finds-refused (verdict 25 _) (c .refused-by2 .ensures ∙ ap refusedAs (c .before .outcome2 .ensures)) refl ((past-branches (before-prices (o .before .before)) _ (fails-at _ (outside-at o))) .is)
 
 enum-told-2 : tie.Need-enum-told-2
 enum-told-2 c = search needs
@@ -209,60 +215,60 @@ totals-requires c κs =
       ),
     )
 
-abbrev before-gap : tie.After-exceeds → tie.After-enum-told2
-before-gap c = c .before .before .before .before
+abbrev before-gap : tie.After-gap-verdict → tie.After-enum-told2
+before-gap c = c .before .before .before
 
-abbrev gap-asked : tie.After-exceeds → tie.Start
+abbrev gap-asked : tie.After-gap-verdict → tie.Start
 gap-asked c = prices-asked (prices (before-gap c))
 
-exceeds-requires : tie.Need-exceeds-requires
-exceeds-requires c κs = search needs
+gap-verdict-requires : tie.Need-gap-verdict-requires
+gap-verdict-requires c κs = search needs
 
-gap-is : (c : tie.After-exceeds) → c .exceeds .result ≡ overZ (microcentsOf (pos (hour (gap-asked c) .tolerance))) (gap (hour (gap-asked c)) (plan (gap-asked c)) (rates (gap-asked c)))
+-- the row's test, and the number that it gives
+abbrev wide : tie.After-gap-verdict → Bool
+wide c = overZ (microcentsOf (pos (hour (gap-asked c) .tolerance))) (gap (hour (gap-asked c)) (plan (gap-asked c)) (rates (gap-asked c)))
+
+number-is : (c : tie.After-gap-verdict) → c .gap-verdict .result ≡ cond (wide c) 26 0
 unfolding totalsOf caseOf
-gap-is c =
-    c .exceeds .ensures
-    ∙ (λ j. ltZ (ap (λ (k : Counts). k .tolerance .0) (gap-asked c .pre .0 .opened .counts) j) (ap (λ (x : rules.Totals). x .gap) (c .before .before .before .totals .ensures) j))
-
-valued-requires : tie.Need-valued-requires
-valued-requires c κs = search needs
+number-is c =
+    c .gap-verdict .ensures
+    ∙ (λ j. cond (ltZ (ap (λ (k : Counts). k .tolerance .0) (gap-asked c .pre .0 .opened .counts) j) (ap (λ (x : rules.Totals). x .gap) (c .before .before .totals .ensures) j)) 26 0)
 
 returns-3 : tie.Need-returns-3
-unfolding reports
 returns-3 c =
-    let e = c .before .before in
-    finds-valued 26 _ _ _ _ (some (verdict 26 0)) (c .valued .ensures) refl refl (past-prices (before-gap e) _ (fails-at 0 (once-fails (sym (gap-is e) ∙ c .before .if1 .taken))))
-    ((facts (gap-asked e)) .few-zones) ((facts (gap-asked e)) .zones-is) (nets (gap-asked e)) (priced (before-prices (prices (before-gap e)))) (e .before .before .before .totals .ensures)
+    let e = before-gap c in
+    let a = gap-asked c in
+    record {
+      verdict-is = ap (λ (n : ℕ). verdict n 0) (number-is c) ∙ gap-answers (wide c) ∙ sym (ap answer ((past-prices e _ (record { is = refl })) .is));
+      valued-is = sym (ap reports (number-is c) ∙ gap-reports (wide c));
+      few-zones = (facts a) .few-zones;
+      zones-are = λ f. (facts a) .zones-is;
+      counts-are = λ f. a .pre .0;
+      opening-is = λ f. a .pre .1 .0;
+      nets-are = λ f. nets a;
+      parts-are = λ f. a .pre .1 .1 .1 .1 .1 .0;
+      prices-are = λ f. priced (before-prices (prices e));
+      totals-are = λ f. c .before .before .totals .ensures;
+    }
 
-valued-requires-2 : tie.Need-valued-requires-2
-valued-requires-2 c κs = search needs
-
-returns-4 : tie.Need-returns-4
-unfolding reports
-returns-4 c =
-    let e = c .before .before in
-    finds-valued 0 _ _ _ _ none (c .valued2 .ensures) refl refl (past-prices (before-gap e) _ (clear (once-passes (sym (gap-is e) ∙ c .before .if1 .left)) none-left))
-    ((facts (gap-asked e)) .few-zones) ((facts (gap-asked e)) .zones-is) (nets (gap-asked e)) (priced (before-prices (prices (before-gap e)))) (e .before .before .before .totals .ensures)
-
-pub find-network-spec : {M : Type 1} → statement M
-find-network-spec =
+pub value-hour-spec : {M : Type 1} → statement M
+value-hour-spec =
     tie.close
     (tie.spec
     ptdf-table-requires
     rest-requires
     branch-sums-requires
     enum-known-overloaded
-    refused-requires
+    outcome-requires
+    refused-by-requires
     returns
     enum-told
     zone-sums-requires
     enum-known-outside
-    refused-requires-2
+    outcome-requires-2
+    refused-by-requires-2
     returns-2
     enum-told-2
     totals-requires
-    exceeds-requires
-    valued-requires
-    returns-3
-    valued-requires-2
-    returns-4)
+    gap-verdict-requires
+    returns-3)

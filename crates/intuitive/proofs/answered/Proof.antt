@@ -1,0 +1,54 @@
+-- `intuitive::answered` meets its contract: what no row refuses is answered by the largest transport. Assumes nothing.
+use mathlib.Core.Path.{refl}
+use lib.ListN.{length}
+use denote.Ref.{now}
+use Rattle.intuitive.specs.Steps.Answers.{met-refused, met-answer, passed}
+use Rattle.intuitive.specs.Steps.Sizes.{sized, room-in}
+use borrow.Author.Needs.{needs}
+use Rattle.intuitive.proofs.answered.Statement.{statement}
+use Rattle.intuitive.proofs.answered.Tie as tie
+
+returns : tie.Need-returns
+returns c =
+    let t = c .before .before in
+    let a = t .args in
+    met-refused (now (a .net)) (now (a .prices)) (now (a .pairs)) (a .n) (now (a .scratch)) (a .o) (t .pre .1) (c .if1 .taken) _ refl
+
+largest-transport-requires : tie.Need-largest-transport-requires
+largest-transport-requires c κs =
+    let x = c .before in
+    let t = x .before .before in
+    let a = t .args in
+    let p = passed (now (a .net)) (now (a .prices)) (now (a .pairs)) (a .n) (now (a .scratch)) (a .o) (t .pre .1) (x .if1 .left) in
+    (sized (now (a .net)) (now (a .prices)) (now (a .pairs)) (a .n) (length (now (a .scratch))) p, (t .pre .0, room-in (now (a .net)) (now (a .prices)) (now (a .pairs)) (a .n) (length (now (a .scratch))) p))
+
+flag-requires : tie.Need-flag-requires
+flag-requires c κs = search needs
+
+volume-requires : tie.Need-volume-requires
+volume-requires c κs = search needs
+
+same-length : tie.Need-same-length
+same-length c = search needs
+
+returns-2 : tie.Need-returns-2
+returns-2 c =
+    let l = c .before .before .before in
+    let x = l .before .before in
+    let t = x .before .before in
+    let a = t .args in
+    let p = passed (now (a .net)) (now (a .prices)) (now (a .pairs)) (a .n) (now (a .scratch)) (a .o) (t .pre .1) (x .if1 .left) in
+    met-answer (now (a .net)) (now (a .prices)) (now (a .pairs)) (a .n) (now (a .scratch)) (a .o) (t .pre .1) (x .if1 .left) (l .largest-transport .last .1 .1 .1 .0)
+    (l .largest-transport .result .all) (l .largest-transport .result .total) (c .before .flag .result) (c .volume .result .0) (l .largest-transport .ensures .0)
+    (room-in (now (a .net)) (now (a .prices)) (now (a .pairs)) (a .n) (length (now (a .scratch))) p) (l .largest-transport .ensures .1 .1) (c .before .flag .ensures) (c .volume .ensures)
+
+pub answered-spec : {M : Type 1} → statement M
+answered-spec =
+    tie.close
+    (tie.spec
+    returns
+    largest-transport-requires
+    flag-requires
+    volume-requires
+    same-length
+    returns-2)
