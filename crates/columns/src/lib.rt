@@ -1,26 +1,24 @@
 // Columns for the archive (request S-10): a readable case with its order part column by column, and the way back.
 ghost use mathlib.Core.Path.{_≡_};
-ghost use mathlib.Core.Bool.{not, true};
+ghost use mathlib.Core.Bool.{true};
 ghost use mathlib.Core.List.{_++_};
 ghost use Prim.Native.Nat.{ℕ, _+_, _*_, _^_, _≤_, _<_};
 ghost use lib.ListN.{length, take, drop};
 ghost use lib.Seq.{sets};
 ghost use Rattle.rows.specs.Meaning.Rows.{verdict};
 ghost use Rattle.columns.specs.Meaning.Columns.{arranged, restoredOf, notRestored, columnedOutcome, columnedWritten, columnedOutput, restoredOutcome, restoredWritten, restoredOutput, Columned, ComesBack, NotJudged, Restored};
+ghost use Rattle.columns.specs.Steps.Answers.{restoreBy};
 ghost use Rattle.columns.specs.Steps.Stored.{every, orders};
 use case_file::CaseAnswer;
 use case_file::read_case;
+use case_header::HEADER;
+use case_header::HeaderField;
+use case_header::take_header;
 use fields::Mark;
-use fields::half_at;
 use output::Written;
 use output::refused;
 
 const COLUMNED: Mark = Mark(b'L', b'T', b'K');
-
-const HEADER: usize = 14;
-
-// Where the header has the number of orders.
-const ORDERS: usize = 8;
 
 const ORDER_SIZE: usize = 10;
 
@@ -89,29 +87,41 @@ pub fn columned(case: &[u8], out: &mut [u8]) -> Written
     }
 }
 
-// The case of a columned file, into room of its length; whether the mark is LTK and the case is readable. The orders end the file, so that its length
-// tells where they start: where the header demands another length, no readable case results either way.
-fn restore(file: &[u8], case: &mut [u8]) -> bool
-    requires { ⌜ length (now «case») ≡ length (now file) ⌝ }
-    ensures { λ r. ⌜ r ≡ not (notRestored (now (file .entry))) ⌝ }
-    ensures { λ r. ⌜ (r ≡ true → now («case» .exit) ≡ restoredOf (now (file .entry))) ⌝ }
+// A case that a columned file is restored to, or the refusal.
+enum RestoreAnswer {
+    Restored,
+    Refused(Written),
+}
+
+fn not_restored() -> RestoreAnswer
+    ensures { λ r. ⌜ r ≡ restoreBy true ⌝ }
 {
-    if file.len() < HEADER {
-        return false;
+    RestoreAnswer::Refused(refused(71, 0))
+}
+
+// The case of a columned file, into room of its length, where the mark is LTK and the case is readable. The orders end the file, so that its length
+// tells where they start: where the header demands another length, no readable case results either way.
+fn restore(file: &[u8], case: &mut [u8]) -> RestoreAnswer
+    requires { ⌜ length (now «case») ≡ length (now file) ⌝ }
+    ensures { λ r. ⌜ r ≡ restoreBy (notRestored (now (file .entry))) ⌝ }
+    ensures { λ r. ⌜ (r ≡ RestoreAnswer.Restored → now («case» .exit) ≡ restoredOf (now (file .entry))) ⌝ }
+{
+    let HeaderField::Taken(h) = take_header(file) else {
+        return not_restored();
+    };
+    if h.mark.differs(COLUMNED) {
+        return not_restored();
     }
-    if Mark(file[0], file[1], file[2]).differs(COLUMNED) {
-        return false;
-    }
-    let orders = half_at(file, ORDERS) as usize;
+    let orders = h.orders as usize;
     if file.len() - HEADER < ORDER_SIZE * orders {
-        return false;
+        return not_restored();
     }
     let start = file.len() - ORDER_SIZE * orders;
     put_file(file, case, b'C', start, orders, ORDER_SIZE);
-    match read_case(case) {
-        CaseAnswer::Readable(_) => true,
-        CaseAnswer::Refused(_) => false,
-    }
+    let CaseAnswer::Readable(_) = read_case(case) else {
+        return not_restored();
+    };
+    RestoreAnswer::Restored
 }
 
 // Room for the longest case.
@@ -133,8 +143,8 @@ pub fn restored(file: &[u8], out: &mut [u8]) -> Written
         return refused(71, 0);
     }
     let mut case = blank();
-    if !restore(file, &mut case[..length]) {
-        return refused(71, 0);
+    if let RestoreAnswer::Refused(r) = restore(file, &mut case[..length]) {
+        return r;
     }
     if out.len() < length {
         return refused(72, 0);

@@ -10,7 +10,7 @@ ghost use Rattle.family_list.specs.Steps.Round.{Least};
 ghost use Rattle.family_list.specs.Steps.Round as round;
 ghost use Rattle.family_list.specs.Steps.Walk.{held, Trail};
 ghost use Rattle.family_list.specs.Steps.Taken.{Taken, Search};
-ghost use Rattle.family_list.specs.Steps.Answer.{Whole, Known, familyAnswer, wrongList, absent};
+ghost use Rattle.family_list.specs.Steps.Answer.{Whole, Known, headerBy, familyAnswer, wrongList, absent};
 use fields::Cursor;
 use fields::Mark;
 use fields::MarkField;
@@ -36,24 +36,33 @@ pub enum FamilyAnswer {
     Refused(Outcome),
 }
 
-// ROW 16: whether the mark, the version or the length is wrong. A field that cannot be taken ends the walk: the list is too short.
-fn bad_header(families: &[u8], orders: usize) -> bool
+// Row 16, for any field of the header that cannot be taken, and for a wrong mark, version or length.
+const WRONG_LIST: Outcome = Outcome {
+    number: 16,
+    index: 0,
+};
+
+// ROW 16: the header, field by field, and the length behind it. A field that cannot be taken ends the walk: the list is too short.
+fn walk_header(families: &[u8], orders: usize) -> FamilyAnswer
     requires { ⌜ orders ≤ 512 ⌝ }
-    ensures { λ r. ⌜ r ≡ wrongList (now (families .entry)) orders ⌝ }
+    ensures { λ r. ⌜ r ≡ headerBy (wrongList (now (families .entry)) orders) ⌝ }
 {
     let MarkField::Taken(mark, at_version) = Cursor::new(0).mark(families) else {
-        return true;
+        return FamilyAnswer::Refused(WRONG_LIST);
     };
-    let WordField::Taken(version, _) = at_version.half(families) else {
-        return true;
+    let WordField::Taken(version, at_parents) = at_version.half(families) else {
+        return FamilyAnswer::Refused(WRONG_LIST);
     };
     if mark.differs(MARK) {
-        return true;
+        return FamilyAnswer::Refused(WRONG_LIST);
     }
     if version != VERSION {
-        return true;
+        return FamilyAnswer::Refused(WRONG_LIST);
     }
-    families.len() != HEADER + 2 * orders
+    if families.len() != at_parents.at + 2 * orders {
+        return FamilyAnswer::Refused(WRONG_LIST);
+    }
+    FamilyAnswer::Sound
 }
 
 // The number that order i gives for its parent, of a list that row 16 passes.
@@ -221,12 +230,10 @@ pub fn read_families(families: &[u8], orders: usize) -> FamilyAnswer
     requires { ⌜ orders ≤ 512 ⌝ }
     ensures { λ r. ⌜ r ≡ familyAnswer (now (families .entry)) orders ⌝ }
 {
-    if bad_header(families, orders) {
-        return FamilyAnswer::Refused(Outcome {
-            number: 16,
-            index: 0,
-        });
-    }
+    let header = walk_header(families, orders);
+    let FamilyAnswer::Sound = header else {
+        return header;
+    };
     if let Place::At(i) = first_absent(families, orders) {
         return FamilyAnswer::Refused(Outcome {
             number: 17,

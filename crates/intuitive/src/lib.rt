@@ -10,7 +10,6 @@ ghost use Rattle.intuitive.specs.Meaning.Intuitive.{intuitiveOutcome, La
 ghost use Rattle.intuitive.specs.Meaning.SmallScratch.{smallRoom};
 ghost use Rattle.intuitive.specs.Steps.Answers.{restRows, ListsPass, flagOf, Met};
 use largest_transport::largest_transport;
-use measures::Raw;
 use measures::Tenths;
 use net_positions::first_position_outside;
 use net_positions::is_unbalanced;
@@ -96,7 +95,7 @@ fn volume(total: u64) -> Tenths
     requires { ⌜ total ≤ 819200000 ⌝ }
     ensures { λ r. ⌜ r .0 ≡ pos total ⌝ }
 {
-    Tenths::of(Raw::unsigned(total as u32))
+    Tenths::volume(total as u32)
 }
 
 // The refusal that was found, or the answer. A transport takes 96 of the n numbers of scratch.

@@ -37,9 +37,10 @@ pub fn walk_links(case: &[u8], k: Counts, start: Cursor) -> Walked
     requires { ⌜ start .at ≡ linkAt (now «case») 0 ⌝ }
     ensures { λ r. ⌜ r ≡ walked (linkRow (now («case» .entry))) (cursor (orderAt (now («case» .entry)) 0)) ⌝ }
 {
-    let mut at = start.at;
+    let mut cursor = start;
     let mut seen = [0u16; zone_set::ZONES];
     for _ in 0..k.links {
+        let at = cursor.at;
         let link = &case[at..at + BEFORE_CONTRACTED];
         let at_from = Cursor::new(0);
         let ByteField::Taken(first, at_to) = at_from.byte(link) else {
@@ -64,22 +65,22 @@ pub fn walk_links(case: &[u8], k: Counts, start: Cursor) -> Walked
         if after == before {
             return at_from.refuse_in(at, FAULT);
         }
-        let WordField::Taken(capacity, _) = at_capacity.word(link) else {
+        let WordField::Taken(capacity, past) = at_capacity.word(link) else {
             return at_capacity.refuse_in(at, FAULT);
         };
         let TenthsAnswer::Held(offered) = Tenths::capacity(Raw::unsigned(capacity)) else {
             return at_capacity.refuse_in(at, FAULT);
         };
-        let at_contracted = Cursor::new(at + BEFORE_CONTRACTED);
+        let at_contracted = past.in_file(at);
         let WordField::Taken(contracted, next) = contracted_field(case, k, at_contracted, capacity)
         else {
             return at_contracted.refuse(FAULT);
         };
-        if Tenths::of(Raw::unsigned(contracted)).exceeds(offered) {
+        if Tenths::volume(contracted).exceeds(offered) {
             return at_contracted.refuse(FAULT);
         }
         seen[from] = after;
-        at = next.at;
+        cursor = next;
     }
-    Walked::Past(Cursor::new(at))
+    Walked::Past(cursor)
 }

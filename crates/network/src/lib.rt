@@ -19,7 +19,6 @@ use measures::Cents;
 use measures::Grains;
 use measures::Load;
 use measures::Microcents;
-use measures::Mills;
 use measures::Ptdf;
 use measures::Share;
 use measures::Tenths;
@@ -58,14 +57,12 @@ pub fn branch_sums(
     let branches = k.branches;
     let base = system.in_grains();
     let mut prices = [base; 16];
-    let mut total = Mills::ZERO;
+    let mut total = Microcents::ZERO;
     for m in 0..branches {
         let shadow = shadow_at(case, k, proposal, m);
         let margin = margin_at(case, k, m);
         let mut load = Load::ZERO;
-        // From the last zone to the first: the other way round the compiler makes vectors of these 64-bit products, which take longer.
-        for y in 0..zones {
-            let z = zones - 1 - y;
+        for z in 0..zones {
             let ptdf = Ptdf::of_entry(table[m][z]);
             let part = parts[z];
             load = load.plus(ptdf.load(part));
@@ -80,11 +77,11 @@ pub fn branch_sums(
                 total: Microcents::ZERO,
             };
         }
-        total = total.plus(margin.value(shadow));
+        total = total.plus(margin.cost(shadow.in_grains()));
     }
     Network {
         overloaded: Place::Nowhere,
         prices,
-        total: total.in_microcents(),
+        total,
     }
 }

@@ -1,160 +1,156 @@
--- `case_branches::walk_ptdfs` meets its contract. Where none is out of range the row passes. Else the loop's invariant: the cursor stands past as many PTDFs
--- as turns, none of which is out of range. They stand within the file, so that none is missing. The measure is what is left of the zones. Assumes nothing.
+-- `case_branches::walk_ptdfs` meets its contract. The loop's invariant: the cursor stands past two PTDFs for each turn, none of which is out of range.
+-- The measure is what is left of the pairs. Assumes nothing.
 use mathlib.Core.Path.{_≡_, refl, sym, ap, _∙_}
-use mathlib.Core.Bool.{true, false}
+use mathlib.Core.Bool.{false}
 use mathlib.Core.List.{List}
 use mathlib.Core.Option.{none}
-use Prim.Native.Nat.{ℕ, _+_, _*_, _-_, _≤_, _<_}
+use Prim.Native.Nat.{ℕ, _+_, _*_, _-_, _/_, _≤_, _<_}
 use native.Mathlib.Omega.{arith}
 use borrow.Author.Needs.{needs}
 use lib.ListN.{length}
-use Rattle.integers.specs.Ranges.{outside, not-some}
-use Rattle.measures.specs.Meaning.Limits as limits
-use Rattle.measures.specs.Steps.Held.{ptdf-outside, ptdf-held}
-use Rattle.measures.specs.declared.Raw.{Raw}
 use Rattle.rules.specs.Meaning.Layout.{i32At}
 use Rattle.rows.specs.Meaning.Rows.{firstBelow}
-use Rattle.rows.specs.Promised.RowLaws.{first-none, first-later, no-place}
+use Rattle.rows.specs.Promised.RowLaws.{first-later}
 use Rattle.fields.specs.declared.Cursor.{Cursor}
-use Rattle.fields.specs.Walk.{raw, signedField, Took, signed-took, signed-short}
-use Rattle.case_branches.specs.Branch.{ptdfFault, ended, ptdfs-stop, ptdfs-end}
+use Rattle.fields.specs.declared.Walked.the-variants.{Past}
+use Rattle.fields.specs.Walk.{cursor}
+use Rattle.fields.specs.Walked.{refusedAt}
+use Rattle.case_branches.specs.Branch.{ptdfFault, ptdfWalked, one-refused, one-past, ptdfs-stop, ptdfs-end, ptdfs-last}
 use Rattle.case_branches.proofs.walk_ptdfs.Statement.{statement}
 use Rattle.case_branches.proofs.walk_ptdfs.Tie as tie
 
 abbrev Inv-loop : tie.InvT-loop
-Inv-loop case zones at cursor₀ counter₀ cursor counter = (counter ≤ zones) × (cursor .at ≡ cursor₀ .at + 4 * counter) × (firstBelow counter (ptdfFault case (cursor₀ .at)) ≡ none)
+Inv-loop case zones cursor₀ pairs counter₀ cursor counter =
+    (counter ≤ zones / 2) × (cursor .at ≡ cursor₀ .at + 4 * (2 * counter)) × (firstBelow (2 * counter) (ptdfFault case (cursor₀ .at)) ≡ none)
 
 abbrev μ-loop : tie.MeasureT-loop
-μ-loop case zones at cursor₀ counter₀ cursor counter = zones - counter
+μ-loop case zones cursor₀ pairs counter₀ cursor counter = zones / 2 - counter
 
-some-outside-requires : tie.Need-some-outside-requires Inv-loop μ-loop
-some-outside-requires c κs = search needs
-
--- NONE OUT OF RANGE
-mul-new : tie.Need-mul-new Inv-loop μ-loop
-mul-new c = let a = c .before .before .before in omega (arith, a .pre .0)
-
-add-new : tie.Need-add-new Inv-loop μ-loop
-add-new c = let a = c .before .before .before in omega (arith, a .pre .1 .0, a .pre .1 .1)
-
-new-requires : tie.Need-new-requires Inv-loop μ-loop
-new-requires c κs = search needs
-
-ptdfs-end-requires : tie.Need-ptdfs-end-requires Inv-loop μ-loop
-ptdfs-end-requires c κs = search needs
-
-returns : tie.Need-returns Inv-loop μ-loop
-returns c =
-    let t = c .before .before in
-    let o = t .before in
-    let a = o .before .before in
-    let s = a .args .«case» .now in
-    let f = ptdfFault s (a .args .start .at) in
-    c .ptdfs-end .ensures ∙ ap (λ (d : Cursor). record { cursor = d; fault = false }) (c .before .new .ensures)
-    ∙ ptdfs-end s (a .args .start .at) (a .args .zones) (a .args .zones) (first-none (a .args .zones) f (no-place (a .args .zones) f (not-some _ (o .some-outside .ensures) (t .if1 .taken)))) (omega arith) (omega arith)
-
--- THE FIRST THAT IS
 loop-holds : tie.Need-loop-holds Inv-loop μ-loop
 unfolding firstBelow
 loop-holds c = (omega arith, omega arith, refl)
 
+-- THE PAIR OF A TURN, within the file
 abbrev base : tie.In-loop Inv-loop μ-loop → tie.Start Inv-loop μ-loop
-base l = l .before .before .before .before .before
+base l = l .before .before .before
 
 abbrev file : tie.In-loop Inv-loop μ-loop → List ℕ
 file l = base l .args .«case» .now
 
-abbrev zone : tie.In-loop Inv-loop μ-loop → ℕ
-zone l = l .before .loop .counter
+abbrev first : tie.In-loop Inv-loop μ-loop → ℕ
+first l = base l .args .start .at
 
-abbrev at : tie.In-loop Inv-loop μ-loop → ℕ
-at l = base l .args .start .at + 4 * zone l
+abbrev n : tie.In-loop Inv-loop μ-loop → ℕ
+n l = 2 * l .before .loop .counter
 
-inside : (l : tie.In-loop Inv-loop μ-loop) → (at l + 4 ≤ length (file l)) × (length (file l) < 4294967296)
-inside l = (omega (arith, base l .pre .1 .0, l .loop-test .taken), base l .pre .1 .1)
+here-is : (l : tie.In-loop Inv-loop μ-loop) → l .before .loop .cursor .at ≡ first l + 4 * n l
+here-is l = l .before .loop .inv .1
 
-signed-requires : tie.Need-signed-requires Inv-loop μ-loop
-signed-requires c κs = search needs
+two-left : (l : tie.In-loop Inv-loop μ-loop) → n l + 2 ≤ base l .args .zones
+two-left l = omega (arith, l .loop-test .taken)
 
-enum-known-ptdf : tie.Need-enum-known-ptdf Inv-loop μ-loop
-enum-known-ptdf c = search needs
+walk-ptdf-requires : tie.Need-walk-ptdf-requires Inv-loop μ-loop
+walk-ptdf-requires c κs = (omega (arith, here-is c, two-left c, base c .pre .1 .0), base c .pre .1 .1)
+
+enum-known-one : tie.Need-enum-known-one Inv-loop μ-loop
+enum-known-one c = search needs
 
 enum-told : tie.Need-enum-told Inv-loop μ-loop
 enum-told c = search needs
 
-ptdf-is : (c : tie.After-signed Inv-loop μ-loop) → let l = c .before in c .signed .result ≡ signedField (file l) (at l)
-ptdf-is c = c .signed .ensures ∙ ap (signedField (file (c .before))) (c .before .before .loop .inv .1)
+one-is : (c : tie.After-walk-ptdf Inv-loop μ-loop) → let l = c .before in c .walk-ptdf .result ≡ ptdfWalked (file l) (first l + 4 * n l)
+one-is c = c .walk-ptdf .ensures ∙ ap (ptdfWalked (file (c .before))) (here-is (c .before))
 
-abbrev of-ptdf : tie.After-ptdf Inv-loop μ-loop → tie.In-loop Inv-loop μ-loop
-of-ptdf c = c .before .before .before
+returns : tie.Need-returns Inv-loop μ-loop
+returns c =
+    let w = c .before .before in
+    let l = w .before in
+    let e = c .enum-told .given .1 in
+    let r = one-refused (file l) (first l + 4 * n l) (sym (one-is w) ∙ e) in
+    e ∙ r .1 ∙ ptdfs-stop (file l) (first l) (base l .args .zones) (n l) (l .before .loop .inv .2) (omega (arith, two-left l)) (r .0)
 
-ptdf-took : (c : tie.After-ptdf Inv-loop μ-loop) → let l = of-ptdf c in Took (file l) (at l) 4 (raw (i32At (file l) (at l))) (c .ptdf .given .0 .0) (c .ptdf .given .0 .1 .0)
-ptdf-took c = let l = of-ptdf c in signed-took (file l) (at l) (sym (ptdf-is (c .before .before)) ∙ c .ptdf .given .1)
+-- the first of the two passed
+abbrev turn : tie.After-one Inv-loop μ-loop → tie.In-loop Inv-loop μ-loop
+turn c = c .before .before .before
 
-ptdfs-end-requires-2 : tie.Need-ptdfs-end-requires-2 Inv-loop μ-loop
-ptdfs-end-requires-2 c κs = search needs
+passed : (c : tie.After-one Inv-loop μ-loop) → let l = turn c in (ptdfFault (file l) (first l) (n l) ≡ false) × (c .one .given .0 .0 ≡ cursor (first l + 4 * n l + 4))
+passed c = let l = turn c in one-past (file l) (first l + 4 * n l) (sym (one-is (c .before .before)) ∙ c .one .given .1)
 
-returns-2 : tie.Need-returns-2 Inv-loop μ-loop
-returns-2 c =
-    let e = c .before in
-    let b = e .before .before in
-    let l = b .before in
-    absurd (omega (arith, signed-short (file l) (at l) (sym (ptdf-is b) ∙ e .enum-told .given .1), inside l))
+next-is : (c : tie.After-one Inv-loop μ-loop) → let l = turn c in c .one .given .0 .0 .at ≡ first l + 4 * (n l + 1)
+next-is c = ap (λ (d : Cursor). d .at) (passed c .1) ∙ omega arith
 
-new-requires-2 : tie.Need-new-requires-2 Inv-loop μ-loop
-new-requires-2 c κs = search needs
+clear : (c : tie.After-one Inv-loop μ-loop) → let l = turn c in firstBelow (n l + 1) (ptdfFault (file l) (first l)) ≡ none
+clear c = let l = turn c in first-later (ptdfFault (file l) (first l)) (n l) (l .before .loop .inv .2) (passed c .0)
+
+walk-ptdf-requires-2 : tie.Need-walk-ptdf-requires-2 Inv-loop μ-loop
+walk-ptdf-requires-2 c κs = let o = c .before in let l = turn o in (omega (arith, next-is o, two-left l, base l .pre .1 .0), base l .pre .1 .1)
+
+enum-known-other : tie.Need-enum-known-other Inv-loop μ-loop
+enum-known-other c = search needs
 
 enum-told-2 : tie.Need-enum-told-2 Inv-loop μ-loop
 enum-told-2 c = search needs
 
-enum-told-3 : tie.Need-enum-told-3 Inv-loop μ-loop
-enum-told-3 c = search needs
+other-is : (c : tie.After-walk-ptdf2 Inv-loop μ-loop) → let l = turn (c .before .before) in c .walk-ptdf2 .result ≡ ptdfWalked (file l) (first l + 4 * (n l + 1))
+other-is c = let o = c .before .before in c .walk-ptdf2 .ensures ∙ ap (ptdfWalked (file (turn o))) (next-is o)
 
-abbrev ptdf-of : tie.After-new2 Inv-loop μ-loop → tie.After-ptdf Inv-loop μ-loop
-ptdf-of c = c .before .before
+returns-2 : tie.Need-returns-2 Inv-loop μ-loop
+returns-2 c =
+    let w = c .before .before in
+    let o = w .before .before in
+    let l = turn o in
+    let e = c .enum-told2 .given .1 in
+    let r = one-refused (file l) (first l + 4 * (n l + 1)) (sym (other-is w) ∙ e) in
+    e ∙ r .1 ∙ ptdfs-stop (file l) (first l) (base l .args .zones) (n l + 1) (clear o) (omega (arith, two-left l)) (r .0)
 
-ptdf-test : (c : tie.After-new2 Inv-loop μ-loop) → let l = of-ptdf (ptdf-of c) in ptdfFault (file l) (base l .args .start .at) (zone l) ≡ outside limits.ptdf (ptdf-of c .ptdf .given .0 .0 .0)
-ptdf-test c = ap (λ (x : Raw). outside limits.ptdf (x .0)) (sym (ptdf-took (ptdf-of c) .is))
-
-ptdfs-end-requires-3 : tie.Need-ptdfs-end-requires-3 Inv-loop μ-loop
-ptdfs-end-requires-3 c κs = search needs
-
-returns-3 : tie.Need-returns-3 Inv-loop μ-loop
-returns-3 c =
-    let e = c .before in
-    let n = e .before .before in
-    let l = of-ptdf (ptdf-of n) in
-    let a = base l in
-    c .ptdfs-end3 .ensures ∙ ap (λ (n : ℕ). ended n true) (l .before .loop .inv .1)
-    ∙ ptdfs-stop (file l) (a .args .start .at) (a .args .zones) (zone l) (l .before .loop .inv .2) (l .loop-test .taken)
-    (ptdf-test n ∙ ptdf-outside _ _ (sym (n .new2 .ensures) ∙ e .enum-told3 .given .1))
+-- THE NEXT TURN
+abbrev done : tie.After-known-told2 Inv-loop μ-loop → tie.In-loop Inv-loop μ-loop
+done c = turn (c .before .before .before .before .before)
 
 add-counter : tie.Need-add-counter Inv-loop μ-loop
-add-counter c = let l = of-ptdf (ptdf-of (c .before .before)) in omega (arith, inside l)
+add-counter c = omega (arith, two-left (done c), base (done c) .pre .0)
 
 loop-less : tie.Need-loop-less Inv-loop μ-loop
-loop-less c = let l = of-ptdf (ptdf-of (c .before .before)) in omega (arith, l .loop-test .taken)
+loop-less c = omega (arith, done c .loop-test .taken)
 
 loop-again : tie.Need-loop-again Inv-loop μ-loop
 loop-again c =
-    let n = c .before .before in
-    let l = of-ptdf (ptdf-of n) in (
+    let p = c .before in
+    let w = p .before .before in
+    let o = w .before .before in
+    let l = turn o in
+    let q = one-past (file l) (first l + 4 * (n l + 1)) (sym (other-is w) ∙ p .other .given .1) in
+    let two : n l + 1 + 1 ≡ 2 * (l .before .loop .counter + 1) = omega arith in (
       omega (arith, l .loop-test .taken),
-      ap (λ (d : Cursor). d .at) (ptdf-took (ptdf-of n) .past) ∙ omega arith,
-      first-later (ptdfFault (file l) (base l .args .start .at)) (zone l) (l .before .loop .inv .2) (ptdf-test n ∙ (ptdf-held _ _ (c .enum-told2 .given .0 .0) (sym (n .new2 .ensures) ∙ c .enum-told2 .given .1)) .0),
+      ap (λ (d : Cursor). d .at) (q .1) ∙ omega arith,
+      ap (λ (k : ℕ). firstBelow k (ptdfFault (file l) (first l))) (sym two) ∙ first-later (ptdfFault (file l) (first l)) (n l + 1) (clear o) (q .0),
     )
 
-ptdfs-end-requires-4 : tie.Need-ptdfs-end-requires-4 Inv-loop μ-loop
-ptdfs-end-requires-4 c κs = search needs
+-- AFTER THE PAIRS: the last one, or none
+abbrev ended : tie.After-loop Inv-loop μ-loop → tie.Start Inv-loop μ-loop
+ended c = c .before .before .before
+
+walk-ptdf-requires-3 : tie.Need-walk-ptdf-requires-3 Inv-loop μ-loop
+walk-ptdf-requires-3 c κs =
+    let l = c .before in
+    let a = ended l in
+    (omega (arith, l .before .loop .inv .0, l .before .loop .inv .1, l .loop-test .left, c .if1 .taken, a .pre .1 .0), a .pre .1 .1)
+
+returns-3 : tie.Need-returns-3 Inv-loop μ-loop
+returns-3 c =
+    let t = c .before in
+    let l = t .before in
+    let a = ended l in
+    c .walk-ptdf3 .ensures ∙ ap (ptdfWalked (a .args .«case» .now)) (l .before .loop .inv .1)
+    ∙ ptdfs-last (a .args .«case» .now) (a .args .start .at) (a .args .zones) (2 * l .before .loop .counter) (l .before .loop .inv .2) (omega (arith, l .before .loop .inv .0, l .loop-test .left, t .if1 .taken))
 
 returns-4 : tie.Need-returns-4 Inv-loop μ-loop
 returns-4 c =
-    let e = c .before in
-    let l = e .before in
-    let a = l .before .before .before .before in
-    let all : l .loop .counter ≡ a .args .zones = omega (arith, l .loop .inv .0, e .loop-test .left) in
-    c .ptdfs-end4 .ensures ∙ ap (λ (n : ℕ). ended n false) (l .loop .inv .1 ∙ ap (λ (n : ℕ). a .args .start .at + 4 * n) all)
-    ∙ ptdfs-end (a .args .«case» .now) (a .args .start .at) (a .args .zones) (l .loop .counter) (l .loop .inv .2) (omega (arith, all)) (omega (arith, all))
+    let l = c .before in
+    let a = ended l in
+    let all : 2 * l .before .loop .counter ≡ a .args .zones = omega (arith, l .before .loop .inv .0, l .loop-test .left, c .if1 .left) in
+    ap (λ (k : ℕ). Past (cursor k)) (l .before .loop .inv .1 ∙ ap (λ (k : ℕ). a .args .start .at + 4 * k) all)
+    ∙ ptdfs-end (a .args .«case» .now) (a .args .start .at) (a .args .zones) (2 * l .before .loop .counter) (l .before .loop .inv .2) (omega (arith, all)) (omega (arith, all))
 
 pub walk-ptdfs-spec : {M : Type 1} → statement M
 walk-ptdfs-spec =
@@ -162,25 +158,18 @@ walk-ptdfs-spec =
     (tie.spec
     Inv-loop
     μ-loop
-    some-outside-requires
-    mul-new
-    add-new
-    new-requires
-    ptdfs-end-requires
-    returns
     loop-holds
-    signed-requires
-    enum-known-ptdf
+    walk-ptdf-requires
+    enum-known-one
     enum-told
-    ptdfs-end-requires-2
-    returns-2
-    new-requires-2
+    returns
+    walk-ptdf-requires-2
+    enum-known-other
     enum-told-2
-    enum-told-3
-    ptdfs-end-requires-3
-    returns-3
+    returns-2
     add-counter
     loop-less
     loop-again
-    ptdfs-end-requires-4
+    walk-ptdf-requires-3
+    returns-3
     returns-4)

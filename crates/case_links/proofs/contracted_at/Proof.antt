@@ -1,16 +1,19 @@
 -- `case_links::contracted_at` meets its contract: link l stands within the file, with its contracted volume where the version has one. Assumes nothing.
-use mathlib.Core.Path.{_≡_, sym, ap, _∙_}
+use mathlib.Core.Path.{_≡_, sym, ap, subst, _∙_}
 use mathlib.Core.Bool.{Bool, cond}
 use Prim.Native.Nat.{ℕ, _+_, _≤_}
 use native.Mathlib.Nat.{le-of-lt}
 use native.Mathlib.Omega.{arith}
 use borrow.Author.Needs.{needs}
 use lib.ListN.{length}
-use lib.IntN.{pos}
+use lib.IntN.{ℤ, pos}
+use Rattle.integers.specs.Ranges.{Within}
+use Rattle.measures.specs.Meaning.Limits as limits
 use Rattle.measures.specs.declared.Tenths.{Tenths}
 use Rattle.rules.specs.Meaning.Layout.{u32At, caseVersion, contracts, contractedSize, linkAt, capacityIn, contractedIn}
 use Rattle.case_header.specs.declared.Counts.{Counts}
 use Rattle.case_header.specs.Opened.{headed, whole, limited, link-start-is, link-inside}
+use Rattle.case_links.specs.Link.{contracted-within}
 use Rattle.case_links.proofs.contracted_at.Statement.{statement}
 use Rattle.case_links.proofs.contracted_at.Tie as tie
 
@@ -49,19 +52,25 @@ word-at-requires c κs = omega (arith, inside c)
 unsigned-requires : tie.Need-unsigned-requires
 unsigned-requires c κs = search needs
 
-of-requires : tie.Need-of-requires
-of-requires c κs = search needs
+abbrev entered : tie.After-unsigned → tie.Start
+entered c = start (c .before .before)
 
-returns : tie.Need-returns
+contracted-is : (c : tie.After-unsigned) → c .unsigned .result .0 ≡ pos (contractedIn (entered c .args .«case» .now) (entered c .args .l))
 unfolding contractedIn
-returns c =
-    let w = c .before .before in
+contracted-is c =
+    let w = c .before in
     let l = w .before in
     let s = start l .args .«case» .now in
     let i = start l .args .l in
-    ap (λ (t : Tenths). t .0) (c .of .ensures)
-    ∙ c .before .unsigned .ensures
+    c .unsigned .ensures
     ∙ ap pos (w .word-at .ensures ∙ ap (λ (n : ℕ). u32At s (n + 6)) (place l) ∙ ap (λ (b : Bool). cond b (u32At s (linkAt s i + 6)) (capacityIn s i)) (sym (version (l .before .before) ∙ l .before .if1 .taken)))
+
+-- row 7 passed: it is at most the capacity
+of-capacity-requires : tie.Need-of-capacity-requires
+of-capacity-requires c κs = let a = entered c in subst (λ (x : ℤ). Within limits.capacity x) (sym (contracted-is c)) (contracted-within (a .pre .0) (a .args .l) (a .pre .1 .0))
+
+returns : tie.Need-returns
+returns c = ap (λ (t : Tenths). t .0) (c .of-capacity .ensures) ∙ contracted-is (c .before)
 
 returns-2 : tie.Need-returns-2
 unfolding contractedIn
@@ -80,6 +89,6 @@ contracted-at-spec =
     add-at
     word-at-requires
     unsigned-requires
-    of-requires
+    of-capacity-requires
     returns
     returns-2)

@@ -10,17 +10,17 @@ use lib.Dec.{eqb, nltb→le}
 use lib.IntN.{ℤ, pos, _+ℤ_, _*ℤ_}
 use lib.Signed.{ltZ}
 use mir.Syntax.{w64}
-use Rattle.integers.specs.Sums.{sumTo, only}
-use Rattle.integers.specs.Size.{near-fits}
+use Rattle.integers.specs.Sums.{sumTo, only, sum-scale-l}
+use Rattle.integers.specs.Size.{near-fits, near-mul, near-pos}
 use Rattle.integers.specs.Machine.{SumsFit, step, step-fits, sfits-by}
-use Rattle.measures.specs.Meaning.Limits.{partsInOne}
+use Rattle.measures.specs.Meaning.Limits.{partsInOne, grainsOf}
 use Rattle.rules.specs.Meaning.Hour.{Case, Plan, caseOf, planOf, signed, buys, orderNet, net, orderWelfare, welfare}
 use Rattle.rows.specs.Meaning.Rows.{firstBelow}
 use Rattle.rows.specs.Promised.RowLaws.{first-here, first-later, first-nowhere, not-below}
 use Rattle.rules.specs.Meaning.Verdict.{over}
 use Rattle.rules.specs.Steps.Passed.{case-sound}
-use Rattle.rules.specs.Steps.Duality.{signed-times}
-use Rattle.rules.specs.Promised.Fits.{orderNet-near, net-sums, welfare-sums, welfare-near}
+use Rattle.rules.specs.Steps.Duality.{signed-times, times-grains}
+use Rattle.rules.specs.Promised.Fits.{near-order-price, orderNet-near, net-sums, welfare-sums}
 use Rattle.orders.specs.declared.Order.{Order}
 use Rattle.case_header.specs.declared.Counts.{Counts}
 use Rattle.clearing.specs.Held.{tenthsAt, Holds, zeros-hold, keyed, keyed-next, keyed-set}
@@ -31,7 +31,7 @@ abbrev Inv-loop : tie.InvT-loop
 Inv-loop case k proposal orders nets₀ welfare₀ i₀ nets welfare i =
     (i ≤ k .orders)
     × ((firstBelow i (λ j. over ((caseOf case) .quantity j) ((planOf case proposal) .volume j)) ≡ none)
-    × (Holds (keyed ((caseOf case) .zone) (orderNet (caseOf case) (planOf case proposal)) i) nets × (welfare .0 ≡ sumTo i (λ j. orderWelfare (caseOf case) (planOf case proposal) j))))
+    × (Holds (keyed ((caseOf case) .zone) (orderNet (caseOf case) (planOf case proposal)) i) nets × (welfare .0 ≡ sumTo i (λ j. pos partsInOne *ℤ orderWelfare (caseOf case) (planOf case proposal) j))))
 
 abbrev μ-loop : tie.MeasureT-loop
 μ-loop case k proposal orders nets₀ welfare₀ i₀ nets welfare i = k .orders - i
@@ -86,7 +86,7 @@ held c j h = nltb→le _ _ (not-below _ _ (passed c) j h)
 net-fit : (c : tie.Else1 Inv-loop μ-loop) (z : ℕ) → SumsFit (λ j. only (eqb (hour (c .before .before .before .before .before .before .before .before .before) .zone j) z) (orderNet (hour (c .before .before .before .before .before .before .before .before .before)) (plan (c .before .before .before .before .before .before .before .before .before)) j)) (c .before .before .before .before .before .before .loop .i + 1)
 net-fit c z = net-sums _ (case-sound _ (c .before .before .before .before .before .before .before .before .before .pre .opened .readable)) _ _ (omega (arith, inside (c .before .before .before .before .before))) (held c) z
 
-welfare-fit : (c : tie.Else1 Inv-loop μ-loop) → SumsFit (λ j. orderWelfare (hour (c .before .before .before .before .before .before .before .before .before)) (plan (c .before .before .before .before .before .before .before .before .before)) j) (c .before .before .before .before .before .before .loop .i + 1)
+welfare-fit : (c : tie.Else1 Inv-loop μ-loop) → SumsFit (λ j. pos partsInOne *ℤ orderWelfare (hour (c .before .before .before .before .before .before .before .before .before)) (plan (c .before .before .before .before .before .before .before .before .before)) j) (c .before .before .before .before .before .before .loop .i + 1)
 welfare-fit c = welfare-sums _ (case-sound _ (c .before .before .before .before .before .before .before .before .before .pre .opened .readable)) _ _ (omega (arith, inside (c .before .before .before .before .before))) (held c)
 
 -- this order's zone
@@ -145,26 +145,42 @@ price-is : (c : tie.After-order-at Inv-loop μ-loop) → c .order-at .result .pr
 unfolding caseOf
 price-is c = ap (λ (o : Order). o .price .0) (c .order-at .ensures)
 
-product-is : (c : tie.After-signed-volume Inv-loop μ-loop) → c .signed-volume .result .0 *ℤ order (c .before) .order-at .result .price .0 ≡ orderWelfare (hour (turn (c .before) .before .before .before .before)) (plan (turn (c .before) .before .before .before .before)) (turn (c .before) .before .loop .i)
-unfolding orderWelfare orderNet
-product-is c = (λ j. term-is c j *ℤ price-is (order (c .before)) j) ∙ sym (signed-times (buys _ _) _ _)
-
-value-requires : tie.Need-value-requires Inv-loop μ-loop
-value-requires c κs =
+in-grains-requires : tie.Need-in-grains-requires Inv-loop μ-loop
+in-grains-requires c κs =
     let v = c .before .before .before in
-    sfits-by w64 (product-is v) ((welfare-fit (v .before)) .term (turn (v .before) .before .loop .i) (omega arith))
+    let i = turn (v .before) in
+    sfits-by w64 (ap grainsOf (price-is (order (v .before)))) (near-fits w64 (omega arith) (near-mul (near-pos partsInOne) (near-order-price _ ((case-sound _ (i .before .before .before .before .pre .opened .readable)) .price-in (i .before .loop .i) (inside i)))))
 
-value-is : (c : tie.After-value Inv-loop μ-loop) → c .value .result .0 ≡ orderWelfare (hour (turn (c .before .before .before .before .before) .before .before .before .before)) (plan (turn (c .before .before .before .before .before) .before .before .before .before)) (turn (c .before .before .before .before .before) .before .loop .i)
-value-is c = c .value .ensures ∙ product-is (c .before .before .before .before)
+abbrev volume : tie.After-in-grains Inv-loop μ-loop → tie.After-signed-volume Inv-loop μ-loop
+volume c = c .before .before .before .before
+
+product-is : (c : tie.After-in-grains Inv-loop μ-loop) → volume c .signed-volume .result .0 *ℤ c .in-grains .result .0 ≡ pos partsInOne *ℤ orderWelfare (hour (turn (volume c .before) .before .before .before .before)) (plan (turn (volume c .before) .before .before .before .before)) (turn (volume c .before) .before .loop .i)
+unfolding orderWelfare orderNet
+product-is c =
+    let v = volume c in
+    let i = turn (v .before) in
+    let h = hour (i .before .before .before .before) in
+    let buy = buys h (i .before .loop .i) in
+    let volume = pos (plan (i .before .before .before .before) .volume (i .before .loop .i)) in
+    let price = h .price (i .before .loop .i) in
+    (λ j. term-is v j *ℤ (c .in-grains .ensures ∙ ap grainsOf (price-is (order (v .before)))) j) ∙ times-grains (signed buy volume) price ∙ ap (λ (x : ℤ). pos partsInOne *ℤ x) (sym (signed-times buy volume price))
+
+cost-requires : tie.Need-cost-requires Inv-loop μ-loop
+cost-requires c κs =
+    let v = volume c in
+    sfits-by w64 (product-is c) ((welfare-fit (v .before)) .term (turn (v .before) .before .loop .i) (omega arith))
+
+cost-is : (c : tie.After-cost Inv-loop μ-loop) → let e = volume (c .before) .before in c .cost .result .0 ≡ pos partsInOne *ℤ orderWelfare (hour (turn e .before .before .before .before)) (plan (turn e .before .before .before .before)) (turn e .before .loop .i)
+cost-is c = c .cost .ensures ∙ product-is (c .before)
 
 plus-requires-2 : tie.Need-plus-requires-2 Inv-loop μ-loop
 plus-requires-2 c κs =
-    let e = c .before .before .before .before .before in
+    let e = volume (c .before) .before in
     let l = turn e .before in
-    step-fits (welfare-fit e) (l .loop .i) (omega arith) (l .loop .inv .1 .1 .1) (value-is c)
+    step-fits (welfare-fit e) (l .loop .i) (omega arith) (l .loop .inv .1 .1 .1) (cost-is c)
 
 abbrev passing : tie.After-plus2 Inv-loop μ-loop → tie.Else1 Inv-loop μ-loop
-passing c = c .before .before .before .before .before .before
+passing c = volume (c .before .before) .before
 
 add-i : tie.Need-add-i Inv-loop μ-loop
 add-i c = let i = turn (passing c) in omega (arith, inside i, (case-sound _ (i .before .before .before .before .pre .opened .readable)) .orders-in)
@@ -177,14 +193,14 @@ loop-again c =
     let e = passing c in
     let o = order e in
     let l = turn e .before in
-    let p = c .before .before .before in
+    let p = c .before .before .before .before in
     let z = o .order-at .result .zone in (
       omega (arith, turn e .loop-test .taken),
       (
         passed e,
         (
           keyed-set _ _ (l .loop .i) (l .loop .nets) z (p .plus .result) (zone-is o) (zone-small o) (l .loop .inv .1 .1 .0) (p .plus .ensures ∙ ap (λ (x : ℤ). tenthsAt (l .loop .nets) z +ℤ x) (term-is (p .before .before))),
-          step (welfare-fit e) (l .loop .i) (l .loop .inv .1 .1 .1) (value-is (c .before)) (c .plus2 .ensures),
+          step (welfare-fit e) (l .loop .i) (l .loop .inv .1 .1 .1) (cost-is (c .before)) (c .plus2 .ensures),
         ),
       ),
     )
@@ -193,26 +209,21 @@ loop-again c =
 ended : (c : tie.After-loop Inv-loop μ-loop) → c .before .loop .i ≡ hour (c .before .before .before .before) .orders
 ended c = omega (arith, orders-is (c .before .before .before .before))
 
-welfare-is : (c : tie.After-loop Inv-loop μ-loop) → pos partsInOne *ℤ c .before .loop .welfare .0 ≡ welfare (hour (c .before .before .before .before)) (plan (c .before .before .before .before))
+welfare-is : (c : tie.After-loop Inv-loop μ-loop) → c .before .loop .welfare .0 ≡ welfare (hour (c .before .before .before .before)) (plan (c .before .before .before .before))
 unfolding welfare
 welfare-is c =
     let a = c .before .before .before .before in
-    ap (λ (x : ℤ). pos partsInOne *ℤ x) (c .before .loop .inv .1 .1 .1 ∙ ap (λ (n : ℕ). sumTo n (λ j. orderWelfare (hour a) (plan a) j)) (ended c))
-
-in-microcents-requires : tie.Need-in-microcents-requires Inv-loop μ-loop
-in-microcents-requires c κs =
-    let a = c .before .before .before .before in
-    sfits-by w64 (welfare-is c) (near-fits w64 (omega arith) (welfare-near _ (case-sound _ (a .pre .opened .readable)) _ (λ j h. nltb→le _ _ (not-below _ _ (c .before .loop .inv .1 .0) j (omega (arith, ended c))))))
+    c .before .loop .inv .1 .1 .1 ∙ ap (λ (n : ℕ). sumTo n (λ j. pos partsInOne *ℤ orderWelfare (hour a) (plan a) j)) (ended c) ∙ sum-scale-l (hour a .orders) (λ j. orderWelfare (hour a) (plan a) j) (pos partsInOne)
 
 returns-2 : tie.Need-returns-2 Inv-loop μ-loop
 unfolding net
 returns-2 c =
-    let l = c .before .before in
+    let l = c .before in
     let a = l .before .before .before in (
-      sym (first-nowhere _ (l .loop .i) (omega (arith, ended (c .before))) (omega (arith, ended (c .before))) (l .loop .inv .1 .0)),
+      sym (first-nowhere _ (l .loop .i) (omega (arith, ended c)) (omega (arith, ended c)) (l .loop .inv .1 .0)),
       (
-        λ n. subst (λ (n : ℕ). Holds (keyed (hour a .zone) (orderNet (hour a) (plan a)) n) (l .loop .nets)) (ended (c .before)) (l .loop .inv .1 .1 .0),
-        λ n. c .in-microcents .ensures ∙ welfare-is (c .before),
+        λ n. subst (λ (n : ℕ). Holds (keyed (hour a .zone) (orderNet (hour a) (plan a)) n) (l .loop .nets)) (ended c) (l .loop .inv .1 .1 .0),
+        λ n. welfare-is c,
       ),
     )
 
@@ -233,10 +244,10 @@ order-sums-spec =
     plus-requires
     mul-nets
     array-set-from-nets
-    value-requires
+    in-grains-requires
+    cost-requires
     plus-requires-2
     add-i
     loop-less
     loop-again
-    in-microcents-requires
     returns-2)

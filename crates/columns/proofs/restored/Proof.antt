@@ -1,11 +1,10 @@
 -- `columns::restored` meets its contract: the case is made in the first bytes of a local array, and copied once it is known to be readable. Assumes nothing.
 use mathlib.Core.Path.{_≡_, refl, sym, ap, subst, _∙_}
-use mathlib.Core.Bool.{Bool, true, false, not}
+use mathlib.Core.Bool.{false}
 use mathlib.Core.List.{List, _++_}
 use Prim.Native.Nat.{ℕ}
 use native.Mathlib.Omega.{arith}
 use borrow.Author.Needs.{needs}
-use borrow.Author.Tests.{not-false}
 use lib.ListN.{length, take, drop, length-append, length-drop}
 use lib.Seq.{sets, length-take-le}
 use Rattle.rows.specs.declared.Outcome.{Outcome}
@@ -13,7 +12,7 @@ use Rattle.rows.specs.Meaning.Rows.{verdict}
 use Rattle.output.specs.declared.Written.{Written}
 use Rattle.columns.specs.Meaning.Columns.{restoredOf, notRestored, restoredRows, restoredOutcome, restoredWritten, restoredOutput, Restored}
 use Rattle.columns.specs.Promised.RoundTrip.{restored-length, restored-stands}
-use Rattle.columns.specs.Steps.Answers.{Owed, by-71, by-72, by-0}
+use Rattle.columns.specs.Steps.Answers.{restore-refused, restore-made, Owed, by-71, by-72, by-0}
 use Rattle.columns.specs.Steps.Stored.{every, copy-run}
 use Rattle.columns.specs.Steps.Read.{too-long, not-readable}
 use Rattle.columns.proofs.restored.Statement.{statement}
@@ -33,10 +32,6 @@ all t out {r} {after} m = (m .0, (m .1 .0, (m .1 .1, stands)))
   where
     stands : r .number ≡ 0 → Restored t (take (r .length) after)
     stands z = subst (λ (u : List ℕ). Restored t u) (λ i. take (sym (m .1 .0) i) (sym (m .1 .1) i)) (restored-stands t out (sym (ap (λ (o : Outcome). o .number) (m .0)) ∙ z))
-
-not-not : (b : Bool) → not (not b) ≡ b
-not-not true = refl
-not-not false = refl
 
 abbrev entry : tie.After-case → tie.Start
 entry c = c .before .before .before .before .before
@@ -77,37 +72,42 @@ text r = entry (r .before) .args .file .now
 abbrev out : tie.After-restore → List ℕ
 out r = entry (r .before) .args .out .now
 
-answer-is : (r : tie.After-restore) {b : Bool} → not (r .restore .result) ≡ b → notRestored (text r) ≡ b
-answer-is r e = sym (not-not (notRestored (text r))) ∙ ap not (sym (r .restore .ensures .0)) ∙ e
-
-refused-requires-2 : tie.Need-refused-requires-2
-refused-requires-2 c κs = search needs
+enum-known-r : tie.Need-enum-known-r
+enum-known-r c = search needs
 
 -- 71: not restored
 returns-2 : tie.Need-returns-2
 returns-2 c =
-    let r = c .before .before .before in
+    let e = c .before in
+    let r = e .before .before .before in
     let t = text r in
-    all t (out r) (by-71 (length t) (restoredOf t) (out r) (answer-is r (c .before .if2 .taken)) (c .refused2 .ensures))
+    let q = restore-refused (notRestored t) (sym (r .restore .ensures .0) ∙ e .r .given .1) in
+    all t (out r) (by-71 (length t) (restoredOf t) (out r) (q .0) (q .1))
+
+enum-told : tie.Need-enum-told
+enum-told c = search needs
 
 -- what the array holds
-abbrev asked : tie.Else2 → tie.After-restore
-asked c = c .before .before
+abbrev asked : tie.After-enum-told → tie.After-restore
+asked c = c .before .before .before
 
-made : (c : tie.Else2) → asked c .restore .last .1 .0 ≡ restoredOf (text (asked c))
-made c = asked c .restore .ensures .1 (not-false (asked c .restore .result) (c .if2 .left))
+good : (c : tie.After-enum-told) → notRestored (text (asked c)) ≡ false
+good c = restore-made (notRestored (text (asked c))) (sym (asked c .restore .ensures .0) ∙ c .enum-told .given .1)
 
-made-length : (c : tie.Else2) → length (asked c .restore .last .1 .0) ≡ length (text (asked c))
+made : (c : tie.After-enum-told) → asked c .restore .last .1 .0 ≡ restoredOf (text (asked c))
+made c = asked c .restore .ensures .1 (c .enum-told .given .1)
+
+made-length : (c : tie.After-enum-told) → length (asked c .restore .last .1 .0) ≡ length (text (asked c))
 made-length c = ap length (made c) ∙ restored-length (text (asked c))
 
-held : (c : tie.Else2) → length (asked c .restore .last .1 .0 ++ drop (length (text (asked c))) (asked c .before .before .blank .result)) ≡ 10126
+held : (c : tie.After-enum-told) → length (asked c .restore .last .1 .0 ++ drop (length (text (asked c))) (asked c .before .before .blank .result)) ≡ 10126
 held c =
     let b = asked c .before .before in
     length-append (asked c .restore .last .1 .0) (drop (length (text (asked c))) (b .blank .result))
     ∙ omega (arith, made-length c, length-drop (length (text (asked c))) (b .blank .result), room b, b .before .if1 .left)
 
-refused-requires-3 : tie.Need-refused-requires-3
-refused-requires-3 c κs = search needs
+refused-requires-2 : tie.Need-refused-requires-2
+refused-requires-2 c κs = search needs
 
 -- 72
 returns-3 : tie.Need-returns-3
@@ -115,7 +115,7 @@ returns-3 c =
     let e = c .before .before in
     let r = asked e in
     let t = text r in
-    all t (out r) (by-72 (length t) (restoredOf t) (out r) (answer-is r (e .if2 .left)) (c .before .if3 .taken) (c .refused3 .ensures))
+    all t (out r) (by-72 (length t) (restoredOf t) (out r) (good e) (c .before .if2 .taken) (c .refused2 .ensures))
 
 slice-aggregate-put-every : tie.Need-slice-aggregate-put-every
 slice-aggregate-put-every c = sym (held (c .before .before))
@@ -123,7 +123,7 @@ slice-aggregate-put-every c = sym (held (c .before .before))
 put-every-requires : tie.Need-put-every-requires
 put-every-requires c κs =
     let e = c .before .before .before in
-    (λ j h. omega (arith, held e, asked e .before .before .before .if1 .left), omega (arith, c .before .before .if3 .left))
+    (λ j h. omega (arith, held e, asked e .before .before .before .if1 .left), omega (arith, c .before .before .if2 .left))
 
 same-length : tie.Need-same-length
 same-length c = search needs
@@ -137,8 +137,8 @@ returns-4 c =
     let t = text r in
     let n = length t in
     let rest = drop n (r .before .before .blank .result) in
-    all t (out r) (by-0 n (restoredOf t) (out r) (answer-is r (e .if2 .left)) (f .if3 .left) refl (restored-length t)
-    (p .put-every .ensures ∙ ap (λ (l : List ℕ). sets (out r) 0 (every 0 1 n (l ++ rest))) (made e) ∙ copy-run (restoredOf t) rest (out r) n (restored-length t) (f .if3 .left)))
+    all t (out r) (by-0 n (restoredOf t) (out r) (good e) (f .if2 .left) refl (restored-length t)
+    (p .put-every .ensures ∙ ap (λ (l : List ℕ). sets (out r) 0 (every 0 1 n (l ++ rest))) (made e) ∙ copy-run (restoredOf t) rest (out r) n (restored-length t) (f .if2 .left)))
 
 pub restored-spec : {M : Type 1} → statement M
 restored-spec =
@@ -150,9 +150,10 @@ restored-spec =
     array-borrow-prefix-case
     slice-aggregate-restore
     restore-requires
-    refused-requires-2
+    enum-known-r
     returns-2
-    refused-requires-3
+    enum-told
+    refused-requires-2
     returns-3
     slice-aggregate-put-every
     put-every-requires

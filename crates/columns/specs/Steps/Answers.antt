@@ -1,5 +1,5 @@
 -- The two causes that the entries ask, one after the other, and what an entry owes of an answer. Assumes nothing.
-use mathlib.Core.Path.{_≡_, sym, ap, _∙_}
+use mathlib.Core.Path.{_≡_, refl, sym, ap, _∙_}
 use mathlib.Core.Bool.{Bool, true, false}
 use mathlib.Core.List.{List, [], _∷_, _++_}
 use mathlib.Core.Option.{Option, none, some}
@@ -12,6 +12,8 @@ use Rattle.rows.specs.Promised.RowLaws.{field-fails, field-passes}
 use Rattle.output.specs.declared.Written.{Written}
 use Rattle.output.specs.Meaning.Output.{outputAfter, writtenBy}
 use Rattle.output.specs.Steps.Met.{Met, met-refusal}
+use Rattle.columns.specs.declared.RestoreAnswer.{RestoreAnswer}
+use Rattle.columns.specs.declared.RestoreAnswer.the-variants as restore
 use Rattle.columns.specs.Meaning.Columns.{shortOutput}
 
 -- BOTH TABLES: whether 71 holds, how long the file is, and the room
@@ -28,6 +30,19 @@ module _ {bad : Bool} (size room : ℕ) where
   taken : bad ≡ false → size ≤ room → refusal (rowsOf bad size room) ≡ none
   unfolding refusal
   taken e h = field-passes 71 0 (shortOutput size room ∷ []) e ∙ field-passes 72 0 [] (le-ltb room size h)
+
+-- THE WAY BACK, by whether 71 holds; and an answer read back
+abbrev pub restoreBy : Bool → RestoreAnswer
+restoreBy true = restore.Refused (record { number = 71; index = 0; length = 0 })
+restoreBy false = restore.Restored
+
+pub restore-refused : (bad : Bool) {r : Written} → restoreBy bad ≡ restore.Refused r → (bad ≡ true) × (r ≡ record { number = 71; index = 0; length = 0 })
+restore-refused true e = (refl, cc)
+restore-refused false e = (cc, cc)
+
+pub restore-made : (bad : Bool) → restoreBy bad ≡ restore.Restored → bad ≡ false
+restore-made true e = cc
+restore-made false e = refl
 
 -- WHAT IS OWED: r is returned, and the output is out before and after afterwards
 abbrev pub Owed : Bool → ℕ → List ℕ → List ℕ → Written → List ℕ → Type 0

@@ -40,6 +40,11 @@ familyBy none = Sound
 abbrev pub familyAnswer : List ℕ → ℕ → FamilyAnswer
 familyAnswer f orders = familyBy (refusal (rowsBeside f orders))
 
+-- of row 16 alone, by its test
+abbrev pub headerBy : Bool → FamilyAnswer
+headerBy true = Refused (verdict 16 0)
+headerBy false = Sound
+
 -- ROW 16 PASSED: the length is right, beside at most 512 orders
 pub record Whole (f : List ℕ) (orders : ℕ) : Type 0 where
   pub few : orders ≤ 512
@@ -112,6 +117,21 @@ module _ (f : List ℕ) (orders : ℕ) where
 
   pub by-16 : wrongList f orders ≡ true → refusal (rowsBeside f orders) ≡ some (verdict 16 0)
   by-16 e = field-fails 16 0 _ e
+
+  -- the answer of row 16 alone, read back
+  pub header-refused : {o : Outcome} → headerBy (wrongList f orders) ≡ Refused o → Refused o ≡ familyAnswer f orders
+  header-refused {o} e = by (wrongList f orders) refl e
+    where
+      by : (b : Bool) → wrongList f orders ≡ b → headerBy b ≡ Refused o → Refused o ≡ familyAnswer f orders
+      by true q e = sym e ∙ ap familyBy (sym (by-16 q))
+      by false q e = cc
+
+  pub header-sound : headerBy (wrongList f orders) ≡ Sound → wrongList f orders ≡ false
+  header-sound e = by (wrongList f orders) e
+    where
+      by : (b : Bool) → headerBy b ≡ Sound → b ≡ false
+      by true e = cc
+      by false e = refl
 
   past-16 : wrongList f orders ≡ false → refusal (rowsBeside f orders) ≡ refusal (row-17 ∷ row-18 ∷ [])
   past-16 e = field-passes 16 0 _ e

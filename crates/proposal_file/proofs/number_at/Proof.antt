@@ -1,7 +1,5 @@
 -- `proposal_file::number_at` meets its contract. Assumes nothing.
-use mathlib.Core.Path.{ap, _∙_}
 use borrow.Author.Needs.{needs}
-use lib.IntN.{pos}
 use Rattle.proposal_file.proofs.number_at.Statement.{statement}
 use Rattle.proposal_file.proofs.number_at.Tie as tie
 
@@ -14,12 +12,9 @@ add-word-at c = search needs
 word-at-requires : tie.Need-word-at-requires
 word-at-requires c κs = search needs
 
-unsigned-requires : tie.Need-unsigned-requires
-unsigned-requires c κs = search needs
-
 returns : tie.Need-returns
-returns c = c .unsigned .ensures ∙ ap pos (c .before .word-at .ensures)
+returns c = c .word-at .ensures
 
 pub number-at-spec : {M : Type 1} → statement M
 number-at-spec =
-    tie.close (tie.spec mul-word-at add-word-at word-at-requires unsigned-requires returns)
+    tie.close (tie.spec mul-word-at add-word-at word-at-requires returns)

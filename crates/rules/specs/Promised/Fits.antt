@@ -77,8 +77,9 @@ module _ (c : Case) (cs : CaseSound c) where
     unfolding orderWelfare
     welfare-term-near i h = near-signed (buys c i) 40000000000 _ (near-mul (volume-near i h) (near-order-price (c .price i) (cs .price-in i (omega arith))))
 
-    pub welfare-sums : SumsFit (λ i. orderWelfare c p i) n
-    welfare-sums = small-sums _ 40000000000 n welfare-term-near (omega (arith, cs .orders-in))
+    -- in microcents, as they are added up
+    pub welfare-sums : SumsFit (λ i. pos partsInOne *ℤ orderWelfare c p i) n
+    welfare-sums = small-sums _ 4000000000000000 n (λ i h. near-mul (near-pos partsInOne) (welfare-term-near i h)) (omega (arith, cs .orders-in))
 
   -- after row 21
   module _ (p : Plan) (volumes : (i : ℕ) → i < c .orders → p .volume i ≤ c .quantity i) where
@@ -114,10 +115,6 @@ module _ (c : Case) (cs : CaseSound c) where
       pub branchUse-sums : (m : ℕ) → m < c .branches → SumsFit (λ z. c .ptdf m z *ℤ fbPart c p z) (c .zones)
       branchUse-sums m h = small-sums _ 12800000000000 (c .zones) (λ z k. branchUse-term-near m z h k) (omega (arith, cs .zones-in .1))
 
-      -- from the last zone to the first
-      pub branchUse-sums-back : (m : ℕ) → m < c .branches → SumsFit (λ y. c .ptdf m (c .zones - 1 - y) *ℤ fbPart c p (c .zones - 1 - y)) (c .zones)
-      branchUse-sums-back m h = small-sums _ 12800000000000 (c .zones) (λ y k. branchUse-term-near m (c .zones - 1 - y) h (omega (arith, k))) (omega (arith, cs .zones-in .1))
-
   -- row 23, read as a bound on the flow
   pub flow-in : (p : Plan) → p .share ≤ partsInOne → (l : ℕ) → l < c .links → linkUse c p l ≤ linkRoom c p l → p .flow l ≤ 100000
   unfolding linkUse linkRoom
@@ -137,8 +134,9 @@ module _ (c : Case) (cs : CaseSound c) where
     unfolding branchValue
     branch-term-near m h = near-mul (near-within 500000 limits.margin (c .ram m) (omega arith) (omega arith) (cs .ram-in m h)) (near-unsigned (d .shadow m) 1000000 (shadows m h))
 
-    pub branchTotal-sums : SumsFit (λ m. branchValue c d m) (c .branches)
-    branchTotal-sums = small-sums _ 500000000000 (c .branches) branch-term-near (omega (arith, cs .branches-in))
+    -- in microcents, as they are added up
+    pub branchTotal-sums : SumsFit (λ m. pos partsInOne *ℤ branchValue c d m) (c .branches)
+    branchTotal-sums = small-sums _ 50000000000000000 (c .branches) (λ m h. near-mul (near-pos partsInOne) (branch-term-near m h)) (omega (arith, cs .branches-in))
 
     pub branchTotal-near : Near 3200000000000000000 (branchTotal c d)
     unfolding branchTotal

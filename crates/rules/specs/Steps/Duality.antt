@@ -13,7 +13,7 @@ use lib.Signed.{_≤ℤ_, ≤ℤ-refl}
 use Rattle.integers.specs.Difference.{up, dn, at, _⊕_, _⊖_, _⊗_, ⊝_, le-by, eq-by, le-fact, eq-fact}
 use Rattle.integers.specs.Order.{larger, positive, cond-ind, diff-nonneg, mul-nonneg, larger-left, larger-right, scaled}
 use Rattle.integers.specs.Sums.{sumTo, only, sum-ext, sum-le, sum-zero, sum-add, sum-sub, sum-scale, sum-scale-l, gather, sum-weights}
-use Rattle.measures.specs.Meaning.Limits.{partsInOne}
+use Rattle.measures.specs.Meaning.Limits.{partsInOne, grainsOf}
 use Rattle.rules.specs.Meaning.Hour.{Case, Plan, Prices, signed, buys, above, orderNet, net, inflow, outflow, ltaPart, fbPart, netSum, linkUse, linkRoom, branchUse, branchRoom, branchPrice, zonePrice, orderWelfare, welfare, surplusOf, orderSurplus, surplus, branchValue, branchTotal, spread, linkValue, linkTotal, linkOwed, owed, noLink, networkBound, bound, gap, rent}
 use Rattle.rules.specs.Meaning.Clearing.{Clearing}
 
@@ -73,6 +73,10 @@ at-most v q e (negsuc k) h = le-by (at (pos v) ⊗ at (negsuc k)) (at (pos e) �
 pub signed-times : (b : Bool) (x y : ℤ) → signed b (x *ℤ y) ≡ signed b x *ℤ y
 signed-times true x y = refl
 signed-times false x y = eq-by (⊝_ (at x ⊗ at y)) ((⊝_ (at x)) ⊗ at y) (omega arith)
+
+-- at a price in grains it is 100,000 times what it is at the price in cents
+pub times-grains : (x y : ℤ) → x *ℤ grainsOf y ≡ pos partsInOne *ℤ (x *ℤ y)
+times-grains x y = eq-by (at x ⊗ (at (pos partsInOne) ⊗ at y)) (at (pos partsInOne) ⊗ (at x ⊗ at y)) (omega arith)
 
 -- one order: what it adds to the welfare, less its volume at the zone's price, is at most `e` times its surplus
 pub order-le : (b : Bool) (v q e : ℕ) (a z : ℤ) → v ≤ e * q

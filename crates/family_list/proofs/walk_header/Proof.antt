@@ -1,4 +1,4 @@
--- `family_list::bad_header` meets its contract: a list that lacks a field is under 5 bytes, which is no length of a list. Assumes nothing.
+-- `family_list::walk_header` meets its contract: a list that lacks a field is under 5 bytes, which is no length of a list. Assumes nothing.
 use mathlib.Core.Path.{_≡_, sym, ap, _∙_}
 use mathlib.Core.Bool.{not, _&&_}
 use mathlib.Core.List.{List}
@@ -7,6 +7,7 @@ use native.Mathlib.Omega.{arith}
 use borrow.Author.Needs.{needs}
 use borrow.Author.Tests.{eq-eqb, ne-eqb}
 use lib.Dec.{eqb}
+use lib.ListN.{length}
 use Rattle.rules.specs.Meaning.Layout.{u16At}
 use Rattle.rules.specs.Meaning.Verdict.{notMark, differ}
 use Rattle.fields.specs.declared.Cursor.{Cursor}
@@ -14,9 +15,9 @@ use Rattle.fields.specs.declared.Mark.{Mark}
 use Rattle.fields.specs.Walk.{markAt, markField, halfField, Took}
 use Rattle.fields.specs.Walk as walk
 use Rattle.rules.specs.Meaning.Families.{familyVersion, familyLength}
-use Rattle.family_list.specs.Steps.Answer.{too-short, wrong-mark, wrong-version, by-length}
-use Rattle.family_list.proofs.bad_header.Statement.{statement}
-use Rattle.family_list.proofs.bad_header.Tie as tie
+use Rattle.family_list.specs.Steps.Answer.{headerBy, wrongList, too-short, wrong-mark, wrong-version, by-length}
+use Rattle.family_list.proofs.walk_header.Statement.{statement}
+use Rattle.family_list.proofs.walk_header.Tie as tie
 
 new-requires : tie.Need-new-requires
 new-requires c κs = search needs
@@ -45,7 +46,7 @@ mark-took c = walk.mark-took (mark-file (c .before .before)) 0 (sym (mark-is (c 
 returns : tie.Need-returns
 returns c =
     let a = c .before .before in
-    too-short (mark-file a) (orders-of a) (omega (arith, walk.mark-short (mark-file a) 0 (sym (mark-is a) ∙ c .enum-told .given .1)))
+    ap headerBy (too-short (mark-file a) (orders-of a) (omega (arith, walk.mark-short (mark-file a) 0 (sym (mark-is a) ∙ c .enum-told .given .1))))
 
 half-requires : tie.Need-half-requires
 half-requires c κs = search needs
@@ -68,7 +69,7 @@ version-took c = walk.half-took (version-file (c .before .before)) 3 (sym (versi
 returns-2 : tie.Need-returns-2
 returns-2 c =
     let a = c .before .before in
-    too-short (version-file a) _ (omega (arith, walk.half-short (version-file a) 3 (sym (version-is a) ∙ c .enum-told2 .given .1)))
+    ap headerBy (too-short (version-file a) (orders-of (a .before .before .before .before)) (omega (arith, walk.half-short (version-file a) 3 (sym (version-is a) ∙ c .enum-told2 .given .1))))
 
 differs-requires : tie.Need-differs-requires
 differs-requires c κs = search needs
@@ -85,29 +86,47 @@ version-test : (c : tie.After-version) → differ (familyVersion (version-file (
 unfolding familyVersion
 version-test c = ap (λ (v : ℕ). differ v 1) (sym (version-took c .is))
 
+abbrev count : tie.After-version → ℕ
+count v = orders-of (v .before .before .before .before .before .before)
+
 returns-3 : tie.Need-returns-3
-returns-3 c = wrong-mark _ _ (sym (mark-test (c .before)) ∙ c .if1 .taken)
+returns-3 c = let d = c .before in ap headerBy (wrong-mark (version-file (opened d .before .before)) (count (opened d)) (sym (mark-test d) ∙ c .if1 .taken))
 
 returns-4 : tie.Need-returns-4
 returns-4 c =
     let v = opened (c .before .before) in
-    wrong-version _ _ (version-test v ∙ ap not (ne-eqb (v .version .given .0 .0) 1 (c .if2 .taken)))
+    ap headerBy (wrong-version (version-file (v .before .before)) (count v) (version-test v ∙ ap not (ne-eqb (v .version .given .0 .0) 1 (c .if2 .taken))))
 
-mul-result : tie.Need-mul-result
-mul-result c = search needs
+-- the length that the orders demand
+parents-at : (c : tie.After-version) → c .version .given .0 .1 .0 .at ≡ 5
+parents-at c = ap (λ (d : Cursor). d .at) (version-took c .past)
 
-add-result : tie.Need-add-result
-add-result c = search needs
+mul-if3 : tie.Need-mul-if3
+mul-if3 c = search needs
+
+add-if3 : tie.Need-add-if3
+add-if3 c = let v = opened (c .before .before .before) in omega (arith, parents-at v, v .before .before .before .before .before .before .before .before .before .pre)
+
+length-test : (c : tie.Else2) → let v = opened (c .before .before) in differ (length (version-file (v .before .before))) (familyLength (count v)) ≡ wrongList (version-file (v .before .before)) (count v)
+length-test c =
+    let e = c .before in
+    let v = opened (e .before) in
+    by-length (version-file (v .before .before)) (count v) (sym (mark-test (e .before)) ∙ e .if1 .left) (version-test v ∙ ap not (eq-eqb (v .version .given .0 .0) 1 (c .if2 .left)))
 
 returns-5 : tie.Need-returns-5
 unfolding familyLength
 returns-5 c =
-    let e = c .before in
-    let v = opened (e .before) in
-    by-length _ _ (sym (mark-test (e .before)) ∙ e .if1 .left) (version-test v ∙ ap not (eq-eqb (v .version .given .0 .0) 1 (c .if2 .left)))
+    let v = opened (c .before .before .before .before) in
+    ap headerBy (sym (ap not (ne-eqb (length (version-file (v .before .before))) (familyLength (count v)) (λ e. c .if3 .taken (e ∙ omega (arith, parents-at v))))) ∙ length-test (c .before .before))
 
-pub bad-header-spec : {M : Type 1} → statement M
-bad-header-spec =
+returns-6 : tie.Need-returns-6
+unfolding familyLength
+returns-6 c =
+    let v = opened (c .before .before .before .before) in
+    ap headerBy (sym (ap not (eq-eqb (length (version-file (v .before .before))) (familyLength (count v)) (c .if3 .left ∙ omega (arith, parents-at v)))) ∙ length-test (c .before .before))
+
+pub walk-header-spec : {M : Type 1} → statement M
+walk-header-spec =
     tie.close
     (tie.spec
     new-requires
@@ -122,6 +141,7 @@ bad-header-spec =
     differs-requires
     returns-3
     returns-4
-    mul-result
-    add-result
-    returns-5)
+    mul-if3
+    add-if3
+    returns-5
+    returns-6)
