@@ -6,7 +6,11 @@ pub mod Fits
 pub mod Gap
 -- the verdict table: its order, its causes, its fields
 pub mod Causes
+pub mod PlainLayout
 pub mod PlainFacts
+pub mod PlainVerdicts
+pub mod PlainBook
+pub mod Units
 pub mod RefusedField
 pub mod FieldByField
 pub mod IndexChange
@@ -17,6 +21,11 @@ pub mod Versions
 pub mod NoLinks
 -- S-11: what a family list changes
 pub mod Families
+pub mod PlainFamilies
+-- the report's bytes, without a family list and with one
+pub mod PlainReport
+-- what is promised, spelt out
+pub mod PlainPromise
 -- S-12: wide tolerances
 pub mod Tolerance
 -- in the terms of Annex 14.29

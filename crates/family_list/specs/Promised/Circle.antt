@@ -1,31 +1,15 @@
 -- AN ORDER LEADS BACK TO ITSELF: the sentence, that some number of steps up ends where it began, is what row 18 tests within as many steps as there are orders.
 -- Assumes nothing.
 use mathlib.Core.Path.{_≡_, sym, ap, subst}
-use mathlib.Core.Bool.{Bool, true, false, _||_}
-use mathlib.Core.Logic.{_⊎_, inl, inr, _↔_}
+use mathlib.Core.Logic.{_↔_}
 use mathlib.Core.Option.{Option, none, some}
-use Prim.Native.Nat.{ℕ, zero, suc, _<_}
+use Prim.Native.Nat.{ℕ, suc, _<_}
 use native.Mathlib.Omega.{arith}
 use lib.Dec.{T, eqb→eq, eqb-refl}
 use Rattle.integers.specs.Ranges.{is-true}
-use Rattle.rows.specs.Meaning.Rows.{anyBelow}
-use Rattle.rows.specs.Promised.RowLaws.{any-some}
+use Rattle.rows.specs.Promised.RowLaws.{any-some, any-place}
 use Rattle.rules.specs.Meaning.Families.{ancestor, LeadsBack, isOrder, leadsBack}
 use Rattle.family_list.specs.Steps.Ancestors.{Exist, short}
-
--- a test that holds somewhere, at a place
-either-side : (a b : Bool) → T (a || b) → (T a) ⊎ (T b)
-either-side true b t = inl tt
-either-side false b t = inr t
-
-any-place : (n : ℕ) (f : ℕ → Bool) → T (anyBelow n f) → (k : ℕ) × (k < n) × T (f k)
-unfolding anyBelow
-any-place zero f t = absurd t
-any-place (suc n) f t = by (either-side (anyBelow n f) (f n) t) (any-place n f)
-  where
-    by : T (anyBelow n f) ⊎ T (f n) → (T (anyBelow n f) → (k : ℕ) × (k < n) × T (f k)) → (k : ℕ) × (k < suc n) × T (f k)
-    by (inl l) ih = let w = ih l in (w .0, omega (arith, w .1), w .2)
-    by (inr r) ih = (n, omega arith, r)
 
 module _ (parent : ℕ → Option ℕ) where
   is-order : (i : ℕ) (o : Option ℕ) → T (isOrder i o) → o ≡ some i

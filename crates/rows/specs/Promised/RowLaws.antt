@@ -135,6 +135,15 @@ any-some (suc n) f k h t = elim (decLt k n) [ yes l ↦ ap (λ (x : Bool). x || 
     here false true t = refl
     here false false t = absurd t
 
+pub any-place : (n : ℕ) (f : ℕ → Bool) → T (anyBelow n f) → (k : ℕ) × (k < n) × T (f k)
+unfolding anyBelow
+any-place zero f t = absurd t
+any-place (suc n) f t = by (anyBelow n f) refl t (any-place n f)
+  where
+    by : (a : Bool) → anyBelow n f ≡ a → T (a || f n) → (T (anyBelow n f) → (k : ℕ) × (k < n) × T (f k)) → (k : ℕ) × (k < suc n) × T (f k)
+    by true e u ih = let w = ih (is-true e) in (w .0, omega (arith, w .1), w .2)
+    by false e u ih = (n, omega arith, u)
+
 -- A LOOP THAT LOOKS for the first place, or for any: with the invariant `firstBelow m f ≡ none`, or `anyBelow m f ≡ false`, a turn's two ends and the loop's
 module _ (f : ℕ → Bool) (m : ℕ) where
   -- the first place
@@ -502,6 +511,28 @@ row-by-number n rs h some-row after-it e =
     let same = split n rs some-row in
     subst (λ (l : List Row). RowNamed (before n rs) (rowNumbered n rs) (answer (refusal l))) (sym same)
     (row-named n (before n rs) (rowNumbered n rs) (behind n rs) h (lacks-before n rs) after-it (ap (λ (l : List Row). (answer (refusal l)) .number) (sym same) ∙ e))
+
+-- AND BACK: where the rows before it pass and it fails first at a place, its number and the place's index are the answer
+pub row-answers : (n : ℕ) (rs : List Row) → T (not (lacks n rs)) → refusal (before n rs) ≡ none → (k : ℕ) → First ((rowNumbered n rs) .places) ((rowNumbered n rs) .fails) k
+    → answer (refusal rs) ≡ verdict ((rowNumbered n rs) .number) ((rowNumbered n rs) .index k)
+row-answers n rs some-row passed k w =
+    ap (λ (l : List Row). answer (refusal l)) (split n rs some-row)
+    ∙ ap answer (
+    refusal-append (before n rs) (rowNumbered n rs ∷ behind n rs)
+    ∙ ap (λ (x : Option Outcome). else-refusal x (refusal (rowNumbered n rs ∷ behind n rs))) passed
+    ∙ row-fails (rowNumbered n rs) (behind n rs) k w
+    )
+
+-- two tables refuse nothing if and only if neither does
+pub none-both : (qs rs : List Row) → refusal qs ≡ none → refusal rs ≡ none → refusal (qs ++ rs) ≡ none
+none-both qs rs e f = refusal-append qs rs ∙ ap (λ (x : Option Outcome). else-refusal x (refusal rs)) e ∙ f
+
+pub none-each : (qs rs : List Row) → refusal (qs ++ rs) ≡ none → (refusal qs ≡ none) × (refusal rs ≡ none)
+none-each qs rs e = by (refusal qs) (refusal rs) (sym (refusal-append qs rs) ∙ e)
+  where
+    by : (x y : Option Outcome) → else-refusal x y ≡ none → (x ≡ none) × (y ≡ none)
+    by (some o) y q = absurd (Option·some-ne-none o q)
+    by none y q = (refl, q)
 
 -- THE FIELD THAT IT NAMES: the first of its row at fault
 pub first-field : (w : ℕ) (f : ℕ → Bool) → T (anyBelow w f) → First w f (firstField w f)

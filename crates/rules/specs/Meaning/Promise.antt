@@ -2,15 +2,13 @@
 use mathlib.Core.Path.{_≡_}
 use mathlib.Core.List.{List}
 use mathlib.Core.Option.{some}
-use Prim.Native.Nat.{ℕ, _≤_, _<_}
+use Prim.Native.Nat.{ℕ, _*_, _≤_, _<_}
 use lib.Dec.{T}
 use lib.IntN.{pos, _+ℤ_, _-ℤ_, _*ℤ_}
 use lib.Signed.{_≤ℤ_}
-use Rattle.integers.specs.Ranges.{Within}
-use Rattle.measures.specs.Meaning.Limits.{microcentsOf, acceptedTolerance}
-use Rattle.rules.specs.Meaning.Hour.{Plan, caseOf, planOf, pricesOf, Kept, welfare}
+use Rattle.rules.specs.Meaning.Hour.{Plan, caseOf, planOf, pricesOf, welfare}
 use Rattle.rules.specs.Meaning.Clearing.{Clearing}
-use Rattle.rules.specs.Meaning.Families.{Fraction, parentOf, LeadsBack, accepted, fractionRule}
+use Rattle.rules.specs.Meaning.Families.{Fraction, parentOf, LeadsBack, accepted}
 use Rattle.rules.specs.Meaning.Verdict.{outcome, familyOutcome}
 use Rattle.rules.specs.Meaning.Report.{Reported, reports, reportedWelfare, reportedGap, reportedRent, reportedOwed}
 
@@ -27,9 +25,10 @@ Allowed s t = Clearing (caseOf s) (planOf s t)
 abbrev pub Accurate : List ℕ → List ℕ → Type 0
 Accurate s report = (q : Plan) → Clearing (caseOf s) q → welfare (caseOf s) q ≤ℤ (pos (q .den) *ℤ (reportedWelfare report +ℤ reportedGap report))
 
--- 0 <= gap <= tolerance, in microcents; and the tolerance is one that an accepted hour may have (S-12), so that the accuracy and coverage rules speak of such hours
+-- 0 <= gap <= tolerance, in microcents, of which a cent has a million; and the tolerance is at most 10,000 cents (S-12), so that the accuracy and coverage rules
+-- speak of such hours. Both numbers are the paper's own, whatever the limits say
 abbrev pub GapWithin : List ℕ → List ℕ → Type 0
-GapWithin s report = (pos 0 ≤ℤ reportedGap report) × ((reportedGap report ≤ℤ microcentsOf (pos ((caseOf s) .tolerance))) × Within acceptedTolerance (pos ((caseOf s) .tolerance)))
+GapWithin s report = (pos 0 ≤ℤ reportedGap report) × ((reportedGap report ≤ℤ (pos 1000000 *ℤ pos ((caseOf s) .tolerance))) × ((caseOf s) .tolerance ≤ 10000))
 
 -- S-6: THE COVERAGE RULE SPEAKS OF HOURS WITH A LINK, and so does what it says at gap zero
 abbrev pub HasLink : List ℕ → Type 0
@@ -51,11 +50,11 @@ CoveredInFull report = reportedGap report ≡ pos 0 → reportedOwed report ≤�
 abbrev pub FamilyTotalsReported : List ℕ → List ℕ → List ℕ → ℕ → List ℕ → Type 0
 FamilyTotalsReported s t f room report = T (reports ((familyOutcome s t f room) .number)) → Reported ((familyOutcome s t f room) .number) (caseOf s) (planOf s t) (pricesOf s t) report
 
--- OF AN ACCEPTED HOUR: one fraction is at most another
+-- OF AN ACCEPTED HOUR: one fraction is at most another, in whole numbers: child volume times parent quantity is at most parent volume times child quantity
 pub record FractionAtMost (a b : Fraction) : Type 0 where
   pub whole-positive : 0 < a .whole
   pub other-positive : 0 < b .whole
-  pub at-most : Kept (fractionRule a b)
+  pub at-most : a .part * b .whole ≤ b .part * a .whole
 
 -- every parent that the list names is an order, no order leads back to itself, and each child is accepted in at most the fraction of its parent
 pub record FamiliesKept (s t f : List ℕ) : Type 0 where

@@ -90,14 +90,17 @@ module _ (s t f : List ℕ) (room : ℕ) where
       quantity-positive : (i : ℕ) → i < c .orders → 0 < c .quantity i
       quantity-positive i h = omega (arith, (case-facts s ((accepted-sound s t room (accepted-without e)) .readable)) .quantity-in i h .0)
 
-  -- A LIST THAT NAMES NO PARENT, and that 16 passes, judges as no list does
-  pub no-parents : refusal (familyRows (some f) c) ≡ none → ((i : ℕ) → i < c .orders → parentOf f i ≡ none) → familyOutcome s t f room ≡ outcome s t room
+  -- A LIST OF WHICH 16 TO 18 AND 28 PASS judges as no list does
+  pub passed-alike : refusal (familyRows (some f) c) ≡ none → Pass (excessFraction f c p) → familyOutcome s t f room ≡ outcome s t room
   unfolding familyOutcome outcome table clearingRows
-  no-parents passed none-named =
-      let no-child : Pass (excessFraction f c p) = record { pass = λ k l. subst (λ (o : Option ℕ). T (not (exceedsParent c p k o))) (sym (none-named k l)) tt } in
+  passed-alike passed no-child =
       let volumes = after (excessVolume c p ∷ []) _ _ (row-passes (excessFraction f c p) (exchangeRows c p d) no-child) in
       let families = refusal-append (familyRows (some f) c) _ ∙ ap (λ (x : Option Outcome). else-refusal x (refusal (clearingRows (some f) c p d))) passed in
       ap answer (after (roomRows room) _ _ (after (caseRows s c) _ _ (after (proposalRows s t c p d) _ _ (after (wideTolerance c ∷ []) _ _ (families ∙ volumes)))))
+
+  -- so one that names no parent, and that 16 passes
+  pub no-parents : refusal (familyRows (some f) c) ≡ none → ((i : ℕ) → i < c .orders → parentOf f i ≡ none) → familyOutcome s t f room ≡ outcome s t room
+  no-parents passed none-named = passed-alike passed (record { pass = λ k l. subst (λ (o : Option ℕ). T (not (exceedsParent c p k o))) (sym (none-named k l)) tt })
 
 -- EVERY BYTE OF THE BUFFER afterwards: that of the judgement without the list where the hour is valued with it, else as it was
 module _ (s t f buffer : List ℕ) where

@@ -1,4 +1,4 @@
--- READABLE IN PLAIN FACTS, both ways: a case is readable if and only if its lengths, ranges and links are these, and a proposal passes 9 to 14 for it if and
+-- READABLE IN PLAIN FACTS, both ways and in the paper's own numbers: a case is readable if and only if its lengths, ranges and links are these, and a proposal passes 9 to 14 for it if and
 -- only if its are. A link's reverse pair is free: nothing here forbids it. Assumes nothing.
 use mathlib.Core.Path.{_≡_, refl}
 use mathlib.Core.Logic.{_≢_}
@@ -9,8 +9,9 @@ use Prim.Native.Nat.{ℕ, zero, suc, _+_, _≤_, _<_}
 use native.Mathlib.Omega.{arith}
 use lib.ListN.{length}
 use lib.Dec.{T, eqb, leb, ltb, eqb→eq, eqb-refl, leb→le, ltb→lt, nltb→le, T-not, not-T}
-use lib.IntN.{pos}
-use Rattle.integers.specs.Ranges.{Within, inside, nat-within, nat-inside, nor-right, nor-both, and-both, and-left, and-right, is-true, is-false}
+use lib.IntN.{pos, negℤ}
+use lib.Signed.{_≤ℤ_}
+use Rattle.integers.specs.Ranges.{inside, nat-within, nat-inside, nor-right, nor-both, and-both, and-left, and-right, is-true, is-false}
 use Rattle.measures.specs.Meaning.Limits as limits
 use Rattle.rules.specs.Meaning.Layout.{u8At, caseVersion, zonesIn, branchesIn, linksIn, ordersIn, toleranceIn, ramIn, ptdfIn, fromIn, toIn, capacityIn, contractedIn, zoneIn, sideIn, quantityIn, priceIn, caseLength, proposalVersion, shareIn, shadowIn, proposalLength, linkFields, orderFields}
 use Rattle.rules.specs.Meaning.Hour.{caseOf, planOf, pricesOf}
@@ -31,8 +32,8 @@ pub record CaseFacts (s : List ℕ) : Type 0 where
   pub orders-in : ordersIn s ≤ 512
   pub tolerance-in : toleranceIn s ≤ 1000000000
   pub length-is : length s ≡ caseLength s
-  pub margin-in : (m : ℕ) → m < branchesIn s → Within limits.margin (ramIn s m)
-  pub ptdf-in : (m z : ℕ) → m < branchesIn s → z < zonesIn s → Within limits.ptdf (ptdfIn s m z)
+  pub margin-in : (m : ℕ) → m < branchesIn s → (negℤ (pos 500000) ≤ℤ ramIn s m) × (ramIn s m ≤ℤ pos 500000)
+  pub ptdf-in : (m z : ℕ) → m < branchesIn s → z < zonesIn s → (negℤ (pos 200000) ≤ℤ ptdfIn s m z) × (ptdfIn s m z ≤ℤ pos 200000)
   pub from-in : (l : ℕ) → l < linksIn s → fromIn s l < zonesIn s
   pub to-in : (l : ℕ) → l < linksIn s → toIn s l < zonesIn s
   pub zones-differ : (l : ℕ) → l < linksIn s → fromIn s l ≢ toIn s l
@@ -42,7 +43,7 @@ pub record CaseFacts (s : List ℕ) : Type 0 where
   pub zone-in : (i : ℕ) → i < ordersIn s → zoneIn s i < zonesIn s
   pub side-in : (i : ℕ) → i < ordersIn s → sideIn s i ≤ 1
   pub quantity-in : (i : ℕ) → i < ordersIn s → (1 ≤ quantityIn s i) × (quantityIn s i ≤ 100000)
-  pub price-in : (i : ℕ) → i < ordersIn s → Within limits.orderPrice (priceIn s i)
+  pub price-in : (i : ℕ) → i < ordersIn s → (negℤ (pos 50000) ≤ℤ priceIn s i) × (priceIn s i ≤ℤ pos 400000)
 
 pub record ProposalFacts (s t : List ℕ) : Type 0 where
   pub header-there : 13 ≤ length t
@@ -73,7 +74,7 @@ lt-nleb m n h = not-T (leb m n) (λ t. never (leb→le m n t))
     never : m ≤ n → ⊥
     never l = omega arith
 
-marked : (a b e : ℕ) (s : List ℕ) → T (not (notMark a b e s)) → (u8At s 0 ≡ a) × ((u8At s 1 ≡ b) × (u8At s 2 ≡ e))
+pub marked : (a b e : ℕ) (s : List ℕ) → T (not (notMark a b e s)) → (u8At s 0 ≡ a) × ((u8At s 1 ≡ b) × (u8At s 2 ≡ e))
 unfolding notMark
 marked a b e s t =
     let all = not-not (eqb (u8At s 0) a && eqb (u8At s 1) b && eqb (u8At s 2) e) t in
@@ -82,7 +83,7 @@ marked a b e s t =
       (eqb→eq (u8At s 1) b (and-right (eqb (u8At s 0) a) (eqb (u8At s 1) b) two), eqb→eq (u8At s 2) e (and-right (eqb (u8At s 0) a && eqb (u8At s 1) b) (eqb (u8At s 2) e) all)),
     )
 
-mark-passes : (a b e : ℕ) (s : List ℕ) → (u8At s 0 ≡ a) × ((u8At s 1 ≡ b) × (u8At s 2 ≡ e)) → T (not (notMark a b e s))
+pub mark-passes : (a b e : ℕ) (s : List ℕ) → (u8At s 0 ≡ a) × ((u8At s 1 ≡ b) × (u8At s 2 ≡ e)) → T (not (notMark a b e s))
 unfolding notMark
 mark-passes a b e s h = yes-not-not (eqb (u8At s 0) a && eqb (u8At s 1) b && eqb (u8At s 2) e)
     (and-both (eqb (u8At s 0) a && eqb (u8At s 1) b) (eqb (u8At s 2) e)
@@ -118,8 +119,8 @@ case-facts s r =
       orders-in = ok .orders-in;
       tolerance-in = ok .tolerance-in;
       length-is = case-length s r;
-      margin-in = ok .ram-in;
-      ptdf-in = ok .ptdf-in;
+      margin-in = λ m h. (ok .ram-in m h .least-le, ok .ram-in m h .le-greatest);
+      ptdf-in = λ m z h k. (ok .ptdf-in m z h k .least-le, ok .ptdf-in m z h k .le-greatest);
       from-in = ok .placed .from-in;
       to-in = ok .placed .to-in;
       zones-differ = λ l h e. T-not (eqb (fromIn s l) (toIn s l)) (nor-right (unknown (zonesIn s) (toIn s l)) _ (no-place linkFields (linkFault (caseOf s) l) ((row 7) .pass l h) 1 (omega arith))) (eq-eqb (fromIn s l) (toIn s l) e);
@@ -129,7 +130,7 @@ case-facts s r =
       zone-in = ok .placed .zone-in;
       side-in = ok .side-in;
       quantity-in = λ i h. nat-within 1 100000 (quantityIn s i) (inside limits.quantity (pos (quantityIn s i)) (ok .quantity-within i h));
-      price-in = ok .price-in;
+      price-in = λ i h. (ok .price-in i h .least-le, ok .price-in i h .le-greatest);
     }
   where
     row : (n : ℕ) → Pass (rowNumbered n (caseRows s (caseOf s)))
@@ -145,8 +146,8 @@ none-at-fault w f h = is-false (any-none w f h)
 module _ (s : List ℕ) (f : CaseFacts s) where
   branch-passes : (m : ℕ) → m < branchesIn s → (n : ℕ) → n < 1 + zonesIn s → T (not (branchFault (caseOf s) m n))
   unfolding branchFault caseOf
-  branch-passes m h zero k = inside limits.margin (ramIn s m) (f .margin-in m h)
-  branch-passes m h (suc z) k = inside limits.ptdf (ptdfIn s m z) (f .ptdf-in m z h (omega (arith, k)))
+  branch-passes m h zero k = inside limits.margin (ramIn s m) (record { least-le = (f .margin-in m h) .0; le-greatest = (f .margin-in m h) .1 })
+  branch-passes m h (suc z) k = let w = f .ptdf-in m z h (omega (arith, k)) in inside limits.ptdf (ptdfIn s m z) (record { least-le = w .0; le-greatest = w .1 })
 
   link-passes : (l : ℕ) → l < linksIn s → (n : ℕ) → n < linkFields → T (not (linkFault (caseOf s) l n))
   unfolding linkFault repeated caseOf
@@ -163,7 +164,7 @@ module _ (s : List ℕ) (f : CaseFacts s) where
   order-passes i h zero k = lt-nleb (zonesIn s) (zoneIn s i) (f .zone-in i h)
   order-passes i h (suc zero) k = le-nltb 1 (sideIn s i) (f .side-in i h)
   order-passes i h (suc (suc zero)) k = nat-inside 1 100000 (quantityIn s i) ((f .quantity-in i h) .0) ((f .quantity-in i h) .1)
-  order-passes i h (suc (suc (suc n))) k = inside limits.orderPrice (priceIn s i) (f .price-in i h)
+  order-passes i h (suc (suc (suc n))) k = inside limits.orderPrice (priceIn s i) (record { least-le = (f .price-in i h) .0; le-greatest = (f .price-in i h) .1 })
 
   pub facts-readable : Readable s
   unfolding caseRefusal caseRows caseOf

@@ -47,7 +47,7 @@ price-at zero price rest z h = absurd (no-less z h)
 price-at (suc n) price rest z h = ap (λ (l : List ℕ). take 8 (drop (8 * z) l)) (append-assoc (priceBytes n price) (signed64 (price n)) rest)
     ∙ elim (decLt z n) [ yes l ↦ price-at n price (signed64 (price n) ++ rest) z l | no g ↦ last-price n price rest z (omega arith) ]
 
-price-stands : (number : ℕ) (c : Case) (p : Plan) (d : Prices) (rest : List ℕ) (z : ℕ) → z < c .zones
+pub price-stands : (number : ℕ) (c : Case) (p : Plan) (d : Prices) (rest : List ℕ) (z : ℕ) → z < c .zones
     → take 8 (drop (zonePriceAt z) (reportBytes number c p d ++ rest)) ≡ signed64 (zonePrice c d z)
 unfolding reportBytes reportText totalsOf headerBytes totalBytes signed64 bytesOf
 price-stands number c p d rest z h =
@@ -87,8 +87,9 @@ module _ (s t buffer : List ℕ) where
   number : ℕ
   number = (outcome s t (length buffer)) .number
 
-  writes : T (reports number) → bufferAfter s t buffer ≡ reportBytes number (caseOf s) (planOf s t) (pricesOf s t) ++ drop (reportSize (caseOf s)) buffer
-  unfolding bufferAfter written number
+  pub writes : T (reports ((outcome s t (length buffer)) .number))
+      → bufferAfter s t buffer ≡ reportBytes ((outcome s t (length buffer)) .number) (caseOf s) (planOf s t) (pricesOf s t) ++ drop (reportSize (caseOf s)) buffer
+  unfolding bufferAfter written
   writes r = on (reports ((outcome s t (length buffer)) .number)) _ _ r
 
   -- verdict 0 or 26

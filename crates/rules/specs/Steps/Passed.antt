@@ -236,7 +236,7 @@ module _ (s t : List ℕ) (room : ℕ) where
   unfolding outcome table roomRows caseRows proposalRows clearingRows before hasRow rowOf isRow
   within-tolerance e = ltZ-no ((row-passed 0 (table none s t room (caseOf s) (planOf s t) (pricesOf s t)) e 26 0 tt) .pass 0 (omega arith))
 
-  -- and the tolerance is one that an accepted hour may have (S-12)
-  pub narrow-tolerance : (outcome s t room) .number ≡ 0 → Within limits.acceptedTolerance (pos ((caseOf s) .tolerance))
+  -- and the tolerance is at most 10,000 cents (S-12)
+  pub narrow-tolerance : (outcome s t room) .number ≡ 0 → (caseOf s) .tolerance ≤ 10000
   unfolding outcome table roomRows caseRows proposalRows clearingRows before hasRow rowOf isRow
-  narrow-tolerance e = within limits.acceptedTolerance _ ((row-passed 0 (table none s t room (caseOf s) (planOf s t) (pricesOf s t)) e 15 0 tt) .pass 0 (omega arith))
+  narrow-tolerance e = (nat-within 0 10000 ((caseOf s) .tolerance) ((row-passed 0 (table none s t room (caseOf s) (planOf s t) (pricesOf s t)) e 15 0 tt) .pass 0 (omega arith))) .1

@@ -2,16 +2,17 @@
 use mathlib.Core.Path.{_≡_, refl}
 use mathlib.Core.List.{List, [], _∷_, _++_, map}
 use Prim.Native.Nat.{ℕ, _*_}
-use lib.ListN.{length}
+use lib.ListN.{length, replicate}
 use lib.IntN.{ℤ, pos}
 use mir.Syntax.{w32}
 use mir.Val.{ofZ}
 use Rattle.integers.specs.Sums.{sumTo}
-use Rattle.integers.specs.Bytes.{bytesOf}
+use Rattle.integers.specs.Bytes.{bytesOf, signed64}
 use Rattle.integers.specs.Ranges.{minus, outside, isZero}
-use Rattle.rules.specs.Meaning.Layout.{u8At, u16At, u32At, i32At, caseVersion, zonesIn, branchesIn, linksIn, ordersIn, toleranceIn, branchSize, branchAt, ramIn, ptdfIn, linkAt, fromIn, toIn, capacityIn, contracts, contractedSize, contractedIn, orderAt, zoneIn, sideIn, quantityIn, priceIn, caseLength, proposalVersion, shareIn, systemIn, volumeIn, flowIn, shadowAt, shadowIn, proposalLength, reportRoom}
+use Rattle.rules.specs.Meaning.Layout.{u8At, u16At, u32At, i32At, caseVersion, zonesIn, branchesIn, linksIn, ordersIn, toleranceIn, branchSize, branchAt, ramIn, ptdfIn, linkAt, fromIn, toIn, capacityIn, contracts, contractedSize, contractedIn, orderAt, zoneIn, sideIn, quantityIn, priceIn, caseLength, proposalVersion, shareIn, systemIn, volumeIn, flowIn, shadowAt, shadowIn, proposalLength}
 use Rattle.rules.specs.Meaning.Hour.{caseOf, planOf, pricesOf, buys, orderNet, net, inflow, outflow, ltaPart, fbPart, netSum, linkUse, linkRoom, branchUse, branchRoom, branchPrice, zonePrice, orderWelfare, welfare, surplusOf, orderSurplus, surplus, branchValue, branchTotal, spread, linkValue, linkTotal, linkOwed, owed, noLink, networkBound, bound, gap, rent}
 use Rattle.rules.specs.Meaning.Verdict.{outcome, notMark, branchFault, repeated, linkFault, rowFault, orderFault, roomRows, caseRows, proposalRows, clearingRows, table}
+use Rattle.rules.specs.Meaning.Report.{priceBytes, headerBytes, totalBytes, reportText, totalsOf, reportBytes, reportSize, reports, written, bufferAfter}
 use Rattle.rows.specs.declared.Outcome.{Outcome}
 use Rattle.rows.specs.Meaning.Rows.{verdict, firstBelow, anyBelow, firstField, refusal}
 
@@ -149,21 +150,66 @@ owedIs v = record { total = λ s t. owed (caseOf s) (pricesOf s t); value = v }
 abbrev priceIs : ℕ → ℤ → Named
 priceIs z v = record { total = λ s t. zonePrice (caseOf s) (pricesOf s t) z; value = v }
 
+-- an example's files byte by byte, with the report buffer that the judgement leaves where 176 sevens stood in it
+pub record Stored : Type 0 where
+  pub caseFile : List ℕ
+  pub proposalFile : List ℕ
+  pub buffer : List ℕ
+
+-- P1's: 102 bytes, 45 bytes, and 72 bytes of report. They are written out and by no function of these specs
+unfoldable pub stored1 : Stored
+stored1 = record {
+  caseFile =
+      -- LTC, version 1, 3 zones, 2 branches, 1 link, 5 orders, tolerance 0; two branches; the link; five orders
+      76 ∷ 84 ∷ 67 ∷ 1 ∷ 0 ∷ 3 ∷ 2 ∷ 1 ∷ 5 ∷ 0 ∷ 0 ∷ 0 ∷ 0 ∷ 0
+      ∷ 196 ∷ 9 ∷ 0 ∷ 0 ∷ 0 ∷ 0 ∷ 0 ∷ 0 ∷ 248 ∷ 36 ∷ 1 ∷ 0 ∷ 80 ∷ 195 ∷ 0 ∷ 0
+      ∷ 152 ∷ 58 ∷ 0 ∷ 0 ∷ 96 ∷ 121 ∷ 254 ∷ 255 ∷ 0 ∷ 0 ∷ 0 ∷ 0 ∷ 0 ∷ 0 ∷ 0 ∷ 0
+      ∷ 0 ∷ 1 ∷ 160 ∷ 15 ∷ 0 ∷ 0
+      ∷ 0 ∷ 1 ∷ 160 ∷ 15 ∷ 0 ∷ 0 ∷ 232 ∷ 3 ∷ 0 ∷ 0
+      ∷ 0 ∷ 1 ∷ 112 ∷ 23 ∷ 0 ∷ 0 ∷ 208 ∷ 7 ∷ 0 ∷ 0
+      ∷ 1 ∷ 0 ∷ 232 ∷ 3 ∷ 0 ∷ 0 ∷ 88 ∷ 27 ∷ 0 ∷ 0
+      ∷ 1 ∷ 0 ∷ 40 ∷ 35 ∷ 0 ∷ 0 ∷ 112 ∷ 23 ∷ 0 ∷ 0
+      ∷ 2 ∷ 0 ∷ 16 ∷ 39 ∷ 0 ∷ 0 ∷ 136 ∷ 19 ∷ 0 ∷ 0 ∷ [];
+  proposalFile =
+      -- LTP, version 1, share 87,500, system price 2,250; five volumes; the flow; two shadow prices
+      76 ∷ 84 ∷ 80 ∷ 1 ∷ 0 ∷ 204 ∷ 85 ∷ 1 ∷ 0 ∷ 202 ∷ 8 ∷ 0 ∷ 0
+      ∷ 160 ∷ 15 ∷ 0 ∷ 0 ∷ 95 ∷ 5 ∷ 0 ∷ 0 ∷ 232 ∷ 3 ∷ 0 ∷ 0 ∷ 0 ∷ 0 ∷ 0 ∷ 0 ∷ 23 ∷ 17 ∷ 0 ∷ 0
+      ∷ 172 ∷ 13 ∷ 0 ∷ 0
+      ∷ 124 ∷ 21 ∷ 0 ∷ 0 ∷ 250 ∷ 0 ∷ 0 ∷ 0 ∷ [];
+  buffer =
+      -- LTR, version 1, number 0, 3 zones, 0; welfare, bound, gap, rent, owed; three prices; and what stood past them
+      (76 ∷ 84 ∷ 82 ∷ 1 ∷ 0 ∷ 0 ∷ 3 ∷ 0
+      ∷ 0 ∷ 205 ∷ 70 ∷ 35 ∷ 3 ∷ 2 ∷ 0 ∷ 0
+      ∷ 0 ∷ 205 ∷ 70 ∷ 35 ∷ 3 ∷ 2 ∷ 0 ∷ 0
+      ∷ 0 ∷ 0 ∷ 0 ∷ 0 ∷ 0 ∷ 0 ∷ 0 ∷ 0
+      ∷ 0 ∷ 220 ∷ 32 ∷ 116 ∷ 151 ∷ 1 ∷ 0 ∷ 0
+      ∷ 0 ∷ 220 ∷ 32 ∷ 116 ∷ 151 ∷ 1 ∷ 0 ∷ 0
+      ∷ 0 ∷ 194 ∷ 235 ∷ 11 ∷ 0 ∷ 0 ∷ 0 ∷ 0
+      ∷ 96 ∷ 122 ∷ 255 ∷ 37 ∷ 0 ∷ 0 ∷ 0 ∷ 0
+      ∷ 0 ∷ 101 ∷ 205 ∷ 29 ∷ 0 ∷ 0 ∷ 0 ∷ 0 ∷ [])
+      ++ replicate 104 7;
+}
+
 pub record Example : Type 0 where
   pub case : CaseFields
   pub proposal : ProposalFields
   pub expected : Outcome
   pub named : List Named
+  pub stored : List Stored
 
 abbrev example : CaseFields → ProposalFields → Outcome → List Named → Example
-example k p o vs = record { case = k; proposal = p; expected = o; named = vs }
+example k p o vs = record { case = k; proposal = p; expected = o; named = vs; stored = [] }
+
+-- with its files byte by byte
+abbrev storedAs : Stored → Example → Example
+storedAs f e = record { case = e .case; proposal = e .proposal; expected = e .expected; named = e .named; stored = f ∷ [] }
 
 unfoldable pub examples : List Example
 examples =
-    -- P1: 0, and the totals and prices that the desk program prints
-    example (threeZones linkAB 0) (proposal1 87500 1375 4375 3500) (verdict 0 0)
+    -- P1: 0, the totals and prices that the desk program prints, and every byte of its files and its report
+    storedAs stored1 (example (threeZones linkAB 0) (proposal1 87500 1375 4375 3500) (verdict 0 0)
     (welfareIs (euros 22125) ∷ boundIs (euros 22125) ∷ gapIs (euros 0) ∷ rentIs (euros 17500) ∷ owedIs (euros 17500)
-    ∷ priceIs 0 (pos 200000000) ∷ priceIs 1 (pos 637500000) ∷ priceIs 2 (pos 500000000) ∷ [])
+    ∷ priceIs 0 (pos 200000000) ∷ priceIs 1 (pos 637500000) ∷ priceIs 2 (pos 500000000) ∷ []))
     -- P2: no link
     ∷ example (threeZones [] 0) (proposal2 []) (verdict 0 0) (welfareIs (euros 19500) ∷ rentIs (euros 15000) ∷ owedIs (euros 0) ∷ [])
     -- P3: P2's proposal with the link and flow 0. With tolerance 299,999 cents, and P4, tolerance 300,000: 15 since S-12
@@ -190,19 +236,24 @@ examples =
 pub record Answer : Type 0 where
   pub answered : Outcome
   pub totals : List ℤ
+  pub files : List Stored
 
-unfoldable pub judged : List ℕ → List ℕ → List Named → Answer
-judged s t vs = record { answered = outcome s t reportRoom; totals = map (λ v. v .total s t) vs }
+unfoldable pub judged : List ℕ → List ℕ → List Named → List Stored → Answer
+judged s t vs fs = record {
+  answered = outcome s t 176;
+  totals = map (λ v. v .total s t) vs;
+  files = map (λ (f : Stored). record { caseFile = s; proposalFile = t; buffer = bufferAfter s t (replicate 176 7) }) fs;
+}
 
 unfoldable pub given : Example → Answer
-given e = judged (caseBytes (e .case)) (proposalBytes (e .proposal)) (e .named)
+given e = judged (caseBytes (e .case)) (proposalBytes (e .proposal)) (e .named) (e .stored)
 
 unfoldable pub said : Example → Answer
-said e = record { answered = e .expected; totals = map (λ v. v .value) (e .named) }
+said e = record { answered = e .expected; totals = map (λ v. v .value) (e .named); files = e .stored }
 
 -- every example comes out as the paper says
 pub examples-hold : map given examples ≡ map said examples
-unfolding u8At u16At u32At i32At caseVersion zonesIn branchesIn linksIn ordersIn toleranceIn branchSize branchAt ramIn ptdfIn linkAt fromIn toIn capacityIn contracts contractedSize contractedIn orderAt zoneIn sideIn quantityIn priceIn caseLength proposalVersion shareIn systemIn volumeIn flowIn shadowAt shadowIn proposalLength sumTo caseOf planOf pricesOf buys orderNet net inflow outflow ltaPart fbPart netSum linkUse linkRoom branchUse branchRoom branchPrice zonePrice orderWelfare welfare surplusOf orderSurplus surplus branchValue branchTotal spread linkValue linkTotal linkOwed owed noLink networkBound bound gap rent outcome firstBelow firstField refusal outside isZero anyBelow notMark branchFault repeated linkFault rowFault orderFault roomRows caseRows proposalRows clearingRows table bytesOf le32 joined branchBytes linkBytes orderBytes caseBytes proposalBytes linkAB threeZones proposal1 proposal2 oneZone noOrders examples judged given said
+unfolding u8At u16At u32At i32At caseVersion zonesIn branchesIn linksIn ordersIn toleranceIn branchSize branchAt ramIn ptdfIn linkAt fromIn toIn capacityIn contracts contractedSize contractedIn orderAt zoneIn sideIn quantityIn priceIn caseLength proposalVersion shareIn systemIn volumeIn flowIn shadowAt shadowIn proposalLength sumTo caseOf planOf pricesOf buys orderNet net inflow outflow ltaPart fbPart netSum linkUse linkRoom branchUse branchRoom branchPrice zonePrice orderWelfare welfare surplusOf orderSurplus surplus branchValue branchTotal spread linkValue linkTotal linkOwed owed noLink networkBound bound gap rent outcome firstBelow firstField refusal outside isZero anyBelow notMark branchFault repeated linkFault rowFault orderFault roomRows caseRows proposalRows clearingRows table bytesOf le32 joined branchBytes linkBytes orderBytes caseBytes proposalBytes linkAB threeZones proposal1 proposal2 oneZone noOrders signed64 priceBytes headerBytes totalBytes reportText totalsOf reportBytes reportSize reports written bufferAfter stored1 examples judged given said
 examples-hold = refl
 
 -- case 102 bytes, proposal 45 bytes

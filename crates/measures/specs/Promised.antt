@@ -1,0 +1,2 @@
+-- WHAT HOLDS of the limits and the measures, for every number
+pub mod Numbers
