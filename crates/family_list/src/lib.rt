@@ -3,22 +3,24 @@ ghost use mathlib.Core.Path.{_≡_};
 ghost use mathlib.Core.Option.{none};
 ghost use Prim.Native.Nat.{_+_, _<_, _≤_};
 ghost use lib.ListN.{length};
-ghost use Rattle.rows.specs.Meaning.Rows.{firstBelow, anyBelow};
+ghost use Rattle.rows.specs.Meaning.Rows.{firstBelow};
 ghost use Rattle.rows.specs.Promised.RowLaws.{placeOf};
-ghost use Rattle.rules.specs.Meaning.Families.{named, parentIn, parentOf, missing, leadsBack, LeadsBack};
+ghost use Rattle.fields.specs.Walk.{cursor};
+ghost use Rattle.fields.specs.Walked.{pastAt, walked, rowsWalked};
+ghost use Rattle.rules.specs.Meaning.Families.{familyHeader, familyLength, named, parentIn, parentOf, missing, leadsBack, LeadsBack};
 ghost use Rattle.family_list.specs.Steps.Round.{Least};
 ghost use Rattle.family_list.specs.Steps.Round as round;
 ghost use Rattle.family_list.specs.Steps.Walk.{held, Trail};
 ghost use Rattle.family_list.specs.Steps.Taken.{Taken, Search};
-ghost use Rattle.family_list.specs.Steps.Answer.{Whole, Known, headerBy, familyAnswer, wrongList, absent};
+ghost use Rattle.family_list.specs.Steps.Answer.{Whole, Known, headerBy, parentRow, listRows, circleAnswer, familyAnswer, wrongList};
 use fields::Cursor;
 use fields::Mark;
 use fields::MarkField;
+use fields::Walked;
 use fields::WordField;
 use fields::half_at;
 use rows::Outcome;
 use rows::Place;
-use rows::either;
 
 const MARK: Mark = Mark(b'L', b'T', b'F');
 
@@ -26,8 +28,11 @@ const VERSION: u32 = 1;
 
 const HEADER: usize = 5;
 
-// What stands for no parent, in the list's own 16 bits and as a number.
-const NONE: u16 = 65535;
+// The bytes of a parent.
+const PARENT: usize = 2;
+
+// What stands for no parent.
+const NONE: u32 = 65535;
 
 pub const NO_PARENT: usize = NONE as usize;
 
@@ -42,27 +47,27 @@ const WRONG_LIST: Outcome = Outcome {
     index: 0,
 };
 
-// ROW 16: the header, field by field, and the length behind it. A field that cannot be taken ends the walk: the list is too short.
-fn walk_header(families: &[u8], orders: usize) -> FamilyAnswer
+// ROW 16: the header, field by field, and the length of what follows it. A field that cannot be taken ends the walk: the list is too short.
+fn walk_header(families: &[u8], orders: usize) -> Walked
     requires { ⌜ orders ≤ 512 ⌝ }
     ensures { λ r. ⌜ r ≡ headerBy (wrongList (now (families .entry)) orders) ⌝ }
 {
     let MarkField::Taken(mark, at_version) = Cursor::new(0).mark(families) else {
-        return FamilyAnswer::Refused(WRONG_LIST);
+        return Walked::Refused(WRONG_LIST);
     };
     let WordField::Taken(version, at_parents) = at_version.half(families) else {
-        return FamilyAnswer::Refused(WRONG_LIST);
+        return Walked::Refused(WRONG_LIST);
     };
     if mark.differs(MARK) {
-        return FamilyAnswer::Refused(WRONG_LIST);
+        return Walked::Refused(WRONG_LIST);
     }
     if version != VERSION {
-        return FamilyAnswer::Refused(WRONG_LIST);
+        return Walked::Refused(WRONG_LIST);
     }
     if families.len() != at_parents.at + 2 * orders {
-        return FamilyAnswer::Refused(WRONG_LIST);
+        return Walked::Refused(WRONG_LIST);
     }
-    FamilyAnswer::Sound
+    Walked::Past(at_parents)
 }
 
 // The number that order i gives for its parent, of a list that row 16 passes.
@@ -84,7 +89,7 @@ pub fn parent_at(families: &[u8], orders: usize, i: usize) -> usize
 }
 
 // ROW 17, of one order by the number that it gives.
-fn is_absent(orders: u16, parent: u16) -> bool
+fn is_absent(orders: u32, parent: u32) -> bool
     ensures { λ r. ⌜ r ≡ missing orders (named parent) ⌝ }
 {
     if parent == NONE {
@@ -93,47 +98,47 @@ fn is_absent(orders: u16, parent: u16) -> bool
     orders <= parent
 }
 
-// Whether the parent of some order does not exist. All are asked, so that nothing but their number ends the loop, and in the list's own 16 bits.
-fn some_absent(families: &[u8], orders: usize) -> bool
+// ROW 17: the parents, each over its own two bytes, whose length is known, and their numbers into the array. A parent that does not exist ends the walk
+// with the order that names it. Row 16 passed, so that none is missing.
+fn walk_parents(families: &[u8], orders: usize, start: Cursor, up: &mut [u32; 512]) -> Walked
     requires { ⌜ Whole (now families) orders ⌝ }
-    ensures { λ r. ⌜ r ≡ anyBelow orders (absent (now (families .entry)) orders) ⌝ }
-{
-    let count = orders as u16;
-    let mut found = false;
-    for i in 0..orders {
-        let parent = number_at(families, orders, i) as u16;
-        found = either(found, is_absent(count, parent));
-    }
-    found
-}
-
-// ROW 17: the first order whose parent does not exist.
-fn first_absent(families: &[u8], orders: usize) -> Place
-    requires { ⌜ Whole (now families) orders ⌝ }
-    ensures { λ r. ⌜ placeOf r ≡ firstBelow orders (absent (now (families .entry)) orders) ⌝ }
-{
-    if !some_absent(families, orders) {
-        return Place::Nowhere;
-    }
-    let count = orders as u16;
-    for i in 0..orders {
-        let parent = number_at(families, orders, i) as u16;
-        if is_absent(count, parent) {
-            return Place::At(i);
-        }
-    }
-    Place::Nowhere
-}
-
-// The numbers of all parents, taken into the array.
-fn take_parents(families: &[u8], orders: usize, up: &mut [u32; 512])
-    requires { ⌜ Whole (now families) orders ⌝ }
+    requires { ⌜ start .at ≡ familyHeader ⌝ }
     requires { ⌜ length (now up) ≡ 512 ⌝ }
-    ensures { λ _. ⌜ Taken (now (families .entry)) orders (now (up .exit)) ⌝ }
+    ensures walk { λ r. ⌜ r ≡ walked (parentRow (now (families .entry)) orders) (cursor (familyLength orders)) ⌝ }
+    ensures taken { λ r. ⌜ (r ≡ pastAt (familyLength orders) → Taken (now (families .entry)) orders (now (up .exit))) ⌝ }
 {
+    let count = orders as u32;
+    let mut cursor = start;
     for i in 0..orders {
-        up[i] = number_at(families, orders, i);
+        let at = cursor.at;
+        let field = &families[at..at + PARENT];
+        let WordField::Taken(parent, past) = Cursor::new(0).half(field) else {
+            return Walked::Refused(WRONG_LIST);
+        };
+        if is_absent(count, parent) {
+            return Walked::Refused(Outcome {
+                number: 17,
+                index: i as u32,
+            });
+        }
+        up[i] = parent;
+        cursor = past.in_file(at);
     }
+    Walked::Past(cursor)
+}
+
+// ROWS 16 AND 17: one walk from the mark to the last parent.
+fn walk_list(families: &[u8], orders: usize, up: &mut [u32; 512]) -> Walked
+    requires { ⌜ orders ≤ 512 ⌝ }
+    requires { ⌜ length (now up) ≡ 512 ⌝ }
+    ensures walk { λ r. ⌜ r ≡ rowsWalked (listRows (now (families .entry)) orders) (cursor (familyLength orders)) ⌝ }
+    ensures taken { λ r. ⌜ (r ≡ pastAt (familyLength orders) → Taken (now (families .entry)) orders (now (up .exit))) ⌝ }
+{
+    let header = walk_header(families, orders);
+    let Walked::Past(parents) = header else {
+        return header;
+    };
+    walk_parents(families, orders, parents, up)
 }
 
 // ROW 18. An order that a walk has been at holds no longer its parent but the walk's number, above that of every order.
@@ -225,28 +230,29 @@ fn first_on_circle(families: &[u8], orders: usize, up: &mut [u32; 512]) -> Place
     Place::Nowhere
 }
 
-// ROWS 16 TO 18 of a family list, beside a case of so many orders.
-pub fn read_families(families: &[u8], orders: usize) -> FamilyAnswer
-    requires { ⌜ orders ≤ 512 ⌝ }
-    ensures { λ r. ⌜ r ≡ familyAnswer (now (families .entry)) orders ⌝ }
+// ROW 18 of a family list that rows 16 and 17 pass.
+fn hold_circles(families: &[u8], orders: usize, up: &mut [u32; 512]) -> FamilyAnswer
+    requires { ⌜ Known (now families) orders ⌝ }
+    requires { ⌜ Taken (now families) orders (now up) ⌝ }
+    ensures { λ r. ⌜ r ≡ circleAnswer (now (families .entry)) orders ⌝ }
 {
-    let header = walk_header(families, orders);
-    let FamilyAnswer::Sound = header else {
-        return header;
-    };
-    if let Place::At(i) = first_absent(families, orders) {
-        return FamilyAnswer::Refused(Outcome {
-            number: 17,
-            index: i as u32,
-        });
-    }
-    let mut up = [0u32; 512];
-    take_parents(families, orders, &mut up);
-    if let Place::At(i) = first_on_circle(families, orders, &mut up) {
+    if let Place::At(i) = first_on_circle(families, orders, up) {
         return FamilyAnswer::Refused(Outcome {
             number: 18,
             index: i as u32,
         });
     }
     FamilyAnswer::Sound
+}
+
+// ROWS 16 TO 18 of a family list, beside a case of so many orders.
+pub fn read_families(families: &[u8], orders: usize) -> FamilyAnswer
+    requires { ⌜ orders ≤ 512 ⌝ }
+    ensures { λ r. ⌜ r ≡ familyAnswer (now (families .entry)) orders ⌝ }
+{
+    let mut up = [0u32; 512];
+    match walk_list(families, orders, &mut up) {
+        Walked::Past(_) => hold_circles(families, orders, &mut up),
+        Walked::Refused(refusal) => FamilyAnswer::Refused(refusal),
+    }
 }

@@ -7,7 +7,7 @@ use lib.ListN.{length, getD, take, drop, length-drop}
 use lib.Seq.{getD-take, getD-drop, length-take-le}
 use mir.Syntax.{w32}
 use mir.Val.{toZ}
-use Rattle.rules.specs.Meaning.Layout.{u8At, u32At, i32At}
+use Rattle.rules.specs.Meaning.Layout.{u8At, u16At, u32At, i32At}
 
 module _ (s : List ℕ) (at n : ℕ) where
   abbrev pub partOf : List ℕ
@@ -25,6 +25,10 @@ module _ (s : List ℕ) (at n : ℕ) where
   pub part-u8 : (i : ℕ) → i < n → u8At partOf i ≡ u8At s (at + i)
   unfolding u8At
   part-u8 i h = byte-is i h
+
+  pub part-u16 : (i : ℕ) → i + 1 < n → u16At partOf i ≡ u16At s (at + i)
+  unfolding u16At
+  part-u16 i h = λ j. byte-is i (omega arith) j + 256 * byte-at (i + 1) (at + i + 1) h (omega arith) j
 
   pub part-u32 : (i : ℕ) → i + 3 < n → u32At partOf i ≡ u32At s (at + i)
   unfolding u32At

@@ -2,7 +2,7 @@
 use mathlib.Core.Path.{_≡_, refl}
 use mathlib.Core.Bool.{Bool, true, false}
 use mathlib.Core.List.{List}
-use Prim.Native.Nat.{ℕ, _+_, _<_, _≤_}
+use Prim.Native.Nat.{ℕ, _+_, _*_, _<_, _≤_}
 use borrow.Author.Tests.{leb-true, leb-false}
 use lib.ListN.{length}
 use lib.Dec.{leb}
@@ -19,6 +19,12 @@ use Rattle.fields.specs.declared.WordField.{WordField}
 use Rattle.fields.specs.declared.WordField.the-variants as word
 use Rattle.fields.specs.declared.SignedField.{SignedField}
 use Rattle.fields.specs.declared.SignedField.the-variants as signed
+use Rattle.fields.specs.declared.LongField.{LongField}
+use Rattle.fields.specs.declared.LongField.the-variants as long
+
+-- unsigned 64 bits at an offset, little-endian
+abbrev pub u64At : List ℕ → ℕ → ℕ
+u64At s k = u32At s k + 4294967296 * u32At s (k + 4)
 
 abbrev pub cursor : ℕ → Cursor
 cursor n = record { at = n }
@@ -47,6 +53,10 @@ abbrev pub signedBy : Raw → Cursor → Bool → SignedField
 signedBy v c true = signed.Taken v c
 signedBy v c false = signed.Short
 
+abbrev pub longBy : ℕ → Cursor → Bool → LongField
+longBy v c true = long.Taken v c
+longBy v c false = long.Short
+
 -- the three letters at an offset
 abbrev pub markAt : List ℕ → ℕ → Mark
 markAt s at = record { 0 = u8At s at; 1 = u8At s (at + 1); 2 = u8At s (at + 2) }
@@ -65,6 +75,9 @@ wordField s at = wordBy (u32At s at) (cursor (at + 4)) (fieldFits s at 4)
 
 abbrev pub signedField : List ℕ → ℕ → SignedField
 signedField s at = signedBy (raw (i32At s at)) (cursor (at + 4)) (fieldFits s at 4)
+
+abbrev pub longField : List ℕ → ℕ → LongField
+longField s at = longBy (u64At s at) (cursor (at + 8)) (fieldFits s at 8)
 
 -- A FIELD THAT WAS TAKEN: its n bytes stand there, v is its number x, and the cursor is past it
 pub record Took {A : Type 0} (s : List ℕ) (at n : ℕ) (x v : A) (c : Cursor) : Type 0 where
@@ -105,6 +118,14 @@ signed-missing : (x : Raw) (d : Cursor) (b : Bool) → signedBy x d b ≡ signed
 signed-missing x d true e = cc
 signed-missing x d false e = refl
 
+long-taken : (x : ℕ) (d : Cursor) (b : Bool) {v : ℕ} {c : Cursor} → longBy x d b ≡ long.Taken v c → (b ≡ true) × (v ≡ x) × (c ≡ d)
+long-taken x d true e = (refl, cc, cc)
+long-taken x d false e = (cc, cc, cc)
+
+long-missing : (x : ℕ) (d : Cursor) (b : Bool) → longBy x d b ≡ long.Short → b ≡ false
+long-missing x d true e = cc
+long-missing x d false e = refl
+
 module _ (s : List ℕ) (at : ℕ) where
   took : {A : Type 0} (n : ℕ) {x v : A} {c : Cursor} → (fieldFits s at n ≡ true) × (v ≡ x) × (c ≡ cursor (at + n)) → Took s at n x v c
   took n w = record { inside = leb-true (at + n) (length s) (w .0); is = w .1; past = w .2 }
@@ -141,3 +162,9 @@ module _ (s : List ℕ) (at : ℕ) where
 
   pub signed-short : signedField s at ≡ signed.Short → length s < at + 4
   signed-short e = missing 4 (signed-missing _ _ (fieldFits s at 4) e)
+
+  pub long-took : {v : ℕ} {c : Cursor} → longField s at ≡ long.Taken v c → Took s at 8 (u64At s at) v c
+  long-took e = took 8 (long-taken _ _ (fieldFits s at 8) e)
+
+  pub long-short : longField s at ≡ long.Short → length s < at + 8
+  long-short e = missing 8 (long-missing _ _ (fieldFits s at 8) e)

@@ -35,6 +35,7 @@ use family_list::read_families;
 use measures::Cents;
 use measures::Grains;
 use measures::Microcents;
+use measures::MicrocentsAnswer;
 use measures::Share;
 use measures::Tenths;
 use network::branch_sums;
@@ -131,9 +132,9 @@ fn admit(k: Counts, families: &[u8], listed: bool) -> Outcome
     ensures { λ r. ⌜ Admitted k listed (now (families .entry)) r ⌝ }
 {
     let tolerance = k.tolerance;
-    if tolerance.is_wide_tolerance() {
+    let MicrocentsAnswer::Held(_) = tolerance.accepted_tolerance() else {
         return outcome(15, 0);
-    }
+    };
     match read_listed(families, k.orders, listed) {
         FamilyAnswer::Refused(refusal) => refusal,
         FamilyAnswer::Sound => PASSED,

@@ -5,10 +5,11 @@ ghost use Prim.Native.Nat.{ℕ, _≤_, _<_};
 ghost use lib.ListN.{length};
 ghost use Rattle.integers.specs.Sums.{sumTo};
 ghost use Rattle.measures.specs.Meaning.Limits as limits;
-ghost use Rattle.measures.specs.Steps.Held.{tenthsIn};
+ghost use Rattle.measures.specs.Meaning.Held.{tenthsIn};
 ghost use Rattle.rows.specs.Meaning.Rows.{firstBelow};
 ghost use Rattle.rows.specs.Promised.RowLaws.{placeOf};
 ghost use Rattle.net_positions.specs.Meaning.Positions.{positionAt, positionOutside, unbalanced};
+use measures::Raw;
 use measures::Tenths;
 use measures::TenthsAnswer;
 use rows::Place;
@@ -18,7 +19,7 @@ fn position(net: &[i64], zone: usize) -> TenthsAnswer
     requires { ⌜ zone < length (now net) ⌝ }
     ensures { λ r. ⌜ r ≡ tenthsIn limits.netPosition (positionAt (now (net .entry)) zone) ⌝ }
 {
-    Tenths::lent_position(net[zone])
+    Tenths::lent_position(Raw::lent(net[zone]))
 }
 
 fn position_outside(net: &[i64], zone: usize) -> bool

@@ -7,7 +7,7 @@ ghost use mir.Syntax.{w64};
 ghost use mir.Val.{SFits};
 ghost use Rattle.integers.specs.Ranges as ranges;
 ghost use Rattle.measures.specs.Meaning.Limits as limits;
-ghost use Rattle.measures.specs.Steps.Held.{grainsIn};
+ghost use Rattle.measures.specs.Meaning.Held.{grainsIn};
 ghost use Rattle.orders.specs.Admitted.{admitted};
 ghost use Rattle.rows.specs.Promised.RowLaws.{placeOf};
 ghost use Rattle.rules.specs.Meaning.Book.{priceAt};
@@ -122,7 +122,7 @@ fn zone_price(prices: &[i64], zone: usize) -> GrainsAnswer
     requires { ⌜ zone < length (now prices) ⌝ }
     ensures { λ r. ⌜ r ≡ grainsIn limits.zonePrice (priceAt (now (prices .entry)) zone) ⌝ }
 {
-    Grains::lent_price(prices[zone])
+    Grains::lent_price(Raw::lent(prices[zone]))
 }
 
 fn price_outside(prices: &[i64], zone: usize) -> bool

@@ -17,7 +17,7 @@ use Rattle.rules.specs.Meaning.Layout.{proposalHeader, proposalVersion, shareIn
 use Rattle.rows.specs.declared.Outcome.{Outcome}
 use Rattle.rows.specs.Meaning.Rows.{verdict}
 use Rattle.rules.specs.Meaning.Verdict.{under, proposalRefusal}
-use Rattle.fields.specs.Walk.{markAt}
+use Rattle.fields.specs.Walk.{cursor, markAt}
 use Rattle.proposal_file.specs.declared.Opening.{Opening}
 use Rattle.proposal_file.specs.declared.Header.{Header}
 use Rattle.proposal_file.specs.declared.HeaderField.{HeaderField}
@@ -36,9 +36,9 @@ proposalBy p none = answer.Sound p
 abbrev pub proposalAnswer : List ℕ → List ℕ → ProposalAnswer
 proposalAnswer s t = proposalBy (openingOf t) (proposalRefusal s t)
 
--- the header's fields as they stand in the file
+-- the header's fields as they stand in the file, and the cursor past them
 abbrev pub headerIn : List ℕ → Header
-headerIn t = record { mark = markAt t 0; version = proposalVersion t; share = shareIn t; system = record { 0 = systemIn t } }
+headerIn t = record { mark = markAt t 0; version = proposalVersion t; share = shareIn t; system = record { 0 = systemIn t }; past = cursor proposalHeader }
 
 -- ROW 9, by its test
 abbrev pub takenBy : Header → Bool → HeaderField

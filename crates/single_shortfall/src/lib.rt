@@ -2,9 +2,10 @@
 // where that is above zero, less what is used of it at the price.
 ghost use mathlib.Core.Path.{_≡_};
 ghost use mathlib.Core.List.{[]};
-ghost use Prim.Native.Nat.{_≤_, _<_};
+ghost use Prim.Native.Nat.{ℕ, _≤_, _<_};
 ghost use lib.ListN.{getD};
 ghost use lib.IntN.{pos, _-ℤ_};
+ghost use Rattle.integers.specs.Ranges.{Within};
 ghost use Rattle.integers.specs.Machine.{SumsFit};
 ghost use Rattle.integers.specs.Sums.{sumTo};
 ghost use Rattle.measures.specs.Meaning.Limits as limits;
@@ -67,6 +68,7 @@ pub fn order_shortfall(
 fn load_of(row: [i32; 16], parts: [Tenths; 16], zones: usize) -> Load
     requires { ⌜ zones ≤ 16 ⌝ }
     requires { ⌜ SumsFit (loadOn row parts) zones ⌝ }
+    requires { ⌜ ((z : ℕ) → z < zones → Within limits.ptdf (getD row z (pos 0))) ⌝ }
     ensures { λ r. ⌜ r .0 ≡ sumTo zones (loadOn row parts) ⌝ }
 {
     let mut load = Load::ZERO;

@@ -18,7 +18,7 @@ use Rattle.measures.specs.Meaning.Limits as limits
 use Rattle.measures.specs.declared.Bits.{Bits}
 use Rattle.measures.specs.declared.Cents.{Cents}
 use Rattle.measures.specs.declared.CentsAnswer.the-variants as cents
-use Rattle.measures.specs.Steps.Held.{centsBy, centsIn}
+use Rattle.measures.specs.Meaning.Held.{centsBy, centsIn}
 use Rattle.binary64.specs.Meaning.Value.{cut, nearest}
 use Rattle.binary64.specs.declared.WholeAnswer.the-variants as whole
 use Rattle.binary64.specs.Steps.Machine.{zero64, times, wholeBy, wholeBelow, wholeUpTo}

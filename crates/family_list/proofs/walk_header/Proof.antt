@@ -12,6 +12,7 @@ use Rattle.rules.specs.Meaning.Layout.{u16At}
 use Rattle.rules.specs.Meaning.Verdict.{notMark, differ}
 use Rattle.fields.specs.declared.Cursor.{Cursor}
 use Rattle.fields.specs.declared.Mark.{Mark}
+use Rattle.fields.specs.declared.Walked.the-variants.{Past}
 use Rattle.fields.specs.Walk.{markAt, markField, halfField, Took}
 use Rattle.fields.specs.Walk as walk
 use Rattle.rules.specs.Meaning.Families.{familyVersion, familyLength}
@@ -123,7 +124,7 @@ returns-6 : tie.Need-returns-6
 unfolding familyLength
 returns-6 c =
     let v = opened (c .before .before .before .before) in
-    ap headerBy (sym (ap not (eq-eqb (length (version-file (v .before .before))) (familyLength (count v)) (c .if3 .left ∙ omega (arith, parents-at v)))) ∙ length-test (c .before .before))
+    ap Past (version-took v .past) ∙ ap headerBy (sym (ap not (eq-eqb (length (version-file (v .before .before))) (familyLength (count v)) (c .if3 .left ∙ omega (arith, parents-at v)))) ∙ length-test (c .before .before))
 
 pub walk-header-spec : {M : Type 1} → statement M
 walk-header-spec =

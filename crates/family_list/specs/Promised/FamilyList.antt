@@ -8,7 +8,7 @@ use native.Mathlib.Omega.{arith}
 use lib.Dec.{T, T-not}
 use Rattle.rows.specs.declared.Outcome.{Outcome}
 use Rattle.rows.specs.Meaning.Rows.{verdict, refusal, answer}
-use Rattle.rows.specs.Promised.RowLaws.{First, row-passed, before, hasRow, rowOf, isRow, lacks, row-by-number, number-passes, rowNumbered}
+use Rattle.rows.specs.Promised.RowLaws.{First, field-fails, row-passed, before, hasRow, rowOf, isRow, lacks, row-by-number, number-passes, rowNumbered}
 use Rattle.rules.specs.Meaning.Layout.{u8At}
 use Rattle.rules.specs.Meaning.Hour.{Case, caseOf, planOf, pricesOf}
 use Rattle.rules.specs.Meaning.Families.{parentOf, leadsBack, LeadsBack}
@@ -16,13 +16,13 @@ use Rattle.rules.specs.Meaning.Verdict.{notMark, familyRows, table, familyOutco
 use Rattle.rules.specs.Meaning.Promise.{FamiliesKept}
 use Rattle.rules.specs.Promised.Families.{child-within}
 use Rattle.family_list.specs.Steps.Ancestors.{Exist}
-use Rattle.family_list.specs.Steps.Answer.{absent, exist-of, by-16}
+use Rattle.family_list.specs.Steps.Answer.{absent, exist-of}
 use Rattle.family_list.specs.Promised.Circle.{leads-back}
 
 -- AN EMPTY LIST is 16, however many orders there are
 pub empty-list : (c : Case) → refusal (familyRows (some []) c) ≡ some (verdict 16 0)
 unfolding notMark u8At
-empty-list c = by-16 [] (c .orders) refl
+empty-list c = field-fails 16 0 _ refl
 
 -- 16 TO 18 PASSED: every parent that is named is an order, and no order leads back to itself
 pub record Sound (f : List ℕ) (orders : ℕ) : Type 0 where

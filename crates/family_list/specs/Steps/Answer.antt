@@ -11,7 +11,12 @@ use lib.Dec.{T, eqb, nleb→lt}
 use Rattle.integers.specs.Ranges.{not-is}
 use Rattle.rows.specs.declared.Outcome.{Outcome}
 use Rattle.rows.specs.Meaning.Rows.{Row, verdict, firstBelow, refusal, once, each}
-use Rattle.rows.specs.Promised.RowLaws.{not-below, field-fails, field-passes, row-found, row-clear, number-passes, rowNumbered}
+use Rattle.rows.specs.Promised.RowLaws.{field-fails, field-passes, row-found, row-clear, else-refusal, refusal-append, none-each, number-passes, rowNumbered}
+use Rattle.fields.specs.declared.Cursor.{Cursor}
+use Rattle.fields.specs.declared.Walked.{Walked}
+use Rattle.fields.specs.declared.Walked.the-variants as walk
+use Rattle.fields.specs.Walk.{cursor}
+use Rattle.fields.specs.Walked.{pastAt, walked, rowsWalkedBy, rowsWalked, last-part}
 use Rattle.rules.specs.Meaning.Hour.{Case}
 use Rattle.rules.specs.Meaning.Families.{familyHeader, noParent, familyVersion, familyLength, named, parentIn, parentOf, missing, leadsBack}
 use Rattle.rules.specs.Meaning.Verdict.{differ, notMark, familyRows}
@@ -26,8 +31,21 @@ wrongList f orders = notMark 76 84 70 f || differ (familyVersion f) 1 || differ 
 abbrev pub absent : List ℕ → ℕ → ℕ → Bool
 absent f orders i = missing orders (parentOf f i)
 
+abbrev pub listRow : List ℕ → ℕ → Row
+listRow f orders = once 16 (wrongList f orders)
+
+abbrev pub parentRow : List ℕ → ℕ → Row
+parentRow f orders = each 17 orders (absent f orders)
+
+abbrev pub circleRow : List ℕ → ℕ → Row
+circleRow f orders = each 18 orders (leadsBack orders (parentOf f))
+
+-- those that the walk over the list asks, and all
+abbrev pub listRows : List ℕ → ℕ → List Row
+listRows f orders = listRow f orders ∷ parentRow f orders ∷ []
+
 abbrev pub rowsBeside : List ℕ → ℕ → List Row
-rowsBeside f orders = once 16 (wrongList f orders) ∷ each 17 orders (absent f orders) ∷ each 18 orders (leadsBack orders (parentOf f)) ∷ []
+rowsBeside f orders = listRow f orders ∷ parentRow f orders ∷ circleRow f orders ∷ []
 
 pub rows-are : (f : List ℕ) (c : Case) {orders : ℕ} → c .orders ≡ orders → familyRows (some f) c ≡ rowsBeside f orders
 rows-are f c e = ap (rowsBeside f) e
@@ -40,10 +58,14 @@ familyBy none = Sound
 abbrev pub familyAnswer : List ℕ → ℕ → FamilyAnswer
 familyAnswer f orders = familyBy (refusal (rowsBeside f orders))
 
--- of row 16 alone, by its test
-abbrev pub headerBy : Bool → FamilyAnswer
-headerBy true = Refused (verdict 16 0)
-headerBy false = Sound
+-- of row 18 alone
+abbrev pub circleAnswer : List ℕ → ℕ → FamilyAnswer
+circleAnswer f orders = familyBy (refusal (circleRow f orders ∷ []))
+
+-- the walk over the header, by the test of row 16
+abbrev pub headerBy : Bool → Walked
+headerBy true = walk.Refused (verdict 16 0)
+headerBy false = pastAt familyHeader
 
 -- ROW 16 PASSED: the length is right, beside at most 512 orders
 pub record Whole (f : List ℕ) (orders : ℕ) : Type 0 where
@@ -104,61 +126,53 @@ exist-of f orders h = record { exists = λ i j l e. by (parentOf f i) j e (h i l
     by none j e t = absurd (Option·none-ne-some j e)
     by (some i) j e t = let q : i ≡ j = cc in omega (arith, nleb→lt orders i t)
 
-pub all-exist : (f : List ℕ) (orders : ℕ) → Whole f orders → firstBelow orders (absent f orders) ≡ none → Known f orders
-all-exist f orders w e = record { whole = w; exist = exist-of f orders (not-below orders (absent f orders) e) }
-
--- THE REFUSAL, row by row
+-- THE WALK, read back
 module _ (f : List ℕ) (orders : ℕ) where
-  abbrev row-17 : Row
-  row-17 = each 17 orders (absent f orders)
-
-  abbrev row-18 : Row
-  row-18 = each 18 orders (leadsBack orders (parentOf f))
-
-  pub by-16 : wrongList f orders ≡ true → refusal (rowsBeside f orders) ≡ some (verdict 16 0)
-  by-16 e = field-fails 16 0 _ e
-
-  -- the answer of row 16 alone, read back
-  pub header-refused : {o : Outcome} → headerBy (wrongList f orders) ≡ Refused o → Refused o ≡ familyAnswer f orders
-  header-refused {o} e = by (wrongList f orders) refl e
+  pub header-refused : (past : Cursor) {o : Outcome} → headerBy (wrongList f orders) ≡ walk.Refused o → walk.Refused o ≡ rowsWalked (listRows f orders) past
+  header-refused past {o} e = by (wrongList f orders) refl e
     where
-      by : (b : Bool) → wrongList f orders ≡ b → headerBy b ≡ Refused o → Refused o ≡ familyAnswer f orders
-      by true q e = sym e ∙ ap familyBy (sym (by-16 q))
+      by : (b : Bool) → wrongList f orders ≡ b → headerBy b ≡ walk.Refused o → walk.Refused o ≡ rowsWalked (listRows f orders) past
+      by true q e = sym e ∙ sym (ap (rowsWalkedBy past) (field-fails 16 0 (parentRow f orders ∷ []) q))
       by false q e = cc
 
-  pub header-sound : headerBy (wrongList f orders) ≡ Sound → wrongList f orders ≡ false
-  header-sound e = by (wrongList f orders) e
+  pub header-past : {c : Cursor} → headerBy (wrongList f orders) ≡ walk.Past c → (wrongList f orders ≡ false) × (c ≡ cursor familyHeader)
+  header-past {c} e = by (wrongList f orders) e
     where
-      by : (b : Bool) → headerBy b ≡ Sound → b ≡ false
-      by true e = cc
-      by false e = refl
+      by : (b : Bool) → headerBy b ≡ walk.Past c → (b ≡ false) × (c ≡ cursor familyHeader)
+      by true e = (cc, cc)
+      by false e = (refl, cc)
 
-  past-16 : wrongList f orders ≡ false → refusal (rowsBeside f orders) ≡ refusal (row-17 ∷ row-18 ∷ [])
-  past-16 e = field-passes 16 0 _ e
+  pub parents-walked : (past : Cursor) → wrongList f orders ≡ false → walked (parentRow f orders) past ≡ rowsWalked (listRows f orders) past
+  parents-walked past e = last-part (parentRow f orders) past ∙ sym (ap (rowsWalkedBy past) (field-passes 16 0 (parentRow f orders ∷ []) e))
 
-  pub by-17 : {i : ℕ} → wrongList f orders ≡ false → firstBelow orders (absent f orders) ≡ some i → refusal (rowsBeside f orders) ≡ some (verdict 17 i)
-  by-17 {i} e p = past-16 e ∙ row-found row-17 (row-18 ∷ []) i p
+-- THE REFUSAL: the first two rows, and then the third
+module _ (f : List ℕ) (orders : ℕ) where
+  pub list-refused : {o : Outcome} → refusal (listRows f orders) ≡ some o → refusal (rowsBeside f orders) ≡ some o
+  list-refused {o} e = refusal-append (listRows f orders) (circleRow f orders ∷ []) ∙ ap (λ (x : Option Outcome). else-refusal x (refusal (circleRow f orders ∷ []))) e
 
-  past-17 : wrongList f orders ≡ false → firstBelow orders (absent f orders) ≡ none → refusal (rowsBeside f orders) ≡ refusal (row-18 ∷ [])
-  past-17 e p = past-16 e ∙ row-clear row-17 (row-18 ∷ []) p
+  pub list-passed : refusal (listRows f orders) ≡ none → refusal (rowsBeside f orders) ≡ refusal (circleRow f orders ∷ [])
+  list-passed e = refusal-append (listRows f orders) (circleRow f orders ∷ []) ∙ ap (λ (x : Option Outcome). else-refusal x (refusal (circleRow f orders ∷ []))) e
 
-  pub by-18 : {i : ℕ} → wrongList f orders ≡ false → firstBelow orders (absent f orders) ≡ none → firstBelow orders (leadsBack orders (parentOf f)) ≡ some i
-      → refusal (rowsBeside f orders) ≡ some (verdict 18 i)
-  by-18 {i} e p q = past-17 e p ∙ row-found row-18 [] i q
+  pub list-known : orders ≤ 512 → refusal (listRows f orders) ≡ none → Known f orders
+  unfolding rowNumbered
+  list-known h e =
+      let passed = number-passes (listRows f orders) e in
+      record {
+        whole = whole-of f orders h (not-is (wrongList f orders) ((passed 16) .pass 0 (omega arith)));
+        exist = exist-of f orders ((passed 17) .pass);
+      }
 
-  pub by-none : wrongList f orders ≡ false → firstBelow orders (absent f orders) ≡ none → firstBelow orders (leadsBack orders (parentOf f)) ≡ none → refusal (rowsBeside f orders) ≡ none
+  -- row 18
+  pub by-18 : {i : ℕ} → firstBelow orders (leadsBack orders (parentOf f)) ≡ some i → refusal (circleRow f orders ∷ []) ≡ some (verdict 18 i)
+  by-18 {i} q = row-found (circleRow f orders) [] i q
+
+  pub by-none : firstBelow orders (leadsBack orders (parentOf f)) ≡ none → refusal (circleRow f orders ∷ []) ≡ none
   unfolding refusal
-  by-none e p q = past-17 e p ∙ row-clear row-18 [] q
+  by-none q = row-clear (circleRow f orders) [] q
 
 -- where no row refuses, what 16 and 17 leave
 pub known-passed : (f : List ℕ) (orders : ℕ) → orders ≤ 512 → refusal (rowsBeside f orders) ≡ none → Known f orders
-unfolding rowNumbered
-known-passed f orders h e =
-    let passed = number-passes (rowsBeside f orders) e in
-    record {
-      whole = whole-of f orders h (not-is (wrongList f orders) ((passed 16) .pass 0 (omega arith)));
-      exist = exist-of f orders ((passed 17) .pass);
-    }
+known-passed f orders h e = list-known f orders h ((none-each (listRows f orders) (circleRow f orders ∷ []) e) .0)
 
 -- AN ANSWER READ BACK, beside a case of so many orders
 module _ (f : List ℕ) (c : Case) {orders : ℕ} (count : c .orders ≡ orders) where

@@ -55,6 +55,10 @@ zone-price-is = both limits.zonePrice
 pub tolerance-money-is : Allows limits.toleranceMoney (pos 0) (pos 1000000000000000)
 tolerance-money-is = both limits.toleranceMoney
 
+-- and 10,000 cents (S-12)
+pub accepted-tolerance-money-is : Allows limits.acceptedToleranceMoney (pos 0) (pos 10000000000)
+accepted-tolerance-money-is = both limits.acceptedToleranceMoney
+
 -- HUNDRED-THOUSANDTHS
 pub ptdf-is : Allows limits.ptdf (negℤ (pos 200000)) (pos 200000)
 ptdf-is = both limits.ptdf

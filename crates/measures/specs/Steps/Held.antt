@@ -1,4 +1,4 @@
--- What a constructor of a measure answers: the number held, or that it lies outside. Assumes nothing.
+-- The answers of a measure's constructors read back, and a range of money asked in cents. Assumes nothing.
 use mathlib.Core.Path.{_≡_, refl, sym, _∙_}
 use mathlib.Core.Bool.{Bool, true, false, _||_}
 use Prim.Native.Nat.{ℕ, _*_}
@@ -7,8 +7,9 @@ use native.Mathlib.Omega.{arith}
 use borrow.Author.Tests.{lt-ltb, le-ltb}
 use lib.Dec.{ltb}
 use lib.IntN.{ℤ, pos}
-use Rattle.integers.specs.Ranges.{Range, outside}
-use Rattle.measures.specs.Meaning.Limits.{microcentsOf, tolerance, toleranceMoney}
+use Rattle.integers.specs.Ranges.{range, outside}
+use Rattle.measures.specs.Meaning.Limits.{microcentsOf}
+use Rattle.measures.specs.Meaning.Held.{tenthsBy, centsBy, grainsBy, microcentsBy, ptdfBy, shareBy}
 use Rattle.measures.specs.declared.Tenths.{Tenths}
 use Rattle.measures.specs.declared.TenthsAnswer.{TenthsAnswer}
 use Rattle.measures.specs.declared.TenthsAnswer.the-variants as tenths
@@ -27,49 +28,6 @@ use Rattle.measures.specs.declared.PtdfAnswer.the-variants as ptdf
 use Rattle.measures.specs.declared.Share.{Share}
 use Rattle.measures.specs.declared.ShareAnswer.{ShareAnswer}
 use Rattle.measures.specs.declared.ShareAnswer.the-variants as share
-
--- by the test that the number lies outside its range
-abbrev pub tenthsBy : ℤ → Bool → TenthsAnswer
-tenthsBy x true = tenths.Outside
-tenthsBy x false = tenths.Held (record { 0 = x })
-
-abbrev pub centsBy : ℤ → Bool → CentsAnswer
-centsBy x true = cents.Outside
-centsBy x false = cents.Held (record { 0 = x })
-
-abbrev pub grainsBy : ℤ → Bool → GrainsAnswer
-grainsBy x true = grains.Outside
-grainsBy x false = grains.Held (record { 0 = x })
-
-abbrev pub microcentsBy : ℤ → Bool → MicrocentsAnswer
-microcentsBy x true = microcents.Outside
-microcentsBy x false = microcents.Held (record { 0 = x })
-
-abbrev pub ptdfBy : ℤ → Bool → PtdfAnswer
-ptdfBy x true = ptdf.Outside
-ptdfBy x false = ptdf.Held (record { 0 = x })
-
-abbrev pub shareBy : ℤ → Bool → ShareAnswer
-shareBy x true = share.Outside
-shareBy x false = share.Held (record { 0 = x })
-
-abbrev pub tenthsIn : Range → ℤ → TenthsAnswer
-tenthsIn r x = tenthsBy x (outside r x)
-
-abbrev pub centsIn : Range → ℤ → CentsAnswer
-centsIn r x = centsBy x (outside r x)
-
-abbrev pub grainsIn : Range → ℤ → GrainsAnswer
-grainsIn r x = grainsBy x (outside r x)
-
-abbrev pub microcentsIn : Range → ℤ → MicrocentsAnswer
-microcentsIn r x = microcentsBy x (outside r x)
-
-abbrev pub ptdfIn : Range → ℤ → PtdfAnswer
-ptdfIn r x = ptdfBy x (outside r x)
-
-abbrev pub shareIn : Range → ℤ → ShareAnswer
-shareIn r x = shareBy x (outside r x)
 
 -- an answer read back: outside its range, or held
 pub tenths-outside : (x : ℤ) (b : Bool) → tenthsBy x b ≡ tenths.Outside → b ≡ true
@@ -120,13 +78,13 @@ pub share-held : (x : ℤ) (b : Bool) (t : Share) → shareBy x b ≡ share.Held
 share-held x true t e = (cc, cc)
 share-held x false t e = (refl, cc)
 
--- the tolerance's test in microcents is document 01's, in cents
-pub tolerance-tests : (n : ℕ) → outside toleranceMoney (microcentsOf (pos n)) ≡ outside tolerance (pos n)
+-- a range of money asked in microcents is the same range asked in cents
+pub money-tests : (greatest cents : ℕ) → outside (range (microcentsOf (pos 0)) (microcentsOf (pos greatest))) (microcentsOf (pos cents)) ≡ outside (range (pos 0) (pos greatest)) (pos cents)
 unfolding outside
-tolerance-tests n = λ j. (le-ltb (1000000 * n) 0 (omega arith) ∙ sym (le-ltb n 0 (omega arith))) j || greatest j
+money-tests greatest cents = λ j. (le-ltb (1000000 * cents) 0 (omega arith) ∙ sym (le-ltb cents 0 (omega arith))) j || above j
   where
-    greatest : ltb 1000000000000000 (1000000 * n) ≡ ltb 1000000000 n
-    greatest = elim (decLt 1000000000 n) [
-      | yes h ↦ lt-ltb 1000000000000000 (1000000 * n) (omega arith) ∙ sym (lt-ltb 1000000000 n h)
-      | no g ↦ le-ltb 1000000000000000 (1000000 * n) (omega arith) ∙ sym (le-ltb 1000000000 n (omega arith))
+    above : ltb (1000000 * greatest) (1000000 * cents) ≡ ltb greatest cents
+    above = elim (decLt greatest cents) [
+      | yes h ↦ lt-ltb (1000000 * greatest) (1000000 * cents) (omega arith) ∙ sym (lt-ltb greatest cents h)
+      | no g ↦ le-ltb (1000000 * greatest) (1000000 * cents) (omega arith) ∙ sym (le-ltb greatest cents (omega arith))
     ]

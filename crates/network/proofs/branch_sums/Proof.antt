@@ -12,7 +12,9 @@ use lib.ListN.{getD, getD-replicate}
 use lib.IntN.{ℤ, pos, _+ℤ_, _*ℤ_, +ℤ-idr, +ℤ-assoc}
 use lib.Signed.{ltZ}
 use mir.Syntax.{w32, w64}
+use mir.Val.{toZ, ofZ}
 use mir.Facts.{toZ-ofZ}
+use Rattle.integers.specs.Ranges.{Within}
 use Rattle.integers.specs.Sums.{sumTo, sum-more, sum-scale-l}
 use Rattle.integers.specs.Size.{Near, near-fits, near-sub, near-mul, near-pos, near-unsigned, near-within}
 use Rattle.integers.specs.Machine.{SumsFit, step, step-fits, sfits-by}
@@ -28,7 +30,7 @@ use Rattle.rules.specs.Steps.Passed.{case-sound, proposal-sound}
 use Rattle.rules.specs.Steps.Duality.{times-grains}
 use Rattle.rules.specs.Promised.Fits.{branchUse-sums, branchTotal-sums, system-near, price-near, price-term-near}
 use Rattle.case_header.specs.declared.Counts.{Counts}
-use Rattle.case_branches.specs.Table.{table-entry}
+use Rattle.case_branches.specs.Table.{table-entry, entry-within}
 use Rattle.clearing.specs.Held.{tenthsAt}
 use Rattle.network.specs.Prices.{noGrains, grainsAt, added, AddedTo, add-step, Partly, branch-step}
 use Rattle.network.proofs.branch_sums.Statement.{statement}
@@ -149,12 +151,23 @@ index-1-of-entry c = row-in c
 index-2-of-entry : tie.Need-index-2-of-entry Inv-loop2 μ-loop2 Inv-loop μ-loop
 index-2-of-entry c = zone-in c
 
-of-entry-requires : tie.Need-of-entry-requires Inv-loop2 μ-loop2 Inv-loop μ-loop
-of-entry-requires c κs = search needs
+-- this entry as the machine reads it is the table's
+abbrev read : tie.After-of-entry-arg Inv-loop2 μ-loop2 Inv-loop μ-loop → ℤ
+read c = getD (getD (c .before .before .before .before .before .before .before .before .before .before .args .t4) (c .before .before .before .before .before .before .loop .m) []) (c .before .before .loop2 .z) (pos 0)
 
--- this entry as the machine read it, and by the hour
-read-is : (c : tie.After-of-entry Inv-loop2 μ-loop2 Inv-loop μ-loop) → c .of-entry .result .0 ≡ getD (getD (c .before .before .before .before .before .before .before .before .before .before .before .args .t4) (c .before .before .before .before .before .before .before .loop .m) []) (c .before .before .before .loop2 .z) (pos 0)
-read-is c = c .of-entry .ensures ∙ toZ-ofZ {w = w32} {z = getD (getD (c .before .before .before .before .before .before .before .before .before .before .before .args .t4) (c .before .before .before .before .before .before .before .loop .m) []) (c .before .before .before .loop2 .z) (pos 0)} (record { sfits = c .before .of-entry-arg .given })
+entry-read : (c : tie.After-of-entry-arg Inv-loop2 μ-loop2 Inv-loop μ-loop) → toZ w32 (ofZ w32 (read c)) ≡ read c
+entry-read c = toZ-ofZ {w = w32} {z = read c} (record { sfits = c .of-entry-arg .given })
+
+of-entry-requires : tie.Need-of-entry-requires Inv-loop2 μ-loop2 Inv-loop μ-loop
+of-entry-requires c κs =
+    let a = c .before .before .before .before .before .before .before .before .before .before in
+    let t : List (List ℤ) → ℤ = λ t. getD (getD t (c .before .before .before .before .before .before .loop .m) []) (c .before .before .loop2 .z) (pos 0) in
+    subst (λ (x : ℤ). Within limits.ptdf x) (sym (entry-read c ∙ ap t (a .pre .1 .1 .1 .0)))
+    (entry-within (a .pre .0 .opened) _ _ (c .before .before .before .before .before .loop-test .taken) (c .before .loop2-test .taken))
+
+-- and by the hour
+read-is : (c : tie.After-of-entry Inv-loop2 μ-loop2 Inv-loop μ-loop) → c .of-entry .result .0 ≡ read (c .before)
+read-is c = c .of-entry .ensures ∙ entry-read (c .before)
 
 ptdf-is : (c : tie.After-of-entry Inv-loop2 μ-loop2 Inv-loop μ-loop) → c .of-entry .result .0 ≡ hour (c .before .before .before .before .before .before .before .before .before .before .before) .ptdf (c .before .before .before .before .before .before .before .loop .m) (c .before .before .before .loop2 .z)
 ptdf-is c = read-is c ∙ entry-is (c .before .before .before .before .before .before .before .before .before .before .before) (c .before .before .before .before .before .before .before .loop .m) (c .before .before .before .loop2 .z) (inside (c .before .before .before .before .before .before)) (known (c .before .before))

@@ -9,7 +9,8 @@ use borrow.Author.Tests.{lt-ltb, le-ltb}
 use lib.ListN.{length}
 use Rattle.integers.specs.Ranges.{outside}
 use Rattle.measures.specs.Meaning.Limits as limits
-use Rattle.measures.specs.Steps.Held.{centsIn, cents-outside, cents-held}
+use Rattle.measures.specs.Meaning.Held.{centsIn}
+use Rattle.measures.specs.Steps.Held.{cents-outside, cents-held}
 use Rattle.measures.specs.declared.Raw.{Raw}
 use Rattle.rules.specs.Meaning.Layout.{u16At, u32At, i32At, proposalVersion, shareIn, systemIn}
 use Rattle.fields.specs.declared.Cursor.{Cursor}
@@ -152,7 +153,7 @@ returns-6 c =
     let t = mark-file (m .before .before) in
     let x = i32At (price-file p) 9 in
     let held = cents-held x (outside limits.systemPrice x) (c .before .system .given .0 .0) (sym (price-is p) ∙ c .before .system .given .1) in
-    (λ j. Taken (record { mark = mark-took m .is j; version = version-took v .is j; share = share-took h .is j; system = record { 0 = held .1 j } }))
+    (λ j. Taken (record { mark = mark-took m .is j; version = version-took v .is j; share = share-took h .is j; system = record { 0 = held .1 j }; past = system-took y .past j }))
     ∙ ap (takenBy (headerIn t)) (sym (le-ltb (length t) 13 (system-took y .inside)))
 
 pub take-header-spec : {M : Type 1} → statement M

@@ -8,12 +8,14 @@ use denote.Ref.{now}
 use lib.ListN.{getD}
 use lib.IntN.{ℤ, pos, _*ℤ_}
 use mir.Syntax.{w64}
+use Rattle.integers.specs.Ranges.{Within}
 use Rattle.integers.specs.Size.{near-fits}
 use Rattle.integers.specs.Sums.{sumTo, sum-ext}
 use Rattle.integers.specs.Machine.{SumsFit, sfits-by}
+use Rattle.measures.specs.Meaning.Limits as limits
 use Rattle.measures.specs.Meaning.Limits.{partsInOne, grainsOf}
 use Rattle.rules.specs.Meaning.Hour.{Case, Plan, Prices, caseOf, planOf, pricesOf, fbPart, branchUse, branchRoom}
-use Rattle.case_branches.specs.Table.{table-entry}
+use Rattle.case_branches.specs.Table.{table-entry, entry-within}
 use Rattle.clearing.specs.Stages.{fit-ext}
 use Rattle.single_shortfall.specs.Short.{shortOf, shortable-by, exact-by}
 use Rattle.single_shortfall.specs.Judged.{loadOn, zones-is, branches-is, sound, branch-is, loads-fit, branch-shortable}
@@ -53,7 +55,10 @@ load-of-requires : tie.Need-load-of-requires
 load-of-requires c κs =
     let a = c .before .before .before .before in (
       few-zones a,
-      fit-ext _ _ (a .args .k .zones) (term-is a) (subst (λ (n : ℕ). SumsFit (λ z. hour a .ptdf (a .args .m) z *ℤ fbPart (hour a) (plan a) z) n) (sym (zones-is (a .pre .0))) (loads-fit (a .pre .0) (a .args .m) (inside a))),
+      (
+        fit-ext _ _ (a .args .k .zones) (term-is a) (subst (λ (n : ℕ). SumsFit (λ z. hour a .ptdf (a .args .m) z *ℤ fbPart (hour a) (plan a) z) n) (sym (zones-is (a .pre .0))) (loads-fit (a .pre .0) (a .args .m) (inside a))),
+        λ z h. subst (λ (r : List ℤ). Within limits.ptdf (getD r z (pos 0))) (sym (a .pre .1 .1 .0)) (entry-within (a .pre .0 .proposed .opened) (a .args .m) z (a .pre .1 .0) h),
+      ),
     )
 
 abbrev start : tie.After-load-of → tie.Start

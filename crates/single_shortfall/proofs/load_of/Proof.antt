@@ -1,14 +1,17 @@
 -- `single_shortfall::load_of` meets its contract: after z turns the load is that of the first z zones. Assumes nothing.
-use mathlib.Core.Path.{_≡_, refl, ap, _∙_}
+use mathlib.Core.Path.{_≡_, refl, ap, sym, subst, _∙_}
 use Prim.Native.Nat.{ℕ, _≤_, _-_}
 use native.Mathlib.Omega.{arith}
 use borrow.Author.Needs.{needs}
 use lib.ListN.{getD}
 use lib.IntN.{ℤ, pos, _*ℤ_}
 use mir.Syntax.{w32, w64}
+use mir.Val.{toZ, ofZ}
 use mir.Facts.{toZ-ofZ}
+use Rattle.integers.specs.Ranges.{Within}
 use Rattle.integers.specs.Sums.{sumTo}
 use Rattle.integers.specs.Machine.{step, step-fits, sfits-by}
+use Rattle.measures.specs.Meaning.Limits as limits
 use Rattle.clearing.specs.Held.{tenthsAt}
 use Rattle.single_shortfall.specs.Judged.{loadOn}
 use Rattle.single_shortfall.proofs.load_of.Statement.{statement}
@@ -30,12 +33,18 @@ mul-of-entry c = omega arith
 array-copy-out-of-entry : tie.Need-array-copy-out-of-entry Inv-loop μ-loop
 array-copy-out-of-entry c = omega arith
 
-of-entry-requires : tie.Need-of-entry-requires Inv-loop μ-loop
-of-entry-requires c κs = search needs
+-- this entry as the machine reads it, and what it lays on the branch
+abbrev read : tie.After-of-entry-arg Inv-loop μ-loop → ℤ
+read c = getD (c .before .before .before .args .t1) (c .before .before .loop .z) (pos 0)
 
--- this entry as the machine read it, and what it lays on the branch
-read-is : (e : tie.After-of-entry Inv-loop μ-loop) → e .of-entry .result .0 ≡ getD (e .before .before .before .before .args .t1) (e .before .before .before .loop .z) (pos 0)
-read-is e = e .of-entry .ensures ∙ toZ-ofZ {w = w32} {z = getD (e .before .before .before .before .args .t1) (e .before .before .before .loop .z) (pos 0)} (record { sfits = e .before .of-entry-arg .given })
+entry-read : (c : tie.After-of-entry-arg Inv-loop μ-loop) → toZ w32 (ofZ w32 (read c)) ≡ read c
+entry-read c = toZ-ofZ {w = w32} {z = read c} (record { sfits = c .of-entry-arg .given })
+
+of-entry-requires : tie.Need-of-entry-requires Inv-loop μ-loop
+of-entry-requires c κs = subst (λ (x : ℤ). Within limits.ptdf x) (sym (entry-read c)) (c .before .before .before .pre .1 .1 _ (c .before .loop-test .taken))
+
+read-is : (e : tie.After-of-entry Inv-loop μ-loop) → e .of-entry .result .0 ≡ read (e .before)
+read-is e = e .of-entry .ensures ∙ entry-read (e .before)
 
 mul-part : tie.Need-mul-part Inv-loop μ-loop
 mul-part c = omega arith
@@ -46,7 +55,7 @@ array-copy-out-part c = omega arith
 load-requires : tie.Need-load-requires Inv-loop μ-loop
 load-requires c κs =
     let l = c .before .before .before .before in
-    sfits-by w64 (ap (λ (x : ℤ). x *ℤ tenthsAt (l .before .args .t2) (l .loop .z)) (read-is (c .before))) (l .before .pre .1 .term (l .loop .z) (c .before .before .before .loop-test .taken))
+    sfits-by w64 (ap (λ (x : ℤ). x *ℤ tenthsAt (l .before .args .t2) (l .loop .z)) (read-is (c .before))) (l .before .pre .1 .0 .term (l .loop .z) (c .before .before .before .loop-test .taken))
 
 term-is : (c : tie.After-load Inv-loop μ-loop) → let l = c .before .before .before .before .before in c .load .result .0 ≡ loadOn (l .before .args .t1) (l .before .args .t2) (l .loop .z)
 term-is c =
@@ -56,7 +65,7 @@ term-is c =
 plus-requires : tie.Need-plus-requires Inv-loop μ-loop
 plus-requires c κs =
     let l = c .before .before .before .before .before in
-    step-fits (l .before .pre .1) (l .loop .z) (c .before .before .before .before .loop-test .taken) (l .loop .inv .1) (term-is c)
+    step-fits (l .before .pre .1 .0) (l .loop .z) (c .before .before .before .before .loop-test .taken) (l .loop .inv .1) (term-is c)
 
 add-z : tie.Need-add-z Inv-loop μ-loop
 add-z c = omega arith
@@ -67,7 +76,7 @@ loop-less c = omega arith
 loop-again : tie.Need-loop-again Inv-loop μ-loop
 loop-again c =
     let l = c .before .before .before .before .before .before in
-    (omega arith, step (l .before .pre .1) (l .loop .z) (l .loop .inv .1) (term-is (c .before)) (c .plus .ensures))
+    (omega arith, step (l .before .pre .1 .0) (l .loop .z) (l .loop .inv .1) (term-is (c .before)) (c .plus .ensures))
 
 returns : tie.Need-returns Inv-loop μ-loop
 returns c =

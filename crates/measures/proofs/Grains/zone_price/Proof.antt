@@ -2,7 +2,7 @@
 use mathlib.Core.Path.{_≡_, ap, sym, _∙_}
 use Rattle.integers.specs.Ranges.{range, outside}
 use Rattle.measures.specs.Meaning.Limits as limits
-use Rattle.measures.specs.Steps.Held.{grainsBy}
+use Rattle.measures.specs.Meaning.Held.{grainsBy}
 use borrow.Author.Needs.{needs}
 use Rattle.measures.proofs.Grains.zone_price.Statement.{statement}
 use Rattle.measures.proofs.Grains.zone_price.Tie as tie

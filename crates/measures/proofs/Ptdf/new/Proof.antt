@@ -2,7 +2,7 @@
 use mathlib.Core.Path.{_≡_, ap, sym, _∙_}
 use Rattle.integers.specs.Ranges.{range, outside}
 use Rattle.measures.specs.Meaning.Limits as limits
-use Rattle.measures.specs.Steps.Held.{ptdfBy}
+use Rattle.measures.specs.Meaning.Held.{ptdfBy}
 use Rattle.measures.specs.declared.PtdfAnswer.the-variants.{Held as held}
 use borrow.Author.Needs.{needs}
 use Rattle.measures.proofs.Ptdf.new.Statement.{statement}
