@@ -8,7 +8,8 @@ ghost use lib.ListN.{length};
 ghost use lib.Ieee as Ieee;
 ghost use lib.Ieee.{binary64};
 ghost use Rattle.binary64.specs.Meaning.Value.{bitsAt, finite, cut, nearest};
-ghost use Rattle.binary64.specs.Steps.Machine.{zero64, one64, times, wholeBelow, wholeUpTo};
+ghost use Rattle.binary64.specs.Meaning.Answer.{wholeBelow, wholeUpTo};
+ghost use Rattle.binary64.specs.Steps.Machine.{zero64, one64, times};
 use fields::word_at;
 
 // A whole number of 32 bits, or none.

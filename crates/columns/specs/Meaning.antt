@@ -1,2 +1,3 @@
 -- THE MEANING, to be read beside request S-10
 pub mod Columns
+pub mod Answer

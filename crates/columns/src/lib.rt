@@ -7,7 +7,7 @@ ghost use lib.ListN.{length, take, drop};
 ghost use lib.Seq.{sets};
 ghost use Rattle.rows.specs.Meaning.Rows.{verdict};
 ghost use Rattle.columns.specs.Meaning.Columns.{arranged, restoredOf, notRestored, columnedOutcome, columnedWritten, columnedOutput, restoredOutcome, restoredWritten, restoredOutput, Columned, ComesBack, NotJudged, Restored};
-ghost use Rattle.columns.specs.Steps.Answers.{restoreBy};
+ghost use Rattle.columns.specs.Meaning.Answer.{restoreBy};
 ghost use Rattle.columns.specs.Steps.Stored.{every, orders};
 use case_file::CaseAnswer;
 use case_file::read_case;

@@ -9,7 +9,7 @@ ghost use lib.Ieee as Ieee;
 ghost use lib.Ieee.{binary64};
 ghost use Rattle.integers.specs.Bytes.{bytesOf};
 ghost use Rattle.rows.specs.Meaning.Rows.{verdict, firstBelow};
-ghost use Rattle.rows.specs.Promised.RowLaws.{placeOf};
+ghost use Rattle.rows.specs.Meaning.Place.{placeOf};
 ghost use Rattle.case_header.specs.Opened.{Opened, Limited};
 ghost use Rattle.binary64.specs.Meaning.Value.{bitsAt, finite};
 ghost use Rattle.dump_proposal.specs.Meaning.Dump.{proposalMark, dumpOutcome, dumpWritten, dumpOutput, fieldsFrom, Holds, Volumes};

@@ -1,2 +1,3 @@
 -- THE MEANING, to be read beside request S-5
 pub mod Field
+pub mod Answer

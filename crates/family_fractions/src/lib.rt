@@ -5,7 +5,7 @@ ghost use Rattle.rules.specs.Meaning.Hour.{caseOf, planOf};
 ghost use Rattle.rules.specs.Meaning.Families.{parentOf};
 ghost use Rattle.rules.specs.Meaning.Verdict.{exceedsParent, excessFraction};
 ghost use Rattle.rows.specs.Meaning.Rows.{failing};
-ghost use Rattle.rows.specs.Promised.RowLaws.{placeOf};
+ghost use Rattle.rows.specs.Meaning.Place.{placeOf};
 ghost use Rattle.proposal_file.specs.Proposed.{Proposed};
 ghost use Rattle.clearing.specs.Stages.{VolumesIn};
 ghost use Rattle.family_list.specs.Steps.Answer.{Known};

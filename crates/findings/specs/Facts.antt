@@ -9,7 +9,7 @@ use Rattle.rules.specs.Steps.Passed.{CaseSound, case-sound, proposal-sound}
 use Rattle.case_header.specs.declared.Counts.{Counts}
 use Rattle.proposal_file.specs.declared.Opening.{Opening}
 use Rattle.proposal_file.specs.Proposed.{Proposed}
-use Rattle.proposal_file.specs.Answer.{openingOf}
+use Rattle.proposal_file.specs.Meaning.Answer.{openingOf}
 use Rattle.findings.specs.Listed.{Counted}
 
 pub record HourFacts (s : List ℕ) (k : Counts) (t : List ℕ) (o : Opening) : Type 0 where

@@ -19,7 +19,7 @@ use Rattle.measures.specs.declared.Microcents.{Microcents}
 use Rattle.case_header.specs.declared.Counts.{Counts}
 use Rattle.proposal_file.specs.declared.Opening.{Opening}
 use Rattle.proposal_file.specs.Proposed.{Proposed}
-use Rattle.proposal_file.specs.Answer.{openingOf}
+use Rattle.proposal_file.specs.Meaning.Answer.{openingOf}
 use Rattle.clearing.specs.Held.{Holds, noTenths}
 use Rattle.network.specs.Prices.{Priced, noGrains}
 use Rattle.report.specs.Written.{totalsIn}

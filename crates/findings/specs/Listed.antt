@@ -16,7 +16,8 @@ use Rattle.rules.specs.Meaning.Verdict.{excessFraction, fractionRows, familyRow
 use Rattle.case_header.specs.declared.Counts.{Counts}
 use Rattle.family_list.specs.declared.FamilyAnswer.{FamilyAnswer}
 use Rattle.family_list.specs.declared.FamilyAnswer.the-variants.{Sound, Refused}
-use Rattle.family_list.specs.Steps.Answer.{Known, familyAnswer, refused-of, passed-of, known-of}
+use Rattle.family_list.specs.Meaning.Answer.{familyAnswer}
+use Rattle.family_list.specs.Steps.Answer.{Known, refused-of, passed-of, known-of}
 use Rattle.findings.specs.Found.{listOf, admittedRows}
 
 -- ROWS 16 TO 18

@@ -8,7 +8,7 @@ ghost use Rattle.measures.specs.Meaning.Limits as limits;
 ghost use Rattle.rows.specs.Meaning.Rows.{verdict};
 ghost use Rattle.rules.specs.Meaning.Hour.{caseOf, planOf, pricesOf, fbPart};
 ghost use Rattle.case_branches.specs.Table.{tableOf};
-ghost use Rattle.proposal_file.specs.Answer.{openingOf};
+ghost use Rattle.proposal_file.specs.Meaning.Answer.{openingOf};
 ghost use Rattle.clearing.specs.Held.{Holds};
 ghost use Rattle.network.specs.Prices.{Priced};
 ghost use Rattle.shortfalls.specs.Meaning.Shortfalls.{orderShortfall, branchShortfall, linkShortfall};

@@ -19,8 +19,10 @@ use Rattle.fields.specs.declared.Walked.{Walked}
 use Rattle.fields.specs.declared.Cursor.{Cursor}
 use Rattle.fields.specs.declared.WordField.{WordField}
 use Rattle.fields.specs.declared.WordField.the-variants.{Taken, Short}
-use Rattle.fields.specs.Walk.{cursor, wordField, Took, word-took, word-short}
-use Rattle.fields.specs.Walked.{refusedAt, walked, clear-0, clear-1, clear-2, clear-3, clear-4, field-stops, row-passes}
+use Rattle.fields.specs.Meaning.Field.{cursor, wordField}
+use Rattle.fields.specs.Walk.{Took, word-took, word-short}
+use Rattle.fields.specs.Meaning.Walk.{refusedAt, walked}
+use Rattle.fields.specs.Walked.{clear-0, clear-1, clear-2, clear-3, clear-4, field-stops, row-passes}
 use Rattle.case_header.specs.Opened.{linkRow}
 use Rattle.zone_set.specs.Pairs.{holds, samePair, Seen}
 

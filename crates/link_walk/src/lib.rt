@@ -1,8 +1,8 @@
 // The links of a case, walked over field by field: row 7 of the verdict table.
 ghost use mathlib.Core.Path.{_≡_};
 ghost use Rattle.rules.specs.Meaning.Layout.{linkAt, orderAt};
-ghost use Rattle.fields.specs.Walk.{cursor};
-ghost use Rattle.fields.specs.Walked.{walked};
+ghost use Rattle.fields.specs.Meaning.Field.{cursor};
+ghost use Rattle.fields.specs.Meaning.Walk.{walked};
 ghost use Rattle.case_header.specs.Opened.{Whole, linkRow};
 ghost use Rattle.link_walk.specs.Walk.{contractedField};
 use case_header::BEFORE_CONTRACTED;

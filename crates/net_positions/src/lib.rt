@@ -7,7 +7,7 @@ ghost use Rattle.integers.specs.Sums.{sumTo};
 ghost use Rattle.measures.specs.Meaning.Limits as limits;
 ghost use Rattle.measures.specs.Meaning.Held.{tenthsIn};
 ghost use Rattle.rows.specs.Meaning.Rows.{firstBelow};
-ghost use Rattle.rows.specs.Promised.RowLaws.{placeOf};
+ghost use Rattle.rows.specs.Meaning.Place.{placeOf};
 ghost use Rattle.net_positions.specs.Meaning.Positions.{positionAt, positionOutside, unbalanced};
 use measures::Raw;
 use measures::Tenths;

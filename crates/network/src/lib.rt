@@ -6,7 +6,7 @@ ghost use Rattle.measures.specs.Meaning.Limits as limits;
 ghost use Rattle.rules.specs.Meaning.Hour.{caseOf, planOf, pricesOf, fbPart};
 ghost use Rattle.rules.specs.Meaning.Hour as rules;
 ghost use Rattle.rows.specs.Meaning.Rows.{failing};
-ghost use Rattle.rows.specs.Promised.RowLaws.{placeOf};
+ghost use Rattle.rows.specs.Meaning.Place.{placeOf};
 ghost use Rattle.rules.specs.Meaning.Verdict.{overloadedBranch};
 ghost use Rattle.case_branches.specs.Table.{tableOf};
 ghost use Rattle.proposal_file.specs.Proposed.{Proposed};

@@ -1,8 +1,8 @@
--- What is answered for a row of an order book: the order, or that a field lies outside its range. Assumes nothing.
+-- A row of an order book admitted: its answer read back, and its surplus. Assumes nothing.
 use mathlib.Core.Path.{_≡_, refl, sym}
 use mathlib.Core.Bool.{Bool, true, false, _||_}
 use Prim.Native.Nat.{ℕ}
-use lib.Dec.{eqb, leb, ltb}
+use lib.Dec.{leb, ltb}
 use lib.IntN.{ℤ, pos, _*ℤ_}
 use Rattle.integers.specs.Order.{positive}
 use Rattle.integers.specs.Ranges.{outside}
@@ -12,20 +12,8 @@ use Rattle.rules.specs.Meaning.Hour.{above}
 use Rattle.rows.specs.Meaning.Rows.{anyBelow}
 use Rattle.rules.specs.Meaning.Verdict.{rowFault, badRow}
 use Rattle.orders.specs.declared.Order.{Order}
-use Rattle.orders.specs.declared.OrderAnswer.{OrderAnswer}
 use Rattle.orders.specs.declared.OrderAnswer.the-variants.{Held, Outside}
-
--- side 0 buys
-abbrev pub orderOf : ℕ → ℕ → ℤ → ℤ → Order
-orderOf zone side quantity price = record { zone = zone; buys = eqb side 0; quantity = record { 0 = quantity }; price = record { 0 = price } }
-
-abbrev pub orderBy : Order → Bool → OrderAnswer
-orderBy o true = Outside
-orderBy o false = Held o
-
--- with n zones
-abbrev pub admitted : ℕ → ℕ → ℕ → ℕ → ℤ → OrderAnswer
-admitted n zone side quantity price = orderBy (orderOf zone side (pos quantity) price) (badRow n zone side quantity price)
+use Rattle.orders.specs.Meaning.Answer.{orderOf, orderBy, admitted}
 
 -- rule 8 for an order at its zone's price
 abbrev pub surplusAt : Order → ℤ → ℤ

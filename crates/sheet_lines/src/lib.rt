@@ -4,7 +4,7 @@ ghost use Prim.Native.Nat.{_+_, _*_, _≤_};
 ghost use lib.ListN.{length};
 ghost use lib.Seq.{sets};
 ghost use Rattle.integers.specs.Ranges as ranges;
-ghost use Rattle.rows.specs.Promised.RowLaws.{placeOf};
+ghost use Rattle.rows.specs.Meaning.Place.{placeOf};
 ghost use Rattle.numerals.specs.Steps.Capped.{cap};
 ghost use Rattle.sheet_lines.specs.Meaning.Sheet.{places, limit, malformed, lineCount, branchPart, entryBytes, sheetBytes};
 ghost use Rattle.sheet_lines.specs.Steps.Entries.{turned, entryOfNumber};

@@ -3,7 +3,7 @@ ghost use mathlib.Core.Path.{_≡_};
 ghost use Prim.Native.Nat.{_+_, _*_, _≤_, _<_};
 ghost use lib.ListN.{length, getD};
 ghost use Rattle.rows.specs.Meaning.Rows.{firstBelow};
-ghost use Rattle.rows.specs.Promised.RowLaws.{placeOf};
+ghost use Rattle.rows.specs.Meaning.Place.{placeOf};
 ghost use Rattle.zone_set.specs.Pairs.{Seen};
 ghost use Rattle.zone_pairs.specs.Steps.Table.{Distinct, pairIn, Tabled};
 ghost use Rattle.zone_pairs.specs.Steps.Tests.{Good};

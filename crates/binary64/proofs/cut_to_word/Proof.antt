@@ -6,7 +6,7 @@ use lib.Dec.{T}
 use lib.Ieee.{Float, lt, ofBits, binary64}
 use Rattle.integers.specs.Ranges.{is-true}
 use Rattle.binary64.specs.Meaning.Value.{cut}
-use Rattle.binary64.specs.Steps.Machine.{wholeBy}
+use Rattle.binary64.specs.Meaning.Answer.{wholeBy}
 use Rattle.binary64.specs.Steps.Cutting.{cast-cut}
 use Rattle.binary64.specs.Steps.Whole.{word-end, word-end-bits, word-ranged, word-cast}
 use Rattle.binary64.proofs.cut_to_word.Statement.{statement}

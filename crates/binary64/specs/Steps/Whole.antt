@@ -15,7 +15,8 @@ use lib.Ieee.Order.{le-of-values}
 use lib.Ieee.Scale.{finite}
 use Rattle.integers.specs.Ranges.{or-left}
 use Rattle.binary64.specs.Meaning.Value.{cut, nearest}
-use Rattle.binary64.specs.Steps.Machine.{zero64, one64, wholeBy, wholeUpTo}
+use Rattle.binary64.specs.Meaning.Answer.{wholeBy, wholeUpTo}
+use Rattle.binary64.specs.Steps.Machine.{zero64, one64}
 use Rattle.binary64.specs.declared.WholeAnswer.the-variants.{Held, Outside}
 use Rattle.binary64.specs.Steps.Cutting.{Ranged, in-range, minus-zero}
 

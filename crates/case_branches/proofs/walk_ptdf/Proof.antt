@@ -12,8 +12,9 @@ use Rattle.measures.specs.declared.Raw.{Raw}
 use Rattle.rules.specs.Meaning.Layout.{i32At}
 use Rattle.fields.specs.declared.Cursor.{Cursor}
 use Rattle.fields.specs.declared.Walked.the-variants.{Past}
-use Rattle.fields.specs.Walk.{cursor, raw, signedField, Took, signed-took, signed-short}
-use Rattle.fields.specs.Walked.{refusedAt}
+use Rattle.fields.specs.Meaning.Field.{cursor, raw, signedField}
+use Rattle.fields.specs.Walk.{Took, signed-took, signed-short}
+use Rattle.fields.specs.Meaning.Walk.{refusedAt}
 use Rattle.fields.specs.Part.{partOf, part-length, part-i32}
 use Rattle.case_branches.specs.Branch.{ptdfBy}
 use Rattle.case_branches.proofs.walk_ptdf.Statement.{statement}

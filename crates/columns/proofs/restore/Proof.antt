@@ -12,12 +12,15 @@ use lib.ListN.{length}
 use Rattle.rules.specs.Meaning.Layout.{ordersIn}
 use Rattle.rules.specs.Meaning.Verdict.{notMark, Readable}
 use Rattle.case_header.specs.declared.Header.{Header}
-use Rattle.case_header.specs.Answer.{headerIn, header-taken, header-refused}
-use Rattle.case_file.specs.Answer.{caseAnswer, opened-of}
+use Rattle.case_header.specs.Meaning.Answer.{headerIn}
+use Rattle.case_header.specs.Answer.{header-taken, header-refused}
+use Rattle.case_file.specs.Meaning.Answer.{caseAnswer}
+use Rattle.case_file.specs.Answer.{opened-of}
 use Rattle.columns.specs.declared.RestoreAnswer.{RestoreAnswer}
 use Rattle.columns.specs.declared.RestoreAnswer.the-variants.{Restored}
 use Rattle.columns.specs.Meaning.Columns.{arranged, restoredOf, notRestored}
-use Rattle.columns.specs.Steps.Answers.{restoreBy, restore-made}
+use Rattle.columns.specs.Meaning.Answer.{restoreBy}
+use Rattle.columns.specs.Steps.Answers.{restore-made}
 use Rattle.columns.specs.Steps.Read.{refused-case, byLength, readable-by-length, unreadable-by-length, too-short, no-room-for-orders, marked-otherwise, not-readable, is-restored, fills}
 use Rattle.columns.proofs.restore.Statement.{statement}
 use Rattle.columns.proofs.restore.Tie as tie

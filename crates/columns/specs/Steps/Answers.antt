@@ -12,9 +12,9 @@ use Rattle.rows.specs.Promised.RowLaws.{field-fails, field-passes}
 use Rattle.output.specs.declared.Written.{Written}
 use Rattle.output.specs.Meaning.Output.{outputAfter, writtenBy}
 use Rattle.output.specs.Steps.Met.{Met, met-refusal}
-use Rattle.columns.specs.declared.RestoreAnswer.{RestoreAnswer}
 use Rattle.columns.specs.declared.RestoreAnswer.the-variants as restore
 use Rattle.columns.specs.Meaning.Columns.{shortOutput}
+use Rattle.columns.specs.Meaning.Answer.{restoreBy}
 
 -- BOTH TABLES: whether 71 holds, how long the file is, and the room
 abbrev pub rowsOf : Bool → ℕ → ℕ → List Row
@@ -30,11 +30,6 @@ module _ {bad : Bool} (size room : ℕ) where
   taken : bad ≡ false → size ≤ room → refusal (rowsOf bad size room) ≡ none
   unfolding refusal
   taken e h = field-passes 71 0 (shortOutput size room ∷ []) e ∙ field-passes 72 0 [] (le-ltb room size h)
-
--- THE WAY BACK, by whether 71 holds; and an answer read back
-abbrev pub restoreBy : Bool → RestoreAnswer
-restoreBy true = restore.Refused (record { number = 71; index = 0; length = 0 })
-restoreBy false = restore.Restored
 
 pub restore-refused : (bad : Bool) {r : Written} → restoreBy bad ≡ restore.Refused r → (bad ≡ true) × (r ≡ record { number = 71; index = 0; length = 0 })
 restore-refused true e = (refl, cc)

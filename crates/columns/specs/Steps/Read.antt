@@ -14,7 +14,8 @@ use Rattle.rules.specs.Steps.Passed.{case-sound, case-length}
 use Rattle.rows.specs.declared.Outcome.{Outcome}
 use Rattle.case_header.specs.declared.Counts.{Counts}
 use Rattle.case_file.specs.declared.CaseAnswer.the-variants as answer
-use Rattle.case_file.specs.Answer.{caseAnswer, refused-of}
+use Rattle.case_file.specs.Meaning.Answer.{caseAnswer}
+use Rattle.case_file.specs.Answer.{refused-of}
 use Rattle.case_header.specs.Opened.{Opened, contracted-bound}
 use Rattle.columns.specs.Meaning.Columns.{arranged, columnedOf, restoredOf, refuses, unreadable, notRestored}
 use Rattle.columns.specs.Steps.Transposed.{arranged-length}

@@ -22,7 +22,7 @@ use Rattle.rules.specs.Meaning.Verdict.{headerRefusal, caseRows, proposalRows, 
 use Rattle.rules.specs.Meaning.Report.{Totals, totalsOf, reports}
 use Rattle.rules.specs.Steps.Passed.{sound, case-sound}
 use Rattle.rules.specs.Promised.Fits.{fits}
-use Rattle.case_header.specs.Answer.{countsOf}
+use Rattle.case_header.specs.Meaning.Answer.{countsOf}
 use Rattle.case_header.specs.Opened.{Limited, branches-bound, links-bound}
 use Rattle.desk_lines.specs.Meaning.Cut.{casePart, proposalPart}
 use Rattle.desk_lines.specs.Steps.Header.{headerRows, laterRows, outcome-by-header, counted}

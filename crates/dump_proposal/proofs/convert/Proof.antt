@@ -16,14 +16,16 @@ use lib.Ieee.Scale as float
 use Rattle.integers.specs.Bytes.{bytesOf}
 use Rattle.integers.specs.Ranges.{not-is}
 use Rattle.rows.specs.Meaning.Rows.{firstBelow}
-use Rattle.rows.specs.Promised.RowLaws.{placeOf, not-below, place-below}
+use Rattle.rows.specs.Meaning.Place.{placeOf}
+use Rattle.rows.specs.Promised.RowLaws.{not-below, place-below}
 use Rattle.rules.specs.Meaning.Layout.{proposalLength}
 use Rattle.case_header.specs.Opened.{headed, limited}
 use Rattle.binary64.specs.Meaning.Value.{bitsAt, finite}
 use Rattle.binary64.specs.Steps.Patterns.{finite-value}
 use Rattle.dump_values.specs.Meaning.Field.{kindOf}
 use Rattle.dump_values.specs.Steps.Agree.{share-agrees, system-agrees}
-use Rattle.dump_values.specs.Steps.Fields.{fieldOf, shareField, systemField}
+use Rattle.dump_values.specs.Meaning.Answer.{fieldOf}
+use Rattle.dump_values.specs.Steps.Fields.{shareField, systemField}
 use Rattle.dump_proposal.specs.Meaning.Dump.{valueCount, dumpLength, proposalMark, fieldsFrom}
 use Rattle.dump_proposal.specs.Steps.Walks.{restOf, countOf, AllFinite, NoneOutside, faultAfter, field-held, field-outside, field-number}
 use Rattle.dump_proposal.specs.Steps.Answers.{count-is, length-of, notFiniteAt, outOfFieldAt, share-first, price-first, rest-first, none-first, From, refused-57, past-57, refused-58, past-58, refused-59, past-59, refused-60, all-passed, past-56, whole-run, met-refusal, met-answer}

@@ -18,7 +18,7 @@ use Rattle.case_header.specs.declared.Counts.{Counts}
 use Rattle.binary64.specs.Meaning.Value.{bitsAt, finite}
 use Rattle.dump_values.specs.declared.FieldAnswer.the-variants as answer
 use Rattle.dump_values.specs.Meaning.Field.{Kind, kindOf, afterOpening, converted, fault}
-use Rattle.dump_values.specs.Steps.Fields.{fieldBy, fieldOf}
+use Rattle.dump_values.specs.Meaning.Answer.{fieldBy, fieldOf}
 use Rattle.dump_proposal.specs.Meaning.Dump.{proposalMark, fieldBytes, fieldsFrom}
 
 abbrev pub restOf : Counts → ℕ

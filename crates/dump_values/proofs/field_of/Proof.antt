@@ -15,7 +15,8 @@ use Rattle.case_header.specs.Opened.{headed, limited}
 use Rattle.orders.specs.declared.Order.{Order}
 use Rattle.dump_values.specs.Meaning.Field.{Kind}
 use Rattle.dump_values.specs.Steps.Agree.{share-agrees, flow-agrees, shadow-agrees}
-use Rattle.dump_values.specs.Steps.Fields.{fieldOf, shareField, flowField, shadowField}
+use Rattle.dump_values.specs.Meaning.Answer.{fieldOf}
+use Rattle.dump_values.specs.Steps.Fields.{shareField, flowField, shadowField}
 use Rattle.dump_values.specs.Steps.Places.{quantity-most, order-place, flow-place, shadow-place}
 use Rattle.dump_values.proofs.field_of.Statement.{statement}
 use Rattle.dump_values.proofs.field_of.Tie as tie

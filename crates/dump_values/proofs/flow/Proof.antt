@@ -9,7 +9,7 @@ use Rattle.integers.specs.Ranges.{is-true}
 use Rattle.binary64.specs.Steps.Machine.{zero64, times}
 use Rattle.binary64.specs.Steps.Cutting.{times-not-negative}
 use Rattle.binary64.specs.Steps.Whole.{zero-test}
-use Rattle.binary64.specs.Steps.Machine.{wholeBelow}
+use Rattle.binary64.specs.Meaning.Answer.{wholeBelow}
 use Rattle.dump_values.specs.Steps.Agree.{ten-bits}
 use Rattle.dump_values.specs.Steps.Taken.{bits-are, flow-held, flow-outside, flow-negative}
 use Rattle.dump_values.proofs.flow.Statement.{statement}

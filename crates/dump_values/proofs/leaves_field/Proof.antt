@@ -13,7 +13,8 @@ use Rattle.binary64.specs.Steps.Patterns.{finite-value}
 use Rattle.case_header.specs.Opened.{headed, limited}
 use Rattle.dump_values.specs.Meaning.Field.{Kind, flow, shadow-price, fault}
 use Rattle.dump_values.specs.Steps.Agree.{flow-agrees, shadow-agrees, outside-fault, unit-fault}
-use Rattle.dump_values.specs.Steps.Fields.{isOutside, flowField, shadowField}
+use Rattle.dump_values.specs.Meaning.Answer.{isOutside}
+use Rattle.dump_values.specs.Steps.Fields.{flowField, shadowField}
 use Rattle.dump_values.specs.Steps.Places.{quantity-most, order-place, flow-place, shadow-place}
 use Rattle.dump_values.proofs.leaves_field.Statement.{statement}
 use Rattle.dump_values.proofs.leaves_field.Tie as tie

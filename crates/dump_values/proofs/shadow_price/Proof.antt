@@ -12,7 +12,7 @@ use Rattle.binary64.specs.Steps.Whole.{zero-test}
 use Rattle.binary64.specs.declared.WholeAnswer.{WholeAnswer}
 use Rattle.measures.specs.Meaning.Limits as limits
 use Rattle.measures.specs.Meaning.Held.{centsIn}
-use Rattle.binary64.specs.Steps.Machine.{wholeUpTo}
+use Rattle.binary64.specs.Meaning.Answer.{wholeUpTo}
 use Rattle.dump_values.specs.Steps.Agree.{hundred-bits}
 use Rattle.dump_values.specs.Steps.Taken.{bits-are, shadow-held, shadow-outside, shadow-far, shadow-negative}
 use Rattle.dump_values.proofs.shadow_price.Statement.{statement}

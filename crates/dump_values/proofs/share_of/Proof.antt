@@ -9,7 +9,7 @@ use Rattle.integers.specs.Ranges.{is-true}
 use Rattle.binary64.specs.Meaning.Value.{cut}
 use Rattle.binary64.specs.Steps.Machine.{one64, times}
 use Rattle.binary64.specs.Steps.Whole.{zero-test, one-test}
-use Rattle.dump_values.specs.Steps.Fields.{fieldBy}
+use Rattle.dump_values.specs.Meaning.Answer.{fieldBy}
 use borrow.Author.Needs.{needs}
 use Rattle.dump_values.specs.Steps.Taken.{bits-are}
 use Rattle.dump_values.proofs.share_of.Statement.{statement}

@@ -23,7 +23,8 @@ use Rattle.binary64.specs.Steps.Whole.{word-end, word-test, ranged-finite}
 use Rattle.dump_values.specs.declared.FieldAnswer.the-variants.{Outside}
 use Rattle.dump_values.specs.Meaning.Field as kind
 use Rattle.dump_values.specs.Meaning.Field.{Kind, productOf, converted, forbidden, fieldRange, fault}
-use Rattle.dump_values.specs.Steps.Fields.{isOutside, fieldBy, fieldOf, shareField, flowField, shadowField, signOf, signedOf, systemBy, systemField}
+use Rattle.dump_values.specs.Meaning.Answer.{isOutside, fieldBy, fieldOf}
+use Rattle.dump_values.specs.Steps.Fields.{shareField, flowField, shadowField, signOf, signedOf, systemBy, systemField}
 
 -- TESTS. A number of no sign against a range from zero, and a number of either sign against 32 signed bits
 pub outside-above : (g n : ℕ) → outside (range (pos 0) (pos g)) (pos n) ≡ not (leb n g)

@@ -1,31 +1,16 @@
--- A field as the code finds it: by the machine's value, and by the bits. Assumes nothing.
-use mathlib.Core.Bool.{Bool, true, false, not, cond, _&&_}
+-- What a value becomes by the machine's own float. Assumes nothing.
+use mathlib.Core.Bool.{Bool, false, not, cond, _&&_}
 use Prim.Native.Nat.{ℕ}
 use lib.IntN.{ℤ, pos, negℤ}
 use lib.Ieee.{Float, nan, inf, fin, le, lt}
 use lib.Ieee.Scale as float
-use mir.Syntax.{w64}
-use mir.Val.{ofZ}
 use Rattle.integers.specs.Ranges.{outside}
 use Rattle.measures.specs.Meaning.Limits as limits
 use Rattle.binary64.specs.Meaning.Value.{cut, nearest}
 use Rattle.binary64.specs.Steps.Machine.{zero64, one64, times}
 use Rattle.binary64.specs.Steps.Whole.{word-end}
 use Rattle.dump_values.specs.declared.FieldAnswer.{FieldAnswer}
-use Rattle.dump_values.specs.declared.FieldAnswer.the-variants.{Held, Outside}
-use Rattle.dump_values.specs.Meaning.Field.{Kind, converted, fault}
-
-abbrev pub fieldBy : Bool → ℤ → FieldAnswer
-fieldBy true z = Held (record { 0 = ofZ w64 z })
-fieldBy false z = Outside
-
-abbrev pub isOutside : FieldAnswer → Bool
-isOutside (Held x) = false
-isOutside Outside = true
-
--- by the bits
-abbrev pub fieldOf : Kind → ℕ → FieldAnswer
-fieldOf k b = fieldBy (not (fault k b)) (converted k b)
+use Rattle.dump_values.specs.Meaning.Answer.{fieldBy}
 
 -- by the machine's value
 abbrev pub shareField : Float → ℕ → FieldAnswer

@@ -21,11 +21,13 @@ use Rattle.measures.specs.declared.CentsAnswer.the-variants as cents
 use Rattle.measures.specs.Meaning.Held.{centsBy, centsIn}
 use Rattle.binary64.specs.Meaning.Value.{cut, nearest}
 use Rattle.binary64.specs.declared.WholeAnswer.the-variants as whole
-use Rattle.binary64.specs.Steps.Machine.{zero64, times, wholeBy, wholeBelow, wholeUpTo}
+use Rattle.binary64.specs.Meaning.Answer.{wholeBy, wholeBelow, wholeUpTo}
+use Rattle.binary64.specs.Steps.Machine.{zero64, times}
 use Rattle.binary64.specs.Steps.Products.{Signs, times-signs}
 use Rattle.binary64.specs.Steps.Whole.{word-end}
 use Rattle.dump_values.specs.declared.FieldAnswer.the-variants.{Held, Outside}
-use Rattle.dump_values.specs.Steps.Fields.{fieldBy, signOf, flowField, shadowField, systemBy}
+use Rattle.dump_values.specs.Meaning.Answer.{fieldBy}
+use Rattle.dump_values.specs.Steps.Fields.{signOf, flowField, shadowField, systemBy}
 use Rattle.dump_values.specs.Steps.Agree.{outside-above, system-up, system-down}
 
 -- a number as it leaves its measure

@@ -13,10 +13,12 @@ use Rattle.rules.specs.Meaning.Verdict.{notMark, differ}
 use Rattle.fields.specs.declared.Cursor.{Cursor}
 use Rattle.fields.specs.declared.Mark.{Mark}
 use Rattle.fields.specs.declared.Walked.the-variants.{Past}
-use Rattle.fields.specs.Walk.{markAt, markField, halfField, Took}
+use Rattle.fields.specs.Meaning.Field.{markAt, markField, halfField}
+use Rattle.fields.specs.Walk.{Took}
 use Rattle.fields.specs.Walk as walk
 use Rattle.rules.specs.Meaning.Families.{familyVersion, familyLength}
-use Rattle.family_list.specs.Steps.Answer.{headerBy, wrongList, too-short, wrong-mark, wrong-version, by-length}
+use Rattle.family_list.specs.Meaning.Answer.{headerBy, wrongList}
+use Rattle.family_list.specs.Steps.Answer.{too-short, wrong-mark, wrong-version, by-length}
 use Rattle.family_list.proofs.walk_header.Statement.{statement}
 use Rattle.family_list.proofs.walk_header.Tie as tie
 

@@ -14,10 +14,11 @@ use Rattle.rows.specs.Meaning.Rows.{firstBelow}
 use Rattle.rows.specs.Promised.RowLaws.{first-later}
 use Rattle.fields.specs.declared.Cursor.{Cursor}
 use Rattle.fields.specs.declared.Walked.the-variants.{Past}
-use Rattle.fields.specs.Walk.{cursor, halfField, Took, half-took, half-short}
+use Rattle.fields.specs.Meaning.Field.{cursor, halfField}
+use Rattle.fields.specs.Walk.{Took, half-took, half-short}
 use Rattle.fields.specs.Walked.{refused-past, walk-stops, walk-ends}
 use Rattle.fields.specs.Part.{partOf, part-length, part-u16}
-use Rattle.family_list.specs.Steps.Answer.{absent, parentRow}
+use Rattle.family_list.specs.Meaning.Answer.{absent, parentRow}
 use Rattle.family_list.specs.Steps.Taken.{Taken, take-none, take-more}
 use Rattle.family_list.proofs.walk_parents.Statement.{statement}
 use Rattle.family_list.proofs.walk_parents.Tie as tie

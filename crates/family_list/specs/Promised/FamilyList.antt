@@ -16,7 +16,8 @@ use Rattle.rules.specs.Meaning.Verdict.{notMark, familyRows, table, familyOutco
 use Rattle.rules.specs.Meaning.Promise.{FamiliesKept}
 use Rattle.rules.specs.Promised.Families.{child-within}
 use Rattle.family_list.specs.Steps.Ancestors.{Exist}
-use Rattle.family_list.specs.Steps.Answer.{absent, exist-of}
+use Rattle.family_list.specs.Meaning.Answer.{absent}
+use Rattle.family_list.specs.Steps.Answer.{exist-of}
 use Rattle.family_list.specs.Promised.Circle.{leads-back}
 
 -- AN EMPTY LIST is 16, however many orders there are

@@ -1,4 +1,4 @@
--- What reading a family list answers, by rows 16 to 18 of the verdict table, and what these rows leave where they pass. Assumes nothing.
+-- A family list's answer read back, and what rows 16 to 18 leave where they pass. Assumes nothing.
 use mathlib.Core.Path.{_≡_, refl, sym, ap, _∙_}
 use mathlib.Core.Bool.{Bool, true, false, not, cond, _||_}
 use mathlib.Core.List.{List, [], _∷_}
@@ -10,62 +10,22 @@ use borrow.Author.Tests.{eqb-true, eq-eqb, ne-eqb, le-leb, lt-leb}
 use lib.Dec.{T, eqb, nleb→lt}
 use Rattle.integers.specs.Ranges.{not-is}
 use Rattle.rows.specs.declared.Outcome.{Outcome}
-use Rattle.rows.specs.Meaning.Rows.{Row, verdict, firstBelow, refusal, once, each}
+use Rattle.rows.specs.Meaning.Rows.{verdict, firstBelow, refusal}
 use Rattle.rows.specs.Promised.RowLaws.{field-fails, field-passes, row-found, row-clear, else-refusal, refusal-append, none-each, number-passes, rowNumbered}
 use Rattle.fields.specs.declared.Cursor.{Cursor}
-use Rattle.fields.specs.declared.Walked.{Walked}
 use Rattle.fields.specs.declared.Walked.the-variants as walk
-use Rattle.fields.specs.Walk.{cursor}
-use Rattle.fields.specs.Walked.{pastAt, walked, rowsWalkedBy, rowsWalked, last-part}
+use Rattle.fields.specs.Meaning.Field.{cursor}
+use Rattle.fields.specs.Meaning.Walk.{walked, rowsWalkedBy, rowsWalked}
+use Rattle.fields.specs.Walked.{last-part}
 use Rattle.rules.specs.Meaning.Hour.{Case}
 use Rattle.rules.specs.Meaning.Families.{familyHeader, noParent, familyVersion, familyLength, named, parentIn, parentOf, missing, leadsBack}
 use Rattle.rules.specs.Meaning.Verdict.{differ, notMark, familyRows}
-use Rattle.family_list.specs.declared.FamilyAnswer.{FamilyAnswer}
 use Rattle.family_list.specs.declared.FamilyAnswer.the-variants.{Sound, Refused}
 use Rattle.family_list.specs.Steps.Ancestors.{Exist}
-
--- THE TESTS of the three rows, and the rows: of a case they ask the number of its orders alone
-abbrev pub wrongList : List ℕ → ℕ → Bool
-wrongList f orders = notMark 76 84 70 f || differ (familyVersion f) 1 || differ (length f) (familyLength orders)
-
-abbrev pub absent : List ℕ → ℕ → ℕ → Bool
-absent f orders i = missing orders (parentOf f i)
-
-abbrev pub listRow : List ℕ → ℕ → Row
-listRow f orders = once 16 (wrongList f orders)
-
-abbrev pub parentRow : List ℕ → ℕ → Row
-parentRow f orders = each 17 orders (absent f orders)
-
-abbrev pub circleRow : List ℕ → ℕ → Row
-circleRow f orders = each 18 orders (leadsBack orders (parentOf f))
-
--- those that the walk over the list asks, and all
-abbrev pub listRows : List ℕ → ℕ → List Row
-listRows f orders = listRow f orders ∷ parentRow f orders ∷ []
-
-abbrev pub rowsBeside : List ℕ → ℕ → List Row
-rowsBeside f orders = listRow f orders ∷ parentRow f orders ∷ circleRow f orders ∷ []
+use Rattle.family_list.specs.Meaning.Answer.{wrongList, absent, parentRow, circleRow, listRows, rowsBeside, familyBy, familyAnswer, headerBy}
 
 pub rows-are : (f : List ℕ) (c : Case) {orders : ℕ} → c .orders ≡ orders → familyRows (some f) c ≡ rowsBeside f orders
 rows-are f c e = ap (rowsBeside f) e
-
--- THE ANSWER
-abbrev pub familyBy : Option Outcome → FamilyAnswer
-familyBy (some o) = Refused o
-familyBy none = Sound
-
-abbrev pub familyAnswer : List ℕ → ℕ → FamilyAnswer
-familyAnswer f orders = familyBy (refusal (rowsBeside f orders))
-
--- of row 18 alone
-abbrev pub circleAnswer : List ℕ → ℕ → FamilyAnswer
-circleAnswer f orders = familyBy (refusal (circleRow f orders ∷ []))
-
--- the walk over the header, by the test of row 16
-abbrev pub headerBy : Bool → Walked
-headerBy true = walk.Refused (verdict 16 0)
-headerBy false = pastAt familyHeader
 
 -- ROW 16 PASSED: the length is right, beside at most 512 orders
 pub record Whole (f : List ℕ) (orders : ℕ) : Type 0 where

@@ -20,9 +20,10 @@ use Rattle.clearing.specs.Held.{Holds}
 use Rattle.clearing.specs.Stages.{VolumesIn, volumes-in, flows-in, fit-ext}
 use Rattle.rows.specs.declared.Outcome.{Outcome}
 use Rattle.rows.specs.Meaning.Rows.{Row, failing, refusal, answer}
-use Rattle.rows.specs.Promised.RowLaws.{placeOf, place-below}
+use Rattle.rows.specs.Meaning.Place.{placeOf}
+use Rattle.rows.specs.Promised.RowLaws.{place-below}
 use Rattle.proposal_file.specs.Proposed.{Proposed}
-use Rattle.proposal_file.specs.Answer.{openingOf}
+use Rattle.proposal_file.specs.Meaning.Answer.{openingOf}
 use Rattle.findings.specs.declared.Found.{Found}
 use Rattle.findings.specs.Found.{Finds, listOf, hourRows, fileRows, orderRows, linkRows, networkRows, stages, same-rows, stage-refuses, stage-passes, files-silent, orders-silent, links-silent, linkAnswer, links-answer, links-pass}
 use Rattle.findings.specs.Facts.{HourFacts, hour-facts}

@@ -9,7 +9,7 @@ use lib.IntN.{pos}
 use lib.Signed.{ltZ}
 use Rattle.integers.specs.Ranges.{isZero}
 use Rattle.integers.specs.Sums.{sumTo}
-use Rattle.rows.specs.Promised.RowLaws.{placeOf}
+use Rattle.rows.specs.Meaning.Place.{placeOf}
 use Rattle.clearing.specs.Held.{tenthsAt}
 use Rattle.findings.specs.Found.{linkAnswer}
 use Rattle.findings.proofs.link_verdict.Statement.{statement}

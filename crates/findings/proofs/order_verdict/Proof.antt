@@ -8,7 +8,8 @@ use borrow.Author.Needs.{needs}
 use denote.Ref.{now}
 use Rattle.rules.specs.Meaning.Hour.{Case, Plan, caseOf, planOf}
 use Rattle.rows.specs.Meaning.Rows.{failing, refusal, answer}
-use Rattle.rows.specs.Promised.RowLaws.{placeOf, row-found, row-clear, at-place, at-none, place-below}
+use Rattle.rows.specs.Meaning.Place.{placeOf}
+use Rattle.rows.specs.Promised.RowLaws.{row-found, row-clear, at-place, at-none, place-below}
 use Rattle.rules.specs.Meaning.Verdict.{excessVolume, fractionRows}
 use Rattle.rules.specs.Steps.Passed.{case-sound}
 use Rattle.clearing.specs.Stages.{volumes-in}

@@ -16,7 +16,7 @@ use Rattle.case_file.specs.Answer.{opened-of}
 use Rattle.case_file.specs.Answer as case-answer
 use Rattle.proposal_file.specs.Proposed.{Proposed, opening-is, proposed-of}
 use Rattle.proposal_file.specs.Proposed as proposal-answer
-use Rattle.proposal_file.specs.Answer.{openingOf, proposalAnswer}
+use Rattle.proposal_file.specs.Meaning.Answer.{openingOf, proposalAnswer}
 use Rattle.proposal_file.specs.declared.ProposalAnswer.the-variants as proposal
 use Rattle.family_list.specs.Steps.Answer.{Known}
 use Rattle.findings.specs.declared.Files.{Files}

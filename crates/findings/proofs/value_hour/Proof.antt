@@ -20,7 +20,8 @@ use Rattle.measures.specs.Meaning.Limits.{microcentsOf}
 use Rattle.rules.specs.Meaning.Hour.{Case, Plan, Prices, caseOf, planOf, pricesOf, net, zonePrice, gap, rent}
 use Rattle.rows.specs.declared.Outcome.{Outcome}
 use Rattle.rows.specs.Meaning.Rows.{verdict, failing, firstBelow, answer}
-use Rattle.rows.specs.Promised.RowLaws.{placeOf, Comes, clear, fails-at, behind, not-below, at-place, at-none, first-ext, place-below}
+use Rattle.rows.specs.Meaning.Place.{placeOf}
+use Rattle.rows.specs.Promised.RowLaws.{Comes, clear, fails-at, behind, not-below, at-place, at-none, first-ext, place-below}
 use Rattle.rules.specs.Meaning.Verdict.{over, overZ, overloadedBranch, priceOutside}
 use Rattle.rules.specs.Steps.Passed.{proposal-sound}
 use Rattle.rules.specs.Promised.Fits.{rent-sums, system-near}

@@ -9,7 +9,8 @@ use lib.IntN.{pos}
 use denote.Ref.{now}
 use Rattle.integers.specs.Ranges.{outside, nat-within, is-false, not-is}
 use Rattle.rows.specs.Meaning.Rows.{firstBelow}
-use Rattle.rows.specs.Promised.RowLaws.{placeOf, place-below, not-below}
+use Rattle.rows.specs.Meaning.Place.{placeOf}
+use Rattle.rows.specs.Promised.RowLaws.{place-below, not-below}
 use Rattle.rules.specs.Meaning.Layout.{zoneCounts}
 use Rattle.order_book.specs.Steps.Account.{firstPriceOutside}
 use Rattle.net_positions.specs.Meaning.Positions.{positionOutside}

@@ -7,7 +7,8 @@ use borrow.Author.Needs.{needs}
 use borrow.Author.Tests.{lt-ltb, le-ltb}
 use denote.Ref.{now}
 use Rattle.rows.specs.Meaning.Rows.{firstBelow, refusal, answer, once, each}
-use Rattle.rows.specs.Promised.RowLaws.{placeOf, row-found, row-clear, field-fails, field-passes}
+use Rattle.rows.specs.Meaning.Place.{placeOf}
+use Rattle.rows.specs.Promised.RowLaws.{row-found, row-clear, field-fails, field-passes}
 use Rattle.rules.specs.Meaning.Verdict.{under}
 use Rattle.zone_pairs.specs.Meaning.Pairs.{pairCount, badPair}
 use Rattle.intuitive.specs.Steps.Answers.{restRows, pair-named}

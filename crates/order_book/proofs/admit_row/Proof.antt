@@ -1,6 +1,6 @@
 -- `order_book::admit_row` meets its contract: `orders::admit` at the row's fields. Assumes nothing.
 use mathlib.Core.Path.{_∙_}
-use Rattle.orders.specs.Admitted.{admitted}
+use Rattle.orders.specs.Meaning.Answer.{admitted}
 use borrow.Author.Needs.{needs}
 use Rattle.order_book.proofs.admit_row.Statement.{statement}
 use Rattle.order_book.proofs.admit_row.Tie as tie

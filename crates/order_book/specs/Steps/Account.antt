@@ -11,7 +11,8 @@ use Rattle.integers.specs.Ranges.{outside, Within}
 use Rattle.integers.specs.Size.{Near}
 use Rattle.integers.specs.Sums.{only}
 use Rattle.measures.specs.Meaning.Limits as limits
-use Rattle.orders.specs.Admitted.{orderOf, surplusAt}
+use Rattle.orders.specs.Meaning.Answer.{orderOf}
+use Rattle.orders.specs.Admitted.{surplusAt}
 use Rattle.orders.specs.declared.Order.{Order}
 use Rattle.rules.specs.Meaning.Layout.{zoneCounts, orderCounts}
 use Rattle.rows.specs.Meaning.Rows.{firstBelow}

@@ -14,10 +14,12 @@ use Rattle.measures.specs.Steps.Held.{cents-outside, cents-held}
 use Rattle.measures.specs.declared.Raw.{Raw}
 use Rattle.rules.specs.Meaning.Layout.{u16At, u32At, i32At, proposalVersion, shareIn, systemIn}
 use Rattle.fields.specs.declared.Cursor.{Cursor}
-use Rattle.fields.specs.Walk.{raw, markAt, markField, halfField, wordField, signedField, Took}
+use Rattle.fields.specs.Meaning.Field.{raw, markAt, markField, halfField, wordField, signedField}
+use Rattle.fields.specs.Walk.{Took}
 use Rattle.fields.specs.Walk as walk
 use Rattle.proposal_file.specs.declared.HeaderField.the-variants.{Taken}
-use Rattle.proposal_file.specs.Answer.{headerIn, takenBy, headerTaken, none-outside}
+use Rattle.proposal_file.specs.Meaning.Answer.{headerIn, takenBy, headerTaken}
+use Rattle.proposal_file.specs.Answer.{none-outside}
 use Rattle.proposal_file.proofs.take_header.Statement.{statement}
 use Rattle.proposal_file.proofs.take_header.Tie as tie
 

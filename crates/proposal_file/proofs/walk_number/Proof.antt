@@ -8,7 +8,8 @@ use lib.ListN.{length}
 use Rattle.rules.specs.Meaning.Layout.{u32At}
 use Rattle.fields.specs.declared.Cursor.{Cursor}
 use Rattle.fields.specs.declared.Walked.the-variants.{Past}
-use Rattle.fields.specs.Walk.{cursor, wordField, Took, word-took, word-short}
+use Rattle.fields.specs.Meaning.Field.{cursor, wordField}
+use Rattle.fields.specs.Walk.{Took, word-took, word-short}
 use Rattle.fields.specs.Part.{partOf, part-length}
 use Rattle.proposal_file.proofs.walk_number.Statement.{statement}
 use Rattle.proposal_file.proofs.walk_number.Tie as tie

@@ -15,11 +15,7 @@ use Rattle.rows.specs.declared.Outcome.{Outcome}
 use Rattle.rows.specs.declared.Place.{Place}
 use Rattle.rows.specs.declared.Place.the-variants.{At, Nowhere}
 use Rattle.rows.specs.Meaning.Rows.{Pass, Row, verdict, failing, firstBelow, anyBelow, placeElse, firstField, rowElse, refusal, answer, field}
-
--- the first place that a search in code answers with
-abbrev pub placeOf : Place → Option ℕ
-placeOf (At k) = some k
-placeOf Nowhere = none
+use Rattle.rows.specs.Meaning.Place.{placeOf}
 
 pub no-less : (k : ℕ) → k < 0 → ⊥
 no-less k h = omega arith

@@ -16,7 +16,8 @@ use lib.Seq.{getD-drop, drop-drop, sets}
 use Rattle.integers.specs.Ranges.{outside, is-false, not-is}
 use Rattle.integers.specs.Bytes.{bytes-length, signed32, sets-append}
 use Rattle.rows.specs.Meaning.Rows.{anyBelow, firstBelow}
-use Rattle.rows.specs.Promised.RowLaws.{placeOf, any-some, no-place, not-below}
+use Rattle.rows.specs.Meaning.Place.{placeOf}
+use Rattle.rows.specs.Promised.RowLaws.{any-some, no-place, not-below}
 use Rattle.numerals.specs.declared.Piece.{Piece}
 use Rattle.numerals.specs.Meaning.Numeral.{before, after, isNumber}
 use Rattle.numerals.specs.Steps.Pieces.{Cut}

@@ -12,7 +12,8 @@ use lib.IntN.{ℤ}
 use Rattle.integers.specs.Bytes.{signed32}
 use Rattle.integers.specs.Ranges.{outside}
 use Rattle.rows.specs.Meaning.Rows.{anyBelow, firstBelow}
-use Rattle.rows.specs.Promised.RowLaws.{placeOf, any-later, first-here, first-later}
+use Rattle.rows.specs.Meaning.Place.{placeOf}
+use Rattle.rows.specs.Promised.RowLaws.{any-later, first-here, first-later}
 use Rattle.rows.specs.declared.Place.{Place}
 use Rattle.rows.specs.declared.Place.the-variants.{At, Nowhere}
 use Rattle.numerals.specs.declared.Piece.{Piece}

@@ -7,7 +7,7 @@ use borrow.Author.Needs.{needs}
 use borrow.Author.Tests.{leb-true, not-true, not-false}
 use lib.ListN.{length}
 use Rattle.rules.specs.Meaning.Layout.{u8At}
-use Rattle.fields.specs.Walk.{fieldFits, cursor, byteBy}
+use Rattle.fields.specs.Meaning.Field.{fieldFits, cursor, byteBy}
 use Rattle.fields.proofs.Cursor.byte.Statement.{statement}
 use Rattle.fields.proofs.Cursor.byte.Tie as tie
 

@@ -7,7 +7,7 @@ use borrow.Author.Needs.{needs}
 use borrow.Author.Tests.{leb-true, not-true, not-false}
 use lib.ListN.{length}
 use Rattle.rules.specs.Meaning.Layout.{u16At}
-use Rattle.fields.specs.Walk.{fieldFits, cursor, wordBy}
+use Rattle.fields.specs.Meaning.Field.{fieldFits, cursor, wordBy}
 use Rattle.fields.proofs.Cursor.half.Statement.{statement}
 use Rattle.fields.proofs.Cursor.half.Tie as tie
 

@@ -6,7 +6,7 @@ use native.Mathlib.Omega.{arith}
 use borrow.Author.Needs.{needs}
 use borrow.Author.Tests.{leb-true, not-true, not-false}
 use lib.ListN.{length}
-use Rattle.fields.specs.Walk.{u64At, fieldFits, cursor, longBy}
+use Rattle.fields.specs.Meaning.Field.{u64At, fieldFits, cursor, longBy}
 use Rattle.fields.proofs.Cursor.long.Statement.{statement}
 use Rattle.fields.proofs.Cursor.long.Tie as tie
 

@@ -8,7 +8,7 @@ use borrow.Author.Tests.{leb-true, not-true, not-false}
 use lib.ListN.{length}
 use lib.IntN.{ℤ}
 use Rattle.rules.specs.Meaning.Layout.{i32At}
-use Rattle.fields.specs.Walk.{fieldFits, cursor, raw, signedBy}
+use Rattle.fields.specs.Meaning.Field.{fieldFits, cursor, raw, signedBy}
 use Rattle.fields.proofs.Cursor.signed.Statement.{statement}
 use Rattle.fields.proofs.Cursor.signed.Tie as tie
 

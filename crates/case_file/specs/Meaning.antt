@@ -1,0 +1,2 @@
+-- THE MEANING of the answers to a case
+pub mod Answer

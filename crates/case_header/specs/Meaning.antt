@@ -1,0 +1,2 @@
+-- THE MEANING of the answers to a header
+pub mod Answer

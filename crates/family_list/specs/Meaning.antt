@@ -1,0 +1,2 @@
+-- THE MEANING of the answers to a family list
+pub mod Answer

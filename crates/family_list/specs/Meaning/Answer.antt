@@ -1,0 +1,55 @@
+-- What reading a family list answers, by rows 16 to 18 of the verdict table. Assumes nothing.
+use mathlib.Core.Bool.{Bool, true, false, _||_}
+use mathlib.Core.List.{List, [], _∷_}
+use mathlib.Core.Option.{Option, none, some}
+use Prim.Native.Nat.{ℕ}
+use lib.ListN.{length}
+use Rattle.rows.specs.declared.Outcome.{Outcome}
+use Rattle.rows.specs.Meaning.Rows.{Row, verdict, refusal, once, each}
+use Rattle.fields.specs.declared.Walked.{Walked}
+use Rattle.fields.specs.declared.Walked.the-variants as walk
+use Rattle.fields.specs.Meaning.Walk.{pastAt}
+use Rattle.rules.specs.Meaning.Families.{familyHeader, familyVersion, familyLength, parentOf, missing, leadsBack}
+use Rattle.rules.specs.Meaning.Verdict.{differ, notMark}
+use Rattle.family_list.specs.declared.FamilyAnswer.{FamilyAnswer}
+use Rattle.family_list.specs.declared.FamilyAnswer.the-variants.{Sound, Refused}
+
+-- THE TESTS of the three rows, and the rows: of a case they ask the number of its orders alone
+abbrev pub wrongList : List ℕ → ℕ → Bool
+wrongList f orders = notMark 76 84 70 f || differ (familyVersion f) 1 || differ (length f) (familyLength orders)
+
+abbrev pub absent : List ℕ → ℕ → ℕ → Bool
+absent f orders i = missing orders (parentOf f i)
+
+abbrev pub listRow : List ℕ → ℕ → Row
+listRow f orders = once 16 (wrongList f orders)
+
+abbrev pub parentRow : List ℕ → ℕ → Row
+parentRow f orders = each 17 orders (absent f orders)
+
+abbrev pub circleRow : List ℕ → ℕ → Row
+circleRow f orders = each 18 orders (leadsBack orders (parentOf f))
+
+-- those that the walk over the list asks, and all
+abbrev pub listRows : List ℕ → ℕ → List Row
+listRows f orders = listRow f orders ∷ parentRow f orders ∷ []
+
+abbrev pub rowsBeside : List ℕ → ℕ → List Row
+rowsBeside f orders = listRow f orders ∷ parentRow f orders ∷ circleRow f orders ∷ []
+
+-- THE ANSWER
+abbrev pub familyBy : Option Outcome → FamilyAnswer
+familyBy (some o) = Refused o
+familyBy none = Sound
+
+abbrev pub familyAnswer : List ℕ → ℕ → FamilyAnswer
+familyAnswer f orders = familyBy (refusal (rowsBeside f orders))
+
+-- of row 18 alone
+abbrev pub circleAnswer : List ℕ → ℕ → FamilyAnswer
+circleAnswer f orders = familyBy (refusal (circleRow f orders ∷ []))
+
+-- the walk over the header, by the test of row 16
+abbrev pub headerBy : Bool → Walked
+headerBy true = walk.Refused (verdict 16 0)
+headerBy false = pastAt familyHeader

@@ -1,0 +1,2 @@
+-- THE MEANING of the answers to a row of a book
+pub mod Answer

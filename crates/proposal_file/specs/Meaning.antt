@@ -1,0 +1,2 @@
+-- THE MEANING of the answers to a proposal
+pub mod Answer
