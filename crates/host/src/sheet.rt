@@ -12,6 +12,7 @@ use output::Written;
 
 // The branches at the start of `out`, and how many bytes they are; or a refusal, 50 to 55 in that order, with length 0 and `out` as it was. An answer's bytes,
 // behind any header of these zones and that many branches and before whatever follows, hold the sheet's margins and, turned, its PTDFs, and row 6 passes.
+// `causes` has in plain numbers which sheet gives which answer, both ways; `bytes` has where each number of an answered sheet stands.
 #[no_mangle]
 pub extern "C" fn lta_sheet_branches(sheet: &[u8], zones: usize, out: &mut [u8]) -> Written
     ensures outcome { λ r. ⌜ verdict (r .number) (r .index) ≡ sheetOutcome zones (now (sheet .entry)) (length (now (out .entry))) ⌝ }

@@ -3,7 +3,7 @@ use mathlib.Core.Path.{_≡_, sym, ap, subst, _∙_}
 use mathlib.Core.Bool.{true, false}
 use mathlib.Core.List.{List, [], _++_}
 use mathlib.Core.Option.{none, some}
-use Prim.Native.Nat.{ℕ, _+_, _*_, _≤_, _<_}
+use Prim.Native.Nat.{ℕ, _≤_, _<_}
 use native.Mathlib.Omega.{arith}
 use borrow.Author.Tests.{lt-ltb, le-ltb}
 use lib.ListN.{length, take, drop}
@@ -84,8 +84,8 @@ module _ (zones : ℕ) (sheet : List ℕ) (room : ℕ) where
   unfolding sheetRefusal sheetRows refusal
   all-passed p h = p ∙ field-passes 55 0 [] (le-ltb room (branchPart zones (lineCount sheet)) h)
 
--- WHAT THE ENTRY OWES: number and index, length, every byte, and of an answer that a case holds the sheet; then in plain numbers each cause both ways, and
--- of an answer what stands where
+-- WHAT THE ENTRY OWES: number and index, length, every byte, and of an answer that a case holds the sheet; then in
+-- plain numbers each cause both ways, and of an answer what stands where
 abbrev pub Met : ℕ → List ℕ → List ℕ → Written → List ℕ → Type 0
 Met zones sheet out r after =
     (verdict (r .number) (r .index) ≡ sheetOutcome zones sheet (length out))

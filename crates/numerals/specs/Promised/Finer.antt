@@ -1,5 +1,5 @@
--- A DECIMAL PAST OURS IS NOT ZERO exactly where the number is no whole number of our units: with `Exact` the other way round. So 52 is given where a number would
--- lose something, and nowhere else. Assumes nothing.
+-- A DECIMAL PAST OURS IS NOT ZERO exactly where the number is no whole number of our units: `Exact` the other way
+-- round. So 52 is given where a number would lose something, and nowhere else. Assumes nothing.
 use mathlib.Core.Path.{_≡_, refl, sym, ap, _∙_, subst}
 use mathlib.Core.Bool.{Bool, true, false, not, cond, _&&_, _||_}
 use mathlib.Core.List.{List, [], _∷_, _++_}

@@ -1,11 +1,11 @@
--- WHAT IS WRITTEN, IN PLAIN BYTES (S-1): where each number of a sheet that is answered 0 stands in the output, and that a
--- refusal leaves every byte. A byte is `getD out i 0`, the number at place i of the output, counted from 0. A branch takes
--- 4 + 4 * zones bytes: its margin as it stands, then each PTDF with its sign changed. Assumes nothing.
-use mathlib.Core.Path.{_≡_, refl, sym, ap, subst, _∙_}
+-- WHAT IS WRITTEN, IN PLAIN BYTES (S-1): where each number of a sheet that is answered 0 stands in the output, and
+-- that a refusal leaves every byte. A byte is `getD out i 0`, the number at place i of the output, counted from 0.
+-- A branch takes 4 + 4 * zones bytes: its margin as it stands, then each PTDF with its sign changed. Assumes nothing.
+use mathlib.Core.Path.{_≡_, refl, sym, ap, _∙_}
 use mathlib.Core.Logic.{_≢_}
 use mathlib.Core.List.{List, [], _++_}
 use mathlib.Core.Option.{Option, none, some}
-use Prim.Native.Nat.{ℕ, zero, suc, _+_, _*_, _-_, _/_, _%_, _^_, _≤_, _<_}
+use Prim.Native.Nat.{ℕ, suc, _+_, _*_, _-_, _/_, _%_, _^_, _≤_, _<_}
 use native.Mathlib.Omega.{arith}
 use lib.ListN.{length, getD, take, drop, length-append, length-drop}
 use lib.Seq.{getD-drop, getD-take, drop-append-seam}

@@ -3,28 +3,28 @@
 -- number: 1 to 16 zones, tenths of a MW, hundred-thousandths, 64 lines, 4 bytes for each number. Assumes nothing.
 use mathlib.Core.Path.{_≡_, refl, sym, ap, subst, _∙_}
 use mathlib.Core.Logic.{_↔_, _⊎_, inl, inr}
-use mathlib.Core.Bool.{Bool, true, false, not}
+use mathlib.Core.Bool.{Bool, true, false, not, _||_}
 use mathlib.Core.List.{List, [], _∷_}
 use mathlib.Core.Option.{Option, none}
 use Prim.Native.Nat.{ℕ, zero, suc, _+_, _*_, _≤_, _<_}
 use native.Mathlib.Omega.{arith}
 use native.Mathlib.Decide.{decLt}
-use borrow.Author.Tests.{not-false}
+use borrow.Author.Tests.{not-false, eqb-true, eq-eqb}
 use lib.Dec.{T, eqb, ltb, ltb→lt, lt→ltb, nltb→le, not-T, T-not}
 use lib.ListN.{length, getD}
 use lib.IntN.{ℤ, pos, negℤ}
 use lib.Signed.{_≤ℤ_}
 use Rattle.integers.specs.Difference.{at, ⊝_, le-by, le-fact}
-use Rattle.integers.specs.Ranges.{Range, range, minus, outside, Within, within, inside, nat-within, nat-inside, is-true, is-false, not-is, nor-right}
+use Rattle.integers.specs.Ranges.{range, minus, outside, Within, within, inside, nat-within, nat-inside, is-false, not-is, nor-left, nor-right}
 use Rattle.measures.specs.Meaning.Limits as limits
 use Rattle.rows.specs.declared.Outcome.{Outcome}
-use Rattle.rows.specs.Meaning.Rows.{Row, Pass, verdict, anyBelow, refusal, answer}
+use Rattle.rows.specs.Meaning.Rows.{Row, Pass, verdict, refusal, answer}
 use Rattle.rows.specs.Promised.RowLaws.{empty, First, no-place, any-none, all-pass, Comes, past, none-left, row-by-number, row-answers, zero-none, rowNumbered, lacks, before}
-use Rattle.numerals.specs.Meaning.Numeral.{isNumber, value, finer}
+use Rattle.numerals.specs.Meaning.Numeral.{digits, starts, negative, unsigned, whole, isNumber, value, finer}
+use Rattle.numerals.specs.Meaning.Numeral as numeral
 use Rattle.numerals.specs.Promised.PlainNumbers.{Number, Times, number-bytes, value-times, times-value}
 use Rattle.sheet_lines.specs.Meaning.Sheet.{fields, places, limit, entry, fieldOf, entryOf, malformed, tooFine, outOfRange, lineOf, lineCount, branchPart, sheetRows, sheetRefusal, sheetOutcome}
-use Rattle.sheet_lines.specs.Steps.Lines.{malformed-no, wellformed-count}
-use Rattle.sheet_lines.specs.Promised.PlainText.{Cells, cells-are}
+use Rattle.sheet_lines.specs.Promised.PlainText.{LineText, Cells, fields-bytes, cells-of, cells-are, empty-sheet}
 
 -- A LINE OF GOOD FORM: a margin and one PTDF for each zone, every one a number
 pub record Formed (zones : ℕ) (cells : List (List ℕ)) : Type 0 where
@@ -68,18 +68,25 @@ Before55 zones rows = Before54 zones rows × (length rows ≤ 64)
 
 -- THE ANSWER o to a sheet of these rows, with so many bytes of room: each number where its cause holds, and only there
 pub record Answers (zones : ℕ) (rows : List (List (List ℕ))) (room : ℕ) (o : Outcome) : Type 0 where
+  -- 50: no zone, or more than 16
   pub is-50 : (zones ≡ 0) ⊎ (16 < zones) → o ≡ verdict 50 0
   pub only-50 : o .number ≡ 50 → (zones ≡ 0) ⊎ (16 < zones)
+  -- 51: the first line with another number of fields than 1 + zones, or with a field that is no number
   pub is-51 : (k : ℕ) → Before51 zones → FirstNot (Formed zones) rows k → o ≡ verdict 51 k
   pub only-51 : o .number ≡ 51 → Before51 zones × FirstNot (Formed zones) rows (o .index)
+  -- 52: the first line with a margin that is no whole number of tenths, or a PTDF that is none of hundred-thousandths
   pub is-52 : (k : ℕ) → Before52 zones rows → FirstNot (Whole zones) rows k → o ≡ verdict 52 k
   pub only-52 : o .number ≡ 52 → Before52 zones rows × FirstNot (Whole zones) rows (o .index)
+  -- 53: the first line with a number out of range
   pub is-53 : (k : ℕ) → Before53 zones rows → FirstNot (InRange zones) rows k → o ≡ verdict 53 k
   pub only-53 : o .number ≡ 53 → Before53 zones rows × FirstNot (InRange zones) rows (o .index)
+  -- 54: more than 64 lines; 64 pass and 65 do not
   pub is-54 : Before54 zones rows → 64 < length rows → o ≡ verdict 54 0
   pub only-54 : o .number ≡ 54 → Before54 zones rows × (64 < length rows)
+  -- 55: fewer bytes than the branches take
   pub is-55 : Before55 zones rows → room < length rows * (4 + 4 * zones) → o ≡ verdict 55 0
   pub only-55 : o .number ≡ 55 → Before55 zones rows × (room < length rows * (4 + 4 * zones))
+  -- 0: none of them
   pub is-0 : Before55 zones rows → length rows * (4 + 4 * zones) ≤ room → o ≡ verdict 0 0
   pub only-0 : o .number ≡ 0 → Before55 zones rows × (length rows * (4 + 4 * zones) ≤ room)
 
@@ -105,7 +112,7 @@ module _ (zones : ℕ) (line : List ℕ) where
   form-to : T (not (malformed zones line)) → Formed zones (fields line)
   unfolding malformed fieldOf
   form-to t =
-      let e : length (fields line) ≡ zones + 1 = wellformed-count zones line (not-is _ t) in
+      let e : length (fields line) ≡ zones + 1 = eqb-true (length (fields line)) (zones + 1) (not-false _ (not-is _ (nor-left (not (eqb (length (fields line)) (zones + 1))) _ t))) in
       record {
         count = omega (arith, e);
         numbers = λ j h. number-bytes (getD (fields line) j []) .0
@@ -113,8 +120,10 @@ module _ (zones : ℕ) (line : List ℕ) where
       }
 
   form-from : Formed zones (fields line) → T (not (malformed zones line))
-  unfolding fieldOf
-  form-from f = is-false (malformed-no zones line (omega (arith, f .count)) (any-none (zones + 1) (λ j. not (isNumber (fieldOf line j))) (λ j h. double (number-bytes (getD (fields line) j []) .1 (f .numbers j (omega arith))))))
+  unfolding malformed fieldOf
+  form-from f =
+      let e : length (fields line) ≡ zones + 1 = omega (arith, f .count) in
+      is-false (λ i. not (eq-eqb (length (fields line)) (zones + 1) e i) || any-none (zones + 1) (λ j. not (isNumber (fieldOf line j))) (λ j h. double (number-bytes (getD (fields line) j []) .1 (f .numbers j (omega arith)))) i)
     where
       double : {b : Bool} → b ≡ true → T (not (not b))
       double e = subst (λ (x : Bool). T (not (not x))) (sym e) tt
@@ -409,3 +418,22 @@ module _ (zones : ℕ) (sheet : List ℕ) (room : ℕ) (rows : List (List (List 
     is-0 = given-0;
     only-0 = found-0;
   }
+
+-- AN EMPTY LINE is of no good form, so it is 51
+pub empty-line : (zones : ℕ) (cells : List (List ℕ)) → LineText [] cells → Formed zones cells → ⊥
+unfolding fields isNumber digits whole unsigned negative starts numeral.before
+empty-line zones cells t f = clash (sym (number-bytes [] .1 (subst (λ (c : List (List ℕ)). Number (getD c 0 [])) (sym (fields-bytes [] cells .1 t)) (f .numbers 0 (omega arith)))))
+  where
+    clash : true ≡ false → ⊥
+    clash q = subst T q tt
+
+-- AN EMPTY SHEET is answered 0, whatever the room
+pub empty-sheet-0 : (zones room : ℕ) → 1 ≤ zones → zones ≤ 16 → sheetOutcome zones [] room ≡ verdict 0 0
+empty-sheet-0 zones room h l =
+    let c = cells-of [] in
+    let none-there : length (c .0) ≡ 0 = empty-sheet (c .0) (c .1) in
+    let each : (P : List (List ℕ) → Type 0) → Each P (c .0) = λ P k g. absurd (no-line k g none-there) in
+    answers zones [] room (c .0) (c .1) .is-0 (((((h, l), each (Formed zones)), each (Whole zones)), each (InRange zones)), omega (arith, none-there)) (subst (λ (n : ℕ). n * (4 + 4 * zones) ≤ room) (sym none-there) (omega arith))
+  where
+    no-line : (k : ℕ) {n : ℕ} → k < n → n ≡ 0 → ⊥
+    no-line k g e = omega arith

@@ -1,11 +1,11 @@
--- A SHEET IS ITS LINES, A LINE ITS FIELDS, in plain bytes and both ways. A byte is `getD text i 0`, the number at place i
--- of the text, counted from 0. Byte 10 ends a line and the last line may lack it; byte 44 stands between two fields.
--- Each sheet has its fields in exactly one way (`cells-of`, `cells-are`). Assumes nothing.
+-- A SHEET IS ITS LINES, A LINE ITS FIELDS, in plain bytes and both ways. A byte is `getD text i 0`, the number at
+-- place i of the text, counted from 0. Byte 10 ends a line and the last line may lack it; byte 44 stands between two
+-- fields. Each sheet has its fields in exactly one way (`cells-of`, `cells-are`). Assumes nothing.
 use mathlib.Core.Path.{_≡_, refl, sym, ap, subst, _∙_}
 use mathlib.Core.Logic.{_↔_, _⊎_, inl, inr, _≢_}
 use mathlib.Core.Bool.{Bool, true, false, cond}
 use mathlib.Core.List.{List, [], _∷_, _++_, append-assoc}
-use Prim.Native.Nat.{ℕ, zero, suc, _+_, _<_}
+use Prim.Native.Nat.{ℕ, zero, suc, _<_}
 use native.Mathlib.Omega.{arith}
 use borrow.Author.Tests.{eqb-true, eqb-false, ne-eqb}
 use lib.Dec.{eqb}
