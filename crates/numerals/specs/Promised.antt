@@ -3,3 +3,4 @@ pub mod Spelled
 pub mod Exact
 pub mod Printed
 pub mod Finer
+pub mod PlainNumbers

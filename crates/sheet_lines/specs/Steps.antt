@@ -2,4 +2,5 @@
 pub mod Split
 pub mod Entries
 pub mod Lines
+pub mod Stands
 pub mod Walks

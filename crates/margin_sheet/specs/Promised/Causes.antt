@@ -3,7 +3,7 @@
 use mathlib.Core.Path.{_≡_, refl, ap}
 use mathlib.Core.Bool.{true}
 use mathlib.Core.List.{List, [], _∷_}
-use mathlib.Core.Option.{Option, none, some}
+use mathlib.Core.Option.{Option, none}
 use Prim.Native.Nat.{ℕ, _<_}
 use native.Mathlib.Omega.{arith}
 use lib.ListN.{length, getD}
@@ -11,9 +11,10 @@ use lib.Dec.{T}
 use Rattle.rows.specs.declared.Outcome.{Outcome}
 use Rattle.rows.specs.Meaning.Rows.{Row, verdict, answer, unnamed, the-place, ask, Asks}
 use Rattle.rows.specs.Promised.RowLaws.{empty, Cause, answer-caused, Answered, answered, Soonest, soonest, lacks, zero-none}
-use Rattle.output.specs.Meaning.Output.{writtenBy, outputAfter}
+use Rattle.output.specs.Meaning.Output.{writtenBy}
 use Rattle.numerals.specs.Meaning.Numeral.{digits, starts, before, negative, unsigned, whole, isNumber}
 use Rattle.sheet_lines.specs.Meaning.Sheet.{fields, fieldOf, malformed, sheetRows, sheetRefusal, sheetOutcome, sheetBytes, sheetWritten, sheetOutput}
+use Rattle.sheet_lines.specs.Promised.PlainBytes.{refusal-leaves}
 use Rattle.sheet_lines.specs.Steps.Lines.{malformed-field}
 
 module _ (zones : ℕ) (sheet : List ℕ) (room : ℕ) where
@@ -55,12 +56,7 @@ module _ (zones : ℕ) (sheet : List ℕ) (room : ℕ) where
 
 -- a refusal leaves every byte as it was
 pub sheet-refused : (zones : ℕ) (sheet out : List ℕ) → 0 < (sheetOutcome zones sheet (length out)) .number → (length (sheetWritten zones sheet (length out)) ≡ 0) × (sheetOutput zones sheet out ≡ out)
-unfolding sheetOutcome sheetWritten sheetOutput
-sheet-refused zones sheet out h = by (sheetRefusal zones sheet (length out)) h
-  where
-    by : (o : Option Outcome) → 0 < (answer o) .number → (length (writtenBy o (sheetBytes zones sheet)) ≡ 0) × (outputAfter (writtenBy o (sheetBytes zones sheet)) out ≡ out)
-    by (some x) h = (refl, refl)
-    by none h = absurd (omega arith)
+sheet-refused zones sheet out h = refusal-leaves zones sheet out (λ e. omega (arith, e))
 
 -- an empty line is malformed, whatever the zones
 pub empty-line : (zones : ℕ) → malformed zones [] ≡ true

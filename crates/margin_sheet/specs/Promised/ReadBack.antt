@@ -2,59 +2,25 @@
 -- a sheet turns into holds the sheet's numbers, and row 6 of the verdict table passes. Assumes nothing.
 use mathlib.Core.Path.{_≡_, sym, ap, _∙_, subst}
 use mathlib.Core.Bool.{false}
-use mathlib.Core.List.{List, _++_, append-assoc}
+use mathlib.Core.List.{List, _++_}
 use Prim.Native.Nat.{ℕ, zero, suc, _+_, _*_, _<_}
-use native.Mathlib.Decide.{decLt}
 use native.Mathlib.Omega.{arith}
 use lib.ListN.{length, getD, take, drop, List·getD-append}
-use lib.Seq.{drop-append-add, drop-append-seam, take-append-seam}
+use lib.Seq.{drop-append-add, take-append-seam}
 use lib.IntN.{ℤ}
 use mir.Syntax.{w32}
 use Rattle.integers.specs.Ranges.{outside, within, is-false}
 use Rattle.integers.specs.Size.{Near, near-pos, near-neg, near-le, near-within, near-fits}
-use Rattle.integers.specs.Bytes.{signed32}
 use Rattle.measures.specs.Meaning.Limits as limits
 use Rattle.rules.specs.Meaning.Layout.{u8At, i32At, zonesIn, branchesIn, branchSize, branchAt, ramIn, ptdfIn}
 use Rattle.rules.specs.Steps.LayoutLaws.{signed-there}
 use Rattle.rules.specs.Meaning.Hour.{caseOf}
 use Rattle.rows.specs.Promised.RowLaws.{any-none}
 use Rattle.rules.specs.Meaning.Verdict.{branchFault}
-use Rattle.sheet_lines.specs.Meaning.Sheet.{limit, entry, Header, Holds, entryOf, lineOf, lineCount, branchPart, entryBytes, lineBytes, sheetBytes, sheetOutcome, sheetWritten, sheetOutput}
+use Rattle.sheet_lines.specs.Meaning.Sheet.{limit, entry, Header, Holds, entryOf, lineOf, lineCount, branchPart, sheetBytes, sheetOutcome, sheetWritten, sheetOutput}
 use Rattle.margin_sheet.specs.Promised.Causes.{sheet-writes}
 use Rattle.margin_sheet.specs.Promised.Answered.{not-outside}
-use Rattle.sheet_lines.specs.Steps.Lines.{signed-length, entries-length, lines-length}
-
--- WHERE AN ENTRY STANDS: in its line, in the branch part, in the case
-entry-last : (n : ℕ) (line rest : List ℕ) (j : ℕ) → j ≡ n → take 4 (drop (4 * j) (entryBytes n line ++ (signed32 (entryOf line n) ++ rest))) ≡ signed32 (entryOf line j)
-entry-last n line rest j e =
-    let l : 4 * j ≡ length (entryBytes n line) = omega (arith, entries-length n line) in
-    ap (λ (k : ℕ). take 4 (drop k (entryBytes n line ++ (signed32 (entryOf line n) ++ rest)))) l
-    ∙ ap (λ (r : List ℕ). take 4 r) (drop-append-seam (entryBytes n line) (signed32 (entryOf line n) ++ rest))
-    ∙ ap (λ (k : ℕ). take k (signed32 (entryOf line n) ++ rest)) (sym (signed-length (entryOf line n)))
-    ∙ take-append-seam (signed32 (entryOf line n)) rest
-    ∙ ap (λ (k : ℕ). signed32 (entryOf line k)) (sym e)
-
-entry-there : (n : ℕ) (line rest : List ℕ) (j : ℕ) → j < n → take 4 (drop (4 * j) (entryBytes n line ++ rest)) ≡ signed32 (entryOf line j)
-unfolding entryBytes
-entry-there zero line rest j h = absurd (omega arith)
-entry-there (suc n) line rest j h = ap (λ (l : List ℕ). take 4 (drop (4 * j) l)) (append-assoc (entryBytes n line) (signed32 (entryOf line n)) rest)
-    ∙ elim (decLt j n) [ yes l ↦ entry-there n line (signed32 (entryOf line n) ++ rest) j l | no g ↦ entry-last n line rest j (omega arith) ]
-
-line-last : (zones n : ℕ) (sheet rest : List ℕ) (m j : ℕ) → m ≡ n → j < zones + 1
-    → take 4 (drop (branchPart zones m + 4 * j) (lineBytes zones n sheet ++ (entryBytes (zones + 1) (lineOf sheet n) ++ rest))) ≡ signed32 (entryOf (lineOf sheet m) j)
-line-last zones n sheet rest m j e h =
-    let l : branchPart zones n ≡ length (lineBytes zones n sheet) = sym (lines-length zones n sheet) in
-    ap (λ (i : ℕ). take 4 (drop (branchPart zones i + 4 * j) (lineBytes zones n sheet ++ (entryBytes (zones + 1) (lineOf sheet n) ++ rest)))) e
-    ∙ ap (λ (i : ℕ). take 4 (drop (i + 4 * j) (lineBytes zones n sheet ++ (entryBytes (zones + 1) (lineOf sheet n) ++ rest)))) l
-    ∙ ap (λ (r : List ℕ). take 4 r) (drop-append-add (lineBytes zones n sheet) (entryBytes (zones + 1) (lineOf sheet n) ++ rest) (4 * j))
-    ∙ entry-there (zones + 1) (lineOf sheet n) rest j h
-    ∙ ap (λ (i : ℕ). signed32 (entryOf (lineOf sheet i) j)) (sym e)
-
-line-there : (zones n : ℕ) (sheet rest : List ℕ) (m j : ℕ) → m < n → j < zones + 1 → take 4 (drop (branchPart zones m + 4 * j) (lineBytes zones n sheet ++ rest)) ≡ signed32 (entryOf (lineOf sheet m) j)
-unfolding lineBytes
-line-there zones zero sheet rest m j h k = absurd (omega arith)
-line-there zones (suc n) sheet rest m j h k = ap (λ (l : List ℕ). take 4 (drop (branchPart zones m + 4 * j) l)) (append-assoc (lineBytes zones n sheet) (entryBytes (zones + 1) (lineOf sheet n)) rest)
-    ∙ elim (decLt m n) [ yes l ↦ line-there zones n sheet (entryBytes (zones + 1) (lineOf sheet n) ++ rest) m j l k | no g ↦ line-last zones n sheet rest m j (omega arith) k ]
+use Rattle.sheet_lines.specs.Steps.Stands.{line-there}
 
 near-limit : (j : ℕ) (x : ℤ) → outside (limit j) x ≡ false → Near 500000 x
 near-limit zero x e = near-within 500000 limits.margin x (near-neg (near-pos 500000)) (near-pos 500000) (within limits.margin x (is-false e))

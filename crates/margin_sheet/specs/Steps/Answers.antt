@@ -3,7 +3,7 @@ use mathlib.Core.Path.{_≡_, sym, ap, subst, _∙_}
 use mathlib.Core.Bool.{true, false}
 use mathlib.Core.List.{List, [], _++_}
 use mathlib.Core.Option.{none, some}
-use Prim.Native.Nat.{ℕ, _+_, _*_, _≤_, _<_}
+use Prim.Native.Nat.{ℕ, _≤_, _<_}
 use native.Mathlib.Omega.{arith}
 use borrow.Author.Tests.{lt-ltb, le-ltb}
 use lib.ListN.{length, take, drop}
@@ -18,6 +18,8 @@ use Rattle.output.specs.declared.Written.{Written}
 use Rattle.output.specs.Steps.Met as output
 use Rattle.sheet_lines.specs.Meaning.Sheet.{Header, Holds, lineCount, branchPart, sheetRows, sheetRefusal, sheetOutcome, sheetBytes, sheetWritten, sheetOutput}
 use Rattle.margin_sheet.specs.Promised.ReadBack.{written-back}
+use Rattle.sheet_lines.specs.Promised.PlainCauses.{Answers, AnswersTo, answers}
+use Rattle.sheet_lines.specs.Promised.PlainBytes.{Branches, BranchesOf, branches-written}
 use Rattle.sheet_lines.specs.Steps.Lines.{malformedAt, tooFineAt, outOfRangeAt, lines-length}
 
 -- the zone count passes
@@ -82,17 +84,36 @@ module _ (zones : ℕ) (sheet : List ℕ) (room : ℕ) where
   unfolding sheetRefusal sheetRows refusal
   all-passed p h = p ∙ field-passes 55 0 [] (le-ltb room (branchPart zones (lineCount sheet)) h)
 
--- WHAT THE ENTRY OWES: number and index, length, every byte, and of an answer that a case holds the sheet
+-- WHAT THE ENTRY OWES: number and index, length, every byte, and of an answer that a case holds the sheet; then in
+-- plain numbers each cause both ways, and of an answer what stands where
 abbrev pub Met : ℕ → List ℕ → List ℕ → Written → List ℕ → Type 0
 Met zones sheet out r after =
     (verdict (r .number) (r .index) ≡ sheetOutcome zones sheet (length out))
     × ((r .length ≡ length (sheetWritten zones sheet (length out)))
     × ((after ≡ sheetOutput zones sheet out)
-    × (r .number ≡ 0 → (header rest : List ℕ) → Header zones (lineCount sheet) header → Holds zones sheet (header ++ (take (r .length) after ++ rest)))))
+    × ((r .number ≡ 0 → (header rest : List ℕ) → Header zones (lineCount sheet) header → Holds zones sheet (header ++ (take (r .length) after ++ rest)))
+    × (AnswersTo zones sheet (length out) (verdict (r .number) (r .index))
+    × (r .number ≡ 0 → BranchesOf zones sheet (r .length) out after)))))
 
 owed : (zones : ℕ) (sheet out : List ℕ) {r : Written} {after : List ℕ} → output.Met (sheetRefusal zones sheet (length out)) (sheetBytes zones sheet) out r after → Met zones sheet out r after
 unfolding sheetOutcome sheetWritten sheetOutput
-owed zones sheet out m = (m .0, (m .1 .0, (m .1 .1, λ z header rest good. subst (λ (t : List ℕ). Holds zones sheet (header ++ (t ++ rest))) (λ i. take (sym (m .1 .0) i) (sym (m .1 .1) i)) (written-back zones sheet out (sym (ap (λ (o : Outcome). o .number) (m .0)) ∙ z) header rest good))))
+owed zones sheet out {r} {after} m =
+    let zero-is : r .number ≡ 0 → (sheetOutcome zones sheet (length out)) .number ≡ 0 = λ z. sym (ap (λ (o : Outcome). o .number) (m .0)) ∙ z in (
+      m .0,
+      (
+        m .1 .0,
+        (
+          m .1 .1,
+          (
+            λ z header rest good. subst (λ (t : List ℕ). Holds zones sheet (header ++ (t ++ rest))) (λ i. take (sym (m .1 .0) i) (sym (m .1 .1) i)) (written-back zones sheet out (zero-is z) header rest good),
+            (
+              λ rows c. subst (Answers zones rows (length out)) (sym (m .0)) (answers zones sheet (length out) rows c),
+              λ z rows c. subst (λ (n : ℕ). Branches zones rows n out after) (sym (m .1 .0)) (subst (Branches zones rows (length (sheetWritten zones sheet (length out))) out) (sym (m .1 .1)) (branches-written zones sheet out rows c (zero-is z))),
+            ),
+          ),
+        ),
+      ),
+    )
 
 pub met-refusal : (zones : ℕ) (sheet out : List ℕ) {n k : ℕ} {r : Written} → sheetRefusal zones sheet (length out) ≡ some (verdict n k) → r ≡ record { number = n; index = k; length = 0 } → Met zones sheet out r out
 met-refusal zones sheet out e q = owed zones sheet out (output.met-refusal (sheetBytes zones sheet) out e q)

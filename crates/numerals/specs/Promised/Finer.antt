@@ -1,5 +1,5 @@
--- A DECIMAL PAST OURS IS NOT ZERO exactly where the number is no whole number of our units: with `Exact` the other way round. So 52 is given where a number would
--- lose something, and nowhere else. Assumes nothing.
+-- A DECIMAL PAST OURS IS NOT ZERO exactly where the number is no whole number of our units: `Exact` the other way
+-- round. So 52 is given where a number would lose something, and nowhere else. Assumes nothing.
 use mathlib.Core.Path.{_≡_, refl, sym, ap, _∙_, subst}
 use mathlib.Core.Bool.{Bool, true, false, not, cond, _&&_, _||_}
 use mathlib.Core.List.{List, [], _∷_, _++_}
@@ -21,11 +21,11 @@ clash : false ≡ true → ⊥
 clash q = subst (λ (t : Bool). T (not t)) q tt
 
 -- a digit is worth at most 9, and nothing only where it is a zero
-digit-parts : (d : ℕ) → isDigit d ≡ true → (48 ≤ d) × (d ≤ 57)
+pub digit-parts : (d : ℕ) → isDigit d ≡ true → (48 ≤ d) × (d ≤ 57)
 unfolding isDigit
 digit-parts d e = (leb→le 48 d (and-left (leb 48 d) (leb d 57) (is-true e)), leb→le d 57 (and-right (leb 48 d) (leb d 57) (is-true e)))
 
-first-digit : (d : ℕ) (ds : List ℕ) → onlyDigits (d ∷ ds) ≡ true → isDigit d ≡ true
+pub first-digit : (d : ℕ) (ds : List ℕ) → onlyDigits (d ∷ ds) ≡ true → isDigit d ≡ true
 unfolding onlyDigits
 first-digit d ds e = by (isDigit d) e
   where
@@ -33,7 +33,7 @@ first-digit d ds e = by (isDigit d) e
     by true e = refl
     by false e = e
 
-other-digits : (d : ℕ) (ds : List ℕ) → onlyDigits (d ∷ ds) ≡ true → onlyDigits ds ≡ true
+pub other-digits : (d : ℕ) (ds : List ℕ) → onlyDigits (d ∷ ds) ≡ true → onlyDigits ds ≡ true
 unfolding onlyDigits
 other-digits d ds e = by (isDigit d) e
   where
