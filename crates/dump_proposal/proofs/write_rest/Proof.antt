@@ -16,7 +16,8 @@ use denote.Ref.{now}
 use Rattle.binary64.specs.Meaning.Value.{bitsAt, finite}
 use Rattle.dump_values.specs.Meaning.Field.{Kind, afterOpening, converted}
 use Rattle.dump_values.specs.Steps.Fields.{fieldOf}
-use Rattle.dump_proposal.specs.Steps.Walks.{restOf, field-number, field-outside, field-run, after-kind}
+use Rattle.dump_values.specs.Promised.PlainPlaces.{after-kind}
+use Rattle.dump_proposal.specs.Steps.Walks.{restOf, field-number, field-outside, field-run}
 use Rattle.dump_proposal.proofs.write_rest.Statement.{statement}
 use Rattle.dump_proposal.proofs.write_rest.Tie as tie
 

@@ -14,10 +14,9 @@ use Rattle.rules.specs.Steps.Passed.{case-sound}
 use Rattle.binary64.specs.Meaning.Value.{bitsAt}
 use Rattle.dump_values.specs.Meaning.Field.{Kind, share-of, flow, shadow-price, kindOf, converted, fault}
 use Rattle.dump_values.specs.Promised.Taken.{ShareTaken, FlowTaken, ShadowTaken, SystemTaken, share-taken, flow-taken, shadow-taken, system-taken}
-use Rattle.dump_values.specs.Steps.Places.{order-kind, flow-kind, shadow-kind}
+use Rattle.dump_values.specs.Promised.PlainPlaces.{after-kind, order-kind, flow-kind, shadow-kind}
 use Rattle.dump_proposal.specs.Meaning.Dump.{valueCount, dumpOutcome, dumpWritten, dumpOutput, Holds}
 use Rattle.dump_proposal.specs.Promised.ReadBack.{readable, all-finite, has-field, written-back}
-use Rattle.dump_proposal.specs.Steps.Walks.{after-kind}
 
 -- for a case s, a dump d and a proposal t
 pub record Amounts (s d t : List ℕ) : Type 0 where

@@ -30,10 +30,10 @@ use Rattle.words.specs.Halves.{low-half, low-bits}
 use Rattle.binary64.specs.Meaning.Value.{bitsAt, finite, negative, aboveOne, cut, nearest, Within}
 use Rattle.binary64.specs.Promised.Within.{share-within}
 use Rattle.dump_values.specs.Meaning.Field.{Kind, share-of, flow, shadow-price, kindOf, productOf, converted, forbidden, fieldRange, fault}
-use Rattle.dump_values.specs.Steps.Places.{order-kind, flow-kind, shadow-kind}
+use Rattle.dump_values.specs.Promised.PlainPlaces.{after-kind, order-kind, flow-kind, shadow-kind}
 use Rattle.dump_proposal.specs.Meaning.Dump.{valueCount, refuses, dumpRows, dumpRefusal, dumpOutcome, proposalMark, fieldBytes, fieldsFrom, proposalBytes, dumpWritten, dumpOutput, Holds, Volumes}
 use Rattle.dump_proposal.specs.Promised.Causes.{dump-none, dump-writes}
-use Rattle.dump_proposal.specs.Steps.Walks.{fields-length, after-kind}
+use Rattle.dump_proposal.specs.Steps.Walks.{fields-length}
 use Rattle.dump_proposal.specs.Steps.Answers.{bytes-are}
 
 -- WHERE A FIELD STANDS

@@ -98,11 +98,3 @@ pub field-run : (s d l : List ℕ) (i : ℕ) → sets (sets l 13 (fieldsFrom s d
 field-run s d l i =
     let last = fieldBytes (converted (kindOf s (2 + i)) (bitsAt d (2 + i))) in
     ap (λ (k : ℕ). sets (sets l 13 (fieldsFrom s d 2 i)) (13 + k) last) (sym (fields-length s d 2 i)) ∙ sets-append l 13 (fieldsFrom s d 2 i) last ∙ ap (sets l 13) (fields-next s d 2 i)
-
--- the kind of a value after the opening
-pub after-kind : (s : List ℕ) (i : ℕ) → afterOpening s i ≡ kindOf s (2 + i)
-unfolding kindOf
-after-kind s i = ap (kindOf s) (two-more i)
-  where
-    two-more : (i : ℕ) → suc (suc i) ≡ 2 + i
-    two-more i = omega arith

@@ -11,7 +11,33 @@ use lib.ListN.{getD}
 use Rattle.rules.specs.Meaning.Layout.{u8At, u16At, ordersIn, linksIn, quantityIn}
 use Rattle.dump_values.specs.Meaning.Field.{Kind, share-of, flow, system-price, shadow-price, afterOpening, kindOf}
 
--- a byte of the case, and its three counts
+-- AFTER THE OPENING, by the case's counts
+module _ (s : List ℕ) (i : ℕ) where
+  pub after-kind : afterOpening s i ≡ kindOf s (2 + i)
+  unfolding kindOf
+  after-kind = ap (kindOf s) two-more
+    where
+      two-more : suc (suc i) ≡ 2 + i
+      two-more = omega arith
+
+  abbrev past : Kind
+  past = cond (ltb i (ordersIn s + linksIn s)) flow shadow-price
+
+  pub order-kind : i < ordersIn s → afterOpening s i ≡ share-of (quantityIn s i)
+  unfolding afterOpening
+  order-kind h = ap (λ (b : Bool). cond b (share-of (quantityIn s i)) past) (lt-ltb i (ordersIn s) h)
+
+  past-orders : ordersIn s ≤ i → afterOpening s i ≡ past
+  unfolding afterOpening
+  past-orders h = ap (λ (b : Bool). cond b (share-of (quantityIn s i)) past) (le-ltb i (ordersIn s) h)
+
+  pub flow-kind : ordersIn s ≤ i → i < ordersIn s + linksIn s → afterOpening s i ≡ flow
+  flow-kind h l = past-orders h ∙ ap (λ (b : Bool). cond b flow shadow-price) (lt-ltb i (ordersIn s + linksIn s) l)
+
+  pub shadow-kind : ordersIn s ≤ i → ordersIn s + linksIn s ≤ i → afterOpening s i ≡ shadow-price
+  shadow-kind h l = past-orders h ∙ ap (λ (b : Bool). cond b flow shadow-price) (le-ltb i (ordersIn s + linksIn s) l)
+
+-- BY THE CASE'S BYTES
 abbrev pub branches : List ℕ → ℕ
 branches s = getD s 6 0
 
@@ -30,28 +56,15 @@ module _ (s : List ℕ) where
   unfolding kindOf
   second-value = refl
 
-  after : (n i : ℕ) → n ≡ 2 + i → kindOf s n ≡ afterOpening s i
-  unfolding kindOf
-  after n i e = ap (kindOf s) (e ∙ two-more i)
-    where
-      two-more : (i : ℕ) → 2 + i ≡ suc (suc i)
-      two-more i = omega arith
-
   -- a share of the order's own quantity
   pub order-value : (i : ℕ) → i < orders s → kindOf s (2 + i) ≡ share-of (quantityIn s i)
-  unfolding afterOpening ordersIn linksIn u8At u16At
-  order-value i h = after (2 + i) i refl ∙ ap (λ (b : Bool). cond b (share-of (quantityIn s i)) (cond (ltb i (orders s + links s)) flow shadow-price)) (lt-ltb i (orders s) h)
-
-  past-orders : (i : ℕ) → orders s ≤ i → afterOpening s i ≡ cond (ltb i (orders s + links s)) flow shadow-price
-  unfolding afterOpening ordersIn linksIn u8At u16At
-  past-orders i h = ap (λ (b : Bool). cond b (share-of (quantityIn s i)) (cond (ltb i (orders s + links s)) flow shadow-price)) (le-ltb i (orders s) h)
+  unfolding ordersIn u16At
+  order-value i h = sym (after-kind s i) ∙ order-kind s i h
 
   pub link-value : (l : ℕ) → l < links s → kindOf s (2 + (orders s + l)) ≡ flow
-  link-value l h =
-      after (2 + (orders s + l)) (orders s + l) refl ∙ past-orders (orders s + l) (omega arith)
-      ∙ ap (λ (b : Bool). cond b flow shadow-price) (lt-ltb (orders s + l) (orders s + links s) (omega arith))
+  unfolding ordersIn linksIn u8At u16At
+  link-value l h = sym (after-kind s (orders s + l)) ∙ flow-kind s (orders s + l) (omega arith) (omega arith)
 
   pub branch-value : (m : ℕ) → kindOf s (2 + (orders s + links s + m)) ≡ shadow-price
-  branch-value m =
-      after (2 + (orders s + links s + m)) (orders s + links s + m) refl ∙ past-orders (orders s + links s + m) (omega arith)
-      ∙ ap (λ (b : Bool). cond b flow shadow-price) (le-ltb (orders s + links s + m) (orders s + links s) (omega arith))
+  unfolding ordersIn linksIn u8At u16At
+  branch-value m = sym (after-kind s (orders s + links s + m)) ∙ shadow-kind s (orders s + links s + m) (omega arith) (omega arith)
