@@ -5,7 +5,7 @@
 use mathlib.Core.Path.{_≡_, refl, sym, ap, _∙_, subst}
 use mathlib.Core.Logic.{_⊎_, inl, inr, _↔_}
 use mathlib.Core.Bool.{Bool, true, false, not, cond, _&&_, _||_, true≢false}
-use Prim.Native.Nat.{ℕ, zero, suc, _+_, _*_, _/_, _%_, _^_, _≤_, _<_}
+use Prim.Native.Nat.{ℕ, zero, suc, _*_, _%_, _^_, _≤_, _<_}
 use native.Mathlib.Nat.{le-trans, not-le-of-lt, zero-mul}
 use native.Mathlib.Decide.{decLt}
 use native.Mathlib.Omega.{arith}
@@ -13,8 +13,8 @@ use borrow.Author.Tests.{ltb-true, lt-ltb, leb-false}
 use lib.Dec.{ltb, leb→le, ltb→lt, lit≤}
 use lib.IntN.{ℤ, pos, negℤ}
 use lib.Signed.{_<ℤ_}
-use lib.Ieee.{Float, fin, binary64, round}
-use lib.Ieee.Positive.{num, den, den-pos}
+use lib.Ieee.{fin, binary64, round}
+use lib.Ieee.Positive.{num, den}
 use lib.Ieee.Scale as float
 use Rattle.integers.specs.Ranges.{range, outside, is-true, not-is, nat-inside}
 use Rattle.measures.specs.Meaning.Limits as limits

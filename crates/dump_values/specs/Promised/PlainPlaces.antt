@@ -3,7 +3,7 @@
 use mathlib.Core.Path.{_≡_, refl, sym, ap, _∙_}
 use mathlib.Core.Bool.{Bool, cond}
 use mathlib.Core.List.{List}
-use Prim.Native.Nat.{ℕ, zero, suc, _+_, _*_, _≤_, _<_}
+use Prim.Native.Nat.{ℕ, suc, _+_, _-_, _*_, _≤_, _<_}
 use native.Mathlib.Omega.{arith}
 use borrow.Author.Tests.{lt-ltb, le-ltb}
 use lib.Dec.{ltb}
@@ -68,3 +68,19 @@ module _ (s : List ℕ) where
   pub branch-value : (m : ℕ) → kindOf s (2 + (orders s + links s + m)) ≡ shadow-price
   unfolding ordersIn linksIn u8At u16At
   branch-value m = sym (after-kind s (orders s + links s + m)) ∙ shadow-kind s (orders s + links s + m) (omega arith) (omega arith)
+
+  -- the same by the range in which a place n lies
+  from-two : (n i : ℕ) → n ≡ 2 + i → kindOf s n ≡ afterOpening s i
+  from-two n i e = ap (kindOf s) e ∙ sym (after-kind s i)
+
+  pub order-at : (n : ℕ) → 2 ≤ n → n < 2 + orders s → kindOf s n ≡ share-of (quantityIn s (n - 2))
+  unfolding ordersIn u16At
+  order-at n h l = from-two n (n - 2) (omega arith) ∙ order-kind s (n - 2) (omega arith)
+
+  pub link-at : (n : ℕ) → 2 + orders s ≤ n → n < 2 + (orders s + links s) → kindOf s n ≡ flow
+  unfolding ordersIn linksIn u8At u16At
+  link-at n h l = from-two n (n - 2) (omega arith) ∙ flow-kind s (n - 2) (omega arith) (omega arith)
+
+  pub branch-at : (n : ℕ) → 2 + (orders s + links s) ≤ n → kindOf s n ≡ shadow-price
+  unfolding ordersIn linksIn u8At u16At
+  branch-at n h = from-two n (n - 2) (omega arith) ∙ shadow-kind s (n - 2) (omega arith) (omega arith)
