@@ -2,4 +2,4 @@
 pub mod Causes
 pub mod PlainCauses
 pub mod ReadBack
-pub mod Amounts
+pub mod PlainBytes

@@ -13,6 +13,7 @@ ghost use Rattle.rows.specs.Promised.RowLaws.{placeOf};
 ghost use Rattle.case_header.specs.Opened.{Opened, Limited};
 ghost use Rattle.binary64.specs.Meaning.Value.{bitsAt, finite};
 ghost use Rattle.dump_proposal.specs.Meaning.Dump.{proposalMark, dumpOutcome, dumpWritten, dumpOutput, fieldsFrom, Holds, Volumes};
+ghost use Rattle.dump_proposal.specs.Promised.PlainBytes.{WrittenProposal};
 ghost use Rattle.dump_proposal.specs.Steps.Walks.{restOf, countOf, AllFinite, NoneOutside, faultAfter};
 use binary64::bits_at;
 use binary64::is_finite;
@@ -176,6 +177,7 @@ pub fn dump_proposal(case: &[u8], dump: &[u8], out: &mut [u8]) -> Written
     ensures output { λ r. ⌜ now (out .exit) ≡ dumpOutput (now («case» .entry)) (now (dump .entry)) (now (out .entry)) ⌝ }
     ensures read_back { λ r. ⌜ (r .number ≡ 0 → Holds (now («case» .entry)) (now (dump .entry)) (take (r .length) (now (out .exit)))) ⌝ }
     ensures volumes { λ r. ⌜ (r .number ≡ 0 → Volumes (now («case» .entry)) (now (dump .entry)) (take (r .length) (now (out .exit)))) ⌝ }
+    ensures bytes { λ r. ⌜ (r .number ≡ 0 → WrittenProposal (now («case» .entry)) (now (dump .entry)) (now (out .entry)) (now (out .exit))) ⌝ }
 {
     match read_case(case) {
         CaseAnswer::Refused(refusal) => refused(56, refusal.number as usize),

@@ -59,7 +59,7 @@ field-there s d zero rest j h = absurd (omega arith)
 field-there s d (suc n) rest j h = ap (λ (l : List ℕ). take 4 (drop (4 * j) l)) (append-assoc (fieldsFrom s d 0 n) (fieldBytes (number s d (0 + n))) rest)
     ∙ elim (decLt j n) [ yes l ↦ field-there s d n (fieldBytes (number s d (0 + n)) ++ rest) j l | no g ↦ field-last s d n rest j (omega arith) ]
 
-field-at : (s d : List ℕ) (j : ℕ) → j < valueCount s → take 4 (drop (5 + 4 * j) (proposalBytes s d)) ≡ fieldBytes (number s d j)
+pub field-at : (s d : List ℕ) (j : ℕ) → j < valueCount s → take 4 (drop (5 + 4 * j) (proposalBytes s d)) ≡ fieldBytes (number s d j)
 unfolding proposalBytes
 field-at s d j h =
     ap (λ (l : List ℕ). take 4 l) (drop-append-add proposalMark (fieldsFrom s d 0 (valueCount s)) (4 * j))
@@ -78,7 +78,7 @@ signed-read s d j k h f q =
     low-32 : (z : ℤ) → SFits w32 z → fieldBytes z ≡ signed32 z
     low-32 z f = unfold signed32 in sym (low-half (ofZ w64 z)) ∙ ap (bytesOf 4) (low-bits z f)
 
-system-fits : (z : ℤ) → outside limits.systemPrice z ≡ false → SFits w32 z
+pub system-fits : (z : ℤ) → outside limits.systemPrice z ≡ false → SFits w32 z
 unfolding outside
 system-fits (pos n) e = record { sfits = omega (arith, ltb-false 2147483647 n e) }
 system-fits (negsuc n) e = record { sfits = omega (arith, ltb-false 2147483647 n (not-is _ (nor-left (ltb 2147483647 n) false (is-false e)))) }

@@ -1,9 +1,10 @@
 -- WHICH VALUE OF A DUMP IS WHICH, by its place counted from 0 and the case's bytes: 0 is the LTA share, 1 the system price; then come a share per order, a
 -- flow per link and a shadow price per branch. The case's byte 6 counts its branches, byte 7 its links, bytes 8 and 9 its orders. Assumes nothing.
-use mathlib.Core.Path.{_≡_, refl, sym, ap, _∙_}
+use mathlib.Core.Path.{_≡_, refl, sym, ap, _∙_, subst}
 use mathlib.Core.Bool.{Bool, cond}
 use mathlib.Core.List.{List}
 use Prim.Native.Nat.{ℕ, suc, _+_, _-_, _*_, _≤_, _<_}
+use native.Mathlib.Decide.{decLt}
 use native.Mathlib.Omega.{arith}
 use borrow.Author.Tests.{lt-ltb, le-ltb}
 use lib.Dec.{ltb}
@@ -84,3 +85,16 @@ module _ (s : List ℕ) where
   pub branch-at : (n : ℕ) → 2 + (orders s + links s) ≤ n → kindOf s n ≡ shadow-price
   unfolding ordersIn linksIn u8At u16At
   branch-at n h = from-two n (n - 2) (omega arith) ∙ shadow-kind s (n - 2) (omega arith) (omega arith)
+
+  -- every value is one of these
+  pub by-kind : (P : Kind → Type 0) → P (share-of 100000) → P system-price → ((i : ℕ) → i < orders s → P (share-of (quantityIn s i))) → P flow → P shadow-price → (n : ℕ) → P (kindOf s n)
+  by-kind P a b c e f n = elim (decLt n 1) [
+    | yes x ↦ let q : n ≡ 0 = omega arith in subst P (sym (ap (kindOf s) q ∙ first-value)) a
+    | no x ↦ elim (decLt n 2) [
+      | yes y ↦ let q : n ≡ 1 = omega arith in subst P (sym (ap (kindOf s) q ∙ second-value)) b
+      | no y ↦ elim (decLt n (2 + orders s)) [
+        | yes l ↦ subst P (sym (order-at n (omega arith) l)) (c (n - 2) (omega arith))
+        | no g ↦ elim (decLt n (2 + (orders s + links s))) [ yes l ↦ subst P (sym (link-at n (omega arith) l)) e | no k ↦ subst P (sym (branch-at n (omega arith))) f ]
+      ]
+    ]
+  ]
