@@ -1,6 +1,7 @@
--- 64 BITS IN PLAIN NUMBERS, of any number b: bit 63 is the sign, bits 52 to 62 are the exponent's field, bits 0 to 51 the fraction's. A finite value is
--- units b / 2 ^ 1074 with its sign. The laws say which bits are finite, which value they are, which are below zero and which above one, by the bits
--- alone and both ways. No machine's reading of them enters. Assumes nothing.
+-- 64 BITS IN PLAIN NUMBERS, of any number b: bit 63 is the sign, bits 52 to 62 are the exponent's field, bits 0 to 51
+-- the fraction's. A finite value is units b / 2 ^ 1074 with its sign. The laws say which bits are finite, which value
+-- they are, which are below zero and which above one, by the bits alone and both ways. No machine's reading of them
+-- enters. Assumes nothing.
 use mathlib.Core.Path.{_≡_, refl, sym, ap, _∙_, subst}
 use mathlib.Core.Logic.{_↔_}
 use mathlib.Core.Bool.{Bool, true, false, not, cond, _&&_}
@@ -25,7 +26,8 @@ not-finite b = (λ e. field b (eqb-true (exponent b) 2047 (not-false _ e)), λ e
     back : (b : ℕ) → b / 0x10_0000_0000_0000 % 2048 ≡ 2047 → b % 0x8000_0000_0000_0000 / 0x10_0000_0000_0000 ≡ 2047
     back b e = omega arith
 
--- THE VALUE of a sign s, an exponent's field e and a fraction's f: (2 ^ 52 + f) * 2 ^ e / 2 ^ 1075, and where e is 0 f / 2 ^ 1074
+-- THE VALUE of a sign s, an exponent's field e and a fraction's f: (2 ^ 52 + f) * 2 ^ e / 2 ^ 1075, and where e is 0 f
+-- / 2 ^ 1074
 module _ (s e f : ℕ) (s-in : s < 2) (e-in : e < 2048) (f-in : f < 2 ^ 52) where
   abbrev word : ℕ
   word = s * 2 ^ 63 + e * 2 ^ 52 + f
@@ -125,7 +127,8 @@ below-zero b = (
         none : (n : ℕ) → 0 < n → n ≡ 0 → ⊥
         none n h e = omega arith
 
--- ABOVE ONE, 2 ^ 1074 units: the bits below the sign are more than those of 1.0, whose exponent's field is 1023 and whose fraction is 0
+-- ABOVE ONE, 2 ^ 1074 units: the bits below the sign are more than those of 1.0, whose exponent's field is 1023 and
+-- whose fraction is 0
 past-one : (x f : ℕ) → f < 2 ^ 52 → 1023 * 2 ^ 52 < x * 2 ^ 52 + f → 2 ^ 1074 < unitsOf x f
 past-one zero f l h = absurd (never f l h)
   where

@@ -1,6 +1,7 @@
--- A PRODUCT TAKEN TO A WHOLE NUMBER, in plain numbers: what is cut is at most the rounded product and less than one below it; what is taken to the nearest is
--- within a half of it, and at a half it is the one away from zero. Both are within one of the exact product too. And a value's 64 bits are its eight
--- bytes, each times its power of 256. Assumes nothing.
+-- A PRODUCT TAKEN TO A WHOLE NUMBER, in plain numbers: what is cut is at most the rounded product and less than one
+-- below it; what is taken to the nearest is within a half of it, and at a half it is the one away from zero. Both are
+-- within one of the exact product too. And a value's 64 bits are its eight bytes, each times its power of 256. Assumes
+-- nothing.
 use mathlib.Core.Path.{_≡_, refl, sym, ap, _∙_, subst}
 use mathlib.Core.Logic.{_↔_}
 use mathlib.Core.Bool.{Bool, true, false, true≢false, cond}
@@ -52,7 +53,8 @@ pub record CutOf (b q v : ℕ) : Type 0 where
   pub at-most : v * den (rounded b q) ≤ num (rounded b q)
   pub past : num (rounded b q) < (v + 1) * den (rounded b q)
 
--- v is the whole number nearest to the product's size: 2 * |r - v| ≤ 1, and of two as near the one away from zero: r is a half above no v
+-- v is the whole number nearest to the product's size: 2 * |r - v| ≤ 1, and of two as near the one away from zero: r
+-- is a half above no v
 pub record NearestOf (b q v : ℕ) : Type 0 where
   pub finite : float.finite (rounded b q) ≡ true
   pub over : 2 * v * den (rounded b q) ≤ 2 * num (rounded b q) + den (rounded b q)

@@ -1,7 +1,9 @@
--- THE OUTPUT OF AN ANSWER IN PLAIN BYTES: mark, version, and the number of value n in the four bytes from 5 + 4 n on, with what each number is by the bits of its
--- own value. The LTA share is its product with 100,000, a volume the share's product with the quantity, a flow ten times the MW, each rounded once and cut; a
--- price is a hundred times the euros, rounded once and taken to the nearest cent, halves away from zero. A value read in another's place, or as another
--- kind, would make it false. A byte is `getD b k 0`, the number at place k of the buffer, counted from 0. Assumes nothing.
+-- THE OUTPUT OF AN ANSWER IN PLAIN BYTES: mark, version, and the number of value n in the four bytes from 5 + 4 n on,
+-- with what each number is by the bits of its own value. The LTA share is its product with 100,000, a volume the
+-- share's product with the quantity, a flow ten times the MW, each rounded once and cut; a price is a hundred times
+-- the euros, rounded once and taken to the nearest cent, halves away from zero. A value read in another's place, or as
+-- another kind, would make it false. A byte is `getD b k 0`, the number at place k of the buffer, counted from 0.
+-- Assumes nothing.
 use mathlib.Core.Path.{_≡_, refl, sym, ap, _∙_, subst}
 use mathlib.Core.Bool.{false}
 use mathlib.Core.List.{List, _++_}

@@ -1,6 +1,7 @@
--- 0 AND 56 TO 60 IN PLAIN NUMBERS, both ways, number and index. A byte is `getD d k 0`, the number at place k, counted from 0. The case's byte 6 counts its
--- branches, byte 7 its links, bytes 8 and 9 its orders; value n of the dump is its bytes 8 n to 8 n + 7. `CaseFacts` says in plain facts what a readable
--- case is, and `PlainFaults` of `dump_values` which value of which kind is refused. Assumes nothing.
+-- 0 AND 56 TO 60 IN PLAIN NUMBERS, both ways, number and index. A byte is `getD d k 0`, the number at place k, counted
+-- from 0. The case's byte 6 counts its branches, byte 7 its links, bytes 8 and 9 its orders; value n of the dump is
+-- its bytes 8 n to 8 n + 7. `CaseFacts` says in plain facts what a readable case is, and `PlainFaults` of
+-- `dump_values` which value of which kind is refused. Assumes nothing.
 use mathlib.Core.Path.{_≡_, refl, sym, ap, _∙_, subst}
 use mathlib.Core.Logic.{_⊎_, inl, inr, _↔_, _≢_}
 use mathlib.Core.Bool.{Bool, true, false, not}
@@ -41,7 +42,8 @@ bits d n = sumNat 8 (λ i. getD d (8 * n + i) 0 * 256 ^ i)
 abbrev pub NotFinite : List ℕ → ℕ → Type 0
 NotFinite d n = bits d n / 2 ^ 52 % 2048 ≡ 2047
 
--- 59: value 0 is the LTA share, value 1 the system price; then come the orders' shares, the links' flows, the branches' shadow prices
+-- 59: value 0 is the LTA share, value 1 the system price; then come the orders' shares, the links' flows, the
+-- branches' shadow prices
 abbrev pub Refused : List ℕ → List ℕ → ℕ → Type 0
 Refused s d n =
     ((n ≡ 0) × ShareRefused (bits d n))

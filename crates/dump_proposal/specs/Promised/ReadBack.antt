@@ -1,5 +1,5 @@
--- WHAT IS WRITTEN IS READ BACK: for its case the proposal has the right length and rows 9 to 14 pass, and each field holds its own value's number.
--- Assumes nothing.
+-- WHAT IS WRITTEN IS READ BACK: for its case the proposal has the right length and rows 9 to 14 pass, and each field
+-- holds its own value's number. Assumes nothing.
 use mathlib.Core.Path.{_≡_, refl, sym, ap, _∙_, subst}
 use mathlib.Core.Bool.{Bool, true, false, not}
 use mathlib.Core.List.{List, [], _++_, append-assoc, append-nil}

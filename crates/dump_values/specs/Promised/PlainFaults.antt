@@ -1,7 +1,8 @@
--- WHICH VALUES 59 REFUSES, both ways and in plain numbers, over the 64 bits b of the value: a share below zero or above one, and no other; a flow below
--- zero, or whose product with 10, rounded once, is infinite or 2 ^ 32 or more; a shadow price below zero, or whose product with 100 is infinite or
--- 1,000,000.5 or more; a system price whose product with 100 is infinite, 2,147,483,647.5 or more, or -2,147,483,648.5 or less. The rounded product is
--- the fraction num / den. Minus zero is taken as zero. Assumes nothing.
+-- WHICH VALUES 59 REFUSES, both ways and in plain numbers, over the 64 bits b of the value: a share below zero or
+-- above one, and no other; a flow below zero, or whose product with 10, rounded once, is infinite or 2 ^ 32 or more; a
+-- shadow price below zero, or whose product with 100 is infinite or 1,000,000.5 or more; a system price whose product
+-- with 100 is infinite, 2,147,483,647.5 or more, or -2,147,483,648.5 or less. The rounded product is the fraction num
+-- / den. Minus zero is taken as zero. Assumes nothing.
 use mathlib.Core.Path.{_≡_, refl, sym, ap, _∙_, subst}
 use mathlib.Core.Logic.{_⊎_, inl, inr, _↔_}
 use mathlib.Core.Bool.{Bool, true, false, not, cond, _&&_, _||_, true≢false}
@@ -226,7 +227,8 @@ minus-zero k = taken-zero (2 ^ 63) (unfold units in refl) k
 pub plus-zero : (k : Kind) → Zero k 0
 plus-zero k = taken-zero 0 (unfold units in refl) k
 
--- THE SIGN of a system price is its value's: a number below zero has a value below zero, and one above zero a value with no sign
+-- THE SIGN of a system price is its value's: a number below zero has a value below zero, and one above zero a value
+-- with no sign
 module _ (b : ℕ) where
   abbrev size : ℕ
   size = nearest (product b 100)

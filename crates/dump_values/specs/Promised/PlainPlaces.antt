@@ -1,5 +1,6 @@
--- WHICH VALUE OF A DUMP IS WHICH, by its place counted from 0 and the case's bytes: 0 is the LTA share, 1 the system price; then come a share per order, a
--- flow per link and a shadow price per branch. The case's byte 6 counts its branches, byte 7 its links, bytes 8 and 9 its orders. Assumes nothing.
+-- WHICH VALUE OF A DUMP IS WHICH, by its place counted from 0 and the case's bytes: 0 is the LTA share, 1 the system
+-- price; then come a share per order, a flow per link and a shadow price per branch. The case's byte 6 counts its
+-- branches, byte 7 its links, bytes 8 and 9 its orders. Assumes nothing.
 use mathlib.Core.Path.{_≡_, refl, sym, ap, _∙_, subst}
 use mathlib.Core.Bool.{Bool, cond}
 use mathlib.Core.List.{List}
