@@ -2,7 +2,7 @@
 use mathlib.Core.Path.{_≡_, refl}
 use mathlib.Core.Bool.{Bool, true, false}
 use mathlib.Core.List.{List}
-use Prim.Native.Nat.{ℕ, _+_, _<_, _≤_}
+use Prim.Native.Nat.{ℕ, _+_, _*_, _<_, _≤_}
 use borrow.Author.Tests.{leb-true, leb-false}
 use lib.ListN.{length}
 use lib.Dec.{leb}
@@ -17,6 +17,8 @@ use Rattle.fields.specs.declared.ByteField.{ByteField}
 use Rattle.fields.specs.declared.ByteField.the-variants as byte
 use Rattle.fields.specs.declared.WordField.{WordField}
 use Rattle.fields.specs.declared.WordField.the-variants as word
+use Rattle.fields.specs.declared.LongField.{LongField}
+use Rattle.fields.specs.declared.LongField.the-variants as long
 use Rattle.fields.specs.declared.SignedField.{SignedField}
 use Rattle.fields.specs.declared.SignedField.the-variants as signed
 
@@ -43,6 +45,10 @@ abbrev pub wordBy : ℕ → Cursor → Bool → WordField
 wordBy v c true = word.Taken v c
 wordBy v c false = word.Short
 
+abbrev pub longBy : ℕ → Cursor → Bool → LongField
+longBy v c true = long.Taken v c
+longBy v c false = long.Short
+
 abbrev pub signedBy : Raw → Cursor → Bool → SignedField
 signedBy v c true = signed.Taken v c
 signedBy v c false = signed.Short
@@ -62,6 +68,13 @@ halfField s at = wordBy (u16At s at) (cursor (at + 2)) (fieldFits s at 2)
 
 abbrev pub wordField : List ℕ → ℕ → WordField
 wordField s at = wordBy (u32At s at) (cursor (at + 4)) (fieldFits s at 4)
+
+-- 64 bits, eight bytes
+abbrev pub longAt : List ℕ → ℕ → ℕ
+longAt s at = u32At s at + 4294967296 * u32At s (at + 4)
+
+abbrev pub longField : List ℕ → ℕ → LongField
+longField s at = longBy (longAt s at) (cursor (at + 8)) (fieldFits s at 8)
 
 abbrev pub signedField : List ℕ → ℕ → SignedField
 signedField s at = signedBy (raw (i32At s at)) (cursor (at + 4)) (fieldFits s at 4)
@@ -96,6 +109,14 @@ word-taken x d false e = (cc, cc, cc)
 word-missing : (x : ℕ) (d : Cursor) (b : Bool) → wordBy x d b ≡ word.Short → b ≡ false
 word-missing x d true e = cc
 word-missing x d false e = refl
+
+long-taken : (x : ℕ) (d : Cursor) (b : Bool) {v : ℕ} {c : Cursor} → longBy x d b ≡ long.Taken v c → (b ≡ true) × (v ≡ x) × (c ≡ d)
+long-taken x d true e = (refl, cc, cc)
+long-taken x d false e = (cc, cc, cc)
+
+long-missing : (x : ℕ) (d : Cursor) (b : Bool) → longBy x d b ≡ long.Short → b ≡ false
+long-missing x d true e = cc
+long-missing x d false e = refl
 
 signed-taken : (x : Raw) (d : Cursor) (b : Bool) {v : Raw} {c : Cursor} → signedBy x d b ≡ signed.Taken v c → (b ≡ true) × (v ≡ x) × (c ≡ d)
 signed-taken x d true e = (refl, cc, cc)
@@ -135,6 +156,12 @@ module _ (s : List ℕ) (at : ℕ) where
 
   pub word-short : wordField s at ≡ word.Short → length s < at + 4
   word-short e = missing 4 (word-missing _ _ (fieldFits s at 4) e)
+
+  pub long-took : {v : ℕ} {c : Cursor} → longField s at ≡ long.Taken v c → Took s at 8 (longAt s at) v c
+  long-took e = took 8 (long-taken _ _ (fieldFits s at 8) e)
+
+  pub long-short : longField s at ≡ long.Short → length s < at + 8
+  long-short e = missing 8 (long-missing _ _ (fieldFits s at 8) e)
 
   pub signed-took : {v : Raw} {c : Cursor} → signedField s at ≡ signed.Taken v c → Took s at 4 (raw (i32At s at)) v c
   signed-took e = took 4 (signed-taken _ _ (fieldFits s at 4) e)
