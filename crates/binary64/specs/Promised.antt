@@ -1,4 +1,5 @@
 -- WHAT IS PROVED OF THE MEANING, for its reader
 pub mod Machine
+pub mod PlainBits
 pub mod Within
 pub mod Taken

@@ -2,24 +2,19 @@
 ghost use mathlib.Core.Path.{_≡_};
 ghost use mathlib.Core.Bool.{true, false};
 ghost use lib.IntN.{pos};
-ghost use Prim.Native.Nat.{_+_, _*_, _≤_};
+ghost use Prim.Native.Nat.{_≤_};
 ghost use lib.Dec.{T};
-ghost use lib.ListN.{length};
 ghost use lib.Ieee as Ieee;
 ghost use lib.Ieee.{binary64};
-ghost use Rattle.binary64.specs.Meaning.Value.{bitsAt, finite, cut, nearest};
+ghost use Rattle.binary64.specs.Meaning.Value.{finite, cut, nearest};
 ghost use Rattle.binary64.specs.Meaning.Answer.{wholeBelow, wholeUpTo};
 ghost use Rattle.binary64.specs.Steps.Machine.{zero64, one64, times};
-use fields::word_at;
 
 // A whole number of 32 bits, or none.
 pub enum WholeAnswer {
     Held(u32),
     Outside,
 }
-
-// 2 ^ 32, which parts 64 bits in two halves.
-const HALF: u64 = 4294967296;
 
 // What the exponent's field begins with where it is all ones.
 const NOT_FINITE: u64 = 0x7ff0_0000_0000_0000;
@@ -31,16 +26,6 @@ const HALVES_END: f64 = 2251799813685248.0;
 
 // Past every number of 32 bits.
 const WORD_END: f64 = 4294967296.0;
-
-// The n-th value of a dump, eight bytes each.
-pub fn bits_at(dump: &[u8], n: usize) -> u64
-    requires { ⌜ 8 * n + 8 ≤ length (now dump) ⌝ }
-    ensures { λ r. ⌜ r ≡ bitsAt (now (dump .entry)) n ⌝ }
-{
-    let low = word_at(dump, 8 * n);
-    let high = word_at(dump, 8 * n + 4);
-    (low as u64) + HALF * (high as u64)
-}
 
 // Neither an infinity nor a NaN.
 pub fn is_finite(bits: u64) -> bool

@@ -1,4 +1,5 @@
 -- WHAT IS PROVED OF THE MEANING, for its reader
 pub mod Causes
+pub mod PlainCauses
 pub mod ReadBack
-pub mod Amounts
+pub mod PlainBytes

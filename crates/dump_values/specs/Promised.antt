@@ -1,2 +1,4 @@
--- WHAT HOLDS of the number that a value becomes, in plain numbers
+-- WHAT IS PROVED OF THE MEANING, for its reader
 pub mod Taken
+pub mod PlainPlaces
+pub mod PlainFaults

@@ -3,12 +3,13 @@ ghost use mathlib.Core.Path.{_≡_};
 ghost use lib.ListN.{length, take};
 ghost use Rattle.rows.specs.Meaning.Rows.{verdict};
 ghost use Rattle.dump_proposal.specs.Meaning.Dump.{dumpOutcome, dumpWritten, dumpOutput, Holds, Volumes};
+ghost use Rattle.dump_proposal.specs.Promised.PlainBytes.{WrittenProposal};
 use dump_proposal::dump_proposal;
 use output::Written;
 
 // The proposal at the start of `out`, and how many bytes it is; or a refusal, 56 to 60 in that order, with length 0 and `out` as it was. An answer's bytes
 // have the right length for the case and pass rows 9 to 14; each field holds its own value's number, and each volume is at most its quantity and within one
-// tenth of the exact product.
+// tenth of the exact product. [bytes] gives every byte of `out`, and what each number is by the eight bytes of its value.
 #[no_mangle]
 pub extern "C" fn lta_dump_proposal(case: &[u8], dump: &[u8], out: &mut [u8]) -> Written
     ensures outcome { λ r. ⌜ verdict (r .number) (r .index) ≡ dumpOutcome (now («case» .entry)) (now (dump .entry)) (length (now (out .entry))) ⌝ }
@@ -16,6 +17,7 @@ pub extern "C" fn lta_dump_proposal(case: &[u8], dump: &[u8], out: &mut [u8]) ->
     ensures output { λ r. ⌜ now (out .exit) ≡ dumpOutput (now («case» .entry)) (now (dump .entry)) (now (out .entry)) ⌝ }
     ensures read_back { λ r. ⌜ (r .number ≡ 0 → Holds (now («case» .entry)) (now (dump .entry)) (take (r .length) (now (out .exit)))) ⌝ }
     ensures volumes { λ r. ⌜ (r .number ≡ 0 → Volumes (now («case» .entry)) (now (dump .entry)) (take (r .length) (now (out .exit)))) ⌝ }
+    ensures bytes { λ r. ⌜ (r .number ≡ 0 → WrittenProposal (now («case» .entry)) (now (dump .entry)) (now (out .entry)) (now (out .exit))) ⌝ }
 {
     dump_proposal(case, dump, out)
 }

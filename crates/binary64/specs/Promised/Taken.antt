@@ -1,11 +1,13 @@
--- A PRODUCT TAKEN TO A WHOLE NUMBER, in plain numbers: what is cut is at most the rounded product and less than one below it; what is taken to the nearest is
--- within a half of it, and at a half it is the one away from zero. Both are within one of the exact product too. And a value's 64 bits are its eight
--- bytes, each times its power of 256. Assumes nothing.
+-- A PRODUCT TAKEN TO A WHOLE NUMBER, in plain numbers: what is cut is at most the rounded product and less than one
+-- below it; what is taken to the nearest is within a half of it, and at a half it is the one away from zero. Both are
+-- within one of the exact product too. And a value's 64 bits are its eight bytes, each times its power of 256. Assumes
+-- nothing.
 use mathlib.Core.Path.{_≡_, refl, sym, ap, _∙_, subst}
+use mathlib.Core.Logic.{_↔_}
 use mathlib.Core.Bool.{Bool, true, false, true≢false, cond}
 use mathlib.Core.List.{List}
 use Prim.Native.Nat.{ℕ, zero, suc, _+_, _-_, _*_, _/_, _%_, _^_, _≤_, _<_, min, compare}
-use native.Mathlib.Nat.{mod-lt, div-add-mod', lt-of-mul-lt-mul-right, le-trans, le-of-eq, le-of-lt, lt-of-le-of-lt, mul-one}
+use native.Mathlib.Nat.{mod-lt, div-add-mod', lt-of-mul-lt-mul-right, le-trans, le-of-eq, le-of-lt, lt-of-le-of-lt, mul-one, mul-le-mul-right}
 use native.Mathlib.Omega.{arith}
 use native.Mathlib.Decide.{decLt}
 use lib.Dec.{T, ltb, lit<}
@@ -51,7 +53,8 @@ pub record CutOf (b q v : ℕ) : Type 0 where
   pub at-most : v * den (rounded b q) ≤ num (rounded b q)
   pub past : num (rounded b q) < (v + 1) * den (rounded b q)
 
--- v is the whole number nearest to the product's size: 2 * |r - v| ≤ 1, and of two as near the one away from zero: r is a half above no v
+-- v is the whole number nearest to the product's size: 2 * |r - v| ≤ 1, and of two as near the one away from zero: r
+-- is a half above no v
 pub record NearestOf (b q v : ℕ) : Type 0 where
   pub finite : float.finite (rounded b q) ≡ true
   pub over : 2 * v * den (rounded b q) ≤ 2 * num (rounded b q) + den (rounded b q)
@@ -83,6 +86,34 @@ nearest-of b q f =
     let r = rounded b q in
     let c = nearest-parts (num r) (den r) (den-pos r) in
     record { finite = f; over = c .0; under = omega (arith, c .1); away = λ k e. one-half _ k (num r) (den r) (den-pos r) (c .0) (c .1) e }
+
+-- WHAT IS TAKEN IS ABOVE g if and only if the product is g + 1 or more, and for the nearest g + 1/2 or more
+pub cut-above : (b q g : ℕ) → (g < cut (product b q)) ↔ ((g + 1) * den (rounded b q) ≤ num (rounded b q))
+unfolding product cut
+cut-above b q g =
+    let n = num (rounded b q) in
+    let d = den (rounded b q) in
+    let c = cut-parts n d (den-pos (rounded b q)) in (
+      λ h. let k : g + 1 ≤ n / d = omega (arith, h) in le-trans (mul-le-mul-right d k) (c .0),
+      λ h. let k : g + 1 < n / d + 1 = lt-of-mul-lt-mul-right d {m = g + 1} {n = n / d + 1} (lt-of-le-of-lt h (c .1)) in omega (arith, k),
+    )
+
+pub nearest-above : (b q g : ℕ) → (g < nearest (product b q)) ↔ ((2 * g + 1) * den (rounded b q) ≤ 2 * num (rounded b q))
+unfolding product nearest
+nearest-above b q g =
+    let n = num (rounded b q) in
+    let d = den (rounded b q) in
+    let v = (2 * n + d) / (2 * d) in
+    let c = nearest-parts n d (den-pos (rounded b q)) in (
+      λ h. up g v n d h (c .0),
+      λ h. let k : 2 * g + 1 < 2 * v + 1 = lt-of-mul-lt-mul-right d {m = 2 * g + 1} {n = 2 * v + 1} (down g v n d h (c .1)) in omega (arith, k),
+    )
+  where
+    up : (g v n d : ℕ) → g < v → 2 * v * d ≤ 2 * n + d → (2 * g + 1) * d ≤ 2 * n
+    up g v n d h l = let k : (2 * g + 2) * d ≤ 2 * v * d = mul-le-mul-right d (omega arith) in omega (arith, k)
+
+    down : (g v n d : ℕ) → (2 * g + 1) * d ≤ 2 * n → 2 * n < 2 * v * d + d → (2 * g + 1) * d < (2 * v + 1) * d
+    down g v n d h l = omega arith
 
 -- AGAINST THE EXACT PRODUCT, the fraction units b * q / 2 ^ 1074: what is cut differs from it by less than one
 pub record WithinOne (b q v : ℕ) : Type 0 where

@@ -1,20 +1,22 @@
--- A SHARE'S PRODUCT that is rounded once and cut to a whole number is never above the whole, and differs from the exact product, the fraction
--- units b * q / 2 ^ 1074, by less than one. Assumes nothing.
+-- A SHARE'S PRODUCT that is rounded once and cut to a whole number is never above the whole, and differs from the
+-- exact product, the fraction units b * q / 2 ^ 1074, by less than one. Assumes nothing.
 use mathlib.Core.Path.{_≡_, sym, ap, _∙_, subst}
 use mathlib.Core.Bool.{Bool, true, false, not}
-use Prim.Native.Nat.{ℕ, _+_, _*_, _^_, _<_}
+use Prim.Native.Nat.{ℕ, _+_, _*_, _^_, _≤_, _<_}
 use native.Mathlib.Nat.{le-of-lt, mul-comm, mul-right-comm, add-mul, lt-of-mul-lt-mul-right, mul-lt-mul-of-pos-right}
 use lib.Dec.{T}
 use lib.Pow.{pow-pos}
 use lib.Ieee.{Float, nan, inf, fin, binary64, le, ofBits}
 use lib.Ieee.Exact.{HasValue}
 use lib.Ieee.Positive.{num, den, den-pos}
+use lib.Ieee.Scale as float
 use Rattle.integers.specs.Ranges.{is-true}
 use Rattle.binary64.specs.Meaning.Value.{minus, finite, units, negative, aboveOne, product, cut, Within}
-use Rattle.binary64.specs.Steps.Machine.{zero64, one64}
-use Rattle.binary64.specs.Steps.Cutting.{Part, share-part}
+use Rattle.binary64.specs.Steps.Machine.{zero64, one64, times}
+use Rattle.binary64.specs.Steps.Cutting.{Part, share-part, share-of, share-in-range}
 use Rattle.binary64.specs.Steps.Patterns.{bits-value}
 use Rattle.binary64.specs.Steps.Products.{product-is, not-negative, not-above-one}
+use Rattle.binary64.specs.Steps.Whole.{ranged-finite}
 
 value-cross : (x : Float) (s : Bool) (a c : ℕ) → HasValue x s a c → num x * c ≡ a * den x
 value-cross nan s a c h = absurd h
@@ -45,6 +47,12 @@ scaled-under r n d a k q D K e h =
 
 share-unit : (b : ℕ) → finite b ≡ true → negative b ≡ false → aboveOne b ≡ false → T (le zero64 (ofBits binary64 b)) × T (le (ofBits binary64 b) one64)
 share-unit b f n o = (is-true (not-negative b f ∙ ap not n), is-true (not-above-one b f n ∙ ap not o))
+
+-- the product is finite
+pub share-finite : (b q : ℕ) → finite b ≡ true → negative b ≡ false → aboveOne b ≡ false → q ≤ 2 ^ 53 → float.finite (product b q) ≡ true
+share-finite b q f n o l =
+    let u = share-unit b f n o in
+    ap float.finite (sym (product-is b q f l)) ∙ ranged-finite (times (ofBits binary64 b) q) (share-in-range (ofBits binary64 b) q (share-of (ofBits binary64 b) (u .0) (u .1)) l)
 
 pub share-within : (b q : ℕ) → finite b ≡ true → negative b ≡ false → aboveOne b ≡ false → q < 2 ^ 53 → Within b q (cut (product b q))
 share-within b q f n o l =

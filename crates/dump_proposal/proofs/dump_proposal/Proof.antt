@@ -10,6 +10,7 @@ use Rattle.rows.specs.Meaning.Rows.{verdict}
 use Rattle.output.specs.declared.Written.{Written}
 use Rattle.case_file.specs.Answer.{opened-of, refused-of}
 use Rattle.dump_proposal.specs.Meaning.Dump.{dumpOutcome, dumpWritten, dumpOutput, Holds, Volumes}
+use Rattle.dump_proposal.specs.Promised.PlainBytes.{WrittenProposal, proposal-written}
 use Rattle.dump_proposal.specs.Promised.ReadBack.{written-back}
 use Rattle.dump_proposal.specs.Steps.Answers.{Met, refused-56, met-refusal}
 use Rattle.dump_proposal.proofs.dump_proposal.Statement.{statement}
@@ -21,13 +22,16 @@ Owed s d out r after =
     (verdict (r .number) (r .index) ≡ dumpOutcome s d (length out))
     × ((r .length ≡ length (dumpWritten s d (length out)))
     × ((after ≡ dumpOutput s d out)
-    × ((r .number ≡ 0 → Holds s d (take (r .length) after)) × (r .number ≡ 0 → Volumes s d (take (r .length) after)))))
+    × ((r .number ≡ 0 → Holds s d (take (r .length) after)) × ((r .number ≡ 0 → Volumes s d (take (r .length) after)) × (r .number ≡ 0 → WrittenProposal s d out after)))))
 
 owed : (s d out : List ℕ) {r : Written} {after : List ℕ} → Met s d out r after → Owed s d out r after
-owed s d out {r} {after} m = (m .0, (m .1 .0, (m .1 .1, (λ z. back z .0, λ z. back z .1))))
+owed s d out {r} {after} m = (m .0, (m .1 .0, (m .1 .1, (λ z. back z .0, (λ z. back z .1, λ z. subst (λ (t : List ℕ). WrittenProposal s d out t) (sym (m .1 .1)) (proposal-written s d out (is-answer z)))))))
   where
+    is-answer : r .number ≡ 0 → (dumpOutcome s d (length out)) .number ≡ 0
+    is-answer z = sym (ap (λ (o : Outcome). o .number) (m .0)) ∙ z
+
     back : r .number ≡ 0 → Holds s d (take (r .length) after) × Volumes s d (take (r .length) after)
-    back z = subst (λ (t : List ℕ). Holds s d t × Volumes s d t) (λ i. take (sym (m .1 .0) i) (sym (m .1 .1) i)) (written-back s d out (sym (ap (λ (o : Outcome). o .number) (m .0)) ∙ z))
+    back z = subst (λ (t : List ℕ). Holds s d t × Volumes s d t) (λ i. take (sym (m .1 .0) i) (sym (m .1 .1) i)) (written-back s d out (is-answer z))
 
 read-case-requires : tie.Need-read-case-requires
 read-case-requires c κs = search needs

@@ -1,5 +1,5 @@
--- The table's numbers in the order asked, that a refusal is given for its cause and for no other and writes nothing, and that no cause asked earlier holds.
--- Assumes nothing.
+-- The table's numbers in the order asked, that a refusal is given for its cause and for no other and writes nothing,
+-- and that no cause asked earlier holds. Assumes nothing.
 use mathlib.Core.Path.{_≡_, refl, ap}
 use mathlib.Core.List.{List, [], _∷_}
 use mathlib.Core.Option.{Option, none, some}

@@ -1,5 +1,5 @@
--- WHAT IS WRITTEN IS READ BACK: for its case the proposal has the right length and rows 9 to 14 pass, and each field holds its own value's number.
--- Assumes nothing.
+-- WHAT IS WRITTEN IS READ BACK: for its case the proposal has the right length and rows 9 to 14 pass, and each field
+-- holds its own value's number. Assumes nothing.
 use mathlib.Core.Path.{_≡_, refl, sym, ap, _∙_, subst}
 use mathlib.Core.Bool.{Bool, true, false, not}
 use mathlib.Core.List.{List, [], _++_, append-assoc, append-nil}
@@ -30,10 +30,10 @@ use Rattle.words.specs.Halves.{low-half, low-bits}
 use Rattle.binary64.specs.Meaning.Value.{bitsAt, finite, negative, aboveOne, cut, nearest, Within}
 use Rattle.binary64.specs.Promised.Within.{share-within}
 use Rattle.dump_values.specs.Meaning.Field.{Kind, share-of, flow, shadow-price, kindOf, productOf, converted, forbidden, fieldRange, fault}
-use Rattle.dump_values.specs.Steps.Places.{order-kind, flow-kind, shadow-kind}
+use Rattle.dump_values.specs.Promised.PlainPlaces.{after-kind, order-kind, flow-kind, shadow-kind}
 use Rattle.dump_proposal.specs.Meaning.Dump.{valueCount, refuses, dumpRows, dumpRefusal, dumpOutcome, proposalMark, fieldBytes, fieldsFrom, proposalBytes, dumpWritten, dumpOutput, Holds, Volumes}
 use Rattle.dump_proposal.specs.Promised.Causes.{dump-none, dump-writes}
-use Rattle.dump_proposal.specs.Steps.Walks.{fields-length, after-kind}
+use Rattle.dump_proposal.specs.Steps.Walks.{fields-length}
 use Rattle.dump_proposal.specs.Steps.Answers.{bytes-are}
 
 -- WHERE A FIELD STANDS
@@ -59,7 +59,7 @@ field-there s d zero rest j h = absurd (omega arith)
 field-there s d (suc n) rest j h = ap (λ (l : List ℕ). take 4 (drop (4 * j) l)) (append-assoc (fieldsFrom s d 0 n) (fieldBytes (number s d (0 + n))) rest)
     ∙ elim (decLt j n) [ yes l ↦ field-there s d n (fieldBytes (number s d (0 + n)) ++ rest) j l | no g ↦ field-last s d n rest j (omega arith) ]
 
-field-at : (s d : List ℕ) (j : ℕ) → j < valueCount s → take 4 (drop (5 + 4 * j) (proposalBytes s d)) ≡ fieldBytes (number s d j)
+pub field-at : (s d : List ℕ) (j : ℕ) → j < valueCount s → take 4 (drop (5 + 4 * j) (proposalBytes s d)) ≡ fieldBytes (number s d j)
 unfolding proposalBytes
 field-at s d j h =
     ap (λ (l : List ℕ). take 4 l) (drop-append-add proposalMark (fieldsFrom s d 0 (valueCount s)) (4 * j))
@@ -78,7 +78,7 @@ signed-read s d j k h f q =
     low-32 : (z : ℤ) → SFits w32 z → fieldBytes z ≡ signed32 z
     low-32 z f = unfold signed32 in sym (low-half (ofZ w64 z)) ∙ ap (bytesOf 4) (low-bits z f)
 
-system-fits : (z : ℤ) → outside limits.systemPrice z ≡ false → SFits w32 z
+pub system-fits : (z : ℤ) → outside limits.systemPrice z ≡ false → SFits w32 z
 unfolding outside
 system-fits (pos n) e = record { sfits = omega (arith, ltb-false 2147483647 n e) }
 system-fits (negsuc n) e = record { sfits = omega (arith, ltb-false 2147483647 n (not-is _ (nor-left (ltb 2147483647 n) false (is-false e)))) }

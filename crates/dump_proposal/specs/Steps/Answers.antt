@@ -24,8 +24,9 @@ use Rattle.case_header.specs.declared.Counts.{Counts}
 use Rattle.case_header.specs.Opened.{Opened}
 use Rattle.binary64.specs.Meaning.Value.{bitsAt, finite}
 use Rattle.dump_values.specs.Meaning.Field.{kindOf, converted, fault}
+use Rattle.dump_values.specs.Promised.PlainPlaces.{after-kind}
 use Rattle.dump_proposal.specs.Meaning.Dump.{valueCount, dumpLength, refuses, numberIn, dumpRows, dumpRefusal, dumpOutcome, proposalMark, fieldsFrom, proposalBytes, dumpWritten, dumpOutput}
-use Rattle.dump_proposal.specs.Steps.Walks.{restOf, countOf, faultAfter, after-kind, fields-length, fields-split}
+use Rattle.dump_proposal.specs.Steps.Walks.{restOf, countOf, faultAfter, fields-length, fields-split}
 
 -- THE COUNTS of a readable case are its own
 module _ {s : List ℕ} {k : Counts} (o : Opened s k) where

@@ -1,24 +1,33 @@
 -- The walks over a dump's values: by the case's counts, and what each turn leaves. Assumes nothing.
-use mathlib.Core.Path.{_≡_, refl, sym, ap, _∙_}
+use mathlib.Core.Path.{_≡_, refl, sym, ap, _∙_, subst}
 use mathlib.Core.Bool.{Bool, true, false, not}
 use mathlib.Core.Option.{none}
 use mathlib.Core.List.{List, _++_, append-assoc, append-nil}
-use Prim.Native.Nat.{ℕ, zero, suc, _+_, _*_, _<_}
+use Prim.Native.Nat.{ℕ, zero, suc, _+_, _*_, _≤_, _<_}
 use native.Mathlib.Nat.{add-zero, zero-add, add-suc}
 use native.Mathlib.Numerals.{add-one}
 use native.Mathlib.Omega.{arith}
+use lib.Dec.{T}
 use lib.ListN.{length, length-append}
 use mir.Syntax.{w64}
 use mir.Val.{ofZ}
 use lib.Seq.{sets}
+use lib.Ieee.{binary64, ofBits}
 use Rattle.integers.specs.Bytes.{bytesOf, bytes-length, sets-append}
 use Rattle.rows.specs.Meaning.Rows.{firstBelow}
 use Rattle.measures.specs.declared.Bits.{Bits}
+use Rattle.fields.specs.declared.Cursor.{Cursor}
+use Rattle.fields.specs.declared.LongField.the-variants as long
+use Rattle.fields.specs.Meaning.Field.{cursor, u64At, longField}
+use Rattle.fields.specs.Walk.{long-took, long-short}
 use Rattle.case_header.specs.declared.Counts.{Counts}
 use Rattle.binary64.specs.Meaning.Value.{bitsAt, finite}
+use Rattle.dump_values.specs.declared.Opening.{Opening}
 use Rattle.dump_values.specs.declared.FieldAnswer.the-variants as answer
 use Rattle.dump_values.specs.Meaning.Field.{Kind, kindOf, afterOpening, converted, fault}
 use Rattle.dump_values.specs.Meaning.Answer.{fieldBy, fieldOf}
+use Rattle.dump_proposal.specs.declared.OpeningField.{OpeningField}
+use Rattle.dump_proposal.specs.declared.OpeningField.the-variants as opened
 use Rattle.dump_proposal.specs.Meaning.Dump.{proposalMark, fieldBytes, fieldsFrom}
 
 abbrev pub restOf : Counts → ℕ
@@ -26,6 +35,30 @@ restOf k = k .orders + k .links + k .branches
 
 abbrev pub countOf : Counts → ℕ
 countOf k = 2 + restOf k
+
+-- the opening of a dump that has one
+abbrev pub openingTaken : List ℕ → OpeningField
+openingTaken d = opened.Taken (record { share = ofBits binary64 (bitsAt d 0); price = ofBits binary64 (bitsAt d 1) }) (cursor 16)
+
+pub opening-took : (d : List ℕ) {o : Opening} {c : Cursor} → openingTaken d ≡ opened.Taken o c → (o .share ≡ ofBits binary64 (bitsAt d 0)) × ((o .price ≡ ofBits binary64 (bitsAt d 1)) × (c .at ≡ 16))
+opening-took d {o} {c} e = (cc, (cc, cc))
+
+pub opening-there : (d : List ℕ) → openingTaken d ≡ opened.Short → ⊥
+opening-there d e = subst (λ (x : OpeningField). T (taken x)) e tt
+  where
+    taken : OpeningField → Bool
+    taken (opened.Taken o c) = true
+    taken opened.Short = false
+
+-- A VALUE TAKEN BY THE CURSOR, which stands at value n: its bits, and the cursor past it
+pub value-took : (d : List ℕ) (at n : ℕ) → at ≡ 8 * n → {v : ℕ} {c : Cursor} → longField d at ≡ long.Taken v c → (v ≡ bitsAt d n) × (c .at ≡ 8 * (n + 1))
+unfolding bitsAt
+value-took d at n e {v} {c} q =
+    let w = long-took d at q in
+    (w .is ∙ ap (u64At d) e, ap (λ (x : Cursor). x .at) (w .past) ∙ omega (arith, e))
+
+pub value-there : (d : List ℕ) (at n : ℕ) → at ≡ 8 * n → 8 * n + 8 ≤ length d → longField d at ≡ long.Short → ⊥
+value-there d at n e h q = omega (arith, long-short d at q, e, h)
 
 -- every value is finite
 pub record AllFinite (count : ℕ) (d : List ℕ) : Type 0 where
@@ -98,11 +131,3 @@ pub field-run : (s d l : List ℕ) (i : ℕ) → sets (sets l 13 (fieldsFrom s d
 field-run s d l i =
     let last = fieldBytes (converted (kindOf s (2 + i)) (bitsAt d (2 + i))) in
     ap (λ (k : ℕ). sets (sets l 13 (fieldsFrom s d 2 i)) (13 + k) last) (sym (fields-length s d 2 i)) ∙ sets-append l 13 (fieldsFrom s d 2 i) last ∙ ap (sets l 13) (fields-next s d 2 i)
-
--- the kind of a value after the opening
-pub after-kind : (s : List ℕ) (i : ℕ) → afterOpening s i ≡ kindOf s (2 + i)
-unfolding kindOf
-after-kind s i = ap (kindOf s) (two-more i)
-  where
-    two-more : (i : ℕ) → suc (suc i) ≡ 2 + i
-    two-more i = omega arith

@@ -13,16 +13,16 @@ use lib.Ieee.Scale as float
 use Rattle.integers.specs.Ranges.{range, outside, is-true, not-is, nat-inside}
 use Rattle.measures.specs.Meaning.Limits as limits
 use Rattle.binary64.specs.Meaning.Value.{minus, finite, negative, aboveOne, product, cut, nearest}
-use Rattle.binary64.specs.Promised.Within.{share-within}
 use Rattle.binary64.specs.Steps.Machine.{zero64, one64, times}
-use Rattle.binary64.specs.Steps.Cutting.{share-of, share-in-range, times-not-negative, minus-zero}
+use Rattle.binary64.specs.Steps.Cutting.{times-not-negative, minus-zero}
 use Rattle.binary64.specs.Steps.Half.{nearest-zero}
 use Rattle.binary64.specs.Steps.Patterns.{finite-value}
 use Rattle.binary64.specs.Steps.Products.{Signs, product-is, product-signs, not-negative, not-above-one, plus-from-zero}
-use Rattle.binary64.specs.Steps.Whole.{word-end, word-test, ranged-finite}
+use Rattle.binary64.specs.Steps.Whole.{word-end, word-test}
 use Rattle.dump_values.specs.declared.FieldAnswer.the-variants.{Outside}
 use Rattle.dump_values.specs.Meaning.Field as kind
 use Rattle.dump_values.specs.Meaning.Field.{Kind, productOf, converted, forbidden, fieldRange, fault}
+use Rattle.dump_values.specs.Promised.PlainFaults.{share-held}
 use Rattle.dump_values.specs.Meaning.Answer.{isOutside, fieldBy, fieldOf}
 use Rattle.dump_values.specs.Steps.Fields.{shareField, flowField, shadowField, signOf, signedOf, systemBy, systemField}
 
@@ -102,18 +102,9 @@ module _ (b : ℕ) (f : finite b ≡ true) where
     same-part : times x q ≡ product b q
     same-part = product-is b q f (le-trans h (lit≤ tt))
 
-    share-held : negative b ≡ false → aboveOne b ≡ false → fault (kind.share-of q) b ≡ false
-    unfolding fault converted productOf
-    share-held n o =
-        let w = share-within b q f n o (omega arith) in
-        let s = share-of x (is-true (from n)) (is-true (not-above-one b f n ∙ ap not o)) in
-        let fin-p : float.finite (product b q) ≡ true = ap float.finite (sym same-part) ∙ ranged-finite (times x q) (share-in-range x q s (le-trans h (lit≤ tt))) in
-        (λ i. (n i || o i) || (not (fin-p i) || outside-above q (cut (product b q)) i))
-        ∙ ap not (le-leb (cut (product b q)) q (w .most))
-
     share-taken : (n : negative b ≡ false) (o : aboveOne b ≡ false) → fieldBy true (pos (cut (product b q))) ≡ fieldOf (kind.share-of q) b
     unfolding converted productOf
-    share-taken n o = ap (λ (t : Bool). fieldBy (not t) (pos (cut (product b q)))) (sym (share-held n o))
+    share-taken n o = ap (λ (t : Bool). fieldBy (not t) (pos (cut (product b q)))) (sym (share-held q b f h n o))
 
     pub share-agrees : shareField x q ≡ fieldOf (kind.share-of q) b
     share-agrees = by (negative b) refl (aboveOne b) refl

@@ -1,38 +1,17 @@
--- The kind of a value by its place, and by the case's counts. Assumes nothing.
-use mathlib.Core.Path.{_≡_, sym, ap, _∙_, subst}
-use mathlib.Core.Bool.{Bool, cond}
+-- The kind of a value by its place and by the case's counts. Assumes nothing.
+use mathlib.Core.Path.{_≡_, sym, ap, subst}
 use mathlib.Core.List.{List}
 use Prim.Native.Nat.{ℕ, _+_, _≤_, _<_}
 use native.Mathlib.Omega.{arith}
-use borrow.Author.Tests.{lt-ltb, le-ltb}
-use lib.Dec.{ltb}
 use Rattle.rules.specs.Meaning.Layout.{ordersIn, linksIn, quantityIn}
 use Rattle.rules.specs.Meaning.Hour.{caseOf}
 use Rattle.rules.specs.Steps.Passed.{case-sound}
 use Rattle.case_header.specs.declared.Counts.{Counts}
 use Rattle.case_header.specs.Opened.{Opened}
-use Rattle.dump_values.specs.Meaning.Field.{Kind, share-of, flow, shadow-price, afterOpening}
+use Rattle.dump_values.specs.Meaning.Field.{share-of, flow, shadow-price, afterOpening}
+use Rattle.dump_values.specs.Promised.PlainPlaces.{order-kind, flow-kind, shadow-kind}
 
--- BY THE CASE'S OWN NUMBERS
-module _ (s : List ℕ) (i : ℕ) where
-  abbrev past : Kind
-  past = cond (ltb i (ordersIn s + linksIn s)) flow shadow-price
-
-  pub order-kind : i < ordersIn s → afterOpening s i ≡ share-of (quantityIn s i)
-  unfolding afterOpening
-  order-kind h = ap (λ (b : Bool). cond b (share-of (quantityIn s i)) past) (lt-ltb i (ordersIn s) h)
-
-  past-orders : ordersIn s ≤ i → afterOpening s i ≡ past
-  unfolding afterOpening
-  past-orders h = ap (λ (b : Bool). cond b (share-of (quantityIn s i)) past) (le-ltb i (ordersIn s) h)
-
-  pub flow-kind : ordersIn s ≤ i → i < ordersIn s + linksIn s → afterOpening s i ≡ flow
-  flow-kind h l = past-orders h ∙ ap (λ (b : Bool). cond b flow shadow-price) (lt-ltb i (ordersIn s + linksIn s) l)
-
-  pub shadow-kind : ordersIn s ≤ i → ordersIn s + linksIn s ≤ i → afterOpening s i ≡ shadow-price
-  shadow-kind h l = past-orders h ∙ ap (λ (b : Bool). cond b flow shadow-price) (le-ltb i (ordersIn s + linksIn s) l)
-
--- AND BY THE COUNTS of a readable case
+-- BY THE COUNTS of a readable case
 module _ {s : List ℕ} {k : Counts} (o : Opened s k) where
   orders-are : k .orders ≡ ordersIn s
   orders-are = ap (λ (k : Counts). k .orders) (o .counts)
