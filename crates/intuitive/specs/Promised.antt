@@ -3,3 +3,4 @@ pub mod Causes
 pub mod OneAnswer
 pub mod BothSizes
 pub mod Worth
+pub mod PlainCauses
