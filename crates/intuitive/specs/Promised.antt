@@ -4,3 +4,4 @@ pub mod OneAnswer
 pub mod BothSizes
 pub mod Worth
 pub mod PlainCauses
+pub mod PlainAnswers

@@ -4,31 +4,30 @@
 -- of 82 is zone 0's or the sum's, and `says-82` tells which. Assumes nothing.
 use mathlib.Core.Path.{_≡_, refl, sym, ap, subst, _∙_}
 use mathlib.Core.Logic.{_↔_, _⊎_, inl, inr}
-use mathlib.Core.Bool.{Bool, true, false, not, _||_}
+use mathlib.Core.Bool.{Bool, true, false, not}
 use mathlib.Core.List.{List, [], _∷_, _++_}
 use mathlib.Core.Option.{Option, none, some}
-use Prim.Native.Nat.{ℕ, _+_, _*_, _-_, _≤_, _<_}
+use Prim.Native.Nat.{ℕ, zero, suc, _+_, _-_, _≤_, _<_}
 use native.Mathlib.Omega.{arith}
-use native.Mathlib.Decide.{decLt}
 use borrow.Author.Tests.{eq-eqb}
 use lib.Dec.{T, eqb, ltb, eqb→eq, ltb→lt, lt→ltb, nltb→le, not-T, T-not}
 use lib.ListN.{length, getD, drop, replicate, length-append, length-drop, length-replicate, getD-replicate, List·getD-append}
 use lib.Seq.{getD-append-add, getD-drop}
 use lib.IntN.{ℤ, pos, negℤ}
-use Rattle.integers.specs.Ranges.{outside, is-true, is-false, nor-left, nor-right, nor-both, nat-within, nat-inside}
+use Rattle.integers.specs.Ranges.{outside, is-true, nor-left, nor-right, nor-both, nat-within, nat-inside}
 use Rattle.measures.specs.Promised.Numbers.{zone-price-is}
 use Rattle.rows.specs.declared.Outcome.{Outcome}
 use Rattle.rows.specs.Meaning.Rows.{Row, Pass, verdict, failing, refusal, answer, once, each}
-use Rattle.rows.specs.Promised.RowLaws.{First, Comes, past, none-left, later, lacks, before, rowNumbered, row-named, row-by-number, row-answers, row-clear, row-fails, row-passes, all-pass, first-is, not-below, none-both, none-each}
+use Rattle.rows.specs.Promised.RowLaws.{empty, First, Comes, past, none-left, later, lacks, before, rowNumbered, row-named, row-by-number, row-answers, row-clear, row-fails, row-passes, all-pass, first-is, not-below, none-both, none-each}
 use Rattle.rules.specs.Meaning.Layout.{zoneCounts}
-use Rattle.rules.specs.Meaning.Verdict.{under, differ}
+use Rattle.rules.specs.Meaning.Verdict.{under}
 use Rattle.net_positions.specs.Meaning.Positions.{positionOutside, unbalanced}
 use Rattle.net_positions.specs.Promised.PlainPositions.{AllInside, FirstOutside, first-outside, all-inside, positions-inside, first-position, SumZero, sum-zero, sum-not-zero}
 use Rattle.zone_pairs.specs.Meaning.Pairs.{pairCount, badPair}
 use Rattle.zone_pairs.specs.Promised.PlainPairs.{AllGood, FirstBadPair, all-good, first-bad}
 use Rattle.intuitive.specs.Meaning.Intuitive.{scratchRoom, unfit, priceOutside, intuitiveRows, intuitiveRefusal, intuitiveOutcome, intuitiveScratch}
 use Rattle.intuitive.specs.Meaning.SmallScratch.{smallRoom}
-use Rattle.intuitive.specs.Promised.Causes.{intuitive-none, intuitive-answered, scratch-refused, scratch-answered}
+use Rattle.intuitive.specs.Promised.Causes.{intuitive-caused, intuitive-none, intuitive-answered, scratch-refused, scratch-answered}
 
 -- WHAT EACH ROW ASKS. Row 81: 1 to 16 zones, and a price for each
 pub record ListsFit (net prices : List ℤ) : Type 0 where
@@ -59,14 +58,8 @@ found false n = absurd (n tt)
 nothing : (i : ℕ) → i < 0 → ⊥
 nothing i l = omega arith
 
-once-pass : (number : ℕ) (b : Bool) → Pass (once number b) ↔ T (not b)
-once-pass number b = (λ p. p .pass 0 (omega arith), λ t. record { pass = λ k h. t })
-
 once-first : (b : Bool) → T b → First 1 (λ k. b) 0
 once-first b t = record { place-in = omega arith; holds = t; none-before = λ i l. absurd (nothing i l) }
-
-same-outcome : (m n j k : ℕ) → verdict m j ≡ verdict n k → (m ≡ n) × (j ≡ k)
-same-outcome m n j k e = (ap (λ (o : Outcome). o .number) e, ap (λ (o : Outcome). o .index) e)
 
 module _ (net prices : List ℤ) where
   lists-fit : T (not (unfit net prices)) ↔ ListsFit net prices
@@ -83,7 +76,7 @@ module _ (net prices : List ℤ) where
       same true e t = eqb→eq (length prices) (length net) (is-true e)
       same false e t = absurd t
 
-  prices-inside : Pass (each 83 (length prices) (priceOutside prices)) ↔ PricesIn prices
+  pub prices-inside : Pass (each 83 (length prices) (priceOutside prices)) ↔ PricesIn prices
   prices-inside = all-inside _ (negℤ (pos 5000000000)) (pos 40000000000) zone-price-is prices 83
 
   first-price : (z : ℕ) → First (length prices) (priceOutside prices) z ↔ FirstOutside (negℤ (pos 5000000000)) (pos 40000000000) prices z
@@ -244,6 +237,24 @@ module _ (net prices : List ℤ) (pairs : List ℕ) (n room : ℕ) where
         where
           never : room < n → ⊥
           never l = omega arith
+
+  -- NO OTHER NUMBER than these
+  from-81 : (p : ℕ) → p < length rows → (81 ≤ (getD rows p empty) .number) × ((getD rows p empty) .number ≤ 85)
+  unfolding intuitiveRows
+  from-81 zero l = (omega arith, omega arith)
+  from-81 (suc zero) l = (omega arith, omega arith)
+  from-81 (suc (suc zero)) l = (omega arith, omega arith)
+  from-81 (suc (suc (suc zero))) l = (omega arith, omega arith)
+  from-81 (suc (suc (suc (suc zero)))) l = (omega arith, omega arith)
+  from-81 (suc (suc (suc (suc (suc zero))))) l = (omega arith, omega arith)
+  from-81 (suc (suc (suc (suc (suc (suc p)))))) l = absurd (omega arith)
+
+  pub says-no-other : 0 < said .number → (81 ≤ said .number) × (said .number ≤ 85)
+  says-no-other h =
+      let w = intuitive-caused net prices pairs n room h in
+      let is : said .number ≡ (getD rows (w .position) empty) .number = ap (λ (o : Outcome). o .number) (w .is) in
+      let b = from-81 (w .position) (w .position-in) in
+      (omega (arith, b .0, is), omega (arith, b .1, is))
 
 -- THE TWO ENTRIES: the wide one asks for 324 numbers of scratch, the smaller one (S-13) for 96
 module _ (net prices : List ℤ) (pairs : List ℕ) (room : ℕ) where

@@ -1,13 +1,13 @@
 -- A YES AND THE LARGEST TOTAL BY FLOWS ALONE, both ways, with every sum written out: where imports are as large as
 -- exports, a yes is flows along counted pairs that leave each zone with what it imports. The largest total is carried
 -- by some flows, and no flows carry more, in fractions either. Assumes nothing.
-use mathlib.Core.Path.{_≡_, refl, sym, ap, _∙_}
-use mathlib.Core.Bool.{true, false}
+use mathlib.Core.Path.{_≡_, refl}
+use mathlib.Core.Bool.{false}
 use mathlib.Core.Logic.{_↔_}
 use Prim.Native.Nat.{ℕ, _+_, _*_, _≤_, _<_}
 use native.Mathlib.Omega.{arith}
 use lib.Dec.{eqb}
-use Rattle.integers.specs.NaturalSums.{sumNat, only, sum-ext}
+use Rattle.integers.specs.NaturalSums.{sumNat, only}
 use Rattle.transports.specs.Meaning.Network.{Network, Placed, Transport, Carries, carried, allExports, times, Largest, CarriesAll}
 use Rattle.transports.specs.Promised.Duality.{once}
 use Rattle.transports.specs.Promised.Worth.{every-import}

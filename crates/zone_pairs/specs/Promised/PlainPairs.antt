@@ -1,8 +1,8 @@
 -- PAIRS OF ZONES IN PLAIN BYTES (S-3), both ways: which numbers are pairs, which pair passes row 84 and which is the
 -- first that does not, and what the network of an hour has. Pair k is the bytes 2 k and 2 k + 1 of the list, `getD
 -- bytes k 0` the byte at place k, counted from 0. Assumes nothing.
-use mathlib.Core.Path.{_≡_, refl, sym, ap, _∙_}
-use mathlib.Core.Bool.{Bool, true, false, not, _&&_, _||_}
+use mathlib.Core.Path.{_≡_, refl, sym, _∙_}
+use mathlib.Core.Bool.{Bool, true, false, not, _&&_}
 use mathlib.Core.Logic.{_↔_, _≢_}
 use mathlib.Core.List.{List}
 use Prim.Native.Nat.{ℕ, zero, suc, _+_, _*_, _≤_, _<_}
