@@ -16,7 +16,7 @@ use Rattle.rules.specs.Meaning.Verdict.{under}
 use Rattle.net_positions.specs.Meaning.Positions.{positionOutside, unbalanced}
 use Rattle.zone_pairs.specs.Meaning.Pairs.{pairCount, badPair, networkOf}
 use Rattle.transports.specs.Meaning.Network.{Network, Placed, CarriesAll, Excess}
-use Rattle.flow_scratch.specs.Scratch.{amountAt, transportOf}
+use Rattle.flow_scratch.specs.Meaning.Places.{amountAt, transportOf}
 use Rattle.intuitive.specs.declared.Carried.{Carried}
 use Rattle.intuitive.specs.Meaning.Intuitive.{scratchRoom, unfit, priceOutside, intuitiveRows, intuitiveRefusal, intuitiveOutcome, LargestTotal, intuitiveScratch}
 use Rattle.intuitive.specs.Meaning.SmallScratch.{flowPlace, exportPlace, importPlace, smallRoom}
