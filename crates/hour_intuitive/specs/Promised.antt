@@ -2,3 +2,5 @@
 pub mod Asked
 pub mod BothSizes
 pub mod Rent
+pub mod PlainHour
+pub mod PlainRent

@@ -101,10 +101,10 @@ module _ (net prices : List ℤ) (pairs : List ℕ) (n room : ℕ) (passed : int
   abbrev c : Network
   c = networkOf net prices pairs
 
-  two-bytes : (k : ℕ) → k < pairCount pairs → 2 * k + 1 < length pairs
+  pub two-bytes : (k : ℕ) → k < pairCount pairs → 2 * k + 1 < length pairs
   two-bytes k h = omega (arith, h, pairs-even net prices pairs n room passed)
 
-  count-is : pairCount pairs ≡ length pairs / 2
+  pub count-is : pairCount pairs ≡ length pairs / 2
   count-is = omega (arith, pairs-even net prices pairs n room passed)
 
   in-is : (flow : ℕ → ℕ) (z : ℕ) → broughtTo c flow z ≡ flowsIn pairs flow z
@@ -115,7 +115,7 @@ module _ (net prices : List ℤ) (pairs : List ℕ) (n room : ℕ) (passed : int
   out-is flow z = sum-ext (pairCount pairs) _ _ (λ k h. ap (λ (y : ℕ). only (eqb y z) (flow k)) (pair-leads net prices pairs k (two-bytes k h) .0))
       ∙ ap (λ (m : ℕ). sumNat m (λ k. only (eqb (getD pairs (2 * k) 0) z) (flow k))) count-is
 
-  counted : (flow : ℕ → ℕ) → ((k : ℕ) → k < c .pairs → c .counted k ≡ false → flow k ≡ 0) ↔ ((k : ℕ) → 2 * k < length pairs → 0 < flow k → Counts prices pairs k)
+  pub counted : (flow : ℕ → ℕ) → ((k : ℕ) → k < c .pairs → c .counted k ≡ false → flow k ≡ 0) ↔ ((k : ℕ) → 2 * k < length pairs → 0 < flow k → Counts prices pairs k)
   counted flow = (λ f k h l. by k (is-pair pairs k .1 h) l (c .counted k) refl (f k (is-pair pairs k .1 h)), λ f k h e. zero-if k h e (f k (is-pair pairs k .0 h)) (decLt 0 (flow k)))
     where
       by : (k : ℕ) → k < pairCount pairs → 0 < flow k → (b : Bool) → c .counted k ≡ b → (c .counted k ≡ false → flow k ≡ 0) → Counts prices pairs k
