@@ -4,7 +4,6 @@
 -- 0. Its yes, no and total are those of its net positions turned and its zone prices. Assumes nothing.
 use mathlib.Core.Path.{_≡_, refl, sym, ap, subst, _∙_}
 use mathlib.Core.Logic.{_↔_}
-use mathlib.Core.Bool.{false}
 use mathlib.Core.List.{List}
 use mathlib.Core.Option.{Option, none, some}
 use Prim.Native.Nat.{ℕ, _≤_, _<_}
@@ -64,6 +63,10 @@ module _ (s t : List ℕ) where
   unfolding hourPrices caseOf zonesIn u8At
   price-is z h = list-at _ (λ z. zonePrice (caseOf s) (pricesOf s t) z) z h
 
+-- ACCEPTED, with every pair good among its zones
+abbrev pub AcceptedGood : List ℕ → List ℕ → List ℕ → Type 0
+AcceptedGood s t pairs = (outcome s t 176 ≡ verdict 0 0) × AllGood (getD s 5 0) pairs
+
 module _ (s t pairs : List ℕ) (n room : ℕ) where
   abbrev said : Outcome
   said = hourOutcome s t pairs n room
@@ -113,46 +116,46 @@ module _ (s t pairs : List ℕ) (n room : ℕ) where
   )
 
   -- 85 IF AND ONLY IF it is accepted, every pair is good and the scratch has less than n numbers
-  pub says-85 : (k : ℕ) → (said ≡ verdict 85 k) ↔ ((k ≡ 0) × ((outcome s t 176 ≡ verdict 0 0) × (AllGood (getD s 5 0) pairs × (room < n))))
+  pub says-85 : (k : ℕ) → (said ≡ verdict 85 k) ↔ ((k ≡ 0) × (AcceptedGood s t pairs × (room < n)))
   unfolding hourOutcome askedRows table roomRows caseRows proposalRows clearingRows lacks
   says-85 k = (
     λ e. let p = (later 85 judged asked tt (ap (λ (o : Outcome). o .number) e)) .none-first in
         let w = causes.says-85 (hourExports s t) (hourPrices s t) pairs n room k .0 (behind 85 k e p) in
-        (w .0, (accepted-if p, (subst (λ (z : ℕ). AllGood z pairs) (exports-length s t) (w .1 .0 .1), w .1 .1))),
-    λ w. asks (w .1 .0) ∙ causes.says-85 (hourExports s t) (hourPrices s t) pairs n room k .1
-        (w .0, ((past-83 (w .1 .0), subst (λ (z : ℕ). AllGood z pairs) (sym (exports-length s t)) (w .1 .1 .0)), w .1 .1 .1)),
+        (w .0, ((accepted-if p, subst (λ (z : ℕ). AllGood z pairs) (exports-length s t) (w .1 .0 .1)), w .1 .1)),
+    λ w. asks (w .1 .0 .0) ∙ causes.says-85 (hourExports s t) (hourPrices s t) pairs n room k .1
+        (w .0, ((past-83 (w .1 .0 .0), subst (λ (z : ℕ). AllGood z pairs) (sym (exports-length s t)) (w .1 .0 .1)), w .1 .1)),
   )
 
   -- 0 IF AND ONLY IF it is accepted, every pair is good and the scratch has n numbers
-  pub says-0 : (k : ℕ) → (said ≡ verdict 0 k) ↔ ((k ≡ 0) × ((outcome s t 176 ≡ verdict 0 0) × (AllGood (getD s 5 0) pairs × (n ≤ room))))
+  pub says-0 : (k : ℕ) → (said ≡ verdict 0 k) ↔ ((k ≡ 0) × (AcceptedGood s t pairs × (n ≤ room)))
   unfolding hourOutcome askedRows table roomRows caseRows proposalRows clearingRows lacks
   says-0 k = (
     λ e. let p = (later 0 judged asked tt (ap (λ (o : Outcome). o .number) e)) .none-first in
         let w = causes.says-0 (hourExports s t) (hourPrices s t) pairs n room k .0 (behind 0 k e p) in
-        (w .0, (accepted-if p, (subst (λ (z : ℕ). AllGood z pairs) (exports-length s t) (w .1 .0 .1), w .1 .1))),
-    λ w. asks (w .1 .0) ∙ causes.says-0 (hourExports s t) (hourPrices s t) pairs n room k .1
-        (w .0, ((past-83 (w .1 .0), subst (λ (z : ℕ). AllGood z pairs) (sym (exports-length s t)) (w .1 .1 .0)), w .1 .1 .1)),
+        (w .0, ((accepted-if p, subst (λ (z : ℕ). AllGood z pairs) (exports-length s t) (w .1 .0 .1)), w .1 .1)),
+    λ w. asks (w .1 .0 .0) ∙ causes.says-0 (hourExports s t) (hourPrices s t) pairs n room k .1
+        (w .0, ((past-83 (w .1 .0 .0), subst (λ (z : ℕ). AllGood z pairs) (sym (exports-length s t)) (w .1 .0 .1)), w .1 .1)),
   )
 
 -- THE TWO ENTRIES: 324 numbers of scratch, and 96 (S-13)
 module _ (s t pairs : List ℕ) (room : ℕ) where
-  pub wide-85 : (k : ℕ) → (hourOutcome s t pairs scratchRoom room ≡ verdict 85 k) ↔ ((k ≡ 0) × ((outcome s t 176 ≡ verdict 0 0) × (AllGood (getD s 5 0) pairs × (room < 324))))
+  pub wide-85 : (k : ℕ) → (hourOutcome s t pairs scratchRoom room ≡ verdict 85 k) ↔ ((k ≡ 0) × (AcceptedGood s t pairs × (room < 324)))
   wide-85 = says-85 s t pairs 324 room
 
-  pub wide-0 : (k : ℕ) → (hourOutcome s t pairs scratchRoom room ≡ verdict 0 k) ↔ ((k ≡ 0) × ((outcome s t 176 ≡ verdict 0 0) × (AllGood (getD s 5 0) pairs × (324 ≤ room))))
+  pub wide-0 : (k : ℕ) → (hourOutcome s t pairs scratchRoom room ≡ verdict 0 k) ↔ ((k ≡ 0) × (AcceptedGood s t pairs × (324 ≤ room)))
   wide-0 = says-0 s t pairs 324 room
 
-  pub small-85 : (k : ℕ) → (hourOutcome s t pairs smallRoom room ≡ verdict 85 k) ↔ ((k ≡ 0) × ((outcome s t 176 ≡ verdict 0 0) × (AllGood (getD s 5 0) pairs × (room < 96))))
+  pub small-85 : (k : ℕ) → (hourOutcome s t pairs smallRoom room ≡ verdict 85 k) ↔ ((k ≡ 0) × (AcceptedGood s t pairs × (room < 96)))
   small-85 = says-85 s t pairs 96 room
 
-  pub small-0 : (k : ℕ) → (hourOutcome s t pairs smallRoom room ≡ verdict 0 k) ↔ ((k ≡ 0) × ((outcome s t 176 ≡ verdict 0 0) × (AllGood (getD s 5 0) pairs × (96 ≤ room))))
+  pub small-0 : (k : ℕ) → (hourOutcome s t pairs smallRoom room ≡ verdict 0 k) ↔ ((k ≡ 0) × (AcceptedGood s t pairs × (96 ≤ room)))
   small-0 = says-0 s t pairs 96 room
 
 -- THE SCRATCH AFTERWARDS
 module _ (s t pairs : List ℕ) (scratch : List ℤ) where
   cleared : (n : ℕ) → hourOutcome s t pairs n (length scratch) ≡ verdict 0 0 → ScratchCleared n scratch (hourScratch s t pairs n scratch)
   unfolding hourScratch hourOutcome askedRows table roomRows caseRows proposalRows clearingRows lacks intuitiveRows
-  cleared n e = zeros-then n scratch (hourScratch s t pairs n scratch) (says-0 s t pairs n (length scratch) 0 .0 e .1 .1 .1)
+  cleared n e = zeros-then n scratch (hourScratch s t pairs n scratch) (says-0 s t pairs n (length scratch) 0 .0 e .1 .1)
       (ap (λ (o : Option Outcome). scratchBy o n scratch) (zero-none (askedRows s t pairs n (length scratch)) tt (ap (λ (o : Outcome). o .number) e)))
 
   pub wide-scratch : hourOutcome s t pairs scratchRoom (length scratch) ≡ verdict 0 0 → ScratchCleared 324 scratch (hourScratch s t pairs scratchRoom scratch)
@@ -175,7 +178,7 @@ module _ (s t pairs : List ℕ) (n : ℕ) (scratch : List ℤ) (r : Carried) (af
   answered-0 = sym (met .0) ∙ ap (λ (m : ℕ). verdict m (r .index)) taken
 
   pub accepted : outcome s t 176 ≡ verdict 0 0
-  accepted = says-0 s t pairs n (length scratch) (r .index) .0 answered-0 .1 .0
+  accepted = says-0 s t pairs n (length scratch) (r .index) .0 answered-0 .1 .0 .0
 
   as-lists : lists.Contract (hourExports s t) (hourPrices s t) pairs n scratch r after
   unfolding hourScratch intuitiveScratch intuitiveRefusal

@@ -110,7 +110,7 @@ module _ (s t pairs : List ℕ) (n : ℕ) (scratch : List ℤ) (r : Carried) (af
   i = met .1 .0 taken yes-said
 
   good : (k : ℕ) → k < pairCount pairs → GoodPair (getD s 5 0) pairs k
-  good k h = says-0 s t pairs n (length scratch) (r .index) .0 (sym (met .0) ∙ ap (λ (m : ℕ). verdict m (r .index)) taken) .1 .1 .0 k (is-pair pairs k .0 h)
+  good k h = says-0 s t pairs n (length scratch) (r .index) .0 (sym (met .0) ∙ ap (λ (m : ℕ). verdict m (r .index)) taken) .1 .0 .1 k (is-pair pairs k .0 h)
 
   pub reported-rent : (buffer : List ℕ) → 176 ≤ length buffer → RentOfFlows pairs (bufferAfter s t buffer)
   reported-rent buffer enough = record {
