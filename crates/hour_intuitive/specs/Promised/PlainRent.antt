@@ -25,7 +25,7 @@ use Rattle.rows.specs.declared.Outcome.{Outcome}
 use Rattle.rows.specs.Meaning.Rows.{verdict, answer}
 use Rattle.rows.specs.Promised.RowLaws.{field-passes}
 use Rattle.rules.specs.Meaning.Layout.{zonesIn, u8At}
-use Rattle.rules.specs.Meaning.Hour.{caseOf, planOf, pricesOf, zonePrice, rent}
+use Rattle.rules.specs.Meaning.Hour.{caseOf, planOf, pricesOf, zonePrice}
 use Rattle.rules.specs.Meaning.Report.{bufferAfter}
 use Rattle.rules.specs.Meaning.Verdict.{roomRows, table, outcome}
 use Rattle.rules.specs.Promised.Fits.{Fit, fits}
@@ -37,10 +37,10 @@ use Rattle.findings.specs.Found.{hourRows}
 use Rattle.intuitive.specs.declared.Carried.{Carried}
 use Rattle.intuitive.specs.Meaning.Intuitive.{intuitiveRefusal}
 use Rattle.intuitive.specs.Promised.PlainAnswers.{count-is, counted}
-use Rattle.hour_intuitive.specs.Meaning.Hour.{hourExports, hourPrices, hourNetwork, hourOutcome}
+use Rattle.hour_intuitive.specs.Meaning.Hour.{hourExports, hourPrices, hourNetwork, hourRent, hourOutcome}
 use Rattle.hour_intuitive.specs.Promised.BothSizes.{Contract, answered}
 use Rattle.hour_intuitive.specs.Promised.PlainHour.{price-is, says-0, accepted}
-use Rattle.hour_intuitive.specs.Promised.Rent.{hourRent, rent-of-flows, rent-nonneg}
+use Rattle.hour_intuitive.specs.Promised.Rent.{rent-of-flows, rent-nonneg}
 
 -- EIGHT BYTES from place k on, the lowest first, and the integer that they are in two's complement
 abbrev pub wordAt : List ℕ → ℕ → ℕ
@@ -90,8 +90,8 @@ module _ (s t buffer : List ℕ) (enough : 176 ≤ length buffer) (e : outcome s
   fit = fits s t (length buffer) (reports-of _ (inl zero))
 
   -- THE RENT AND THE PRICES of an accepted hour, as its report has them
-  pub rent-stands : signedAt (bufferAfter s t buffer) 32 ≡ rent (caseOf s) (planOf s t) (pricesOf s t)
-  rent-stands = stands-signed (bufferAfter s t buffer) 32 (rent (caseOf s) (planOf s t) (pricesOf s t)) (fit .rent-fits) ((report-written s t buffer (inl zero)) .rent-at)
+  pub rent-stands : signedAt (bufferAfter s t buffer) 32 ≡ hourRent s t
+  rent-stands = stands-signed (bufferAfter s t buffer) 32 (hourRent s t) (fit .rent-fits) ((report-written s t buffer (inl zero)) .rent-at)
 
   pub price-stands : (z : ℕ) → z < getD s 5 0 → getD (hourPrices s t) z (pos 0) ≡ signedAt (bufferAfter s t buffer) (48 + 8 * z)
   unfolding caseOf zonesIn u8At
@@ -129,7 +129,7 @@ module _ (s t pairs : List ℕ) (n : ℕ) (scratch : List ℤ) (r : Carried) (af
       b : List ℕ
       b = bufferAfter s t buffer
 
-      rent-there : signedAt b 32 ≡ hourRent s t pairs
+      rent-there : signedAt b 32 ≡ hourRent s t
       rent-there = rent-stands s t buffer enough (accepted s t pairs n scratch r after met taken)
 
       price : (z : ℕ) → z < getD s 5 0 → getD (hourPrices s t) z (pos 0) ≡ signedAt b (48 + 8 * z)

@@ -10,9 +10,9 @@ use lib.IntN.{ℤ, pos}
 use lib.Signed.{_≤ℤ_}
 use Rattle.integers.specs.Sums.{sumTo}
 use Rattle.rows.specs.declared.Outcome.{Outcome}
-use Rattle.zone_pairs.specs.Meaning.Pairs.{pairCount, networkOf}
+use Rattle.zone_pairs.specs.Meaning.Pairs.{pairCount, importsWorth, networkOf}
 use Rattle.zone_pairs.specs.Promised.Worth as pairs-worth
-use Rattle.zone_pairs.specs.Promised.Worth.{importsWorth, pairGain}
+use Rattle.zone_pairs.specs.Promised.Worth.{pairGain}
 use Rattle.transports.specs.Meaning.Network.{CarriesAll}
 use Rattle.intuitive.specs.declared.Carried.{Carried}
 use Rattle.intuitive.specs.Meaning.Intuitive.{intuitiveRefusal, intuitiveOutcome}

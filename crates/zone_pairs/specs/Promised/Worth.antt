@@ -15,11 +15,7 @@ use Rattle.integers.specs.NaturalSums.{sumNat, sum-parts}
 use Rattle.net_positions.specs.Meaning.Positions.{positionAt}
 use Rattle.transports.specs.Meaning.Network.{Placed, allExports, CarriesAll}
 use Rattle.transports.specs.Promised.Worth.{Rising, yes-worth, yes-nonneg}
-use Rattle.zone_pairs.specs.Meaning.Pairs.{pairCount, firstZone, secondZone, priceAt, networkOf}
-
--- imports positive, at the zones' prices
-abbrev pub importsWorth : List ℤ → List ℤ → ℤ
-importsWorth net prices = sumTo (length net) (λ z. negℤ (positionAt net z) *ℤ priceAt prices z)
+use Rattle.zone_pairs.specs.Meaning.Pairs.{pairCount, firstZone, secondZone, priceAt, importsWorth, networkOf}
 
 -- what so much gains along pair k, from its first zone to its second
 abbrev pub pairGain : List ℤ → List ℕ → ℕ → ℕ → ℤ
