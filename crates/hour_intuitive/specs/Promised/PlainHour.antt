@@ -11,6 +11,7 @@ use native.Mathlib.Omega.{arith}
 use native.Mathlib.Decide.{decLt}
 use lib.ListN.{length, getD}
 use lib.IntN.{ℤ, pos, negℤ, _-ℤ_}
+use lib.Signed.{_<ℤ_}
 use Rattle.integers.specs.Difference.{at, _⊖_, ⊝_, eq-by}
 use Rattle.integers.specs.Ranges.{is-false, nat-within}
 use Rattle.rows.specs.declared.Outcome.{Outcome}
@@ -28,7 +29,7 @@ use Rattle.intuitive.specs.Promised.BothSizes as lists
 use Rattle.intuitive.specs.Promised.PlainCauses as causes
 use Rattle.intuitive.specs.Promised.PlainCauses.{Past83, prices-inside, ScratchCleared, zeros-then}
 use Rattle.intuitive.specs.Promised.PlainAnswers as answers
-use Rattle.intuitive.specs.Promised.PlainAnswers.{Routes, Enclosed, LargestCarried}
+use Rattle.intuitive.specs.Promised.PlainAnswers.{Routes, Enclosed, LargestCarried, everyExport}
 use Rattle.intuitive.specs.Steps.Answers.{ListsPass}
 use Rattle.hour_intuitive.specs.Meaning.Hour.{hourExports, hourPrices, askedRows, hourOutcome, hourScratch}
 use Rattle.hour_intuitive.specs.Promised.Asked.{list-length, list-at, asked-then, none-refused, not-accepted, accepted-asks, lists-pass}
@@ -196,3 +197,9 @@ module _ (s t pairs : List ℕ) (n : ℕ) (scratch : List ℤ) (r : Carried) (af
 
   pub says-total : (total : ℕ) → (r .total .0 ≡ pos total) ↔ LargestCarried (hourExports s t) (hourPrices s t) pairs total
   says-total = answers.says-total (hourExports s t) (hourPrices s t) pairs n scratch r after as-lists taken
+
+  pub yes-is-all : (r .intuitive ≡ 1) ↔ (r .total .0 ≡ pos (everyExport (hourExports s t)))
+  yes-is-all = answers.yes-is-all (hourExports s t) (hourPrices s t) pairs n scratch r after as-lists taken
+
+  pub no-is-less : (r .intuitive ≡ 0) ↔ (r .total .0 <ℤ pos (everyExport (hourExports s t)))
+  no-is-less = answers.no-is-less (hourExports s t) (hourPrices s t) pairs n scratch r after as-lists taken

@@ -1,6 +1,7 @@
--- THE RENT OF AN INTUITIVE HOUR IS NOT NEGATIVE: of an hour that is answered yes, the judgement's rent, which counts imports positive, is what the flows of
--- the yes gain from the price of each pair's first zone to that of its second; no flow loses. This ties S-3's exports, ours turned, to the rent of rule 11: of
--- positions that were not turned, or of prices or zones taken otherwise, it would be false. Assumes nothing.
+-- THE RENT OF AN INTUITIVE HOUR IS NOT NEGATIVE: of an hour that is answered yes, the judgement's rent (rule 11), which
+-- counts imports positive, is what the flows of the yes gain from the price of each pair's first zone to that of its
+-- second. No flow loses. `PlainRent` says the same of the report's bytes. Of net positions that were not turned, or of
+-- prices or zones taken otherwise, it would be false. Assumes nothing.
 use mathlib.Core.Path.{_≡_, sym, ap, _∙_}
 use mathlib.Core.List.{List}
 use mathlib.Core.Option.{none}

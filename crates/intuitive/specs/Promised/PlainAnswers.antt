@@ -10,7 +10,7 @@ use mathlib.Core.Option.{none}
 use Prim.Native.Nat.{ℕ, zero, suc, _+_, _*_, _/_, _≤_, _<_}
 use native.Mathlib.Omega.{arith}
 use native.Mathlib.Decide.{decLt}
-use lib.Dec.{eqb, lt→ltb}
+use lib.Dec.{eqb, ltb→lt, lt→ltb}
 use lib.ListN.{length, getD}
 use lib.IntN.{ℤ, pos, negsuc, negℤ, _-ℤ_, _*ℤ_}
 use lib.Signed.{_≤ℤ_, _<ℤ_}
@@ -23,7 +23,7 @@ use Rattle.zone_pairs.specs.Meaning.Pairs.{pairCount, networkOf}
 use Rattle.zone_pairs.specs.Promised.PlainPairs.{is-pair, pair-leads, pair-counts}
 use Rattle.zone_pairs.specs.Promised.Worth.{as-much-imported}
 use Rattle.transports.specs.Meaning.Network.{Network, CarriesAll, Excess, Largest}
-use Rattle.transports.specs.Promised.Duality.{not-both, one-largest}
+use Rattle.transports.specs.Promised.Duality.{not-both, one-largest, yes-total, no-total}
 use Rattle.transports.specs.Promised.PlainFlows.{broughtTo, takenFrom, Routed, yes-routed, Shipped, largest-is}
 use Rattle.intuitive.specs.declared.Carried.{Carried}
 use Rattle.intuitive.specs.Meaning.Intuitive.{intuitiveRefusal}
@@ -70,6 +70,10 @@ pub record FlowsCarry (net prices : List ℤ) (pairs : List ℕ) (d u : ℕ) : T
 -- THE LARGEST TOTAL t: some flows carry it, and none carry more, in fractions either
 abbrev pub LargestCarried : List ℤ → List ℤ → List ℕ → ℕ → Type 0
 LargestCarried net prices pairs t = FlowsCarry net prices pairs 1 t × ((d u : ℕ) → FlowsCarry net prices pairs d u → u ≤ d * t)
+
+-- the sum of all exports: what each position has above zero
+abbrev pub everyExport : List ℤ → ℕ
+everyExport net = sumNat (length net) (λ z. up (getD net z (pos 0)))
 
 clash : false ≡ true → ⊥
 clash e = let z : _≡_ {A = ℕ} 0 1 = cc in omega arith
@@ -248,3 +252,33 @@ module _ (net prices : List ℤ) (pairs : List ℕ) (n : ℕ) (s : List ℤ) (r 
     where
       plain : (d u : ℕ) → Shipped (networkOf net prices pairs) d u ↔ FlowsCarry net prices pairs d u
       plain = shipped net prices pairs n (length s) passed
+
+  total-up : up (r .total .0) ≡ (met .1 .1 .1 .1 .0 taken) .volume
+  total-up = ap up ((met .1 .1 .1 .1 .0 taken) .is)
+
+  yes-all : r .intuitive ≡ 1 → up (r .total .0) ≡ everyExport net
+  yes-all y = total-up ∙ yes-total (networkOf net prices pairs) ((met .1 .1 .1 .1 .0 taken) .volume) (met .1 .0 taken y) ((met .1 .1 .1 .1 .0 taken) .largest)
+
+  no-less : r .intuitive ≡ 0 → up (r .total .0) < everyExport net
+  no-less y = omega (arith, total-up, no-total (networkOf net prices pairs) (placed net prices pairs n (length s) passed) ((met .1 .1 .1 .1 .0 taken) .volume) (met .1 .1 .0 taken y) ((met .1 .1 .1 .1 .0 taken) .largest))
+
+  total-nat : r .total .0 ≡ pos (up (r .total .0))
+  total-nat = (met .1 .1 .1 .1 .0 taken) .is ∙ ap pos (sym total-up)
+
+  -- THE TOTAL OF A YES is the sum of all exports, and that of a no is less
+  pub yes-is-all : (r .intuitive ≡ 1) ↔ (r .total .0 ≡ pos (everyExport net))
+  yes-is-all = (λ y. total-nat ∙ ap pos (yes-all y), λ e. by (decLt 0 (r .intuitive)) e)
+    where
+      by : Dec (0 < r .intuitive) → r .total .0 ≡ pos (everyExport net) → r .intuitive ≡ 1
+      by (yes h) e = omega (arith, h, met .1 .1 .1 .0)
+      by (no h) e = absurd (omega (arith, no-less (omega arith), ap up e))
+
+  pub no-is-less : (r .intuitive ≡ 0) ↔ (r .total .0 <ℤ pos (everyExport net))
+  no-is-less = (
+    λ y. subst (λ (x : ℤ). x <ℤ pos (everyExport net)) (sym total-nat) (record { lt = lt→ltb (up (r .total .0)) (everyExport net) (no-less y) }),
+    λ l. by (decLt 0 (r .intuitive)) (ltb→lt (up (r .total .0)) (everyExport net) ((subst (λ (x : ℤ). x <ℤ pos (everyExport net)) total-nat l) .lt)),
+  )
+    where
+      by : Dec (0 < r .intuitive) → up (r .total .0) < everyExport net → r .intuitive ≡ 0
+      by (yes h) l = absurd (omega (arith, l, yes-all (omega (arith, h, met .1 .1 .1 .0))))
+      by (no h) l = omega arith
