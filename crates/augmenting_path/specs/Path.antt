@@ -9,7 +9,8 @@ use lib.IntN.{ℤ, pos}
 use Rattle.integers.specs.Difference.{up, dn}
 use Rattle.transports.specs.Meaning.Network.{Network, Placed}
 use Rattle.zone_pairs.specs.Meaning.Pairs.{pairCount, firstZone, secondZone, networkOf}
-use Rattle.flow_scratch.specs.Scratch.{amountAt, transportOf, Rest, rest-set, set-flow, set-sent, set-got}
+use Rattle.flow_scratch.specs.Meaning.Places.{amountAt, transportOf}
+use Rattle.flow_scratch.specs.Scratch.{Rest, rest-set, set-flow, set-sent, set-got}
 use Rattle.augmenting_path.specs.Lacking.{Lacking, State, more-along, less-along, use-got, use-sent}
 use Rattle.augmenting_path.specs.Links.{Trail, Link, Links, links-on, links-back, links-got}
 

@@ -3,7 +3,7 @@ ghost use mathlib.Core.Path.{_≡_};
 ghost use Prim.Native.Nat.{_+_, _*_, _≤_, _<_};
 ghost use lib.ListN.{length};
 ghost use Rattle.zone_pairs.specs.Meaning.Pairs.{secondZone};
-ghost use Rattle.flow_scratch.specs.Scratch.{amountAt};
+ghost use Rattle.flow_scratch.specs.Meaning.Places.{amountAt};
 ghost use Rattle.augmenting_path.specs.Path.{trailOf, Shifted, SomePath, Walked, SomeAugment, Augmented};
 use flow_scratch::GOT;
 use flow_scratch::SENT;

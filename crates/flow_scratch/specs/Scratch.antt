@@ -1,4 +1,4 @@
--- A TRANSPORT AS 96 NUMBERS: one per pair, one per zone for export used, one per zone for import used; and what one store changes. Assumes nothing.
+-- What one store changes in the 96 numbers of a transport. Assumes nothing.
 use mathlib.Core.Path.{_≡_, refl, ap, _∙_}
 use mathlib.Core.List.{List}
 use Prim.Native.Nat.{ℕ, _+_, _≤_, _<_}
@@ -8,13 +8,7 @@ use lib.Seq.{getD-set-same, getD-set-other}
 use lib.IntN.{ℤ, pos}
 use Rattle.integers.specs.Difference.{up}
 use Rattle.transports.specs.Meaning.Network.{Network, Transport}
-
--- the amount at a place
-abbrev pub amountAt : List ℤ → ℕ → ℕ
-amountAt s i = up (getD s i (pos 0))
-
-abbrev pub transportOf : List ℤ → Transport
-transportOf s = record { flow = λ k. amountAt s k; sent = λ z. amountAt s (64 + z); got = λ z. amountAt s (80 + z) }
+use Rattle.flow_scratch.specs.Meaning.Places.{amountAt, transportOf}
 
 -- the same list but for its first 96 numbers
 pub record Rest (s s' : List ℤ) : Type 0 where

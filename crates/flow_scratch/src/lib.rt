@@ -6,7 +6,7 @@ ghost use lib.ListN.{length, getD, set};
 ghost use lib.IntN.{pos};
 ghost use lib.Signed.{leZ};
 ghost use Rattle.integers.specs.Difference.{up, dn};
-ghost use Rattle.flow_scratch.specs.Scratch.{amountAt};
+ghost use Rattle.flow_scratch.specs.Meaning.Places.{amountAt};
 ghost use Rattle.flow_scratch.specs.Cleared.{Cleared};
 
 // So many amounts, and where the zones' own begin.

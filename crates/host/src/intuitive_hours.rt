@@ -3,12 +3,13 @@ ghost use mathlib.Core.Path.{_≡_};
 ghost use Prim.Native.Nat.{_<_};
 ghost use lib.ListN.{length};
 ghost use lib.IntN.{pos};
+ghost use lib.Signed.{_≤ℤ_};
 ghost use Rattle.rows.specs.Meaning.Rows.{verdict};
-ghost use Rattle.zone_pairs.specs.Meaning.Pairs.{networkOf};
+ghost use Rattle.zone_pairs.specs.Meaning.Pairs.{importsWorth, networkOf};
 ghost use Rattle.transports.specs.Meaning.Network.{CarriesAll, Excess};
 ghost use Rattle.intuitive.specs.Meaning.Intuitive.{scratchRoom, intuitiveOutcome, LargestTotal, intuitiveScratch};
 ghost use Rattle.intuitive.specs.Meaning.SmallScratch.{smallRoom};
-ghost use Rattle.hour_intuitive.specs.Meaning.Hour.{hourOutcome, hourNetwork, hourScratch};
+ghost use Rattle.hour_intuitive.specs.Meaning.Hour.{hourOutcome, hourNetwork, hourRent, hourScratch};
 use hour_intuitive::hour_intuitive;
 use hour_intuitive::hour_intuitive_small;
 use intuitive::Carried;
@@ -33,6 +34,7 @@ pub extern "C" fn lta_intuitive(
     ensures largest { λ r. ⌜ (r .number ≡ 0 → LargestTotal (networkOf (now («net_exports» .entry)) (now («zone_prices» .entry)) (now (pairs .entry))) (r .total .0)) ⌝ }
     ensures scratch { λ r. ⌜ now (scratch .exit) ≡ intuitiveScratch (now («net_exports» .entry)) (now («zone_prices» .entry)) (now (pairs .entry)) scratchRoom (now (scratch .entry)) ⌝ }
     ensures refused { λ r. ⌜ (0 < r .number → (r .intuitive ≡ 0) × (r .total .0 ≡ pos 0)) ⌝ }
+    ensures yes_rent { λ r. ⌜ (r .number ≡ 0 → r .intuitive ≡ 1 → pos 0 ≤ℤ importsWorth (now («net_exports» .entry)) (now («zone_prices» .entry))) ⌝ }
 {
     intuitive(net_exports, zone_prices, pairs, scratch)
 }
@@ -53,6 +55,7 @@ pub extern "C" fn lta_hour_intuitive(
     ensures largest { λ r. ⌜ (r .number ≡ 0 → LargestTotal (hourNetwork (now («case» .entry)) (now (proposal .entry)) (now (pairs .entry))) (r .total .0)) ⌝ }
     ensures scratch { λ r. ⌜ now (scratch .exit) ≡ hourScratch (now («case» .entry)) (now (proposal .entry)) (now (pairs .entry)) scratchRoom (now (scratch .entry)) ⌝ }
     ensures refused { λ r. ⌜ (0 < r .number → (r .intuitive ≡ 0) × (r .total .0 ≡ pos 0)) ⌝ }
+    ensures yes_rent { λ r. ⌜ (r .number ≡ 0 → r .intuitive ≡ 1 → pos 0 ≤ℤ hourRent (now («case» .entry)) (now (proposal .entry))) ⌝ }
 {
     hour_intuitive(case, proposal, pairs, scratch)
 }
@@ -73,6 +76,7 @@ pub extern "C" fn lta_intuitive_small(
     ensures largest { λ r. ⌜ (r .number ≡ 0 → LargestTotal (networkOf (now («net_exports» .entry)) (now («zone_prices» .entry)) (now (pairs .entry))) (r .total .0)) ⌝ }
     ensures scratch { λ r. ⌜ now (scratch .exit) ≡ intuitiveScratch (now («net_exports» .entry)) (now («zone_prices» .entry)) (now (pairs .entry)) smallRoom (now (scratch .entry)) ⌝ }
     ensures refused { λ r. ⌜ (0 < r .number → (r .intuitive ≡ 0) × (r .total .0 ≡ pos 0)) ⌝ }
+    ensures yes_rent { λ r. ⌜ (r .number ≡ 0 → r .intuitive ≡ 1 → pos 0 ≤ℤ importsWorth (now («net_exports» .entry)) (now («zone_prices» .entry))) ⌝ }
 {
     intuitive_small(net_exports, zone_prices, pairs, scratch)
 }
@@ -92,6 +96,7 @@ pub extern "C" fn lta_hour_intuitive_small(
     ensures largest { λ r. ⌜ (r .number ≡ 0 → LargestTotal (hourNetwork (now («case» .entry)) (now (proposal .entry)) (now (pairs .entry))) (r .total .0)) ⌝ }
     ensures scratch { λ r. ⌜ now (scratch .exit) ≡ hourScratch (now («case» .entry)) (now (proposal .entry)) (now (pairs .entry)) smallRoom (now (scratch .entry)) ⌝ }
     ensures refused { λ r. ⌜ (0 < r .number → (r .intuitive ≡ 0) × (r .total .0 ≡ pos 0)) ⌝ }
+    ensures yes_rent { λ r. ⌜ (r .number ≡ 0 → r .intuitive ≡ 1 → pos 0 ≤ℤ hourRent (now («case» .entry)) (now (proposal .entry))) ⌝ }
 {
     hour_intuitive_small(case, proposal, pairs, scratch)
 }

@@ -1,4 +1,6 @@
--- What holds of an hour's answer, and with either scratch
+-- What holds of an hour's answer, with either scratch, and of its rent; both in plain numbers
 pub mod Asked
 pub mod BothSizes
 pub mod Rent
+pub mod PlainHour
+pub mod PlainRent

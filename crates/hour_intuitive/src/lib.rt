@@ -3,6 +3,7 @@ ghost use mathlib.Core.Path.{_≡_};
 ghost use Prim.Native.Nat.{_≤_, _<_};
 ghost use lib.ListN.{length};
 ghost use lib.IntN.{pos, _-ℤ_};
+ghost use lib.Signed.{_≤ℤ_};
 ghost use mir.Syntax.{w64};
 ghost use mir.Val.{toZ};
 ghost use Rattle.rows.specs.Meaning.Rows.{verdict};
@@ -11,7 +12,7 @@ ghost use Rattle.network.specs.Prices.{grainsAt};
 ghost use Rattle.transports.specs.Meaning.Network.{CarriesAll, Excess};
 ghost use Rattle.intuitive.specs.Meaning.Intuitive.{scratchRoom, LargestTotal};
 ghost use Rattle.intuitive.specs.Meaning.SmallScratch.{smallRoom};
-ghost use Rattle.hour_intuitive.specs.Meaning.Hour.{hourOutcome, hourNetwork, hourScratch};
+ghost use Rattle.hour_intuitive.specs.Meaning.Hour.{hourOutcome, hourNetwork, hourRent, hourScratch};
 ghost use Rattle.hour_intuitive.specs.Steps.Lent.{FitsTo, Lists, refusedAs};
 ghost use Rattle.hour_intuitive.specs.Steps.Kept.{Kept};
 use findings::find;
@@ -106,6 +107,7 @@ pub fn hour_intuitive(case: &[u8], proposal: &[u8], pairs: &[u8], scratch: &mut 
     ensures largest { λ r. ⌜ (r .number ≡ 0 → LargestTotal (hourNetwork (now («case» .entry)) (now (proposal .entry)) (now (pairs .entry))) (r .total .0)) ⌝ }
     ensures scratch { λ r. ⌜ now (scratch .exit) ≡ hourScratch (now («case» .entry)) (now (proposal .entry)) (now (pairs .entry)) scratchRoom (now (scratch .entry)) ⌝ }
     ensures refused { λ r. ⌜ (0 < r .number → (r .intuitive ≡ 0) × (r .total .0 ≡ pos 0)) ⌝ }
+    ensures yes_rent { λ r. ⌜ (r .number ≡ 0 → r .intuitive ≡ 1 → pos 0 ≤ℤ hourRent (now («case» .entry)) (now (proposal .entry))) ⌝ }
 {
     hour_intuitive_in(case, proposal, pairs, scratch, SCRATCH)
 }
@@ -124,6 +126,7 @@ pub fn hour_intuitive_small(
     ensures largest { λ r. ⌜ (r .number ≡ 0 → LargestTotal (hourNetwork (now («case» .entry)) (now (proposal .entry)) (now (pairs .entry))) (r .total .0)) ⌝ }
     ensures scratch { λ r. ⌜ now (scratch .exit) ≡ hourScratch (now («case» .entry)) (now (proposal .entry)) (now (pairs .entry)) smallRoom (now (scratch .entry)) ⌝ }
     ensures refused { λ r. ⌜ (0 < r .number → (r .intuitive ≡ 0) × (r .total .0 ≡ pos 0)) ⌝ }
+    ensures yes_rent { λ r. ⌜ (r .number ≡ 0 → r .intuitive ≡ 1 → pos 0 ≤ℤ hourRent (now («case» .entry)) (now (proposal .entry))) ⌝ }
 {
     hour_intuitive_in(case, proposal, pairs, scratch, SMALL_SCRATCH)
 }

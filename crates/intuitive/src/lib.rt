@@ -3,8 +3,9 @@ ghost use mathlib.Core.Path.{_≡_};
 ghost use Prim.Native.Nat.{_≤_, _<_};
 ghost use lib.ListN.{length};
 ghost use lib.IntN.{pos};
+ghost use lib.Signed.{_≤ℤ_};
 ghost use Rattle.rows.specs.Meaning.Rows.{verdict, refusal, answer};
-ghost use Rattle.zone_pairs.specs.Meaning.Pairs.{networkOf};
+ghost use Rattle.zone_pairs.specs.Meaning.Pairs.{importsWorth, networkOf};
 ghost use Rattle.transports.specs.Meaning.Network.{CarriesAll, Excess};
 ghost use Rattle.intuitive.specs.Meaning.Intuitive.{intuitiveOutcome, LargestTotal, intuitiveScratch};
 ghost use Rattle.intuitive.specs.Meaning.SmallScratch.{smallRoom};
@@ -174,6 +175,7 @@ pub fn intuitive(
     ensures largest { λ r. ⌜ (r .number ≡ 0 → LargestTotal (networkOf (now («net_exports» .entry)) (now («zone_prices» .entry)) (now (pairs .entry))) (r .total .0)) ⌝ }
     ensures scratch { λ r. ⌜ now (scratch .exit) ≡ intuitiveScratch (now («net_exports» .entry)) (now («zone_prices» .entry)) (now (pairs .entry)) 324 (now (scratch .entry)) ⌝ }
     ensures refused { λ r. ⌜ (0 < r .number → (r .intuitive ≡ 0) × (r .total .0 ≡ pos 0)) ⌝ }
+    ensures yes_rent { λ r. ⌜ (r .number ≡ 0 → r .intuitive ≡ 1 → pos 0 ≤ℤ importsWorth (now («net_exports» .entry)) (now («zone_prices» .entry))) ⌝ }
 {
     intuitive_in(net_exports, zone_prices, pairs, scratch, SCRATCH)
 }
@@ -192,6 +194,7 @@ pub fn intuitive_small(
     ensures largest { λ r. ⌜ (r .number ≡ 0 → LargestTotal (networkOf (now («net_exports» .entry)) (now («zone_prices» .entry)) (now (pairs .entry))) (r .total .0)) ⌝ }
     ensures scratch { λ r. ⌜ now (scratch .exit) ≡ intuitiveScratch (now («net_exports» .entry)) (now («zone_prices» .entry)) (now (pairs .entry)) smallRoom (now (scratch .entry)) ⌝ }
     ensures refused { λ r. ⌜ (0 < r .number → (r .intuitive ≡ 0) × (r .total .0 ≡ pos 0)) ⌝ }
+    ensures yes_rent { λ r. ⌜ (r .number ≡ 0 → r .intuitive ≡ 1 → pos 0 ≤ℤ importsWorth (now («net_exports» .entry)) (now («zone_prices» .entry))) ⌝ }
 {
     intuitive_in(net_exports, zone_prices, pairs, scratch, SMALL_SCRATCH)
 }

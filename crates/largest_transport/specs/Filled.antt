@@ -17,7 +17,7 @@ use Rattle.transports.specs.Steps.Saturated.{Saturated, largest-of, yes-of, no-
 use Rattle.net_positions.specs.Meaning.Positions.{positionAt}
 use Rattle.zone_pairs.specs.Meaning.Pairs.{networkOf}
 use Rattle.zone_pairs.specs.Steps.Table.{Distinct}
-use Rattle.flow_scratch.specs.Scratch.{amountAt, transportOf}
+use Rattle.flow_scratch.specs.Meaning.Places.{amountAt, transportOf}
 use Rattle.flow_scratch.specs.Cleared.{Cleared}
 use Rattle.augmenting_path.specs.Lacking.{State}
 use Rattle.augmenting_path.specs.Path.{trailOf, Sized, Augment}

@@ -1,2 +1,3 @@
--- The rooms: `Meaning` is to be read and believed
+-- The rooms: `Meaning` is to be read and believed, what is `Promised` holds of it and is proved
 pub mod Meaning
+pub mod Promised

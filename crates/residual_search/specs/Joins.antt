@@ -15,7 +15,7 @@ use Rattle.transports.specs.Steps.Saturated.{Saturated}
 use Rattle.net_positions.specs.Meaning.Positions.{positionAt}
 use Rattle.zone_pairs.specs.Meaning.Pairs.{pairCount, firstZone, secondZone, networkOf, priceAt}
 use Rattle.zone_pairs.specs.Steps.Table.{pairIn, Tabled}
-use Rattle.flow_scratch.specs.Scratch.{amountAt, transportOf}
+use Rattle.flow_scratch.specs.Meaning.Places.{amountAt, transportOf}
 use Rattle.augmenting_path.specs.Links.{Link}
 use Rattle.augmenting_path.specs.Path.{trailOf, Sized}
 use Rattle.residual_search.specs.Listing.{Marked, few, fewer}

@@ -9,7 +9,7 @@ use lib.Seq.{getD-set-same, getD-set-other}
 use lib.IntN.{ℤ}
 use Rattle.integers.specs.Difference.{up}
 use Rattle.net_positions.specs.Meaning.Positions.{positionAt}
-use Rattle.flow_scratch.specs.Scratch.{amountAt}
+use Rattle.flow_scratch.specs.Meaning.Places.{amountAt}
 use Rattle.augmenting_path.specs.Path.{trailOf}
 use Rattle.residual_search.specs.Listing.{Listing, Marked, listing-none, listing-extend, listing-mark, few}
 

@@ -10,7 +10,7 @@ ghost use Rattle.integers.specs.Difference.{dn};
 ghost use Rattle.net_positions.specs.Meaning.Positions.{positionAt};
 ghost use Rattle.zone_pairs.specs.Meaning.Pairs.{pairCount};
 ghost use Rattle.zone_pairs.specs.Steps.Table.{Tabled};
-ghost use Rattle.flow_scratch.specs.Scratch.{amountAt};
+ghost use Rattle.flow_scratch.specs.Meaning.Places.{amountAt};
 ghost use Rattle.augmenting_path.specs.Path.{Sized};
 ghost use Rattle.residual_search.specs.Marks.{orderOf, countOf, markedBy, Rooted};
 ghost use Rattle.residual_search.specs.Joins.{PairOn, SearchAt, SomeScan, Joined, Scanned, Searched};

@@ -1,3 +1,4 @@
 -- What is proved of it for him.
 pub mod Duality
 pub mod Worth
+pub mod PlainFlows

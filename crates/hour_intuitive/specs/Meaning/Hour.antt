@@ -8,7 +8,7 @@ use lib.IntN.{ℤ, pos, _-ℤ_}
 use Rattle.rows.specs.declared.Outcome.{Outcome}
 use Rattle.rows.specs.Meaning.Rows.{Row, refusal, answer}
 use Rattle.rules.specs.Meaning.Layout.{reportRoom}
-use Rattle.rules.specs.Meaning.Hour.{caseOf, planOf, pricesOf, net, zonePrice}
+use Rattle.rules.specs.Meaning.Hour.{caseOf, planOf, pricesOf, net, zonePrice, rent}
 use Rattle.rules.specs.Meaning.Verdict.{table}
 use Rattle.transports.specs.Meaning.Network.{Network}
 use Rattle.zone_pairs.specs.Meaning.Pairs.{networkOf}
@@ -28,6 +28,10 @@ hourPrices s t = listTo ((caseOf s) .zones) (λ z. zonePrice (caseOf s) (pricesO
 
 abbrev pub hourNetwork : List ℕ → List ℕ → List ℕ → Network
 hourNetwork s t pairs = networkOf (hourExports s t) (hourPrices s t) pairs
+
+-- the rent that the judgement reports (rule 11)
+abbrev pub hourRent : List ℕ → List ℕ → ℤ
+hourRent s t = rent (caseOf s) (planOf s t) (pricesOf s t)
 
 -- THE TABLE, for a case s, a proposal t, pairs, and a scratch of `room` numbers of which n are asked for, 324 or 96 (S-13)
 unfoldable pub askedRows : List ℕ → List ℕ → List ℕ → ℕ → ℕ → List Row

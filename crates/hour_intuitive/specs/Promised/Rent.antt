@@ -1,6 +1,7 @@
--- THE RENT OF AN INTUITIVE HOUR IS NOT NEGATIVE: of an hour that is answered yes, the judgement's rent, which counts imports positive, is what the flows of
--- the yes gain from the price of each pair's first zone to that of its second; no flow loses. This ties S-3's exports, ours turned, to the rent of rule 11: of
--- positions that were not turned, or of prices or zones taken otherwise, it would be false. Assumes nothing.
+-- THE RENT OF AN INTUITIVE HOUR IS NOT NEGATIVE: of an hour that is answered yes, the judgement's rent (rule 11), which
+-- counts imports positive, is what the flows of the yes gain from the price of each pair's first zone to that of its
+-- second. No flow loses. `PlainRent` says the same of the report's bytes. Of net positions that were not turned, or of
+-- prices or zones taken otherwise, it would be false. Assumes nothing.
 use mathlib.Core.Path.{_≡_, sym, ap, _∙_}
 use mathlib.Core.List.{List}
 use mathlib.Core.Option.{none}
@@ -13,26 +14,23 @@ use Rattle.integers.specs.Difference.{at, _⊖_, ⊝_, eq-by}
 use Rattle.integers.specs.Sums.{sumTo, sum-ext}
 use Rattle.rows.specs.declared.Outcome.{Outcome}
 use Rattle.rules.specs.Meaning.Hour.{caseOf, planOf, pricesOf, net, zonePrice, rent}
-use Rattle.zone_pairs.specs.Meaning.Pairs.{pairCount, priceAt}
+use Rattle.zone_pairs.specs.Meaning.Pairs.{pairCount, priceAt, importsWorth}
 use Rattle.net_positions.specs.Meaning.Positions.{positionAt}
-use Rattle.zone_pairs.specs.Promised.Worth.{importsWorth, pairGain, flows-gain, worth-nonneg}
+use Rattle.zone_pairs.specs.Promised.Worth.{pairGain, flows-gain, worth-nonneg}
 use Rattle.transports.specs.Meaning.Network.{CarriesAll}
 use Rattle.intuitive.specs.declared.Carried.{Carried}
 use Rattle.intuitive.specs.Meaning.Intuitive.{intuitiveRefusal}
 use Rattle.intuitive.specs.Steps.Sizes.{placed, balanced}
-use Rattle.hour_intuitive.specs.Meaning.Hour.{hourExports, hourPrices, hourNetwork, hourOutcome}
+use Rattle.hour_intuitive.specs.Meaning.Hour.{hourExports, hourPrices, hourNetwork, hourRent, hourOutcome}
 use Rattle.hour_intuitive.specs.Promised.Asked.{list-length, list-at}
 use Rattle.hour_intuitive.specs.Promised.BothSizes.{Contract, answered}
 
 module _ (s t pairs : List ℕ) where
-  abbrev pub hourRent : ℤ
-  hourRent = rent (caseOf s) (planOf s t) (pricesOf s t)
-
   turned-back : (x : ℤ) → negℤ (pos 0 -ℤ x) ≡ x
   turned-back x = eq-by (⊝_ (at (pos 0) ⊖ at x)) (at x) (omega arith)
 
   -- the rent is what the exports are worth, turned to imports
-  pub rent-is : importsWorth (hourExports s t) (hourPrices s t) ≡ hourRent
+  pub rent-is : importsWorth (hourExports s t) (hourPrices s t) ≡ hourRent s t
   unfolding hourExports hourPrices rent
   rent-is =
       ap (λ (k : ℕ). sumTo k (λ z. negℤ (positionAt (hourExports s t) z) *ℤ priceAt (hourPrices s t) z)) (list-length ((caseOf s) .zones) (λ z. pos 0 -ℤ net (caseOf s) (planOf s t) z))
@@ -43,12 +41,12 @@ module _ (s t pairs : List ℕ) where
     passed : intuitiveRefusal (hourExports s t) (hourPrices s t) pairs n room ≡ none
     passed = answered s t pairs n room e
 
-    pub rent-of-flows : hourRent ≡ sumTo (pairCount pairs) (λ k. pairGain (hourPrices s t) pairs (i .transport .flow k) k)
+    pub rent-of-flows : hourRent s t ≡ sumTo (pairCount pairs) (λ k. pairGain (hourPrices s t) pairs (i .transport .flow k) k)
     rent-of-flows = sym rent-is ∙ flows-gain (hourExports s t) (hourPrices s t) pairs (placed _ _ pairs n room passed) (balanced _ _ pairs n room passed) i
 
-    pub rent-nonneg : pos 0 ≤ℤ hourRent
+    pub rent-nonneg : pos 0 ≤ℤ hourRent s t
     rent-nonneg = rw (← rent-is) (worth-nonneg (hourExports s t) (hourPrices s t) pairs (placed _ _ pairs n room passed) (balanced _ _ pairs n room passed) i)
 
   -- OF THE ENTRY: an hour that it answers yes
-  pub yes-rent : (n : ℕ) (scratch : List ℤ) (r : Carried) (after : List ℤ) → Contract s t pairs n scratch r after → r .number ≡ 0 → r .intuitive ≡ 1 → pos 0 ≤ℤ hourRent
+  pub yes-rent : (n : ℕ) (scratch : List ℤ) (r : Carried) (after : List ℤ) → Contract s t pairs n scratch r after → r .number ≡ 0 → r .intuitive ≡ 1 → pos 0 ≤ℤ hourRent s t
   yes-rent n scratch r after a e y = rent-nonneg n (length scratch) (sym (ap (λ (o : Outcome). o .number) (a .0)) ∙ e) (a .1 .0 e y)

@@ -16,7 +16,7 @@ use Rattle.rules.specs.Meaning.Verdict.{under}
 use Rattle.net_positions.specs.Meaning.Positions.{positionOutside, unbalanced}
 use Rattle.zone_pairs.specs.Meaning.Pairs.{pairCount, badPair, networkOf}
 use Rattle.transports.specs.Meaning.Network.{Network, Placed, CarriesAll, Excess}
-use Rattle.flow_scratch.specs.Scratch.{amountAt, transportOf}
+use Rattle.flow_scratch.specs.Meaning.Places.{amountAt, transportOf}
 use Rattle.intuitive.specs.declared.Carried.{Carried}
 use Rattle.intuitive.specs.Meaning.Intuitive.{scratchRoom, unfit, priceOutside, intuitiveRows, intuitiveRefusal, intuitiveOutcome, LargestTotal, intuitiveScratch}
 use Rattle.intuitive.specs.Meaning.SmallScratch.{flowPlace, exportPlace, importPlace, smallRoom}
@@ -24,7 +24,8 @@ use Rattle.intuitive.specs.Promised.Causes.{intuitive-none}
 use Rattle.intuitive.specs.Promised.OneAnswer.{one-answer}
 use Rattle.intuitive.specs.Steps.Sizes.{placed, room-in}
 
--- THE CLAUSES OF A CONTRACT, in their order, for the outcome o, the network c and the scratch b′ that they name. The entries of an hour have the same.
+-- THE FIRST SEVEN CLAUSES OF A CONTRACT, in their order, for the outcome o, the network c and the scratch b′ that they
+-- name. The entries of an hour have the same. The eighth, `yes_rent`, follows from them.
 abbrev pub Clauses : Outcome → Network → List ℤ → Carried → List ℤ → Type 0
 Clauses o c b′ r b =
     (verdict (r .number) (r .index) ≡ o)

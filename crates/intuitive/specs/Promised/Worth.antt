@@ -1,6 +1,6 @@
--- A YES GOES FROM LOWER PRICE TO HIGHER: of an input that is taken and answered yes, the net exports turned to imports, each at its zone's price, sum to what
--- the flows of the yes gain, pair by pair, from the price of the first zone to that of the second; no flow loses, so the sum is not negative. An export that
--- counted as an import, or a pair that counted from higher price to lower, would make it false. Assumes nothing.
+-- A YES GOES FROM LOWER PRICE TO HIGHER: of an input that is taken and answered yes, the net exports turned to imports,
+-- each at its zone's price, sum to what the flows of the yes gain, pair by pair, from the price of the first zone to
+-- that of the second. No flow loses, so the sum is not negative. Assumes nothing.
 use mathlib.Core.Path.{_≡_, sym, ap, _∙_}
 use mathlib.Core.List.{List}
 use mathlib.Core.Option.{none}
@@ -10,9 +10,9 @@ use lib.IntN.{ℤ, pos}
 use lib.Signed.{_≤ℤ_}
 use Rattle.integers.specs.Sums.{sumTo}
 use Rattle.rows.specs.declared.Outcome.{Outcome}
-use Rattle.zone_pairs.specs.Meaning.Pairs.{pairCount, networkOf}
+use Rattle.zone_pairs.specs.Meaning.Pairs.{pairCount, importsWorth, networkOf}
 use Rattle.zone_pairs.specs.Promised.Worth as pairs-worth
-use Rattle.zone_pairs.specs.Promised.Worth.{importsWorth, pairGain}
+use Rattle.zone_pairs.specs.Promised.Worth.{pairGain}
 use Rattle.transports.specs.Meaning.Network.{CarriesAll}
 use Rattle.intuitive.specs.declared.Carried.{Carried}
 use Rattle.intuitive.specs.Meaning.Intuitive.{intuitiveRefusal, intuitiveOutcome}

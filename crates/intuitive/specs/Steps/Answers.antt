@@ -160,6 +160,10 @@ pub record Met (net prices : List ℤ) (pairs : List ℕ) (n : ℕ) (s : List �
 pub clauses : (net prices : List ℤ) (pairs : List ℕ) (n : ℕ) (s : List ℤ) (r : Carried) (s' : List ℤ) → Met net prices pairs n s r s' → Contract net prices pairs n s r s'
 clauses net prices pairs n s r s' m = (m .outcome, (m .a-yes, (m .a-no, (m .yes-or-no, (m .most, (m .scratch, m .refused))))))
 
+-- and an eighth behind seven
+pub and-eighth : {A B C D E F G H : Type 0} → A × (B × (C × (D × (E × (F × G))))) → H → A × (B × (C × (D × (E × (F × (G × H))))))
+and-eighth k h = (k .0, (k .1 .0, (k .1 .1 .0, (k .1 .1 .1 .0, (k .1 .1 .1 .1 .0, (k .1 .1 .1 .1 .1 .0, (k .1 .1 .1 .1 .1 .1, h)))))))
+
 module _ (net prices : List ℤ) (pairs : List ℕ) (n : ℕ) (s : List ℤ) (o : Outcome) (said : o ≡ intuitiveOutcome net prices pairs n (length s)) where
   number-is : o .number ≡ (intuitiveOutcome net prices pairs n (length s)) .number
   number-is = ap (λ (x : Outcome). x .number) said

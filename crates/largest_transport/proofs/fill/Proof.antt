@@ -10,7 +10,8 @@ use denote.Ref.{now}
 use borrow.Author.Needs.{needs}
 use Rattle.transports.specs.Meaning.Network.{allExports}
 use Rattle.zone_pairs.specs.Meaning.Pairs.{networkOf}
-use Rattle.flow_scratch.specs.Scratch.{transportOf, Rest, rest-refl, rest-trans}
+use Rattle.flow_scratch.specs.Meaning.Places.{transportOf}
+use Rattle.flow_scratch.specs.Scratch.{Rest, rest-refl, rest-trans}
 use Rattle.augmenting_path.specs.Lacking.{State}
 use Rattle.augmenting_path.specs.Path.{trailOf, Augment}
 use Rattle.largest_transport.specs.Filled.{total-le, exports-few, distinct, augment-of, filled}

@@ -10,7 +10,7 @@ use lib.IntN.{ℤ}
 use lib.Signed.{leZ}
 use denote.Ref.{now}
 use Rattle.zone_pairs.specs.Meaning.Pairs.{pairCount, firstZone, secondZone, priceAt}
-use Rattle.flow_scratch.specs.Scratch.{amountAt}
+use Rattle.flow_scratch.specs.Meaning.Places.{amountAt}
 use Rattle.residual_search.specs.Listing.{fewer}
 use Rattle.residual_search.specs.Marks.{countOf}
 use Rattle.residual_search.specs.Joins.{Joined, joined-skip, joined-on, joined-back, scan-zone, in-table, not-in-table, none-back}

@@ -81,7 +81,7 @@ not-both c ok i n =
       n .exceeds,
     )
 
-once : (c : Network) (b : Transport) → Carries c b → Carries (times 1 c) b
+pub once : (c : Network) (b : Transport) → Carries c b → Carries (times 1 c) b
 once c b ca = record { sent-le = λ z l. omega (arith, ca .sent-le z l); got-le = λ z l. omega (arith, ca .got-le z l); along = ca .along; even = ca .even }
 
 pub one-largest : (c : Network) (t u : ℕ) → Largest c t → Largest c u → t ≡ u

@@ -1,6 +1,6 @@
--- WHAT A TRANSPORT IS WORTH at prices of the zones: what each zone gets less what it sends, at its price, is over all zones what flows along each pair at the
--- price of its second zone less that of its first. Where every counted pair goes from lower or equal price to higher, that is not negative. It holds of every
--- network, so that a pair counted the other way round, or exports taken for imports, would make it false. Assumes nothing.
+-- WHAT A TRANSPORT IS WORTH at prices of the zones. What each zone gets less what it sends, at its price, is over all
+-- zones what flows along each pair at the price of its second zone less that of its first. Where every counted pair
+-- goes from lower or equal price to higher, that is not negative. Assumes nothing.
 use mathlib.Core.Path.{_≡_, refl, sym, ap, _∙_}
 use mathlib.Core.Bool.{Bool, true, false}
 use Prim.Native.Nat.{ℕ, zero, suc, _+_, _<_}

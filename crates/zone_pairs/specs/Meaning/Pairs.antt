@@ -4,9 +4,10 @@ use mathlib.Core.List.{List}
 use Prim.Native.Nat.{ℕ, _+_, _*_, _/_, _%_}
 use lib.Dec.{eqb, leb}
 use lib.ListN.{length, getD}
-use lib.IntN.{ℤ, pos}
+use lib.IntN.{ℤ, pos, negℤ, _*ℤ_}
 use lib.Signed.{leZ}
 use Rattle.integers.specs.Difference.{up, dn}
+use Rattle.integers.specs.Sums.{sumTo}
 use Rattle.rows.specs.Meaning.Rows.{anyBelow}
 use Rattle.net_positions.specs.Meaning.Positions.{positionAt}
 use Rattle.transports.specs.Meaning.Network.{Network}
@@ -34,6 +35,10 @@ badPair zones bytes k =
 -- THE NETWORK OF AN HOUR, from net positions with export positive and zone prices: a pair counts when its first price is at most its second
 abbrev pub priceAt : List ℤ → ℕ → ℤ
 priceAt prices z = getD prices z (pos 0)
+
+-- what the zones import, each at its price: a position turned is an import
+abbrev pub importsWorth : List ℤ → List ℤ → ℤ
+importsWorth net prices = sumTo (length net) (λ z. negℤ (positionAt net z) *ℤ priceAt prices z)
 
 abbrev pub networkOf : List ℤ → List ℤ → List ℕ → Network
 networkOf net prices bytes = record {

@@ -1,6 +1,7 @@
--- THE NETWORK OF AN HOUR in plain numbers: a counted pair goes from its first zone to its second and never to a lower price, a zone's imports less its exports
--- are its position turned, and where the positions sum to zero there is as much to import as to export. So what a yes carries is worth, at the zones' prices,
--- what its flows gain (`transports`), and that is not negative. Assumes nothing.
+-- WHAT A YES IS WORTH: a counted pair goes from its first zone to its second and never to a lower price, a zone's
+-- imports less its exports are its position turned, and where the positions sum to zero there is as much to import as to
+-- export. So what a yes carries is worth, at the zones' prices, what its flows gain (`transports`), and that is not
+-- negative. Exports taken for imports, or pairs counted from higher price to lower, would make it false. Assumes nothing.
 use mathlib.Core.Path.{_≡_, sym, ap, _∙_}
 use mathlib.Core.List.{List}
 use Prim.Native.Nat.{ℕ}
@@ -15,11 +16,7 @@ use Rattle.integers.specs.NaturalSums.{sumNat, sum-parts}
 use Rattle.net_positions.specs.Meaning.Positions.{positionAt}
 use Rattle.transports.specs.Meaning.Network.{Placed, allExports, CarriesAll}
 use Rattle.transports.specs.Promised.Worth.{Rising, yes-worth, yes-nonneg}
-use Rattle.zone_pairs.specs.Meaning.Pairs.{pairCount, firstZone, secondZone, priceAt, networkOf}
-
--- imports positive, at the zones' prices
-abbrev pub importsWorth : List ℤ → List ℤ → ℤ
-importsWorth net prices = sumTo (length net) (λ z. negℤ (positionAt net z) *ℤ priceAt prices z)
+use Rattle.zone_pairs.specs.Meaning.Pairs.{pairCount, firstZone, secondZone, priceAt, importsWorth, networkOf}
 
 -- what so much gains along pair k, from its first zone to its second
 abbrev pub pairGain : List ℤ → List ℕ → ℕ → ℕ → ℤ

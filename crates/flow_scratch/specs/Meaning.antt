@@ -1,0 +1,2 @@
+-- THE MEANING, to be read beside request S-13
+pub mod Places

@@ -1,0 +1,284 @@
+-- YES, NO AND THE TOTAL IN PLAIN NUMBERS (S-3, S-13), both ways, for every result that meets an entry's contract with
+-- number 0. A yes is flows that leave each zone its net position, a no is zones that no pair of rising or equal price
+-- leaves and whose positions sum to more than zero, and the total is the largest that any flows carry. Pair k is the
+-- bytes 2 k and 2 k + 1, and `getD xs z (pos 0)` is the number of zone z. Assumes nothing.
+use mathlib.Core.Path.{_≡_, refl, sym, ap, subst, _∙_}
+use mathlib.Core.Logic.{_↔_}
+use mathlib.Core.Bool.{Bool, true, false}
+use mathlib.Core.List.{List}
+use mathlib.Core.Option.{none}
+use Prim.Native.Nat.{ℕ, zero, suc, _+_, _*_, _/_, _≤_, _<_}
+use native.Mathlib.Omega.{arith}
+use native.Mathlib.Decide.{decLt}
+use lib.Dec.{eqb, ltb→lt, lt→ltb}
+use lib.ListN.{length, getD}
+use lib.IntN.{ℤ, pos, negsuc, negℤ, _-ℤ_, _*ℤ_}
+use lib.Signed.{_≤ℤ_, _<ℤ_}
+use Rattle.integers.specs.Difference.{up, dn, at, _⊖_, _⊗_, ⊝_, eq-by, eq-fact, le-by, le-fact}
+use Rattle.integers.specs.Sums as whole
+use Rattle.integers.specs.Sums.{sumTo}
+use Rattle.integers.specs.NaturalSums.{sumNat, only, sum-ext, sum-parts}
+use Rattle.rows.specs.declared.Outcome.{Outcome}
+use Rattle.zone_pairs.specs.Meaning.Pairs.{pairCount, networkOf}
+use Rattle.zone_pairs.specs.Promised.PlainPairs.{is-pair, pair-leads, pair-counts}
+use Rattle.zone_pairs.specs.Promised.Worth.{as-much-imported}
+use Rattle.transports.specs.Meaning.Network.{Network, CarriesAll, Excess, Largest}
+use Rattle.transports.specs.Promised.Duality.{not-both, one-largest, yes-total, no-total}
+use Rattle.transports.specs.Promised.PlainFlows.{broughtTo, takenFrom, Routed, yes-routed, Shipped, largest-is}
+use Rattle.intuitive.specs.declared.Carried.{Carried}
+use Rattle.intuitive.specs.Meaning.Intuitive.{intuitiveRefusal}
+use Rattle.intuitive.specs.Promised.Causes.{intuitive-none}
+use Rattle.intuitive.specs.Promised.BothSizes.{Contract}
+use Rattle.intuitive.specs.Steps.Sizes.{placed, balanced, pairs-even}
+
+-- what flows into zone z along the pairs, and out of it
+abbrev pub flowsIn : List ℕ → (ℕ → ℕ) → ℕ → ℕ
+flowsIn pairs flow z = sumNat (length pairs / 2) (λ k. only (eqb (getD pairs (2 * k + 1) 0) z) (flow k))
+
+abbrev pub flowsOut : List ℕ → (ℕ → ℕ) → ℕ → ℕ
+flowsOut pairs flow z = sumNat (length pairs / 2) (λ k. only (eqb (getD pairs (2 * k) 0) z) (flow k))
+
+-- PAIR k COUNTS: the price of its first zone is at most that of its second
+abbrev pub Counts : List ℤ → List ℕ → ℕ → Type 0
+Counts prices pairs k = getD prices (getD pairs (2 * k) 0) (pos 0) ≤ℤ getD prices (getD pairs (2 * k + 1) 0) (pos 0)
+
+-- A YES: flows along pairs that count, of which each zone's net position is what flows out of it less what flows in
+pub record Routes (net prices : List ℤ) (pairs : List ℕ) : Type 0 where
+  pub flow : ℕ → ℕ
+  pub counts : (k : ℕ) → 2 * k < length pairs → 0 < flow k → Counts prices pairs k
+  pub position-is : (z : ℕ) → z < length net → getD net z (pos 0) ≡ pos (flowsOut pairs flow z) -ℤ pos (flowsIn pairs flow z)
+
+-- A NO: zones that no pair that counts leaves, whose net positions sum to more than zero
+pub record Enclosed (net prices : List ℤ) (pairs : List ℕ) : Type 0 where
+  pub set : ℕ → Bool
+  pub none-leaves : (k : ℕ) → 2 * k < length pairs → Counts prices pairs k → set (getD pairs (2 * k) 0) ≡ true → set (getD pairs (2 * k + 1) 0) ≡ true
+  pub exports-more : pos 0 <ℤ sumTo (length net) (λ z. whole.only (set z) (getD net z (pos 0)))
+
+-- FLOWS THAT CARRY u, in fractions over d (whole ones are those over 1): a zone sends up to its position where that
+-- is an export, gets up to it where it is an import, and what it sends and what flows in is what it gets and what
+-- flows out
+pub record FlowsCarry (net prices : List ℤ) (pairs : List ℕ) (d u : ℕ) : Type 0 where
+  pub flow : ℕ → ℕ
+  pub sent : ℕ → ℕ
+  pub got : ℕ → ℕ
+  pub counts : (k : ℕ) → 2 * k < length pairs → 0 < flow k → Counts prices pairs k
+  pub sent-within : (z : ℕ) → z < length net → 0 < sent z → pos (sent z) ≤ℤ (pos d *ℤ getD net z (pos 0))
+  pub got-within : (z : ℕ) → z < length net → 0 < got z → pos (got z) ≤ℤ (pos d *ℤ negℤ (getD net z (pos 0)))
+  pub zone-even : (z : ℕ) → z < length net → sent z + flowsIn pairs flow z ≡ got z + flowsOut pairs flow z
+  pub total-is : sumNat (length net) sent ≡ u
+
+-- THE LARGEST TOTAL t: some flows carry it, and none carry more, in fractions either
+abbrev pub LargestCarried : List ℤ → List ℤ → List ℕ → ℕ → Type 0
+LargestCarried net prices pairs t = FlowsCarry net prices pairs 1 t × ((d u : ℕ) → FlowsCarry net prices pairs d u → u ≤ d * t)
+
+-- the sum of all exports: what each position has above zero
+abbrev pub everyExport : List ℤ → ℕ
+everyExport net = sumNat (length net) (λ z. up (getD net z (pos 0)))
+
+clash : false ≡ true → ⊥
+clash e = let z : _≡_ {A = ℕ} 0 1 = cc in omega arith
+
+-- a part of a position that is an export, and one that is an import
+sends : (d s : ℕ) (x : ℤ) → (s ≤ d * up x) ↔ (0 < s → pos s ≤ℤ (pos d *ℤ x))
+sends d s x = (out x, λ f. back f (decLt 0 s))
+  where
+    out : (x : ℤ) → s ≤ d * up x → 0 < s → pos s ≤ℤ (pos d *ℤ x)
+    out (pos m) h l = le-by (at (pos s)) (at (pos d) ⊗ at (pos m)) (omega arith)
+    out (negsuc m) h l = absurd (omega arith)
+
+    back : (0 < s → pos s ≤ℤ (pos d *ℤ x)) → Dec (0 < s) → s ≤ d * up x
+    back f (yes l) = omega (arith, le-fact (at (pos s)) (at (pos d) ⊗ at x) (f l))
+    back f (no l) = omega arith
+
+gets : (d s : ℕ) (x : ℤ) → (s ≤ d * dn x) ↔ (0 < s → pos s ≤ℤ (pos d *ℤ negℤ x))
+gets d s x = (out x, λ f. back f (decLt 0 s))
+  where
+    out : (x : ℤ) → s ≤ d * dn x → 0 < s → pos s ≤ℤ (pos d *ℤ negℤ x)
+    out (pos m) h l = absurd (omega arith)
+    out (negsuc m) h l = le-by (at (pos s)) (at (pos d) ⊗ (⊝_ (at (negsuc m)))) (omega arith)
+
+    back : (0 < s → pos s ≤ℤ (pos d *ℤ negℤ x)) → Dec (0 < s) → s ≤ d * dn x
+    back f (yes l) = omega (arith, le-fact (at (pos s)) (at (pos d) ⊗ (⊝_ (at x))) (f l))
+    back f (no l) = omega arith
+
+module _ (net prices : List ℤ) (pairs : List ℕ) (n room : ℕ) (passed : intuitiveRefusal net prices pairs n room ≡ none) where
+  abbrev c : Network
+  c = networkOf net prices pairs
+
+  pub two-bytes : (k : ℕ) → k < pairCount pairs → 2 * k + 1 < length pairs
+  two-bytes k h = omega (arith, h, pairs-even net prices pairs n room passed)
+
+  pub count-is : pairCount pairs ≡ length pairs / 2
+  count-is = omega (arith, pairs-even net prices pairs n room passed)
+
+  in-is : (flow : ℕ → ℕ) (z : ℕ) → broughtTo c flow z ≡ flowsIn pairs flow z
+  in-is flow z = sum-ext (pairCount pairs) _ _ (λ k h. ap (λ (y : ℕ). only (eqb y z) (flow k)) (pair-leads net prices pairs k (two-bytes k h) .1))
+      ∙ ap (λ (m : ℕ). sumNat m (λ k. only (eqb (getD pairs (2 * k + 1) 0) z) (flow k))) count-is
+
+  out-is : (flow : ℕ → ℕ) (z : ℕ) → takenFrom c flow z ≡ flowsOut pairs flow z
+  out-is flow z = sum-ext (pairCount pairs) _ _ (λ k h. ap (λ (y : ℕ). only (eqb y z) (flow k)) (pair-leads net prices pairs k (two-bytes k h) .0))
+      ∙ ap (λ (m : ℕ). sumNat m (λ k. only (eqb (getD pairs (2 * k) 0) z) (flow k))) count-is
+
+  pub counted : (flow : ℕ → ℕ) → ((k : ℕ) → k < c .pairs → c .counted k ≡ false → flow k ≡ 0) ↔ ((k : ℕ) → 2 * k < length pairs → 0 < flow k → Counts prices pairs k)
+  counted flow = (λ f k h l. by k (is-pair pairs k .1 h) l (c .counted k) refl (f k (is-pair pairs k .1 h)), λ f k h e. zero-if k h e (f k (is-pair pairs k .0 h)) (decLt 0 (flow k)))
+    where
+      by : (k : ℕ) → k < pairCount pairs → 0 < flow k → (b : Bool) → c .counted k ≡ b → (c .counted k ≡ false → flow k ≡ 0) → Counts prices pairs k
+      by k h l true e f = pair-counts net prices pairs k (two-bytes k h) .0 e
+      by k h l false e f = absurd (omega (arith, l, f e))
+
+      zero-if : (k : ℕ) → k < pairCount pairs → c .counted k ≡ false → (0 < flow k → Counts prices pairs k) → Dec (0 < flow k) → flow k ≡ 0
+      zero-if k h e f (yes l) = absurd (clash (sym e ∙ pair-counts net prices pairs k (two-bytes k h) .1 (f l)))
+      zero-if k h e f (no l) = omega arith
+
+  -- flows of the network
+  routes : Routed c ↔ Routes net prices pairs
+  routes = (
+    λ r. record {
+      flow = r .flow;
+      counts = counted (r .flow) .0 (r .counted-only);
+      position-is = λ z l. eq-by (at (getD net z (pos 0))) (at (pos (flowsOut pairs (r .flow) z)) ⊖ at (pos (flowsIn pairs (r .flow) z))) (omega (arith, r .zone-even z l, in-is (r .flow) z, out-is (r .flow) z));
+    },
+    λ r. record {
+      flow = r .flow;
+      counted-only = counted (r .flow) .1 (r .counts);
+      zone-even = λ z l. omega (arith, eq-fact (at (getD net z (pos 0))) (at (pos (flowsOut pairs (r .flow) z)) ⊖ at (pos (flowsIn pairs (r .flow) z))) (r .position-is z l), in-is (r .flow) z, out-is (r .flow) z);
+    },
+  )
+
+  shipped : (d u : ℕ) → Shipped c d u ↔ FlowsCarry net prices pairs d u
+  shipped d u = (
+    λ f. record {
+      flow = f .flow;
+      sent = f .sent;
+      got = f .got;
+      counts = counted (f .flow) .0 (f .counted-only);
+      sent-within = λ z l. sends d (f .sent z) (getD net z (pos 0)) .0 (f .sent-within z l);
+      got-within = λ z l. gets d (f .got z) (getD net z (pos 0)) .0 (f .got-within z l);
+      zone-even = λ z l. omega (arith, f .zone-even z l, in-is (f .flow) z, out-is (f .flow) z);
+      total-is = f .total-is;
+    },
+    λ f. record {
+      flow = f .flow;
+      sent = f .sent;
+      got = f .got;
+      counted-only = counted (f .flow) .1 (f .counts);
+      sent-within = λ z l. sends d (f .sent z) (getD net z (pos 0)) .1 (f .sent-within z l);
+      got-within = λ z l. gets d (f .got z) (getD net z (pos 0)) .1 (f .got-within z l);
+      zone-even = λ z l. omega (arith, f .zone-even z l, in-is (f .flow) z, out-is (f .flow) z);
+      total-is = f .total-is;
+    },
+  )
+
+  -- more exported than imported in a set: the positions of its zones sum to more than zero
+  parts : (set : ℕ → Bool) → up (sumTo (length net) (λ z. whole.only (set z) (getD net z (pos 0)))) + sumNat (length net) (λ z. only (set z) (c .imports z))
+      ≡ sumNat (length net) (λ z. only (set z) (c .exports z)) + dn (sumTo (length net) (λ z. whole.only (set z) (getD net z (pos 0))))
+  parts set =
+      omega (
+        arith,
+        sum-parts (λ z. whole.only (set z) (getD net z (pos 0))) (length net),
+        sum-ext (length net) (λ z. dn (whole.only (set z) (getD net z (pos 0)))) (λ z. only (set z) (c .imports z)) (λ z l. below (set z) (getD net z (pos 0))),
+        sum-ext (length net) (λ z. up (whole.only (set z) (getD net z (pos 0)))) (λ z. only (set z) (c .exports z)) (λ z l. above (set z) (getD net z (pos 0))),
+      )
+    where
+      below : (b : Bool) (x : ℤ) → dn (whole.only b x) ≡ only b (dn x)
+      below true x = refl
+      below false x = refl
+
+      above : (b : Bool) (x : ℤ) → up (whole.only b x) ≡ only b (up x)
+      above true x = refl
+      above false x = refl
+
+  more : (s : ℤ) (i e : ℕ) → up s + i ≡ e + dn s → (i < e) ↔ (pos 0 <ℤ s)
+  more (pos zero) i e q = (λ h. absurd (omega arith), λ h. absurd (h .lt))
+  more (pos (suc m)) i e q = (λ h. record { lt = lt→ltb 0 (suc m) (omega arith) }, λ h. omega arith)
+  more (negsuc m) i e q = (λ h. absurd (omega arith), λ h. absurd (h .lt))
+
+  enclosed : Excess c ↔ Enclosed net prices pairs
+  enclosed = (
+    λ x. record {
+      set = x .set;
+      none-leaves = λ k h l e. let p = is-pair pairs k .1 h in
+          let to = pair-leads net prices pairs k (two-bytes k p) in
+          ap (x .set) (sym (to .1)) ∙ x .shut k p (pair-counts net prices pairs k (two-bytes k p) .1 l) (ap (x .set) (to .0) ∙ e);
+      exports-more = more _ _ _ (parts (x .set)) .0 (x .exceeds);
+    },
+    λ x. record {
+      set = x .set;
+      shut = λ k p l e. let to = pair-leads net prices pairs k (two-bytes k p) in
+          ap (x .set) (to .1) ∙ x .none-leaves k (is-pair pairs k .0 p) (pair-counts net prices pairs k (two-bytes k p) .0 l) (ap (x .set) (sym (to .0)) ∙ e);
+      exceeds = more _ _ _ (parts (x .set)) .1 (x .exports-more);
+    },
+  )
+
+-- OF A RESULT THAT MEETS THE CONTRACT, of either entry
+module _ (net prices : List ℤ) (pairs : List ℕ) (n : ℕ) (s : List ℤ) (r : Carried) (s' : List ℤ) (met : Contract net prices pairs n s r s') (taken : r .number ≡ 0) where
+  passed : intuitiveRefusal net prices pairs n (length s) ≡ none
+  passed = intuitive-none net prices pairs n (length s) (sym (ap (λ (o : Outcome). o .number) (met .0)) ∙ taken)
+
+  carries-all : CarriesAll (networkOf net prices pairs) ↔ Routes net prices pairs
+  carries-all =
+      let both = yes-routed (networkOf net prices pairs) (placed net prices pairs n (length s) passed) (as-much-imported net prices pairs (balanced net prices pairs n (length s) passed)) in
+      let plain = routes net prices pairs n (length s) passed in
+      (λ i. plain .0 (both .0 i), λ i. both .1 (plain .1 i))
+
+  never : CarriesAll (networkOf net prices pairs) → Excess (networkOf net prices pairs) → ⊥
+  never = not-both (networkOf net prices pairs) (placed net prices pairs n (length s) passed)
+
+  -- YES
+  pub says-yes : (r .intuitive ≡ 1) ↔ Routes net prices pairs
+  says-yes = (λ y. carries-all .0 (met .1 .0 taken y), λ f. by (decLt 0 (r .intuitive)) (carries-all .1 f))
+    where
+      by : Dec (0 < r .intuitive) → CarriesAll (networkOf net prices pairs) → r .intuitive ≡ 1
+      by (yes h) i = omega (arith, h, met .1 .1 .1 .0)
+      by (no h) i = absurd (never i (met .1 .1 .0 taken (omega arith)))
+
+  -- NO
+  pub says-no : (r .intuitive ≡ 0) ↔ Enclosed net prices pairs
+  says-no = (λ y. enclosed net prices pairs n (length s) passed .0 (met .1 .1 .0 taken y), λ f. by (decLt 0 (r .intuitive)) (enclosed net prices pairs n (length s) passed .1 f))
+    where
+      by : Dec (0 < r .intuitive) → Excess (networkOf net prices pairs) → r .intuitive ≡ 0
+      by (yes h) x = absurd (never (met .1 .0 taken (omega (arith, h, met .1 .1 .1 .0))) x)
+      by (no h) x = omega arith
+
+  -- THE TOTAL, in tenths
+  pub says-total : (t : ℕ) → (r .total .0 ≡ pos t) ↔ LargestCarried net prices pairs t
+  says-total t = (
+    λ e. let v = met .1 .1 .1 .1 .0 taken in
+        let w = largest-is (networkOf net prices pairs) t .0 (subst (λ (u : ℕ). Largest (networkOf net prices pairs) u) (ap up (sym (v .is) ∙ e)) (v .largest)) in
+        (plain 1 t .0 (w .0), λ d u f. w .1 d u (plain d u .1 f)),
+    λ w. let v = met .1 .1 .1 .1 .0 taken in
+        v .is ∙ ap pos (one-largest (networkOf net prices pairs) (v .volume) t (v .largest) (largest-is (networkOf net prices pairs) t .1 (plain 1 t .1 (w .0), λ d u f. w .1 d u (plain d u .0 f)))),
+  )
+    where
+      plain : (d u : ℕ) → Shipped (networkOf net prices pairs) d u ↔ FlowsCarry net prices pairs d u
+      plain = shipped net prices pairs n (length s) passed
+
+  total-up : up (r .total .0) ≡ (met .1 .1 .1 .1 .0 taken) .volume
+  total-up = ap up ((met .1 .1 .1 .1 .0 taken) .is)
+
+  yes-all : r .intuitive ≡ 1 → up (r .total .0) ≡ everyExport net
+  yes-all y = total-up ∙ yes-total (networkOf net prices pairs) ((met .1 .1 .1 .1 .0 taken) .volume) (met .1 .0 taken y) ((met .1 .1 .1 .1 .0 taken) .largest)
+
+  no-less : r .intuitive ≡ 0 → up (r .total .0) < everyExport net
+  no-less y = omega (arith, total-up, no-total (networkOf net prices pairs) (placed net prices pairs n (length s) passed) ((met .1 .1 .1 .1 .0 taken) .volume) (met .1 .1 .0 taken y) ((met .1 .1 .1 .1 .0 taken) .largest))
+
+  total-nat : r .total .0 ≡ pos (up (r .total .0))
+  total-nat = (met .1 .1 .1 .1 .0 taken) .is ∙ ap pos (sym total-up)
+
+  -- THE TOTAL OF A YES is the sum of all exports, and that of a no is less
+  pub yes-is-all : (r .intuitive ≡ 1) ↔ (r .total .0 ≡ pos (everyExport net))
+  yes-is-all = (λ y. total-nat ∙ ap pos (yes-all y), λ e. by (decLt 0 (r .intuitive)) e)
+    where
+      by : Dec (0 < r .intuitive) → r .total .0 ≡ pos (everyExport net) → r .intuitive ≡ 1
+      by (yes h) e = omega (arith, h, met .1 .1 .1 .0)
+      by (no h) e = absurd (omega (arith, no-less (omega arith), ap up e))
+
+  pub no-is-less : (r .intuitive ≡ 0) ↔ (r .total .0 <ℤ pos (everyExport net))
+  no-is-less = (
+    λ y. subst (λ (x : ℤ). x <ℤ pos (everyExport net)) (sym total-nat) (record { lt = lt→ltb (up (r .total .0)) (everyExport net) (no-less y) }),
+    λ l. by (decLt 0 (r .intuitive)) (ltb→lt (up (r .total .0)) (everyExport net) ((subst (λ (x : ℤ). x <ℤ pos (everyExport net)) total-nat l) .lt)),
+  )
+    where
+      by : Dec (0 < r .intuitive) → up (r .total .0) < everyExport net → r .intuitive ≡ 0
+      by (yes h) l = absurd (omega (arith, l, yes-all (omega (arith, h, met .1 .1 .1 .0))))
+      by (no h) l = omega arith

@@ -1,0 +1,2 @@
+-- WHAT HOLDS of it, in plain numbers
+pub mod PlainPositions
