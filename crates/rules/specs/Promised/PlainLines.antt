@@ -22,14 +22,14 @@ use Rattle.rules.specs.Promised.PlainReport.{reports-of, leaves-of}
 use Rattle.rules.specs.Promised.PlainFacts.{eq-eqb}
 
 -- "verdict "
-abbrev pub verdict : List ℕ
-verdict = 118 ∷ 101 ∷ 114 ∷ 100 ∷ 105 ∷ 99 ∷ 116 ∷ 32 ∷ []
+abbrev pub verdictName : List ℕ
+verdictName = 118 ∷ 101 ∷ 114 ∷ 100 ∷ 105 ∷ 99 ∷ 116 ∷ 32 ∷ []
 
 -- THE FIRST LINE: "verdict ", the number, a space, the index
 pub record VerdictLine (number index : ℕ) (line : List ℕ) : Type 0 where
   pub number-text : List ℕ
   pub index-text : List ℕ
-  pub line-is : line ≡ verdict ++ number-text ++ (32 ∷ []) ++ index-text ++ (10 ∷ [])
+  pub line-is : line ≡ verdictName ++ number-text ++ (32 ∷ []) ++ index-text ++ (10 ∷ [])
   pub number-reads : ReadsCount number number-text
   pub index-reads : ReadsCount index index-text
 
@@ -121,11 +121,11 @@ last-only a line is h k e l =
 
 verdict-once : {number index : ℕ} {line : List ℕ} → VerdictLine number index line → (k : ℕ) → getD line k 0 ≡ 10 → k + 1 < length line → ⊥
 verdict-once v k e l =
-    let name : Above verdict = (omega arith, (omega arith, (omega arith, (omega arith, (omega arith, (omega arith, (omega arith, (omega arith, tt)))))))) in
-    let number = above-both verdict (v .number-text) name (above-digits (v .number-text) (v .number-reads .all-digits)) in
-    let space = above-both (verdict ++ v .number-text) (32 ∷ []) number (omega arith, tt) in
-    let index = above-both (verdict ++ v .number-text ++ (32 ∷ [])) (v .index-text) space (above-digits (v .index-text) (v .index-reads .all-digits)) in
-    last-only (verdict ++ v .number-text ++ (32 ∷ []) ++ v .index-text) _ (v .line-is) index k e l
+    let name : Above verdictName = (omega arith, (omega arith, (omega arith, (omega arith, (omega arith, (omega arith, (omega arith, (omega arith, tt)))))))) in
+    let number = above-both verdictName (v .number-text) name (above-digits (v .number-text) (v .number-reads .all-digits)) in
+    let space = above-both (verdictName ++ v .number-text) (32 ∷ []) number (omega arith, tt) in
+    let index = above-both (verdictName ++ v .number-text ++ (32 ∷ [])) (v .index-text) space (above-digits (v .index-text) (v .index-reads .all-digits)) in
+    last-only (verdictName ++ v .number-text ++ (32 ∷ []) ++ v .index-text) _ (v .line-is) index k e l
 
 module _ (s t : List ℕ) where
   abbrev answered : Outcome
