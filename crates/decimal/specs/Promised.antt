@@ -1,3 +1,4 @@
--- WHAT HOLDS OF IT: the digits say the number, and how long a text can be
+-- WHAT HOLDS OF IT: the digits say the number, how long a text can be, and every byte read back
 pub mod Value
 pub mod Sizes
+pub mod PlainAmounts

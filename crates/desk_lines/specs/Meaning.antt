@@ -1,4 +1,2 @@
--- THE MEANING, to be read beside document 01: where a stream is cut, and the lines
-pub mod Cut
-pub mod Lines
+-- THE MEANING: the desk's text in a lent output. What the text is stands in `rules`
 pub mod Printed

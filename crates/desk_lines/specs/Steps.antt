@@ -1,5 +1,4 @@
 -- THE PROOFS' MEANS
-pub mod Ends
 pub mod Header
 pub mod Judged
 pub mod Refused

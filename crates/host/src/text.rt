@@ -1,8 +1,10 @@
 // The desk program's text for an input, for a host that prints it itself.
 ghost use mathlib.Core.Path.{_≡_};
-ghost use lib.ListN.{length};
+ghost use Prim.Native.Nat.{_≤_};
+ghost use lib.ListN.{length, take};
 ghost use Rattle.rows.specs.Meaning.Rows.{verdict};
 ghost use Rattle.desk_lines.specs.Meaning.Printed.{deskOutcome, deskWritten, deskOutput};
+ghost use Rattle.desk_lines.specs.Promised.PlainText.{PlainText};
 use desk_lines::lines;
 use output::Written;
 
@@ -13,6 +15,7 @@ pub extern "C" fn lta_desk_lines(input: &[u8], out: &mut [u8]) -> Written
     ensures outcome { λ r. ⌜ verdict (r .number) (r .index) ≡ deskOutcome (length (now (out .entry))) ⌝ }
     ensures length { λ r. ⌜ r .length ≡ length (deskWritten (length (now (out .entry))) (now (input .entry))) ⌝ }
     ensures output { λ r. ⌜ now (out .exit) ≡ deskOutput (now (input .entry)) (now (out .entry)) ⌝ }
+    ensures text { λ r. ⌜ (1024 ≤ length (now (out .entry)) → PlainText (now (input .entry)) (take (r .length) (now (out .exit)))) ⌝ }
 {
     lines(input, out)
 }

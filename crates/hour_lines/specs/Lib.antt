@@ -1,3 +1,2 @@
--- The rooms: `Meaning` is to be read and believed, all else is proved of it
-pub mod Meaning
+-- The proofs' means: what the lines mean stands in `rules`
 pub mod Steps

@@ -11,7 +11,7 @@ ghost use Rattle.rules.specs.Meaning.Report as rules;
 ghost use Rattle.decimal.specs.Meaning.Ascii.{ascii};
 ghost use Rattle.decimal.specs.Meaning.Text.{countText};
 ghost use Rattle.decimal.specs.Steps.Put.{Put};
-ghost use Rattle.hour_lines.specs.Meaning.Lines.{verdictLine, totalLine, totalLines, priceLine, priceLines};
+ghost use Rattle.rules.specs.Meaning.Lines.{verdictLine, totalLine, totalLines, priceLine, priceLines};
 ghost use Rattle.hour_lines.specs.Steps.Read.{totalsIn, linesIn};
 use decimal::put_count;
 use decimal::put_money;

@@ -5,6 +5,8 @@ pub mod Clearing
 pub mod Families
 pub mod Verdict
 pub mod Report
+pub mod Cut
+pub mod Lines
 pub mod Versions
 pub mod Promise
 pub mod Book

@@ -24,6 +24,9 @@ pub mod Families
 pub mod PlainFamilies
 -- the report's bytes, without a family list and with one
 pub mod PlainReport
+-- the desk's text: where its input is cut, and every line
+pub mod PlainCut
+pub mod PlainLines
 -- what is promised, spelt out
 pub mod PlainPromise
 -- S-12: wide tolerances

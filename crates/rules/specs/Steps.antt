@@ -2,5 +2,6 @@
 pub mod LayoutLaws
 pub mod Duality
 pub mod Passed
+pub mod CaseEnd
 pub mod SameTables
 pub mod Upgraded

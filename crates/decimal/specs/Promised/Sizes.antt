@@ -1,6 +1,5 @@
 -- How long the texts can be, so that a caller can show that they have room. Assumes nothing.
 use mathlib.Core.Path.{_≡_, subst, _∙_}
-use mathlib.Core.List.{_∷_}
 use Prim.Native.Nat.{ℕ, suc, _+_, _/_, _-_, _^_, _<_, _≤_}
 use native.Mathlib.Nat.{div-lt-iff-lt-mul}
 use native.Mathlib.Omega.{arith}
@@ -9,7 +8,7 @@ use lib.Pow.{pow-add}
 use lib.IntN.{ℤ, pos, negsuc}
 use mir.Syntax.{w64}
 use mir.Val.{SFits}
-use Rattle.decimal.specs.Meaning.Text.{lastDigits, countText, sizeText, amountText}
+use Rattle.decimal.specs.Meaning.Text.{countText, sizeText, amountText}
 use Rattle.decimal.specs.Steps.Places.{places-at-most}
 use Rattle.decimal.specs.Promised.Value.{power-positive, last-length, count-length}
 
@@ -19,7 +18,7 @@ count-at-most k n h = omega (arith, count-length n, places-at-most k n h)
 
 pub size-length : (k n : ℕ) → length (sizeText k n) ≡ length (countText (n / 10 ^ k)) + (1 + k)
 unfolding sizeText
-size-length k n = length-append (countText (n / 10 ^ k)) (46 ∷ lastDigits k n) ∙ omega (arith, last-length k n)
+size-length k n = length-append (countText (n / 10 ^ k)) _ ∙ omega (arith, last-length k n)
 
 -- a size that j + 1 digits hold before the point
 size-at-most : (j k n : ℕ) → n < 10 ^ (suc j + k) → length (sizeText k n) ≤ suc j + (1 + k)

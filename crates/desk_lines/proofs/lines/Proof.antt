@@ -8,9 +8,9 @@ use lib.ListN.{length, take, drop, length-drop}
 use lib.Seq.{length-take-le, take-all}
 use Rattle.decimal.specs.Steps.Put.{Put, put-as}
 use Rattle.desk_lines.specs.Steps.Answers.{met-refusal, met-answer}
-use Rattle.desk_lines.specs.Meaning.Cut.{casePart, proposalPart}
-use Rattle.desk_lines.specs.Steps.Ends.{end-within}
-use Rattle.desk_lines.specs.Meaning.Lines.{hourText, deskText}
+use Rattle.rules.specs.Meaning.Cut.{casePart, proposalPart}
+use Rattle.rules.specs.Steps.CaseEnd.{end-within}
+use Rattle.rules.specs.Meaning.Lines.{hourText, deskText}
 use borrow.Author.Needs.{needs}
 use Rattle.desk_lines.proofs.lines.Statement.{statement}
 use Rattle.desk_lines.proofs.lines.Tie as tie

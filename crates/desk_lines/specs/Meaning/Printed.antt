@@ -8,7 +8,7 @@ use Rattle.rows.specs.declared.Outcome.{Outcome}
 use Rattle.rows.specs.Meaning.Rows.{Row, refusal, answer, once}
 use Rattle.rules.specs.Meaning.Verdict.{under}
 use Rattle.output.specs.Meaning.Output.{writtenBy, outputAfter}
-use Rattle.desk_lines.specs.Meaning.Lines.{deskText}
+use Rattle.rules.specs.Meaning.Lines.{deskText}
 
 abbrev pub deskRoom : ℕ
 deskRoom = 1024

@@ -1,78 +1,25 @@
 -- A long input is judged by its start. No legal hour has more than 10,126 + 2,573 = 12,699 bytes, so an input that has more is refused, and by the
 -- same number and index as any part of it from the start that has more. Assumes nothing.
 use mathlib.Core.Path.{_≡_, refl, sym, ap, _∙_}
-use mathlib.Core.Bool.{Bool, not, _&&_}
-use mathlib.Core.List.{List, [], _∷_}
+use mathlib.Core.Bool.{not, _&&_}
+use mathlib.Core.List.{List}
 use mathlib.Core.Option.{Option, none, some}
 use Prim.Native.Nat.{ℕ, _+_, _*_, _≤_, _<_}
 use native.Mathlib.Omega.{arith}
 use native.Mathlib.Decide.{decLt}
-use borrow.Author.Tests.{le-ltb}
 use lib.ListN.{length, getD, take, drop, length-drop}
 use lib.Seq.{length-take-le, take-length, take-all, take-take, getD-take, getD-drop}
 use lib.Dec.{eqb}
-use lib.IntN.{pos}
-use Rattle.integers.specs.Ranges.{outside}
-use Rattle.measures.specs.Meaning.Limits as limits
-use Rattle.rules.specs.Meaning.Layout.{u8At, u16At, u32At, caseVersion, zonesIn, branchesIn, linksIn, ordersIn, toleranceIn, branchSize, linkSize, caseLength, proposalVersion, proposalLength, zoneCounts, branchCounts, linkCounts, orderCounts}
-use Rattle.rules.specs.Meaning.Hour.{caseOf}
+use Rattle.rules.specs.Meaning.Layout.{u8At, u16At, caseLength, proposalVersion, proposalLength}
 use Rattle.rows.specs.declared.Outcome.{Outcome}
-use Rattle.rows.specs.Meaning.Rows.{Row, refusal, answer, once, field}
+use Rattle.rows.specs.Meaning.Rows.{answer}
 use Rattle.rows.specs.Promised.RowLaws.{else-refusal}
-use Rattle.rules.specs.Meaning.Verdict.{headerRefusal, differ, notMark, caseRows, caseRefusal}
-use Rattle.desk_lines.specs.Meaning.Cut.{good, caseEnd, casePart, proposalPart}
-use Rattle.desk_lines.specs.Steps.Ends.{end-refused, end-good}
+use Rattle.rules.specs.Meaning.Verdict.{headerRefusal, differ, notMark, caseRefusal}
+use Rattle.rules.specs.Meaning.Cut.{good, caseEnd, casePart, proposalPart}
+use Rattle.rules.specs.Steps.CaseEnd.{end-refused, end-good, SameHeader, same-refusal, same-length}
 use Rattle.desk_lines.specs.Steps.Header.{case-at-most, proposal-at-most}
 use Rattle.desk_lines.specs.Steps.Refused.{header-refused, long, too-long}
-use Rattle.hour_lines.specs.Meaning.Lines.{verdictLine}
-use Rattle.desk_lines.specs.Meaning.Lines.{hourText, deskText}
-
--- TWO FILES WITH THE SAME HEADER
-record SameHeader (s r : List ℕ) : Type 0 where
-  long : (14 ≤ length s) × (14 ≤ length r)
-  same : (k : ℕ) → k < 14 → getD s k 0 ≡ getD r k 0
-
--- the header's rows, from its fields
-rowsBy : Bool → Bool → ℕ → ℕ → ℕ → ℕ → ℕ → ℕ → List Row
-rowsBy short mark version zones branches links orders tolerance =
-    once 1 short
-    ∷ once 2 mark
-    ∷ once 3 (differ version 1 && differ version 2)
-    ∷ field 4 5 (outside zoneCounts (pos zones))
-    ∷ field 4 6 (outside branchCounts (pos branches))
-    ∷ field 4 7 (outside linkCounts (pos links))
-    ∷ field 4 8 (outside orderCounts (pos orders))
-    ∷ field 4 10 (outside limits.tolerance (pos tolerance))
-    ∷ []
-
-module _ (s r : List ℕ) (h : SameHeader s r) where
-  same-u8 : (k : ℕ) → k < 14 → u8At s k ≡ u8At r k
-  unfolding u8At
-  same-u8 k l = h .same k l
-
-  same-u16 : (k : ℕ) → k + 1 < 14 → u16At s k ≡ u16At r k
-  unfolding u16At
-  same-u16 k l = λ i. h .same k (omega arith) i + 256 * h .same (k + 1) l i
-
-  same-u32 : (k : ℕ) → k + 3 < 14 → u32At s k ≡ u32At r k
-  unfolding u32At
-  same-u32 k l = λ i. h .same k (omega arith) i + 256 * (h .same (k + 1) (omega arith) i + 256 * (h .same (k + 2) (omega arith) i + 256 * h .same (k + 3) l i))
-
-  same-refusal : headerRefusal s ≡ headerRefusal r
-  unfolding headerRefusal caseRows caseOf rowsBy notMark caseVersion zonesIn branchesIn linksIn ordersIn toleranceIn
-  same-refusal = λ i. refusal (rowsBy
-      ((le-ltb (length s) 14 (h .long .0) ∙ sym (le-ltb (length r) 14 (h .long .1))) i)
-      (not (eqb (same-u8 0 (omega arith) i) 76 && eqb (same-u8 1 (omega arith) i) 84 && eqb (same-u8 2 (omega arith) i) 67))
-      (same-u16 3 (omega arith) i)
-      (same-u8 5 (omega arith) i)
-      (same-u8 6 (omega arith) i)
-      (same-u8 7 (omega arith) i)
-      (same-u16 8 (omega arith) i)
-      (same-u32 10 (omega arith) i))
-
-  same-length : caseLength s ≡ caseLength r
-  unfolding caseLength branchSize caseVersion zonesIn branchesIn linksIn ordersIn
-  same-length = λ i. 14 + same-u8 6 (omega arith) i * (4 + 4 * same-u8 5 (omega arith) i) + same-u8 7 (omega arith) i * linkSize (same-u16 3 (omega arith) i) + same-u16 8 (omega arith) i * 10
+use Rattle.rules.specs.Meaning.Lines.{verdictLine, hourText, deskText}
 
 -- WHERE THE CASE ENDS, by its header
 refused-text : (s : List ℕ) (o : Outcome) → headerRefusal s ≡ some o → deskText s ≡ verdictLine o

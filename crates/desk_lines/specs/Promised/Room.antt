@@ -24,10 +24,9 @@ use Rattle.rules.specs.Steps.Passed.{sound, case-sound}
 use Rattle.rules.specs.Promised.Fits.{fits}
 use Rattle.case_header.specs.Meaning.Answer.{countsOf}
 use Rattle.case_header.specs.Opened.{Limited, branches-bound, links-bound}
-use Rattle.desk_lines.specs.Meaning.Cut.{casePart, proposalPart}
+use Rattle.rules.specs.Meaning.Cut.{casePart, proposalPart}
 use Rattle.desk_lines.specs.Steps.Header.{headerRows, laterRows, outcome-by-header, counted}
-use Rattle.hour_lines.specs.Meaning.Lines.{verdictLine, totalLine, totalLines, priceLine, priceLines, hourLines, linesOf}
-use Rattle.desk_lines.specs.Meaning.Lines.{hourText, deskText}
+use Rattle.rules.specs.Meaning.Lines.{verdictLine, totalLine, totalLines, priceLine, priceLines, hourLines, linesOf, hourText, deskText}
 use Rattle.desk_lines.specs.Meaning.Printed.{deskRoom}
 
 -- AN OUTCOME's number has at most three digits, and its index at most five: an offset in a file (S-2) is below 100,000, in a case of version 2 (S-4) perhaps above 10,000

@@ -13,8 +13,7 @@ use Rattle.rules.specs.Meaning.Verdict.{outcome}
 use Rattle.rules.specs.Steps.Passed.{sound, case-sound}
 use Rattle.rules.specs.Meaning.Report.{Reported, Totals, totalsOf, reportedPrice, reports, bufferAfter}
 use Rattle.rules.specs.Promised.Reported.{reported, same-length}
-use Rattle.hour_lines.specs.Meaning.Lines.{verdictLine, priceLines, totalLines, hourLines, linesOf}
-use Rattle.desk_lines.specs.Meaning.Lines.{hourText}
+use Rattle.rules.specs.Meaning.Lines.{verdictLine, priceLines, totalLines, hourLines, linesOf, hourText}
 use Rattle.hour_lines.specs.Steps.Read.{totalsIn, linesIn, prices-same}
 
 module _ (s t : List ℕ) where

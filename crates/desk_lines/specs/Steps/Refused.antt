@@ -17,8 +17,7 @@ use Rattle.rules.specs.Meaning.Verdict.{under, differ, notMark, roomRows, caseR
 use Rattle.rules.specs.Meaning.Report.{reports}
 use Rattle.desk_lines.specs.Steps.Header.{headerRows, laterRows, outcome-by-header}
 use Rattle.desk_lines.specs.Steps.Judged.{one-line}
-use Rattle.hour_lines.specs.Meaning.Lines.{verdictLine}
-use Rattle.desk_lines.specs.Meaning.Lines.{hourText}
+use Rattle.rules.specs.Meaning.Lines.{verdictLine, hourText}
 
 -- A REFUSED HOUR: one line
 not-reported : (rs : List Row) → T (lacks 0 rs) → T (lacks 26 rs) → (o : Outcome) → refusal rs ≡ some o → reports (o .number) ≡ false

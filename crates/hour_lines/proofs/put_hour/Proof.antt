@@ -5,7 +5,7 @@ use native.Mathlib.Omega.{arith}
 use lib.ListN.{length, length-append}
 use Rattle.decimal.specs.Steps.Put.{put-as, put-length, put-then}
 use Rattle.rules.specs.Meaning.Report.{reportedPrice}
-use Rattle.hour_lines.specs.Meaning.Lines.{priceLines, hourLines}
+use Rattle.rules.specs.Meaning.Lines.{priceLines, hourLines}
 use borrow.Author.Needs.{needs}
 use Rattle.hour_lines.proofs.put_hour.Statement.{statement}
 use Rattle.hour_lines.proofs.put_hour.Tie as tie

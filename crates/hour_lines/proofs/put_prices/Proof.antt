@@ -5,7 +5,7 @@ use Prim.Native.Nat.{ℕ, _-_, _≤_}
 use native.Mathlib.Omega.{arith}
 use Rattle.decimal.specs.Steps.Put.{Put, put-as, put-length, put-then}
 use Rattle.rules.specs.Meaning.Report.{reportedPrice}
-use Rattle.hour_lines.specs.Meaning.Lines.{priceLines}
+use Rattle.rules.specs.Meaning.Lines.{priceLines}
 use Rattle.hour_lines.specs.Steps.Read.{prices-more, prices-within}
 use Rattle.hour_lines.proofs.put_prices.Statement.{statement}
 use Rattle.hour_lines.proofs.put_prices.Tie as tie

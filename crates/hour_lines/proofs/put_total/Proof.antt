@@ -6,7 +6,7 @@ use lib.IntN.{ℤ}
 use Rattle.decimal.specs.Meaning.Text.{amountText}
 use Rattle.decimal.specs.Steps.Put.{Put, put-as, put-length, put-then}
 use Rattle.integers.specs.Bytes.{i64At}
-use Rattle.hour_lines.specs.Meaning.Lines.{totalLine}
+use Rattle.rules.specs.Meaning.Lines.{totalLine}
 use borrow.Author.Needs.{needs}
 use Rattle.hour_lines.proofs.put_total.Statement.{statement}
 use Rattle.hour_lines.proofs.put_total.Tie as tie

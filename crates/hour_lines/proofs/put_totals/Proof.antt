@@ -2,7 +2,7 @@
 use native.Mathlib.Omega.{arith}
 use lib.ListN.{length-append}
 use Rattle.decimal.specs.Steps.Put.{put-length, put-then}
-use Rattle.hour_lines.specs.Meaning.Lines.{totalLines}
+use Rattle.rules.specs.Meaning.Lines.{totalLines}
 use borrow.Author.Needs.{needs}
 use Rattle.hour_lines.proofs.put_totals.Statement.{statement}
 use Rattle.hour_lines.proofs.put_totals.Tie as tie

@@ -3,7 +3,7 @@
 use native.Mathlib.Omega.{arith}
 use lib.ListN.{length-append}
 use Rattle.decimal.specs.Steps.Put.{put-length, put-then}
-use Rattle.hour_lines.specs.Meaning.Lines.{verdictLine}
+use Rattle.rules.specs.Meaning.Lines.{verdictLine}
 use borrow.Author.Needs.{needs}
 use Rattle.hour_lines.proofs.put_verdict.Statement.{statement}
 use Rattle.hour_lines.proofs.put_verdict.Tie as tie

@@ -6,7 +6,7 @@ use lib.IntN.{ℤ}
 use Rattle.decimal.specs.Meaning.Text.{amountText}
 use Rattle.decimal.specs.Steps.Put.{Put, put-as, put-length, put-then}
 use Rattle.rules.specs.Meaning.Report.{reportedPrice}
-use Rattle.hour_lines.specs.Meaning.Lines.{priceLine}
+use Rattle.rules.specs.Meaning.Lines.{priceLine}
 use borrow.Author.Needs.{needs}
 use Rattle.hour_lines.proofs.put_zone.Statement.{statement}
 use Rattle.hour_lines.proofs.put_zone.Tie as tie

@@ -9,7 +9,7 @@ use lib.ListN.{length, getD, length-append}
 use lib.IntN.{ℤ}
 use Rattle.rules.specs.Meaning.Layout.{reportZonesAt}
 use Rattle.rules.specs.Meaning.Report.{Totals, reportedWelfare, reportedBound, reportedGap, reportedRent, reportedOwed, reportedPrice}
-use Rattle.hour_lines.specs.Meaning.Lines.{priceLine, priceLines, hourLines}
+use Rattle.rules.specs.Meaning.Lines.{priceLine, priceLines, hourLines}
 
 abbrev pub totalsIn : List ℕ → Totals
 totalsIn b = record { welfare = reportedWelfare b; bound = reportedBound b; gap = reportedGap b; rent = reportedRent b; owed = reportedOwed b }

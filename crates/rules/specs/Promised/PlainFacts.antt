@@ -55,20 +55,20 @@ pub record ProposalFacts (s t : List ℕ) : Type 0 where
   pub shadow-in : (m : ℕ) → m < branchesIn s → shadowIn s t m ≤ 1000000
 
 -- TESTS AND WHAT THEY SAY
-yes-not-not : (b : Bool) → T b → T (not (not b))
+pub yes-not-not : (b : Bool) → T b → T (not (not b))
 yes-not-not true t = tt
 yes-not-not false t = absurd t
 
-eq-eqb : (a b : ℕ) → a ≡ b → T (eqb a b)
+pub eq-eqb : (a b : ℕ) → a ≡ b → T (eqb a b)
 eq-eqb a b e = rw e (eqb-refl b)
 
-le-nltb : (m n : ℕ) → n ≤ m → T (not (ltb m n))
+pub le-nltb : (m n : ℕ) → n ≤ m → T (not (ltb m n))
 le-nltb m n h = not-T (ltb m n) (λ t. never (ltb→lt m n t))
   where
     never : m < n → ⊥
     never l = omega arith
 
-lt-nleb : (m n : ℕ) → n < m → T (not (leb m n))
+pub lt-nleb : (m n : ℕ) → n < m → T (not (leb m n))
 lt-nleb m n h = not-T (leb m n) (λ t. never (leb→le m n t))
   where
     never : m ≤ n → ⊥
@@ -90,7 +90,7 @@ mark-passes a b e s h = yes-not-not (eqb (u8At s 0) a && eqb (u8At s 1) b && eqb
     (and-both (eqb (u8At s 0) a) (eqb (u8At s 1) b) (eq-eqb (u8At s 0) a (h .0)) (eq-eqb (u8At s 1) b (h .1 .0))) (eq-eqb (u8At s 2) e (h .1 .1)))
 
 -- a case version (S-4)
-one-or-two : (v : ℕ) → T (not (differ v 1 && differ v 2)) → (1 ≤ v) × (v ≤ 2)
+pub one-or-two : (v : ℕ) → T (not (differ v 1 && differ v 2)) → (1 ≤ v) × (v ≤ 2)
 one-or-two v t = by (eqb v 1) (eqb v 2) refl refl t
   where
     by : (a b : Bool) → eqb v 1 ≡ a → eqb v 2 ≡ b → T (not (not a && not b)) → (1 ≤ v) × (v ≤ 2)
@@ -98,7 +98,7 @@ one-or-two v t = by (eqb v 1) (eqb v 2) refl refl t
     by false true p q t = let e = eqb→eq v 2 (is-true q) in (omega (arith, e), omega (arith, e))
     by false false p q t = absurd t
 
-version-passes : (v : ℕ) → (1 ≤ v) × (v ≤ 2) → T (not (differ v 1 && differ v 2))
+pub version-passes : (v : ℕ) → (1 ≤ v) × (v ≤ 2) → T (not (differ v 1 && differ v 2))
 version-passes zero h = absurd (omega (arith, h .0))
 version-passes (suc zero) h = tt
 version-passes (suc (suc zero)) h = tt

@@ -65,7 +65,7 @@ unfolding reports
 reports-of n (inl e) = subst (λ (k : ℕ). T (eqb k 0 || eqb k 26)) (sym e) tt
 reports-of n (inr e) = subst (λ (k : ℕ). T (eqb k 0 || eqb k 26)) (sym e) tt
 
-leaves-of : (n : ℕ) → n ≢ 0 → n ≢ 26 → T (not (reports n))
+pub leaves-of : (n : ℕ) → n ≢ 0 → n ≢ 26 → T (not (reports n))
 unfolding reports
 leaves-of n a b = not-T (eqb n 0 || eqb n 26) (λ t. by (eqb n 0) refl t)
   where

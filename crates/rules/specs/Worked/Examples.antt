@@ -1,4 +1,5 @@
--- P1 to P12: the worked hours, each a case and a proposal as bytes with the verdict and the values that the paper names. Assumes nothing.
+-- P1 to P12: the worked hours, each a case and a proposal as bytes with the verdict and the values that the paper names; P1 and P3 with the text that the desk
+-- prints. Assumes nothing.
 use mathlib.Core.Path.{_≡_, refl}
 use mathlib.Core.List.{List, [], _∷_, _++_, map}
 use Prim.Native.Nat.{ℕ, _*_}
@@ -9,10 +10,14 @@ use mir.Val.{ofZ}
 use Rattle.integers.specs.Sums.{sumTo}
 use Rattle.integers.specs.Bytes.{bytesOf, signed64}
 use Rattle.integers.specs.Ranges.{minus, outside, isZero}
+use Rattle.decimal.specs.Meaning.Ascii.{ascii}
+use Rattle.decimal.specs.Meaning.Text.{placesIn, places, lastDigits, countText, sizeText, amountText}
 use Rattle.rules.specs.Meaning.Layout.{u8At, u16At, u32At, i32At, caseVersion, zonesIn, branchesIn, linksIn, ordersIn, toleranceIn, branchSize, branchAt, ramIn, ptdfIn, linkAt, fromIn, toIn, capacityIn, contracts, contractedSize, contractedIn, orderAt, zoneIn, sideIn, quantityIn, priceIn, caseLength, proposalVersion, shareIn, systemIn, volumeIn, flowIn, shadowAt, shadowIn, proposalLength}
 use Rattle.rules.specs.Meaning.Hour.{caseOf, planOf, pricesOf, buys, orderNet, net, inflow, outflow, ltaPart, fbPart, netSum, linkUse, linkRoom, branchUse, branchRoom, branchPrice, zonePrice, orderWelfare, welfare, surplusOf, orderSurplus, surplus, branchValue, branchTotal, spread, linkValue, linkTotal, linkOwed, owed, noLink, networkBound, bound, gap, rent}
-use Rattle.rules.specs.Meaning.Verdict.{outcome, notMark, branchFault, repeated, linkFault, rowFault, orderFault, roomRows, caseRows, proposalRows, clearingRows, table}
+use Rattle.rules.specs.Meaning.Verdict.{outcome, notMark, branchFault, repeated, linkFault, rowFault, orderFault, roomRows, caseRows, proposalRows, clearingRows, table, headerRefusal}
 use Rattle.rules.specs.Meaning.Report.{priceBytes, headerBytes, totalBytes, reportText, totalsOf, reportBytes, reportSize, reports, written, bufferAfter}
+use Rattle.rules.specs.Meaning.Cut.{caseEnd, casePart, proposalPart}
+use Rattle.rules.specs.Meaning.Lines.{verdictLine, totalLine, totalLines, priceLine, priceLines, hourLines, linesOf, hourText, deskText}
 use Rattle.rows.specs.declared.Outcome.{Outcome}
 use Rattle.rows.specs.Meaning.Rows.{verdict, firstBelow, anyBelow, firstField, refusal}
 
@@ -190,30 +195,60 @@ stored1 = record {
       ++ replicate 104 7;
 }
 
+-- THE TEXT that the desk prints for P1, and for P3: 1,950,000 cents of welfare, 300,000 below the bound
+unfoldable pub text1 : List ℕ
+text1 =
+    ascii "verdict 0 0\n"
+    ++ ascii "welfare 22125.00000000\n"
+    ++ ascii "bound 22125.00000000\n"
+    ++ ascii "gap 0.00000000\n"
+    ++ ascii "rent 17500.00000000\n"
+    ++ ascii "owed 17500.00000000\n"
+    ++ ascii "price 0 20.0000000\n"
+    ++ ascii "price 1 63.7500000\n"
+    ++ ascii "price 2 50.0000000\n"
+
+unfoldable pub text3 : List ℕ
+text3 =
+    ascii "verdict 26 0\n"
+    ++ ascii "welfare 19500.00000000\n"
+    ++ ascii "bound 22500.00000000\n"
+    ++ ascii "gap 3000.00000000\n"
+    ++ ascii "rent 15000.00000000\n"
+    ++ ascii "owed 18000.00000000\n"
+    ++ ascii "price 0 20.0000000\n"
+    ++ ascii "price 1 65.0000000\n"
+    ++ ascii "price 2 50.0000000\n"
+
 pub record Example : Type 0 where
   pub case : CaseFields
   pub proposal : ProposalFields
   pub expected : Outcome
   pub named : List Named
+  -- the files byte by byte, and the text, of those that have them here
   pub stored : List Stored
+  pub text : List (List ℕ)
 
 abbrev example : CaseFields → ProposalFields → Outcome → List Named → Example
-example k p o vs = record { case = k; proposal = p; expected = o; named = vs; stored = [] }
+example k p o vs = record { case = k; proposal = p; expected = o; named = vs; stored = []; text = [] }
 
--- with its files byte by byte
+-- with its files byte by byte; and with its text
 abbrev storedAs : Stored → Example → Example
-storedAs f e = record { case = e .case; proposal = e .proposal; expected = e .expected; named = e .named; stored = f ∷ [] }
+storedAs f e = record { case = e .case; proposal = e .proposal; expected = e .expected; named = e .named; stored = f ∷ []; text = e .text }
+
+abbrev printedAs : List ℕ → Example → Example
+printedAs l e = record { case = e .case; proposal = e .proposal; expected = e .expected; named = e .named; stored = e .stored; text = l ∷ [] }
 
 unfoldable pub examples : List Example
 examples =
-    -- P1: 0, the totals and prices that the desk program prints, and every byte of its files and its report
-    storedAs stored1 (example (threeZones linkAB 0) (proposal1 87500 1375 4375 3500) (verdict 0 0)
+    -- P1: 0, the totals and prices that the desk program prints, every byte of its files and its report, and its text
+    printedAs text1 (storedAs stored1 (example (threeZones linkAB 0) (proposal1 87500 1375 4375 3500) (verdict 0 0)
     (welfareIs (euros 22125) ∷ boundIs (euros 22125) ∷ gapIs (euros 0) ∷ rentIs (euros 17500) ∷ owedIs (euros 17500)
-    ∷ priceIs 0 (pos 200000000) ∷ priceIs 1 (pos 637500000) ∷ priceIs 2 (pos 500000000) ∷ []))
+    ∷ priceIs 0 (pos 200000000) ∷ priceIs 1 (pos 637500000) ∷ priceIs 2 (pos 500000000) ∷ [])))
     -- P2: no link
     ∷ example (threeZones [] 0) (proposal2 []) (verdict 0 0) (welfareIs (euros 19500) ∷ rentIs (euros 15000) ∷ owedIs (euros 0) ∷ [])
     -- P3: P2's proposal with the link and flow 0. With tolerance 299,999 cents, and P4, tolerance 300,000: 15 since S-12
-    ∷ example (threeZones linkAB 0) (proposal2 (0 ∷ [])) (verdict 26 0) (gapIs (euros 3000) ∷ owedIs (euros 18000) ∷ [])
+    ∷ printedAs text3 (example (threeZones linkAB 0) (proposal2 (0 ∷ [])) (verdict 26 0) (gapIs (euros 3000) ∷ owedIs (euros 18000) ∷ []))
     ∷ example (threeZones linkAB 299999) (proposal2 (0 ∷ [])) (verdict 15 0) []
     ∷ example (threeZones linkAB 300000) (proposal2 (0 ∷ [])) (verdict 15 0) []
     -- P5: second volume 6,001
@@ -237,23 +272,26 @@ pub record Answer : Type 0 where
   pub answered : Outcome
   pub totals : List ℤ
   pub files : List Stored
+  pub printed : List (List ℕ)
 
-unfoldable pub judged : List ℕ → List ℕ → List Named → List Stored → Answer
-judged s t vs fs = record {
+-- the desk takes the case and at once the proposal
+unfoldable pub judged : List ℕ → List ℕ → List Named → List Stored → List (List ℕ) → Answer
+judged s t vs fs ls = record {
   answered = outcome s t 176;
   totals = map (λ v. v .total s t) vs;
   files = map (λ (f : Stored). record { caseFile = s; proposalFile = t; buffer = bufferAfter s t (replicate 176 7) }) fs;
+  printed = map (λ (l : List ℕ). deskText (s ++ t)) ls;
 }
 
 unfoldable pub given : Example → Answer
-given e = judged (caseBytes (e .case)) (proposalBytes (e .proposal)) (e .named) (e .stored)
+given e = judged (caseBytes (e .case)) (proposalBytes (e .proposal)) (e .named) (e .stored) (e .text)
 
 unfoldable pub said : Example → Answer
-said e = record { answered = e .expected; totals = map (λ v. v .value) (e .named); files = e .stored }
+said e = record { answered = e .expected; totals = map (λ v. v .value) (e .named); files = e .stored; printed = e .text }
 
 -- every example comes out as the paper says
 pub examples-hold : map given examples ≡ map said examples
-unfolding u8At u16At u32At i32At caseVersion zonesIn branchesIn linksIn ordersIn toleranceIn branchSize branchAt ramIn ptdfIn linkAt fromIn toIn capacityIn contracts contractedSize contractedIn orderAt zoneIn sideIn quantityIn priceIn caseLength proposalVersion shareIn systemIn volumeIn flowIn shadowAt shadowIn proposalLength sumTo caseOf planOf pricesOf buys orderNet net inflow outflow ltaPart fbPart netSum linkUse linkRoom branchUse branchRoom branchPrice zonePrice orderWelfare welfare surplusOf orderSurplus surplus branchValue branchTotal spread linkValue linkTotal linkOwed owed noLink networkBound bound gap rent outcome firstBelow firstField refusal outside isZero anyBelow notMark branchFault repeated linkFault rowFault orderFault roomRows caseRows proposalRows clearingRows table bytesOf le32 joined branchBytes linkBytes orderBytes caseBytes proposalBytes linkAB threeZones proposal1 proposal2 oneZone noOrders signed64 priceBytes headerBytes totalBytes reportText totalsOf reportBytes reportSize reports written bufferAfter stored1 examples judged given said
+unfolding u8At u16At u32At i32At caseVersion zonesIn branchesIn linksIn ordersIn toleranceIn branchSize branchAt ramIn ptdfIn linkAt fromIn toIn capacityIn contracts contractedSize contractedIn orderAt zoneIn sideIn quantityIn priceIn caseLength proposalVersion shareIn systemIn volumeIn flowIn shadowAt shadowIn proposalLength sumTo caseOf planOf pricesOf buys orderNet net inflow outflow ltaPart fbPart netSum linkUse linkRoom branchUse branchRoom branchPrice zonePrice orderWelfare welfare surplusOf orderSurplus surplus branchValue branchTotal spread linkValue linkTotal linkOwed owed noLink networkBound bound gap rent outcome firstBelow firstField refusal outside isZero anyBelow notMark branchFault repeated linkFault rowFault orderFault roomRows caseRows proposalRows clearingRows table bytesOf le32 joined branchBytes linkBytes orderBytes caseBytes proposalBytes linkAB threeZones proposal1 proposal2 oneZone noOrders signed64 priceBytes headerBytes totalBytes reportText totalsOf reportBytes reportSize reports written bufferAfter placesIn places lastDigits countText sizeText amountText verdictLine totalLine totalLines priceLine priceLines hourLines linesOf hourText headerRefusal caseEnd casePart proposalPart deskText stored1 text1 text3 examples judged given said
 examples-hold = refl
 
 -- case 102 bytes, proposal 45 bytes

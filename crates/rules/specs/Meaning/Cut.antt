@@ -5,9 +5,9 @@ use mathlib.Core.Option.{Option, none, some}
 use Prim.Native.Nat.{ℕ}
 use lib.ListN.{length, take, drop}
 use lib.Dec.{leb}
-use Rattle.rules.specs.Meaning.Layout.{caseLength}
 use Rattle.rows.specs.declared.Outcome.{Outcome}
+use Rattle.rules.specs.Meaning.Layout.{caseLength}
 use Rattle.rules.specs.Meaning.Verdict.{headerRefusal}
 
 -- a header is good where none of rows 1 to 4 refuses it
 abbrev pub good : Option Outcome → Bool

@@ -1,4 +1,4 @@
--- What the desk prints of an hour, line by line. Assumes nothing.
+-- What the desk program prints: the lines of an hour, and all of them for an input. Assumes nothing.
 use mathlib.Core.Bool.{cond}
 use mathlib.Core.List.{List, [], _++_}
 use Prim.Native.Nat.{ℕ, zero, suc}
@@ -6,7 +6,11 @@ use lib.IntN.{ℤ}
 use Rattle.decimal.specs.Meaning.Ascii.{ascii}
 use Rattle.decimal.specs.Meaning.Text.{countText, amountText}
 use Rattle.rows.specs.declared.Outcome.{Outcome}
-use Rattle.rules.specs.Meaning.Report.{Totals, reports}
+use Rattle.rules.specs.Meaning.Layout.{reportRoom}
+use Rattle.rules.specs.Meaning.Hour.{caseOf, planOf, pricesOf, zonePrice}
+use Rattle.rules.specs.Meaning.Verdict.{outcome}
+use Rattle.rules.specs.Meaning.Report.{Totals, totalsOf, reports}
+use Rattle.rules.specs.Meaning.Cut.{casePart, proposalPart}
 
 -- first line: number, index
 unfoldable pub verdictLine : Outcome → List ℕ
@@ -38,3 +42,11 @@ hourLines zones totals price = totalLines totals ++ priceLines zones price
 -- for numbers other than 0 and 26 only the first line is printed
 unfoldable pub linesOf : Outcome → ℕ → Totals → (ℕ → ℤ) → List ℕ
 linesOf o zones totals price = verdictLine o ++ cond (reports (o .number)) (hourLines zones totals price) []
+
+-- the lines for a case and a proposal
+unfoldable pub hourText : List ℕ → List ℕ → List ℕ
+hourText s t = linesOf (outcome s t reportRoom) ((caseOf s) .zones) (totalsOf (caseOf s) (planOf s t) (pricesOf s t)) (zonePrice (caseOf s) (pricesOf s t))
+
+-- ALL THAT THE DESK PRINTS
+unfoldable pub deskText : List ℕ → List ℕ
+deskText input = hourText (casePart input) (proposalPart input)

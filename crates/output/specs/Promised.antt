@@ -1,0 +1,2 @@
+-- WHAT HOLDS OF IT: every byte of the output
+pub mod PlainOutput
