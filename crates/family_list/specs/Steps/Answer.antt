@@ -15,9 +15,9 @@ use Rattle.rows.specs.Promised.RowLaws.{not-below, field-fails, field-passes, r
 use Rattle.rules.specs.Meaning.Hour.{Case}
 use Rattle.rules.specs.Meaning.Families.{familyHeader, noParent, familyVersion, familyLength, named, parentIn, parentOf, missing, leadsBack}
 use Rattle.rules.specs.Meaning.Verdict.{differ, notMark, familyRows}
+use Rattle.family_list.specs.Meaning.Parents.{Exist}
 use Rattle.family_list.specs.declared.FamilyAnswer.{FamilyAnswer}
 use Rattle.family_list.specs.declared.FamilyAnswer.the-variants.{Sound, Refused}
-use Rattle.family_list.specs.Steps.Ancestors.{Exist}
 
 -- THE TESTS of the three rows, and the rows: of a case they ask the number of its orders alone
 abbrev pub wrongList : List ℕ → ℕ → Bool
