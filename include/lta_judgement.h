@@ -10,8 +10,11 @@
  * lta_shortfalls says of an accepted hour by how much each order, branch and link may be out. lta_queue_post and lta_queue_serve keep the
  * queue of a desk that serves four areas.
  *
- * Each promise below is part of a contract in crates/host, and the archive is built only if every function in it is proved to meet its
- * contract. A word in brackets, as [outcome], is the name of the clause that says it.
+ * Where a promise comes from. A word in brackets, as [outcome], is a clause of the entry's contract in crates/host, and
+ * the archive is built only if every function in it is proved to meet its contract; lta_book_surplus has one clause, without
+ * a name. The clauses cite definitions, and these say what a number, a rule or a field is. What is proved of the
+ * definitions, and stands in no clause, is said with the crates that prove it. docs/GUARANTEE.md names the theorems, and
+ * what all of it rests on.
  *
  * What the caller owes, in every call:
  *   - A pointer and the length or count after it are one array: all of it may be read, and all of `report`, `out` or `scratch` may be
@@ -23,9 +26,10 @@
  *   - In a call of lta_dump_proposal the floating-point environment is that with which a C program starts: rounding to the nearest, and
  *     subnormals neither taken nor written as zero. A program that is linked with -ffast-math starts with another. No other entry uses it.
  *
- * What holds then, of every call, whatever the bytes are:
+ * What holds then of every call, whatever the bytes are. It comes from the language, in which a contract is proved only of
+ * code that ends and a function reaches nothing that it is not given, and from no clause:
  *   - It returns.
- *   - It reads nothing but its arguments. The answer, and what is written, depend on nothing else.
+ *   - It reads nothing of the caller's but its arguments. The answer, and what is written, depend on nothing else.
  *   - It writes nothing but what is said below of `report`, `out`, `scratch` and `queue`. The case, the proposal, the family list, the
  *     input, the orders, the prices, the sheet, the net positions, the pairs, the dump and the columned file stay as they were, and no file
  *     is read or written.
@@ -173,10 +177,13 @@ static inline int64_t lta_report_price(const uint8_t *report, size_t zone)
  *   [gap]       The gap is at least 0 and at most 1,000,000 * tolerance, where the tolerance is at most LTA_WIDEST_TOLERANCE cents.
  *   [coverage]  IF THE CASE HAS A LINK the rent is at least owed - gap, owed being by contracted volumes. [covered_in_full] At gap 0 it
  *               then covers all that is owed. Without links nothing is promised of the rent, and it may be below owed, which is 0.
- *   [annex]     In the terms of Annex 14.29: the proposal solves (60) to (72), no solution has an objective (59) above welfare + gap, the
- *               zone prices are those of (73) to (79), rent and link total the two sides of (81), whose capacities are those offered and
- *               which is promised if the case has a link, and at these prices no import and export that the network allows earns more
- *               than rent + gap (82). Without links it is the formulation without its LTA part: (65) with the second weight 0.
+ *   [annex]     In the terms of Annex 14.29: the proposal solves (60) to (72) with welfare as its objective (59), and no
+ *               solution has an objective above welfare + gap. The zone prices, with the proposal's system and shadow prices,
+ *               meet (73) to (76), (78) and (79), AT GAP 0 also (77). The rent is the left side of (81); IF THE CASE HAS A
+ *               LINK it is at least the right side, which is by the capacities offered, less the gap. Owed, by contracted
+ *               volumes, is at most the right side, and equal to it where all capacity is contracted. At these prices no
+ *               import and export that the network allows earns more than rent + gap (82). Without links it is the
+ *               formulation without its LTA part: (65) with the second weight 0.
  * A clearing is any choice of volumes (each from zero to its order's quantity), flows (none negative) and LTA share (from 0 to 100,000,
  * and 0 if the case has no link) that meets rules 3, 4 and 5; fractions are allowed, of any denominator.
  *
@@ -231,8 +238,8 @@ uint64_t lta_judge(const uint8_t *case_bytes, size_t case_len,
  *   report, report_len         room for the report, at least LTA_REPORT_ROOM bytes
  *
  * The numbers are those of lta_judge and four more: 16, 17 and 18, asked of the list after 15, in this order and each of the whole list
- * before the next, and 28, asked after 21. Where none of the four has a cause the answer, and every byte of the report buffer, are
- * lta_judge's of the same case and proposal.
+ * before the next, and 28, asked after 21. Where the answer is none of the four, it and every byte of the report buffer are
+ * lta_judge's of the same case and proposal; it is proved in crates/rules.
  *
  * The bytes of the report buffer afterwards [report], and what stands in a report [totals]: as with lta_judge.
  *
@@ -241,8 +248,8 @@ uint64_t lta_judge(const uint8_t *case_bytes, size_t case_len,
  *   [families]  Every parent is an order of the case, no order leads back to itself, and each order that has a parent is accepted in no
  *               larger fraction than its parent: volume * parent's quantity <= parent's volume * quantity.
  * THE BOUND IS NOT TIGHTENED: [accuracy] compares with all clearings of the case, those included in which a child is ahead of its parent,
- * so that the best clearing with families may have less welfare than welfare + gap, and an hour whose families cost more than the
- * tolerance is refused by 26.
+ * so that the best clearing with families may have less welfare than welfare + gap. An hour whose families cost more than the
+ * tolerance is never accepted: where nothing before refuses it, 26 does.
  */
 uint64_t lta_judge_families(const uint8_t *case_bytes, size_t case_len,
                             const uint8_t *proposal, size_t proposal_len,
@@ -348,8 +355,8 @@ enum lta_sheet_number {
  * hundred-thousandths, -200,000 to 200,000, with its sign turned, since a case counts import positive.
  *
  * The bytes of `out` afterwards [output]: the branches, and all past them as they were. In a refusal every byte is as it was.
- * Behind a case header with these zones and as many branches as the sheet has lines, and before whatever follows, lta_judge reads these
- * numbers, and LTA_CASE_BRANCH has no cause [branches].
+ * Behind a case header with these zones and as many branches as the sheet has lines, and before whatever follows, the branches
+ * of the case are these numbers, and LTA_CASE_BRANCH has no cause [branches].
  */
 struct lta_written lta_sheet_branches(const uint8_t *sheet, size_t sheet_len, size_t zones, uint8_t *out, size_t out_len);
 
@@ -396,11 +403,15 @@ struct lta_carried {
  *
  * What holds of an answer:
  *   [largest]  Some flows within the exports and imports carry the total, and none carry more, not in fractions of any denominator either.
- *   [yes]      If intuitive is 1, some such flows carry every export: the total is the sum of all exports.
- *   [no]       If intuitive is 0, there is a set of zones that no counted pair leaves and whose exports exceed its imports; the total is
- *              less than the sum of all exports.
- *   [yes_or_no]  intuitive is 1 or 0. A yes and a no exclude each other, so that the answer depends on the input alone.
+ *   [yes]      If intuitive is 1, some flows within the exports and imports carry every export.
+ *   [no]       If intuitive is 0, there is a set of zones that no counted pair leaves and whose exports exceed its imports.
+ *   [yes_or_no]  intuitive is 1 or 0, in a refusal too.
  * Of a refusal [refused]: intuitive and total are 0.
+ *
+ * What follows, proved in crates/transports and crates/intuitive: a yes and a no exclude each other, and yes or no and the
+ * total depend on the input alone. The total of a yes is the sum of all exports, that of a no is less. At a yes the imports are
+ * worth at least what the exports are: the sum over zones of -net_export * price is, for the flows of [yes], the sum over
+ * counted pairs of flow * (price of the second zone - price of the first), and so not negative.
  *
  * The numbers of `scratch` afterwards [scratch]: the first LTA_INTUITIVE_SCRATCH are zero, and all past them as they were. In a refusal
  * every number is as it was.
@@ -413,7 +424,10 @@ struct lta_carried lta_intuitive(const int64_t *net_exports, size_t net_count,
 /* The same of an hour. It is judged first, as lta_judge does with room for the report. If it is not accepted, LTA_GAP_ABOVE_TOLERANCE
  * too, the answer has the judgement's number and index, with intuitive 0 and total 0, and every number of `scratch` is as it was. Else the
  * answer and the scratch are those of lta_intuitive for its net positions, turned to export positive, and its zone prices [outcome]
- * [yes] [no] [yes_or_no] [largest] [scratch] [refused]. Of 81 to 85 only LTA_INTUITIVE_PAIR and LTA_INTUITIVE_NO_ROOM can occur then.
+ * [yes] [no] [yes_or_no] [largest] [scratch] [refused].
+ *
+ * What follows, proved in crates/hour_intuitive: of 81 to 85 only LTA_INTUITIVE_PAIR and LTA_INTUITIVE_NO_ROOM can occur. At a
+ * yes the rent that lta_judge reports is at least 0.
  *
  *   case_bytes, case_len       a case, as lta_judge takes it
  *   proposal, proposal_len     a proposal for it
@@ -429,8 +443,9 @@ struct lta_carried lta_hour_intuitive(const uint8_t *case_bytes, size_t case_len
  * that LTA_INTUITIVE_SMALL_SCRATCH stands for LTA_INTUITIVE_SCRATCH: LTA_INTUITIVE_NO_ROOM is given for a scratch under 96 numbers, and of
  * an answer the first 96 are zero, and all past them as they were [outcome] [yes] [no] [yes_or_no] [largest] [scratch] [refused].
  *
- * On each input that both take, intuitive and total are those of the wide entry; what the wide one takes the smaller takes too, and every
- * refusal but LTA_INTUITIVE_NO_ROOM is the same, number and index.
+ * What follows, proved in crates/intuitive and crates/hour_intuitive: on each input that both take, intuitive and total are
+ * those of the wide entry; what the wide one takes the smaller takes too, and every refusal but LTA_INTUITIVE_NO_ROOM is the
+ * same, number and index.
  */
 struct lta_carried lta_intuitive_small(const int64_t *net_exports, size_t net_count,
                                        const int64_t *zone_prices, size_t price_count,
@@ -522,9 +537,10 @@ enum lta_column_number {
  * were. In a refusal every byte is as it was.
  *
  * What holds of an answer:
- *   [columns]     The columned file is as said here, and no other file is.
- *   [back]        lta_case_restored takes it, and gives the case again, byte for byte.
+ *   [columns]     The columned file is as said here.
+ *   [back]        With room for it lta_case_restored takes it, and gives the case again, byte for byte.
  *   [not_judged]  lta_judge refuses it by LTA_CASE_MARK, whatever the proposal, if there is room for a report.
+ * That no other file is as said here is proved in crates/columns.
  */
 struct lta_written lta_case_columned(const uint8_t *case_bytes, size_t case_len, uint8_t *out, size_t out_len);
 
@@ -538,7 +554,7 @@ struct lta_written lta_case_columned(const uint8_t *case_bytes, size_t case_len,
  * a refusal every byte is as it was.
  *
  * What holds of an answer [restored]: none of LTA_CASE_SHORT to LTA_CASE_ORDER has a cause in the case; the file is this case's columns as
- * said above, and lta_case_columned of the case gives the file again, byte for byte.
+ * said above, and lta_case_columned of the case, with room for it, gives the file again, byte for byte.
  */
 struct lta_written lta_case_restored(const uint8_t *columned, size_t columned_len, uint8_t *out, size_t out_len);
 
@@ -613,10 +629,9 @@ enum lta_queue_number {
  *   area                       0 to 3
  *   hour                       0 to 24
  *
- * There is always room: at most 25 different hours wait in an area. An hour that was served may be posted again at once.
- *
- * The bytes of `queue` afterwards [bytes]: the cells of the area hold its waiting hours and then zeros, and all others are as they were. In
- * a refusal every byte is as it was, and none is written. [queue] says the same of the queue that the bytes are.
+ * The bytes of `queue` afterwards [bytes]: the cells of the area hold its waiting hours and then zeros, and all others are
+ * as they were. In a refusal every byte is as it was; that none is written then is tested, and not proved. [queue] says the
+ * same of the queue that the bytes are.
  */
 uint32_t lta_queue_post(uint8_t *queue, uint32_t area, uint32_t hour);
 
@@ -634,14 +649,15 @@ struct lta_served {
  *   queue                      LTA_QUEUE_SIZE bytes
  *
  * The bytes of `queue` afterwards [bytes]: the cells of the area served hold what still waits there and then zeros, LTA_QUEUE_TURN the
- * area after it, and all others are as they were. In a refusal every byte is as it was, and none is written. [queue] says the same of the
- * queue that the bytes are.
+ * area after it, and all others are as they were. In a refusal every byte is as it was; that none is written then is tested,
+ * and not proved. [queue] says the same of the queue that the bytes are.
  *
  * What holds of all calls on a queue together, from the empty one on and in whatever order, refused ones included. It is proved in
  * crates/desk_queue and crates/queue_bytes, of what [number], [answer] and [bytes] say of each call:
  *   - An area that has an hour waiting is served by one of the next four serves. An hour is served by one of the next hundred serves after
  *     its posting, whatever else is posted. Both hold from any other bytes too, and neither of a smaller number.
  *   - An area's hours are served in the order posted; none is lost, and none served that was not posted.
+ *   - There is always room: at most 25 hours wait in an area. An hour that was served may be posted again at once.
  */
 struct lta_served lta_queue_serve(uint8_t *queue);
 

@@ -1,2 +1,3 @@
--- THE MEANING of the answers to a family list
+-- THE MEANING, to be read beside request S-11: what reading a list answers; all else of it stands in `Families` of `rules`
+pub mod Parents
 pub mod Answer

@@ -9,7 +9,8 @@ use lib.Dec.{T, eqb→eq, eqb-refl}
 use Rattle.integers.specs.Ranges.{is-true}
 use Rattle.rows.specs.Promised.RowLaws.{any-some, any-place}
 use Rattle.rules.specs.Meaning.Families.{ancestor, LeadsBack, isOrder, leadsBack}
-use Rattle.family_list.specs.Steps.Ancestors.{Exist, short}
+use Rattle.family_list.specs.Meaning.Parents.{Exist}
+use Rattle.family_list.specs.Steps.Ancestors.{short}
 
 module _ (parent : ℕ → Option ℕ) where
   is-order : (i : ℕ) (o : Option ℕ) → T (isOrder i o) → o ≡ some i

@@ -15,7 +15,7 @@ use Rattle.rules.specs.Meaning.Families.{parentOf, leadsBack, LeadsBack}
 use Rattle.rules.specs.Meaning.Verdict.{notMark, familyRows, table, familyOutcome, roomRows, caseRows, proposalRows, clearingRows}
 use Rattle.rules.specs.Meaning.Promise.{FamiliesKept}
 use Rattle.rules.specs.Promised.Families.{child-within}
-use Rattle.family_list.specs.Steps.Ancestors.{Exist}
+use Rattle.family_list.specs.Meaning.Parents.{Exist}
 use Rattle.family_list.specs.Meaning.Answer.{absent}
 use Rattle.family_list.specs.Steps.Answer.{exist-of}
 use Rattle.family_list.specs.Promised.Circle.{leads-back}

@@ -17,7 +17,7 @@ use Rattle.rules.specs.Meaning.Verdict.{roomRows, caseRows, proposalRows, wrong
 use Rattle.rules.specs.Promised.PlainVerdicts.{ReadFacts, readRows, read-passes, passes-read}
 use Rattle.rules.specs.Promised.PlainFamilies as Plain
 use Rattle.rules.specs.Promised.PlainFamilies.{ListFacts, ParentsExist, VolumesWithin, ChildrenWithin, ExceedsParent, Round, has-parent, list-facts, parents-exist, leads-back-is, within-alike}
-use Rattle.family_list.specs.Steps.Ancestors.{Exist}
+use Rattle.family_list.specs.Meaning.Parents.{Exist}
 use Rattle.family_list.specs.Promised.Circle.{leads-back}
 
 -- THE FIRST ORDER THAT LEADS BACK TO ITSELF

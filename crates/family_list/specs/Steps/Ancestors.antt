@@ -6,11 +6,8 @@ use Prim.Native.Nat.{ℕ, zero, suc, _+_, _*_, _-_, _≤_, _<_}
 use native.Mathlib.Omega.{arith}
 use native.Mathlib.Nat.{add-zero, add-suc, mul-zero, mul-suc, mul-le-mul-right}
 use Rattle.rules.specs.Meaning.Families.{onward, ancestor, LeadsBack}
+use Rattle.family_list.specs.Meaning.Parents.{Exist}
 use Rattle.family_list.specs.Steps.Pigeonhole.{pigeonhole}
-
--- every parent is an order
-pub record Exist (n : ℕ) (parent : ℕ → Option ℕ) : Type 0 where
-  pub exists : (i j : ℕ) → i < n → parent i ≡ some j → j < n
 
 module _ (parent : ℕ → Option ℕ) where
   -- where the last step came from

@@ -21,7 +21,7 @@ use Rattle.rules.specs.Meaning.Hour.{Case}
 use Rattle.rules.specs.Meaning.Families.{familyHeader, noParent, familyVersion, familyLength, named, parentIn, parentOf, missing, leadsBack}
 use Rattle.rules.specs.Meaning.Verdict.{differ, notMark, familyRows}
 use Rattle.family_list.specs.declared.FamilyAnswer.the-variants.{Sound, Refused}
-use Rattle.family_list.specs.Steps.Ancestors.{Exist}
+use Rattle.family_list.specs.Meaning.Parents.{Exist}
 use Rattle.family_list.specs.Meaning.Answer.{wrongList, absent, parentRow, circleRow, listRows, rowsBeside, familyBy, familyAnswer, headerBy}
 
 pub rows-are : (f : List ℕ) (c : Case) {orders : ℕ} → c .orders ≡ orders → familyRows (some f) c ≡ rowsBeside f orders

@@ -9,7 +9,8 @@ use native.Mathlib.Omega.{arith}
 use borrow.Author.Tests.{ltb-true, ltb-false}
 use lib.Dec.{ltb}
 use Rattle.rules.specs.Meaning.Families.{onward, ancestor, LeadsBack}
-use Rattle.family_list.specs.Steps.Ancestors.{Exist, ancestor-add, earlier, stays-in, short}
+use Rattle.family_list.specs.Meaning.Parents.{Exist}
+use Rattle.family_list.specs.Steps.Ancestors.{ancestor-add, earlier, stays-in, short}
 
 abbrev pub smaller : ℕ → ℕ → ℕ
 smaller a b = cond (ltb b a) b a

@@ -11,7 +11,8 @@ use lib.Dec.{eqb}
 use lib.ListN.{length, set, length-set}
 use Rattle.rows.specs.Promised.RowLaws.{no-less}
 use Rattle.rules.specs.Meaning.Families.{noParent, named, parentIn, parentOf}
-use Rattle.family_list.specs.Steps.Ancestors.{Exist, has-parent}
+use Rattle.family_list.specs.Meaning.Parents.{Exist}
+use Rattle.family_list.specs.Steps.Ancestors.{has-parent}
 use Rattle.family_list.specs.Steps.Walk.{held, put-set, Searched}
 
 -- A NUMBER AS AN ORDER

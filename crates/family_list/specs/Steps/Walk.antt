@@ -16,7 +16,8 @@ use lib.Seq.{getD-set-same, getD-set-other}
 use Rattle.rows.specs.Meaning.Rows.{firstBelow}
 use Rattle.rows.specs.Promised.RowLaws.{first-some, first-none}
 use Rattle.rules.specs.Meaning.Families.{onward, ancestor, LeadsBack, leadsBack}
-use Rattle.family_list.specs.Steps.Ancestors.{Exist, ancestor-add, stays-in, rounds}
+use Rattle.family_list.specs.Meaning.Parents.{Exist}
+use Rattle.family_list.specs.Steps.Ancestors.{ancestor-add, stays-in, rounds}
 use Rattle.family_list.specs.Steps.Round.{Least, smaller, smaller-left, smaller-right, smaller-one}
 use Rattle.family_list.specs.Promised.Circle.{leads-back}
 

@@ -20,7 +20,7 @@ use Rattle.rows.specs.Meaning.Rows.{firstBelow, anyBelow, refusal, answer, once
 use Rattle.rules.specs.Meaning.Verdict.{under, over, overZ, differ, branchFault, linkFault, orderFault, orderField, roomRows, caseRows, proposalRows, clearingRows, table, outcome, Readable, caseRefusal}
 use Rattle.rules.specs.Meaning.Report.{totalsOf, headerBytes, totalBytes, priceBytes, reportText, reportBytes, reportSize, reports, written, bufferAfter}
 use Rattle.rows.specs.Promised.RowLaws.{First, first-none, lacks, rowNumbered, number-passes, row-by-number}
-use Rattle.rules.specs.Steps.Duality.{Placed}
+use Rattle.rules.specs.Meaning.Clearing.{Placed}
 use Rattle.rules.specs.Steps.SameTables.{SameTables, counted, counted-is, any-ext, branch-fault, link-fault, order-fault, net-sum, link-broken, branch-broken, zone-price, gap-same, totals-same}
 use Rattle.rules.specs.Steps.Passed.{case-sound, case-length}
 use Rattle.rearranged.specs.Meaning.Rearranged.{rearrangedCase, rearrangedProposal, excess, SameVerdict, SameHour}

@@ -9,7 +9,7 @@ use Rattle.measures.specs.Meaning.Limits.{partsInOne}
 use Rattle.rules.specs.Meaning.Hour.{Case, Plan, Prices, buys, signed, orderNet, net, inflow, outflow, ltaPart, fbPart, netSum, branchUse, branchPrice, zonePrice, orderWelfare, welfare, orderSurplus, surplus, branchValue, branchTotal, spread, linkValue, linkTotal, linkOwed, owed, noLink, networkBound, bound, gap, rent}
 use Rattle.rules.specs.Meaning.Verdict.{branchFault, repeated, linkFault}
 use Rattle.rules.specs.Meaning.Report.{totalsOf}
-use Rattle.rules.specs.Steps.Duality.{Placed}
+use Rattle.rules.specs.Meaning.Clearing.{Placed}
 use Rattle.rearranged.specs.Meaning.Permutation.{Permutation}
 use Rattle.rearranged.specs.Steps.PermutedSums.{sum-permuted}
 

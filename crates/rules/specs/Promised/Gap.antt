@@ -10,8 +10,8 @@ use Rattle.integers.specs.Order.{le-trans, le-antisym, diff-nonneg, add-nonneg,
 use Rattle.integers.specs.Sums.{sumTo, sum-sub, sum-scale-l, sum-nonneg, one-le-sum}
 use Rattle.measures.specs.Meaning.Limits.{partsInOne}
 use Rattle.rules.specs.Meaning.Hour.{Case, Plan, Prices, buys, orderNet, linkUse, linkRoom, branchUse, branchRoom, zonePrice, orderWelfare, welfare, surplusOf, orderSurplus, surplus, branchValue, branchTotal, spread, linkValue, linkTotal, networkBound, bound, rent}
-use Rattle.rules.specs.Meaning.Clearing.{Clearing}
-use Rattle.rules.specs.Steps.Duality.{Placed, branches-within, share-within, order-le, link-le, rest, by-orders, rent-is, rent-split, over-links, over-branches, branches-are, in-cents}
+use Rattle.rules.specs.Meaning.Clearing.{Placed, Clearing}
+use Rattle.rules.specs.Steps.Duality.{branches-within, share-within, order-le, link-le, rest, by-orders, rent-is, rent-split, over-links, over-branches, branches-are, in-cents}
 
 unfoldable pub orderShort : Case → Prices → Plan → ℕ → ℤ
 orderShort c d p i = pos (p .den) *ℤ orderSurplus c d i

@@ -11,8 +11,8 @@ use Rattle.integers.specs.Order.{larger, le-antisym}
 use Rattle.integers.specs.Sums.{sumTo, sum-ext}
 use Rattle.measures.specs.Meaning.Limits.{partsInOne}
 use Rattle.rules.specs.Meaning.Hour.{Case, Plan, Prices, net, inflow, outflow, ltaPart, fbPart, netSum, branchUse, branchRoom, welfare, surplus, branchTotal, linkTotal, owed, networkBound, bound, gap, rent}
-use Rattle.rules.specs.Meaning.Clearing.{Clearing}
-use Rattle.rules.specs.Steps.Duality.{Placed, without-links-is, with-links-is, welfare-le, rent-le}
+use Rattle.rules.specs.Meaning.Clearing.{Placed, Clearing}
+use Rattle.rules.specs.Steps.Duality.{without-links-is, with-links-is, welfare-le, rent-le}
 
 -- A FLOW-BASED CLEARING: rules 3 and 5 of the net positions, and no LTA share
 pub record FlowBased (c : Case) (p : Plan) : Type 0 where

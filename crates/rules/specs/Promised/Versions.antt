@@ -22,7 +22,7 @@ use Rattle.rows.specs.Meaning.Rows.{Row, verdict, firstBelow, anyBelow, firstFi
 use Rattle.rows.specs.Promised.RowLaws.{First, first-is, first-ext, first-field, row-found, row-clear, field-fails, else-refusal, refusal-append, behind}
 use Rattle.rules.specs.Meaning.Verdict.{overZ, differ, branchFault, linkFault, orderFault, roomRows, caseRows, proposalRows, clearingRows, judgementRows, table, outcome, caseRefusal, Readable, caseHeaderRows, caseBodyRows}
 use Rattle.rules.specs.Meaning.Report.{priceBytes, headerBytes, totalBytes, reportText, reportBytes, reportSize, reports, written, bufferAfter}
-use Rattle.rules.specs.Steps.Duality.{Placed}
+use Rattle.rules.specs.Meaning.Clearing.{Placed}
 use Rattle.rules.specs.Steps.Passed.{case-rows-sound, case-rows-length, case-sound, sound}
 use Rattle.rules.specs.Steps.SameTables.{SameTables, counted, counted-is, any-ext, branch-fault, link-fault, order-fault, net-sum, link-broken, branch-broken, zone-price, gap-same, totals-same}
 use Rattle.rules.specs.Promised.PlainFacts.{case-facts}

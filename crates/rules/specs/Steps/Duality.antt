@@ -15,13 +15,7 @@ use Rattle.integers.specs.Order.{larger, positive, cond-ind, diff-nonneg, mul-n
 use Rattle.integers.specs.Sums.{sumTo, only, sum-ext, sum-le, sum-zero, sum-add, sum-sub, sum-scale, sum-scale-l, gather, sum-weights}
 use Rattle.measures.specs.Meaning.Limits.{partsInOne, grainsOf}
 use Rattle.rules.specs.Meaning.Hour.{Case, Plan, Prices, signed, buys, above, orderNet, net, inflow, outflow, ltaPart, fbPart, netSum, linkUse, linkRoom, branchUse, branchRoom, branchPrice, zonePrice, orderWelfare, welfare, surplusOf, orderSurplus, surplus, branchValue, branchTotal, spread, linkValue, linkTotal, linkOwed, owed, noLink, networkBound, bound, gap, rent}
-use Rattle.rules.specs.Meaning.Clearing.{Clearing}
-
--- every zone that a link or an order names is a zone of the case
-pub record Placed (c : Case) : Type 0 where
-  pub from-in : (l : ℕ) → l < c .links → c .from l < c .zones
-  pub to-in : (l : ℕ) → l < c .links → c .to l < c .zones
-  pub zone-in : (i : ℕ) → i < c .orders → c .zone i < c .zones
+use Rattle.rules.specs.Meaning.Clearing.{Placed, Clearing}
 
 -- RULE 10'S PART OF THE NETWORK: the branch total alone without links (S-6), the larger of both totals with one
 the-first : (b : Bool) (x y : ℤ) → b ≡ true → cond b x y ≡ x

@@ -15,13 +15,12 @@ use Rattle.measures.specs.Meaning.Limits as limits
 use Rattle.measures.specs.Meaning.Limits.{partsInOne}
 use Rattle.rules.specs.Meaning.Layout.{reportRoom, linkFields, orderFields, caseLength, proposalLength}
 use Rattle.rules.specs.Meaning.Hour.{Case, Plan, Prices, caseOf, planOf, pricesOf, netSum, linkUse, linkRoom, zonePrice, noLink, gap}
-use Rattle.rules.specs.Meaning.Clearing.{Clearing}
+use Rattle.rules.specs.Meaning.Clearing.{Placed, Clearing}
 use Rattle.rules.specs.Meaning.Annex.{PairsOnce}
 use Rattle.rows.specs.Meaning.Rows.{refusal, Pass}
 use Rattle.rows.specs.Promised.RowLaws.{has-before, isRow, rowOf, hasRow, before, row-passed, lacks, no-place, later, none-zero, rowNumbered, number-passes, field-at-passes}
 use Rattle.rules.specs.Meaning.Verdict.{over, unknown, branchFault, repeated, linkFault, rowFault, orderFault, roomRows, caseRows, proposalRows, wideTolerance, clearingRows, table, outcome, Readable, caseRefusal, proposalRefusal}
 use Rattle.rules.specs.Meaning.Report.{reports}
-use Rattle.rules.specs.Steps.Duality.{Placed}
 
 -- ROWS 1 TO 8 PASSED
 pub record CaseSound (c : Case) : Type 0 where

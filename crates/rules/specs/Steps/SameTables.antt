@@ -16,7 +16,7 @@ use Rattle.rules.specs.Meaning.Hour.{Case, Plan, Prices, signed, buys, o
 use Rattle.rows.specs.Meaning.Rows.{anyBelow}
 use Rattle.rules.specs.Meaning.Verdict.{over, unknown, branchFault, repeated, linkFault, rowFault, orderFault}
 use Rattle.rules.specs.Meaning.Report.{totalsOf}
-use Rattle.rules.specs.Steps.Duality.{Placed}
+use Rattle.rules.specs.Meaning.Clearing.{Placed}
 
 pub record SameTables (c e : Case) : Type 0 where
   pub zones-same : c .zones ≡ e .zones

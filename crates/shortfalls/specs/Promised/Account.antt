@@ -13,10 +13,9 @@ use Rattle.integers.specs.Order.{le-antisym, times-nonneg}
 use Rattle.integers.specs.Sums.{sumTo, sum-ext, sum-scale-l, sum-nonneg, one-le-sum}
 use Rattle.measures.specs.Meaning.Limits.{partsInOne}
 use Rattle.rules.specs.Meaning.Hour.{Case, Plan, Prices, caseOf, planOf, pricesOf, welfare, bound, gap}
-use Rattle.rules.specs.Meaning.Clearing.{Clearing}
+use Rattle.rules.specs.Meaning.Clearing.{Placed, Clearing}
 use Rattle.rules.specs.Meaning.Verdict.{outcome}
 use Rattle.rules.specs.Meaning.Report.{reports, bufferAfter, reportedGap}
-use Rattle.rules.specs.Steps.Duality.{Placed}
 use Rattle.rules.specs.Steps.Passed.{sound, case-sound}
 use Rattle.rules.specs.Promised.Gap.{orderShort, branchShort, linkShort, slack, gap-is, order-short, branch-short, link-short, slack-short}
 use Rattle.rules.specs.Promised.Guarantee.{Accepted, allowed}

@@ -15,12 +15,11 @@ use Rattle.integers.specs.Order.{positive, positive-nat, le-antisym, add-nonneg
 use Rattle.integers.specs.Sums.{sum-ext, sum-nonneg}
 use Rattle.measures.specs.Meaning.Limits.{partsInOne}
 use Rattle.rules.specs.Meaning.Hour.{Case, Plan, Prices, caseOf, planOf, pricesOf, above, fbPart, branchUse, branchRoom, zonePrice, surplusOf, orderSurplus, branchValue, branchTotal, spread, linkTotal, welfare, bound, gap}
-use Rattle.rules.specs.Meaning.Clearing.{Clearing}
+use Rattle.rules.specs.Meaning.Clearing.{Placed, Clearing}
 use Rattle.rules.specs.Meaning.Annex.{Solution, Feasible, PairsOnce, capacityLTA, marginValue, capacityValue, liabilities}
 use Rattle.rules.specs.Meaning.AnnexPromise.{Same, Agree, IsFeasible, multipliersOf}
 use Rattle.rules.specs.Meaning.Verdict.{Readable}
 use Rattle.rules.specs.Meaning.Report.{reports}
-use Rattle.rules.specs.Steps.Duality.{Placed}
 use Rattle.rules.specs.Steps.Passed.{sound, case-sound, case-pairs}
 use Rattle.rules.specs.Promised.Guarantee.{Accepted, allowed}
 use Rattle.rules.specs.Promised.Annex.Extended as extended

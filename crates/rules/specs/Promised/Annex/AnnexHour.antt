@@ -15,12 +15,11 @@ use Rattle.integers.specs.Difference.{at, _⊖_, _⊗_, eq-by, eq-fact}
 use Rattle.integers.specs.Order.{scaled, positive, le-trans}
 use Rattle.integers.specs.Sums.{sum-ext}
 use Rattle.rules.specs.Meaning.Hour.{Case, Plan, Prices, caseOf, planOf, pricesOf, zonePrice, welfare, spread, linkValue, linkTotal, linkOwed, owed, bound, gap}
-use Rattle.rules.specs.Meaning.Clearing.{Clearing}
+use Rattle.rules.specs.Meaning.Clearing.{Placed, Clearing}
 use Rattle.rules.specs.Meaning.Annex.{Solution, Feasible, PairsOnce, Connected, everyPair, capacityLTA, congestionRent, liabilities}
 use Rattle.rules.specs.Meaning.AnnexPromise.{IsClearing, IsFeasible, AnnexDemand3, multipliersOf}
 use Rattle.rules.specs.Meaning.Verdict.{outcome, Readable}
 use Rattle.rules.specs.Meaning.Report.{Reported, reports, bufferAfter, reportedWelfare, reportedGap, reportedRent, reportedPrice}
-use Rattle.rules.specs.Steps.Duality.{Placed}
 use Rattle.rules.specs.Steps.Passed.{case-sound, case-pairs, sound}
 use Rattle.rules.specs.Promised.Reported.{reported}
 use Rattle.rules.specs.Promised.Guarantee.{Accepted, Demand3, demand-3, links-covered, owed-within}

@@ -13,10 +13,10 @@ use Rattle.integers.specs.Order.{positive, cond-ind, diff-nonneg, mul-nonneg, l
 use Rattle.integers.specs.Sums.{sumTo, only, sum-ext, sum-le, sum-zero, sum-add, sum-sub, sum-scale, sum-scale-l, sum-swap, sum-only, only-both, only-swap, sum-weights}
 use Rattle.measures.specs.Meaning.Limits.{partsInOne}
 use Rattle.rules.specs.Meaning.Hour.{Case, Plan, Prices, zonePrice, branchPrice, welfare, surplus, branchValue, branchTotal, spread, linkValue, linkTotal, networkBound, bound, gap, rent}
-use Rattle.rules.specs.Meaning.Clearing.{Clearing}
+use Rattle.rules.specs.Meaning.Clearing.{Placed, Clearing}
 use Rattle.rules.specs.Meaning.Annex.{Solution, Network, Feasible, PairsOnce, AlongLines, Route, here, onward, Connected, Multipliers, PriceConditions, Complementary, joins, byPair, capacityLTA, netFlow, congestionRent, marginValue, capacityValue, liabilities}
 use Rattle.rules.specs.Meaning.AnnexPromise.{Same, Agree, multipliersOf}
-use Rattle.rules.specs.Steps.Duality.{Placed, branches-within, weighed-within, welfare-le}
+use Rattle.rules.specs.Steps.Duality.{branches-within, weighed-within, welfare-le}
 use Rattle.rules.specs.Promised.Gap.{linkShort, link-exact}
 use Rattle.rules.specs.Promised.Annex.CommercialFlows.{net-priced}
 use Rattle.rules.specs.Promised.Annex.Extended as extended

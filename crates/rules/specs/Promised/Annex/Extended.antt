@@ -14,10 +14,10 @@ use Rattle.integers.specs.Ranges.{and-both, and-left, and-right}
 use Rattle.integers.specs.Sums.{sumTo, only, sum-ext, sum-zero, sum-add, sum-sub, sum-scale-l, sum-swap, sum-nonneg, sum-le, only-on, only-off, only-both, only-swap, sum-one, sum-key}
 use Rattle.measures.specs.Meaning.Limits.{partsInOne}
 use Rattle.rules.specs.Meaning.Hour.{Case, Plan, signed, buys, orderNet, net, inflow, outflow, ltaPart, fbPart, netSum, linkUse, linkRoom, branchUse, branchRoom, orderWelfare, welfare}
-use Rattle.rules.specs.Meaning.Clearing.{Clearing}
+use Rattle.rules.specs.Meaning.Clearing.{Placed, Clearing}
 use Rattle.rules.specs.Meaning.Annex.{Solution, Feasible, PairsOnce, Connected, joins, byPair, capacityLTA, netFlow, objective}
 use Rattle.rules.specs.Meaning.AnnexPromise.{Same, Agree, IsClearing, IsFeasible}
-use Rattle.rules.specs.Steps.Duality.{Placed, signed-times}
+use Rattle.rules.specs.Steps.Duality.{signed-times}
 use Rattle.rows.specs.Meaning.Rows.{firstBelow}
 use Rattle.rows.specs.Promised.RowLaws.{first-is, not-below}
 use Rattle.rules.specs.Promised.Annex.CommercialFlows.{net-plain, net-sum, net-ext, Carried, balanced-carried}

@@ -11,9 +11,8 @@ use lib.Signed.{_≤ℤ_}
 use Rattle.integers.specs.Difference.{at, _⊕_, _⊖_, le-fact, eq-fact}
 use Rattle.integers.specs.Sums.{sumTo}
 use Rattle.rules.specs.Meaning.Hour.{Case, Plan, buys, orderNet, net, inflow, outflow, ltaPart, fbPart, netSum}
-use Rattle.rules.specs.Meaning.Clearing.{Clearing}
+use Rattle.rules.specs.Meaning.Clearing.{Placed, Clearing}
 use Rattle.rules.specs.Meaning.Annex.{Solution, Feasible, PairsOnce, AlongLines, netFlow}
-use Rattle.rules.specs.Steps.Duality.{Placed}
 use Rattle.rules.specs.Meaning.AnnexPromise.{Same}
 use Rattle.rules.specs.Promised.Annex.Extended.{agree}
 

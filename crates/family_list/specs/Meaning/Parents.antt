@@ -1,0 +1,9 @@
+-- S-11: a parent of each of n orders, where there is one, is an order itself. Row 18's test and its sentence agree there (`Circle.leads-back`).
+-- Assumes nothing.
+use mathlib.Core.Path.{_≡_}
+use mathlib.Core.Option.{Option, some}
+use Prim.Native.Nat.{ℕ, _<_}
+
+-- EVERY PARENT EXISTS
+pub record Exist (n : ℕ) (parent : ℕ → Option ℕ) : Type 0 where
+  pub exists : (i j : ℕ) → i < n → parent i ≡ some j → j < n
