@@ -19,7 +19,8 @@ use intuitive::intuitive_small;
 // Net positions with export positive, zone prices in grains, and ordered pairs of zones, two bytes to a pair; a pair counts when its first price is at most its
 // second. A yes (1) has flows along counted pairs that carry every export to imports; a no (0) has a set of zones that no counted pair leaves and whose
 // exports exceed its imports; the total is the largest that any flows carry. The scratch's first 324 numbers are zero after an answer. A refusal, 81 to 85
-// in that order, has 0 and 0, and leaves the scratch as it was.
+// in that order, has 0 and 0, and leaves the scratch as it was. In a yes, what the zones import is worth at least zero at
+// their prices.
 #[no_mangle]
 pub extern "C" fn lta_intuitive(
     net_exports: &[i64],
@@ -40,7 +41,8 @@ pub extern "C" fn lta_intuitive(
 }
 
 // The same question of an hour. It is judged first, and answered with the judgement's number and index where it is not accepted; else the answer is for its net
-// positions, turned since ours are import positive, and its zone prices. 81, 82 and 83 cannot occur.
+// positions, turned since ours are import positive, and its zone prices. 81, 82 and 83 cannot occur. In a yes, the rent
+// that `lta_judge` reports is at least zero.
 #[no_mangle]
 pub extern "C" fn lta_hour_intuitive(
     case: &[u8],

@@ -3,12 +3,12 @@
 -- is not good, among as many zones as byte 5 of the case says, then 85 for a scratch under 324 (96) numbers, and else
 -- 0. Its yes, no and total are those of its net positions turned and its zone prices. Assumes nothing.
 use mathlib.Core.Path.{_≡_, refl, sym, ap, subst, _∙_}
-use mathlib.Core.Logic.{_↔_}
+use mathlib.Core.Logic.{_↔_, _⊎_, inl, inr, _≢_}
 use mathlib.Core.List.{List}
 use mathlib.Core.Option.{Option, none, some}
 use Prim.Native.Nat.{ℕ, _≤_, _<_}
 use native.Mathlib.Omega.{arith}
-use native.Mathlib.Decide.{decLt}
+use native.Mathlib.Decide.{decLt, ℕ-discrete}
 use lib.ListN.{length, getD}
 use lib.IntN.{ℤ, pos, negℤ, _-ℤ_}
 use lib.Signed.{_<ℤ_}
@@ -16,7 +16,7 @@ use Rattle.integers.specs.Difference.{at, _⊖_, ⊝_, eq-by}
 use Rattle.integers.specs.Ranges.{is-false, nat-within}
 use Rattle.rows.specs.declared.Outcome.{Outcome}
 use Rattle.rows.specs.Meaning.Rows.{Row, verdict, refusal, answer}
-use Rattle.rows.specs.Promised.RowLaws.{lacks, later, not-below, zero-none}
+use Rattle.rows.specs.Promised.RowLaws.{lacks, later, not-below, zero-none, numbersBelow, number-below}
 use Rattle.rules.specs.Meaning.Layout.{zonesIn, u8At}
 use Rattle.rules.specs.Meaning.Hour.{caseOf, planOf, pricesOf, net, zonePrice}
 use Rattle.rules.specs.Meaning.Verdict.{roomRows, caseRows, proposalRows, clearingRows, table, outcome}
@@ -32,7 +32,7 @@ use Rattle.intuitive.specs.Promised.PlainAnswers as answers
 use Rattle.intuitive.specs.Promised.PlainAnswers.{Routes, Enclosed, LargestCarried, everyExport}
 use Rattle.intuitive.specs.Steps.Answers.{ListsPass}
 use Rattle.hour_intuitive.specs.Meaning.Hour.{hourExports, hourPrices, askedRows, hourOutcome, hourScratch}
-use Rattle.hour_intuitive.specs.Promised.Asked.{list-length, list-at, asked-then, none-refused, not-accepted, accepted-asks, lists-pass}
+use Rattle.hour_intuitive.specs.Promised.Asked.{list-length, list-at, asked-then, none-refused, not-accepted, accepted-asks, lists-pass, never-81, never-82, never-83}
 use Rattle.hour_intuitive.specs.Promised.BothSizes.{Contract}
 
 -- lists that 81 to 83 pass, in plain numbers
@@ -137,6 +137,34 @@ module _ (s t pairs : List ℕ) (n room : ℕ) where
     λ w. asks (w .1 .0 .0) ∙ causes.says-0 (hourExports s t) (hourPrices s t) pairs n room k .1
         (w .0, ((past-83 (w .1 .0 .0), subst (λ (z : ℕ). AllGood z pairs) (sym (exports-length s t)) (w .1 .0 .1)), w .1 .1)),
   )
+
+  -- NO OTHER NUMBER: above the judgement's, which are at most 30, there are these two
+  judged-below : (outcome s t 176) .number < 31
+  unfolding outcome table roomRows caseRows proposalRows clearingRows numbersBelow
+  judged-below = number-below 31 judged (omega arith) tt
+
+  pub says-no-other : 30 < said .number → (said .number ≡ 84) ⊎ (said .number ≡ 85)
+  says-no-other h = by (decLt 0 ((outcome s t 176) .number))
+    where
+      two : (81 ≤ said .number) × (said .number ≤ 85) → Dec (said .number ≡ 84) → (said .number ≡ 84) ⊎ (said .number ≡ 85)
+      two l (yes e) = inl e
+      two l (no e) = inr (five l e (ℕ-discrete (said .number) 81) (ℕ-discrete (said .number) 82) (ℕ-discrete (said .number) 83))
+        where
+          five : (81 ≤ said .number) × (said .number ≤ 85) → said .number ≢ 84 → Dec (said .number ≡ 81) → Dec (said .number ≡ 82) → Dec (said .number ≡ 83) → said .number ≡ 85
+          five l e (yes a) b c = absurd (never-81 s t pairs n room a)
+          five l e (no a) (yes b) c = absurd (never-82 s t pairs n room b)
+          five l e (no a) (no b) (yes c) = absurd (never-83 s t pairs n room c)
+          five l e (no a) (no b) (no c) = apart (said .number) l a b c e
+            where
+              apart : (m : ℕ) → (81 ≤ m) × (m ≤ 85) → m ≢ 81 → m ≢ 82 → m ≢ 83 → m ≢ 84 → m ≡ 85
+              apart m l a b c e = omega arith
+
+      by : Dec (0 < (outcome s t 176) .number) → (said .number ≡ 84) ⊎ (said .number ≡ 85)
+      by (yes p) = absurd (omega (arith, h, judged-below, ap (λ (o : Outcome). o .number) (not-accepted s t pairs n room p)))
+      by (no p) =
+          let a : said .number ≡ (intuitiveOutcome (hourExports s t) (hourPrices s t) pairs n room) .number = ap (λ (o : Outcome). o .number) (accepted-asks s t pairs n room (omega arith)) in
+          let l = causes.says-no-other (hourExports s t) (hourPrices s t) pairs n room (omega (arith, h, a)) in
+          two (omega (arith, a, l .0), omega (arith, a, l .1)) (ℕ-discrete (said .number) 84)
 
 -- THE TWO ENTRIES: 324 numbers of scratch, and 96 (S-13)
 module _ (s t pairs : List ℕ) (room : ℕ) where
