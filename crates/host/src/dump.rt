@@ -7,9 +7,10 @@ ghost use Rattle.dump_proposal.specs.Promised.PlainBytes.{WrittenProposal};
 use dump_proposal::dump_proposal;
 use output::Written;
 
-// The proposal at the start of `out`, and how many bytes it is; or a refusal, 56 to 60 in that order, with length 0 and `out` as it was. An answer's bytes
-// have the right length for the case and pass rows 9 to 14; each field holds its own value's number, and each volume is at most its quantity and within one
-// tenth of the exact product. [bytes] gives every byte of `out`, and what each number is by the eight bytes of its value.
+// The proposal at the start of `out`, and how many bytes it is; or a refusal, 56 to 60 in that order, with length 0
+// and `out` as it was. An answer's bytes have the right length for the case and pass rows 9 to 14; each field holds
+// its own value's number, and each volume is at most its quantity and within one tenth of the exact product. [bytes]
+// gives every byte of `out`, and what each number is by the eight bytes of its value.
 #[no_mangle]
 pub extern "C" fn lta_dump_proposal(case: &[u8], dump: &[u8], out: &mut [u8]) -> Written
     ensures outcome { λ r. ⌜ verdict (r .number) (r .index) ≡ dumpOutcome (now («case» .entry)) (now (dump .entry)) (length (now (out .entry))) ⌝ }
