@@ -6,6 +6,7 @@ ghost use Rattle.rules.specs.Meaning.Promise.{TotalsReported, Allowed, Accurate
 ghost use Rattle.rules.specs.Meaning.Report.{bufferAfter, familyBufferAfter};
 ghost use Rattle.rules.specs.Meaning.Verdict.{outcome, familyOutcome};
 ghost use Rattle.rules.specs.Meaning.AnnexPromise.{AnnexDemand3};
+ghost use Rattle.rules.specs.Promised.PlainReport.{ReportOf};
 use judgement::judge;
 use judgement::judge_families;
 
@@ -15,7 +16,7 @@ fn packed(number: u32, index: u32) -> u64
     number as u64 + 256 * index as u64
 }
 
-// THE ENTRY: number + 256 * index of the verdict table; the buffer afterwards, every byte of it; and demand 3 of an hour that is answered with 0, in the
+// THE ENTRY: number + 256 * index of the verdict table; the buffer afterwards, every byte of it, in plain numbers too (`bytes`); and demand 3 of an hour that is answered with 0, in the
 // numbers that the report's bytes then hold, by document 01's rules and in the Annex's terms. S-6: coverage is promised of an hour with a link, and of an
 // hour without one accuracy compares with clearings of LTA share 0 alone (`Clearing`).
 #[no_mangle]
@@ -24,6 +25,7 @@ pub extern "C" fn lta_judge(case: &[u8], proposal: &[u8], report: &mut [u8]) -> 
     ensures number { λ r. ⌜ r % 256 ≡ (outcome (now («case» .entry)) (now (proposal .entry)) (length (now (report .entry)))) .number ⌝ }
     ensures index { λ r. ⌜ r / 256 ≡ (outcome (now («case» .entry)) (now (proposal .entry)) (length (now (report .entry)))) .index ⌝ }
     ensures report { λ r. ⌜ now (report .exit) ≡ bufferAfter (now («case» .entry)) (now (proposal .entry)) (now (report .entry)) ⌝ }
+    ensures bytes { λ r. ⌜ ReportOf (r % 256) (now («case» .entry)) (now (proposal .entry)) (now (report .entry)) (now (report .exit)) ⌝ }
     ensures totals { λ r. ⌜ TotalsReported (now («case» .entry)) (now (proposal .entry)) (length (now (report .entry))) (now (report .exit)) ⌝ }
     ensures allowed { λ r. ⌜ (r ≡ 0 → Allowed (now («case» .entry)) (now (proposal .entry))) ⌝ }
     ensures accuracy { λ r. ⌜ (r ≡ 0 → Accurate (now («case» .entry)) (now (report .exit))) ⌝ }
@@ -50,6 +52,7 @@ pub extern "C" fn lta_judge_families(
     ensures number { λ r. ⌜ r % 256 ≡ (familyOutcome (now («case» .entry)) (now (proposal .entry)) (now (families .entry)) (length (now (report .entry)))) .number ⌝ }
     ensures index { λ r. ⌜ r / 256 ≡ (familyOutcome (now («case» .entry)) (now (proposal .entry)) (now (families .entry)) (length (now (report .entry)))) .index ⌝ }
     ensures report { λ r. ⌜ now (report .exit) ≡ familyBufferAfter (now («case» .entry)) (now (proposal .entry)) (now (families .entry)) (now (report .entry)) ⌝ }
+    ensures bytes { λ r. ⌜ ReportOf (r % 256) (now («case» .entry)) (now (proposal .entry)) (now (report .entry)) (now (report .exit)) ⌝ }
     ensures totals { λ r. ⌜ FamilyTotalsReported (now («case» .entry)) (now (proposal .entry)) (now (families .entry)) (length (now (report .entry))) (now (report .exit)) ⌝ }
     ensures families { λ r. ⌜ (r ≡ 0 → FamiliesKept (now («case» .entry)) (now (proposal .entry)) (now (families .entry))) ⌝ }
     ensures allowed { λ r. ⌜ (r ≡ 0 → Allowed (now («case» .entry)) (now (proposal .entry))) ⌝ }

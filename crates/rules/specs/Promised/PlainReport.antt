@@ -121,3 +121,15 @@ module _ (s t buffer : List ℕ) where
 
   pub family-report-left : (f : List ℕ) → (familyOutcome s t f (length buffer)) .number ≢ 0 → (familyOutcome s t f (length buffer)) .number ≢ 26 → familyBufferAfter s t f buffer ≡ buffer
   family-report-left f a b = family-unchanged s t f buffer (leaves-of ((familyOutcome s t f (length buffer)) .number) a b)
+
+-- THE BUFFER of an answer with this number, before and after: written for 0 and 26, and left as it was for any other
+pub record ReportOf (number : ℕ) (s t before after : List ℕ) : Type 0 where
+  pub written : (number ≡ 0) ⊎ (number ≡ 26) → ReportBytes number s t before after
+  pub left : number ≢ 0 → number ≢ 26 → after ≡ before
+
+module _ (s t before : List ℕ) {after : List ℕ} {number : ℕ} where
+  pub report-of : number ≡ (outcome s t (length before)) .number → after ≡ bufferAfter s t before → ReportOf number s t before after
+  report-of e q = rw (e, q) (record { written = report-written s t before; left = report-left s t before })
+
+  pub family-report-of : (f : List ℕ) → number ≡ (familyOutcome s t f (length before)) .number → after ≡ familyBufferAfter s t f before → ReportOf number s t before after
+  family-report-of f e q = rw (e, q) (record { written = family-report-written s t before f; left = family-report-left s t before f })

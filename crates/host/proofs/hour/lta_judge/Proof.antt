@@ -4,6 +4,7 @@ use Prim.Native.Nat.{_+_, _*_}
 use denote.Ref.{now}
 use lib.ListN.{length}
 use borrow.Author.Needs.{needs}
+use Rattle.rules.specs.Promised.PlainReport.{report-of}
 use Rattle.rules.specs.Promised.Causes.{outcome-below}
 use Rattle.rows.specs.declared.Outcome.{Outcome}
 use Rattle.judgement.specs.Packed.{packed-number, packed-index, packed-zero}
@@ -27,7 +28,8 @@ returns c =
     let is = c .packed .ensures ∙ ap (λ (v : Outcome). v .number + 256 * v .index) (j .0) in
     let below = outcome-below (now (a .args .«case»)) (now (a .args .proposal)) (length (now (a .args .report))) in
     let zero = packed-zero _ _ _ (c .packed .ensures) in
-    (is, (packed-number _ _ _ below is, (packed-index _ _ _ below is, (j .1 .0, (j .1 .1 .0, demands-from _ _ _ zero (j .1 .1 .1))))))
+    let number = packed-number _ _ _ below is in
+    (is, (number, (packed-index _ _ _ below is, (j .1 .0, (report-of (now (a .args .«case»)) (now (a .args .proposal)) (now (a .args .report)) number (j .1 .0), (j .1 .1 .0, demands-from _ _ _ zero (j .1 .1 .1)))))))
 
 pub lta-judge-spec : {M : Type 1} → statement M
 lta-judge-spec = tie.close (tie.spec judge-requires packed-requires same-length returns)
