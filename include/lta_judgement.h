@@ -165,7 +165,8 @@ static inline int64_t lta_report_price(const uint8_t *report, size_t zone)
  *   report, report_len         room for the report, at least LTA_REPORT_ROOM bytes
  *
  * The bytes of the report buffer afterwards [report]: if the number is 0 or 26, its first LTA_REPORT_SIZE(zones) bytes are the report,
- * and all past them are as they were. For any other number every byte is as it was.
+ * and all past them are as they were. For any other number every byte is as it was. Each byte of the report at its place, in plain
+ * numbers: [bytes].
  *
  * What stands in a report, of an hour that is accepted or refused by 26 [totals]: each total and each zone price is what its rule below
  * gives, as an integer.
@@ -241,7 +242,7 @@ uint64_t lta_judge(const uint8_t *case_bytes, size_t case_len,
  * before the next, and 28, asked after 21. Where the answer is none of the four, it and every byte of the report buffer are
  * lta_judge's of the same case and proposal; it is proved in crates/rules.
  *
- * The bytes of the report buffer afterwards [report], and what stands in a report [totals]: as with lta_judge.
+ * The bytes of the report buffer afterwards [report] [bytes], and what stands in a report [totals]: as with lta_judge.
  *
  * What holds of an accepted hour, that is if lta_judge_families returns 0: all that holds of one that lta_judge accepts, word for word,
  * and
@@ -316,7 +317,7 @@ enum lta_desk_number {
  *
  * The text is `verdict NUMBER INDEX`, as lta_judge answers with room for the report. For 0 and 26 lines follow with welfare, bound, gap,
  * rent and owed, in euros with eight decimals, and a line `price ZONE PRICE` for each zone, in euros per MWh with seven. A newline ends
- * each line; no zero byte ends the text.
+ * each line; no zero byte ends the text. Where the input is cut, and each line byte by byte: [text].
  *
  * The bytes of `out` afterwards [output]: the text, and all past it as they were. In a refusal every byte is as it was.
  */
@@ -356,7 +357,8 @@ enum lta_sheet_number {
  *
  * The bytes of `out` afterwards [output]: the branches, and all past them as they were. In a refusal every byte is as it was.
  * Behind a case header with these zones and as many branches as the sheet has lines, and before whatever follows, the branches
- * of the case are these numbers, and LTA_CASE_BRANCH has no cause [branches].
+ * of the case are these numbers, and LTA_CASE_BRANCH has no cause [branches]. Where each number of an answered sheet stands, byte
+ * by byte: [bytes]. Which sheet gives which number and line, both ways, in plain numbers: [causes].
  */
 struct lta_written lta_sheet_branches(const uint8_t *sheet, size_t sheet_len, size_t zones, uint8_t *out, size_t out_len);
 
@@ -404,14 +406,14 @@ struct lta_carried {
  * What holds of an answer:
  *   [largest]  Some flows within the exports and imports carry the total, and none carry more, not in fractions of any denominator either.
  *   [yes]      If intuitive is 1, some flows within the exports and imports carry every export.
+ *   [yes_rent]  If intuitive is 1, the sum of import times price over the zones is at least zero.
  *   [no]       If intuitive is 0, there is a set of zones that no counted pair leaves and whose exports exceed its imports.
  *   [yes_or_no]  intuitive is 1 or 0, in a refusal too.
  * Of a refusal [refused]: intuitive and total are 0.
  *
  * What follows, proved in crates/transports and crates/intuitive: a yes and a no exclude each other, and yes or no and the
- * total depend on the input alone. The total of a yes is the sum of all exports, that of a no is less. At a yes the imports are
- * worth at least what the exports are: the sum over zones of -net_export * price is, for the flows of [yes], the sum over
- * counted pairs of flow * (price of the second zone - price of the first), and so not negative.
+ * total depend on the input alone. The total of a yes is the sum of all exports, that of a no is less. The sum of [yes_rent] is,
+ * for the flows of [yes], the sum over counted pairs of flow * (price of the second zone - price of the first).
  *
  * The numbers of `scratch` afterwards [scratch]: the first LTA_INTUITIVE_SCRATCH are zero, and all past them as they were. In a refusal
  * every number is as it was.
@@ -424,10 +426,9 @@ struct lta_carried lta_intuitive(const int64_t *net_exports, size_t net_count,
 /* The same of an hour. It is judged first, as lta_judge does with room for the report. If it is not accepted, LTA_GAP_ABOVE_TOLERANCE
  * too, the answer has the judgement's number and index, with intuitive 0 and total 0, and every number of `scratch` is as it was. Else the
  * answer and the scratch are those of lta_intuitive for its net positions, turned to export positive, and its zone prices [outcome]
- * [yes] [no] [yes_or_no] [largest] [scratch] [refused].
+ * [yes] [no] [yes_or_no] [largest] [scratch] [refused]. At a yes the rent that lta_judge reports is at least 0 [yes_rent].
  *
- * What follows, proved in crates/hour_intuitive: of 81 to 85 only LTA_INTUITIVE_PAIR and LTA_INTUITIVE_NO_ROOM can occur. At a
- * yes the rent that lta_judge reports is at least 0.
+ * What follows, proved in crates/hour_intuitive: of 81 to 85 only LTA_INTUITIVE_PAIR and LTA_INTUITIVE_NO_ROOM can occur.
  *
  *   case_bytes, case_len       a case, as lta_judge takes it
  *   proposal, proposal_len     a proposal for it
@@ -441,7 +442,8 @@ struct lta_carried lta_hour_intuitive(const uint8_t *case_bytes, size_t case_len
 
 /* The same two with a smaller scratch. Arguments, answers, numbers and their order are those of lta_intuitive and lta_hour_intuitive, but
  * that LTA_INTUITIVE_SMALL_SCRATCH stands for LTA_INTUITIVE_SCRATCH: LTA_INTUITIVE_NO_ROOM is given for a scratch under 96 numbers, and of
- * an answer the first 96 are zero, and all past them as they were [outcome] [yes] [no] [yes_or_no] [largest] [scratch] [refused].
+ * an answer the first 96 are zero, and all past them as they were [outcome] [yes] [yes_rent] [no] [yes_or_no] [largest]
+ * [scratch] [refused].
  *
  * What follows, proved in crates/intuitive and crates/hour_intuitive: on each input that both take, intuitive and total are
  * those of the wide entry; what the wide one takes the smaller takes too, and every refusal but LTA_INTUITIVE_NO_ROOM is the
@@ -499,7 +501,7 @@ enum lta_dump_number {
  *
  * The bytes of `out` afterwards [output]: if the number is 0, the first `length` bytes are the proposal, that is mark LTP, version 1, the
  * LTA share, the system price, the volumes, the flows and the shadow prices, laid out as lta_judge takes them, and all past them are as
- * they were. In a refusal every byte is as it was.
+ * they were. In a refusal every byte is as it was. Each byte at its place, in plain numbers: [bytes].
  *
  * What holds of an answer:
  *   [volumes]    Each volume written differs from the exact product of its share and its quantity by less than one tenth, and is never
