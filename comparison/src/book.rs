@@ -1,6 +1,6 @@
 //! The order book entry of both: random books, refusals alone and in pairs, the widest.
 
-use crate::archive::{self, Order};
+use crate::library;
 use crate::rng::Rng;
 use crate::run::Run;
 use second_judge::{book_surplus, BookAnswer, Row};
@@ -14,14 +14,11 @@ pub fn feed(run: &mut Run, rows: &[Row], prices: &[i64]) -> BookAnswer {
 
 fn feed_as(run: &mut Run, rows: &[Row], prices: &[i64], null: bool) -> BookAnswer {
     run.count();
-    let orders: Vec<Order> = rows.iter().map(|row| Order::from(*row)).collect();
-    let theirs = archive::book_surplus(&orders, prices, null);
+    let theirs = library::book_surplus(rows, prices, null);
     let ours = book_surplus(rows, prices);
     if theirs != ours {
         let (rows, prices) = (rows.len(), prices.len());
-        run.fault(|| {
-            format!("{rows} rows, {prices} prices: archive {theirs:?}, second judge {ours:?}")
-        });
+        run.fault(|| format!("{rows} rows, {prices} prices: archive {theirs:?}, second judge {ours:?}"));
     }
     ours
 }
@@ -42,9 +39,7 @@ pub fn book(rng: &mut Rng, zones: usize, count: usize) -> (Vec<Row>, Vec<i64>) {
             price: rng.between_or_end(-50_000, 400_000) as i32,
         })
         .collect();
-    let prices = (0..zones)
-        .map(|_| rng.between_or_end(LOWEST, HIGHEST))
-        .collect();
+    let prices = (0..zones).map(|_| rng.between_or_end(LOWEST, HIGHEST)).collect();
     (rows, prices)
 }
 
@@ -66,11 +61,7 @@ const FAULTS: [(&str, u32); 11] = [
 /// Plants a fault and gives the index that its refusal names.
 fn plant(rng: &mut Rng, fault: usize, rows: &mut Vec<Row>, prices: &mut Vec<i64>) -> u32 {
     let r = rng.below(rows.len());
-    let z = if prices.is_empty() {
-        0
-    } else {
-        rng.below(prices.len())
-    };
+    let z = if prices.is_empty() { 0 } else { rng.below(prices.len()) };
     match fault {
         0 => prices.clear(),
         1 => prices.resize(17 + rng.below(3), 0),
@@ -121,9 +112,7 @@ pub fn books(run: &mut Run, rng: &mut Rng) {
             };
             match due {
                 Some((number, index)) => expect(run, answer, number, index, 0),
-                None if answer.number != 0 => {
-                    run.fault(|| format!("{answer:?} for a book in range"))
-                }
+                None if answer.number != 0 => run.fault(|| format!("{answer:?} for a book in range")),
                 None => {}
             }
         }
@@ -160,12 +149,7 @@ pub fn books(run: &mut Run, rng: &mut Rng) {
     run.end();
 
     run.begin("largest at the widest prices");
-    let row = |side, price| Row {
-        zone: 15,
-        side,
-        quantity: 100_000,
-        price,
-    };
+    let row = |side, price| Row { zone: 15, side, quantity: 100_000, price };
     let most = 512 * 100_000 * (HIGHEST - LOWEST);
     for (side, price, zone_price, sum) in [
         (0, 400_000, LOWEST, most),

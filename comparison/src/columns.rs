@@ -5,10 +5,10 @@
 //! Whatever one entry answers with 0, the other is given, and the same file must
 //! come back; a columned file is judged, and both judges must refuse it by 2.
 
-use crate::archive;
 use crate::families::{change_a_byte, good, one_outside};
 use crate::fields::{fields, Field};
 use crate::lent::Lent;
+use crate::library;
 use crate::make::{at_limits, random, Shape};
 use crate::rng::Rng;
 use crate::run::{hex, Run, LEAST_INPUTS, LEAST_TIMES};
@@ -41,16 +41,13 @@ enum Entry {
     Restored,
 }
 
-const ENTRIES: [(Entry, &str); 2] = [
-    (Entry::Columned, "columning"),
-    (Entry::Restored, "way back"),
-];
+const ENTRIES: [(Entry, &str); 2] = [(Entry::Columned, "columning"), (Entry::Restored, "way back")];
 
 impl Entry {
     fn archive(self, file: &[u8], out: &mut [u8], null: bool) -> OutputAnswer {
         match self {
-            Entry::Columned => archive::case_columned(file, out, null),
-            Entry::Restored => archive::case_restored(file, out, null),
+            Entry::Columned => library::case_columned(file, out, null),
+            Entry::Restored => library::case_restored(file, out, null),
         }
     }
 
@@ -96,13 +93,7 @@ impl Files<'_> {
         answer
     }
 
-    fn feed_as(
-        &mut self,
-        entry: Entry,
-        file: &[u8],
-        room: usize,
-        null: bool,
-    ) -> (OutputAnswer, Vec<u8>) {
+    fn feed_as(&mut self, entry: Entry, file: &[u8], room: usize, null: bool) -> (OutputAnswer, Vec<u8>) {
         self.run.count();
         self.inputs[entry as usize] += 1;
         let copy = file.to_vec();
@@ -137,15 +128,9 @@ impl Files<'_> {
             0 => file.len() as u64,
             _ => 0,
         };
-        let due = OutputAnswer {
-            number,
-            index: 0,
-            length,
-        };
+        let due = OutputAnswer { number, index: 0, length };
         if answer != due {
-            self.fault(entry, file, room, || {
-                format!("{answer:?} where {due:?} is due")
-            });
+            self.fault(entry, file, room, || format!("{answer:?} where {due:?} is due"));
         }
     }
 
@@ -153,12 +138,10 @@ impl Files<'_> {
     fn judged(&mut self, case: &[u8], columned: &[u8]) {
         let (mut report, mut their_report) = ([7; LEAST_BUFFER], [7; LEAST_BUFFER]);
         let verdict = judge(columned, case, &mut report);
-        let answer = archive::judge(columned, case, &mut their_report);
+        let answer = library::judge(columned, case, &mut their_report);
         let kept = report == [7; LEAST_BUFFER] && their_report == report;
-        if answer != 2 || (verdict.number, verdict.index) != (2, 0) || !kept {
-            self.fault(Entry::Columned, case, 0, || {
-                format!("judged {answer} and {verdict:?}")
-            });
+        if (answer.number, answer.index) != (2, 0) || (verdict.number, verdict.index) != (2, 0) || !kept {
+            self.fault(Entry::Columned, case, 0, || format!("judged {answer:?} and {verdict:?}"));
         }
     }
 
@@ -198,25 +181,14 @@ fn some_hour(rng: &mut Rng) -> Hour {
 }
 
 /// A field of the case that its bytes can put out of range, and such a value.
-fn fault_in(
-    rng: &mut Rng,
-    hour: &Hour,
-    number: std::ops::RangeInclusive<u32>,
-) -> Option<(Field, i64)> {
-    one_outside(rng, hour, |field| {
-        field.in_case && number.contains(&field.number)
-    })
+fn fault_in(rng: &mut Rng, hour: &Hour, number: std::ops::RangeInclusive<u32>) -> Option<(Field, i64)> {
+    one_outside(rng, hour, |field| field.in_case && number.contains(&field.number))
 }
 
 pub fn files(run: &mut Run, rng: &mut Rng) {
     run.section("columns");
-    let mut files = Files {
-        run,
-        inputs: [0; 2],
-        numbers: [[0; 73]; 2],
-        met: Default::default(),
-        second_wrong: Default::default(),
-    };
+    let mut files =
+        Files { run, inputs: [0; 2], numbers: [[0; 73]; 2], met: Default::default(), second_wrong: Default::default() };
 
     files.run.begin("readable cases and back");
     for hour in [three_zone_hour(), contracted_hour()] {
@@ -266,11 +238,7 @@ pub fn files(run: &mut Run, rng: &mut Rng) {
     run.section("columns, met, times");
     run.check_met(&MET, &files.met);
     run.section("columns, the second judge's wrong builds, times told from the archive");
-    run.check_told(
-        &ColumnBuild::WRONG,
-        &files.second_wrong,
-        inputs[0] + inputs[1],
-    );
+    run.check_told(&ColumnBuild::WRONG, &files.second_wrong, inputs[0] + inputs[1]);
 }
 
 /// Outputs of every kind of length, of readable files and of others.
@@ -355,10 +323,7 @@ fn lengths(files: &mut Files, rng: &mut Rng) {
             2 => rng.below(case.len()),
             _ => rng.below(15).min(case.len() - 1),
         };
-        for (entry, file) in [
-            (Entry::Columned, case.clone()),
-            (Entry::Restored, columned(&case)),
-        ] {
+        for (entry, file) in [(Entry::Columned, case.clone()), (Entry::Restored, columned(&case))] {
             let mut file = file;
             file.resize(length, 0);
             files.meet(8, entry == Entry::Restored && length >= 14);
@@ -369,10 +334,7 @@ fn lengths(files: &mut Files, rng: &mut Rng) {
     files.run.begin("counts");
     for _ in 0..4_000 {
         let case = some_hour(rng).case();
-        for (entry, file) in [
-            (Entry::Columned, case.clone()),
-            (Entry::Restored, columned(&case)),
-        ] {
+        for (entry, file) in [(Entry::Columned, case.clone()), (Entry::Restored, columned(&case))] {
             let mut file = file;
             // The version, the zones, the branches, the links or the orders.
             file[3 + rng.below(7)] ^= 1 + rng.below(255) as u8;
@@ -410,10 +372,7 @@ fn by_bytes(files: &mut Files, rng: &mut Rng) {
     files.run.begin("bytes changed");
     for _ in 0..8_000 {
         let case = some_hour(rng).case();
-        for (entry, file) in [
-            (Entry::Columned, case.clone()),
-            (Entry::Restored, columned(&case)),
-        ] {
+        for (entry, file) in [(Entry::Columned, case.clone()), (Entry::Restored, columned(&case))] {
             let mut file = file;
             for _ in 0..1 + rng.below(3) {
                 change_a_byte(rng, &mut file);

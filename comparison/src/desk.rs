@@ -1,7 +1,7 @@
 //! The desk's lines of both, over every input the judgement gets.
 
-use crate::archive;
 use crate::lent::Lent;
+use crate::library;
 use crate::rng::Rng;
 use crate::run::Run;
 use second_judge::limits::LEAST_OUTPUT;
@@ -28,12 +28,7 @@ pub struct Desk {
 
 impl Desk {
     pub fn new(seed: u64) -> Desk {
-        Desk {
-            inputs: [0; NAMES.len()],
-            faults: [0; NAMES.len()],
-            rng: Rng::new(seed),
-            joined: Vec::new(),
-        }
+        Desk { inputs: [0; NAMES.len()], faults: [0; NAMES.len()], rng: Rng::new(seed), joined: Vec::new() }
     }
 
     pub fn feed(&mut self, case: &[u8], proposal: &[u8]) {
@@ -68,7 +63,7 @@ impl Desk {
     fn compare(&mut self, kind: usize, input: &[u8], room: usize) {
         self.inputs[kind] += 1;
         let lent = Lent::bytes(LEAST_OUTPUT + MORE, self.rng.next()).only(room);
-        let theirs = lent.to(|out| archive::desk_lines(input, out));
+        let theirs = lent.to(|out| library::desk_lines(input, out));
         let ours = lent.to(|out| desk_output(input, out));
         if let Some(text) = theirs.unlike(&ours) {
             self.faults[kind] += 1;
@@ -102,16 +97,12 @@ pub fn three_zone_lines(run: &mut Run) {
     run.begin("the nine lines of P1");
     let hour = second_judge::hours::three_zone_hour();
     let mut lines = [0x5A; LEAST_OUTPUT];
-    let answer = archive::desk_lines(&[hour.case(), hour.proposal()].concat(), &mut lines);
+    let answer = library::desk_lines(&[hour.case(), hour.proposal()].concat(), &mut lines);
     let due = "verdict 0 0\nwelfare 22125.00000000\nbound 22125.00000000\ngap 0.00000000\n\
         rent 17500.00000000\nowed 17500.00000000\nprice 0 20.0000000\nprice 1 63.7500000\n\
         price 2 50.0000000\n";
     run.count();
-    let good = OutputAnswer {
-        number: 0,
-        index: 0,
-        length: due.len() as u64,
-    };
+    let good = OutputAnswer { number: 0, index: 0, length: due.len() as u64 };
     if answer != good || &lines[..due.len()] != due.as_bytes() {
         run.fault(|| format!("{answer:?}\n{}", shown(&lines, answer)));
     }

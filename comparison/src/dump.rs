@@ -5,9 +5,9 @@
 //! What is due is found a third time here, by the machine's own product. What is
 //! written is judged by both judges.
 
-use crate::archive;
 use crate::families::good;
 use crate::lent::Lent;
+use crate::library;
 use crate::make::{tolerance, Shape};
 use crate::rng::Rng;
 use crate::run::{count_met, hex, Run, LEAST_INPUTS, LEAST_TIMES};
@@ -104,11 +104,7 @@ impl Kind {
 fn kinds(hour: &Hour) -> Vec<Kind> {
     [Kind::LtaShare, Kind::System]
         .into_iter()
-        .chain(
-            hour.orders
-                .iter()
-                .map(|order| Kind::Accepted(order.quantity)),
-        )
+        .chain(hour.orders.iter().map(|order| Kind::Accepted(order.quantity)))
         .chain(hour.links.iter().map(|_| Kind::Flow))
         .chain(hour.branches.iter().map(|_| Kind::Shadow))
         .collect()
@@ -156,27 +152,19 @@ impl Dumps<'_> {
         self.feed_as(case, dump, room, false)
     }
 
-    fn feed_as(
-        &mut self,
-        case: &[u8],
-        dump: &[u8],
-        room: usize,
-        null: bool,
-    ) -> (OutputAnswer, Vec<u8>) {
+    fn feed_as(&mut self, case: &[u8], dump: &[u8], room: usize, null: bool) -> (OutputAnswer, Vec<u8>) {
         self.run.count();
         self.inputs += 1;
         let copies = (case.to_vec(), dump.to_vec());
         let lent = Lent::bytes(room, self.inputs);
         let second = |build, out: &mut [u8]| dump_proposal_as(build, case, dump, out);
-        let theirs = lent.to(|out| archive::dump_proposal(case, dump, out, null));
+        let theirs = lent.to(|out| library::dump_proposal(case, dump, out, null));
         let ours = lent.to(|out| second(DumpBuild::Right, out));
         if let Some(text) = theirs.unlike(&ours) {
             self.fault(case, dump, room, || text);
         }
         if copies.0 != case || copies.1 != dump {
-            self.fault(case, dump, room, || {
-                "the case or the dump was written".into()
-            });
+            self.fault(case, dump, room, || "the case or the dump was written".into());
         }
 
         let answer = ours.answer;
@@ -203,7 +191,7 @@ impl Dumps<'_> {
     fn judge(&mut self, case: &[u8], dump: &[u8], proposal: &[u8]) {
         let (mut report, mut their_report) = ([0; LEAST_BUFFER], [0; LEAST_BUFFER]);
         let verdict = judge(case, proposal, &mut report);
-        let answer = archive::verdict(archive::judge(case, proposal, &mut their_report));
+        let answer = library::judge(case, proposal, &mut their_report);
         let (number, index) = (verdict.number, verdict.index);
         if answer != verdict || report != their_report {
             self.fault(case, dump, proposal.len(), || {
@@ -213,9 +201,7 @@ impl Dumps<'_> {
         let tolerance = case[10..14].try_into().map(u32::from_le_bytes);
         let wide = tolerance.expect("four bytes") > WIDEST_TOLERANCE;
         if !matches!(number, 0 | 15 | 22..=27) || wide != (number == 15) {
-            self.fault(case, dump, proposal.len(), || {
-                format!("the proposal written is refused by {number} {index}")
-            });
+            self.fault(case, dump, proposal.len(), || format!("the proposal written is refused by {number} {index}"));
         }
         self.judged[number as usize] += 1;
     }
@@ -225,29 +211,17 @@ impl Dumps<'_> {
         let dump = made.dump();
         let (answer, out) = self.feed(&made.case, &dump, made.room);
         let (number, index, written) = made.due();
-        let due = OutputAnswer {
-            number,
-            index,
-            length: written.len() as u64,
-        };
+        let due = OutputAnswer { number, index, length: written.len() as u64 };
         if answer != due {
-            self.fault(&made.case, &dump, made.room, || {
-                format!("{answer:?} where {due:?} is due")
-            });
+            self.fault(&made.case, &dump, made.room, || format!("{answer:?} where {due:?} is due"));
         } else if out[..written.len()] != written {
-            self.fault(&made.case, &dump, made.room, || {
-                "another proposal than is due".into()
-            });
+            self.fault(&made.case, &dump, made.room, || "another proposal than is due".into());
         }
         self.meet(made, due);
     }
 
     fn meet(&mut self, made: &Made, answer: OutputAnswer) {
-        let OutputAnswer {
-            number,
-            index,
-            length,
-        } = answer;
+        let OutputAnswer { number, index, length } = answer;
         let kinds = kinds(&made.hour);
         let last = made.values.len() - 1;
         let names = number == 58 || number == 59;
@@ -323,22 +297,12 @@ struct Made {
 
 impl Made {
     fn of(hour: Hour, values: Vec<u64>) -> Made {
-        Made {
-            case: hour.case(),
-            case_number: 0,
-            room: HEADER + 4 * (values.len() - 2),
-            values,
-            longer: 0,
-            hour,
-        }
+        Made { case: hour.case(), case_number: 0, room: HEADER + 4 * (values.len() - 2), values, longer: 0, hour }
     }
 
     /// Good values of every kind, with room for what they give.
     fn good(rng: &mut Rng, hour: Hour) -> Made {
-        let values = kinds(&hour)
-            .into_iter()
-            .map(|kind| taken(rng, kind).to_bits())
-            .collect();
+        let values = kinds(&hour).into_iter().map(|kind| taken(rng, kind).to_bits()).collect();
         let mut made = Made::of(hour, values);
         made.room += rng.pick(&[0, 0, 1, 3, 4, 100]);
         made
@@ -353,11 +317,7 @@ impl Made {
     }
 
     fn dump(&self) -> Vec<u8> {
-        let mut dump: Vec<u8> = self
-            .values
-            .iter()
-            .flat_map(|bits| bits.to_le_bytes())
-            .collect();
+        let mut dump: Vec<u8> = self.values.iter().flat_map(|bits| bits.to_le_bytes()).collect();
         let length = dump.len().saturating_add_signed(self.longer);
         dump.resize(length, 0x3F);
         dump
@@ -376,11 +336,8 @@ impl Made {
         if let Some(at) = values().position(|value| !value.is_finite()) {
             return refusal(58, at as u64);
         }
-        let numbers: Vec<Option<u32>> = kinds(&self.hour)
-            .into_iter()
-            .zip(values())
-            .map(|(kind, value)| kind.written(value))
-            .collect();
+        let numbers: Vec<Option<u32>> =
+            kinds(&self.hour).into_iter().zip(values()).map(|(kind, value)| kind.written(value)).collect();
         if let Some(at) = numbers.iter().position(Option::is_none) {
             return refusal(59, at as u64);
         }
@@ -440,8 +397,7 @@ impl Made {
         match number {
             1 => self.case.truncate(rng.below(14)),
             2 => self.case[rng.below(3)] ^= 1 + rng.below(255) as u8,
-            3 => self.case[3..5]
-                .copy_from_slice(&rng.pick(&[0u16, 3, 257, 258, u16::MAX]).to_le_bytes()),
+            3 => self.case[3..5].copy_from_slice(&rng.pick(&[0u16, 3, 257, 258, u16::MAX]).to_le_bytes()),
             5 if rng.one_in(2) => self.case.push(0),
             5 if self.case.len() > 14 => drop(self.case.pop()),
             5 => self.case.push(1),
@@ -533,14 +489,7 @@ fn refused(rng: &mut Rng, kind: Kind) -> f64 {
         0..4 => stepped(past, steps),
         4 => past * (1.0 + rng.below(1_000) as f64),
         5 => f64::MAX / rng.pick(&[1.0, 2.0, 9.0, 10.0, 99.0, 100.0, 101.0, 1e6]),
-        6 => -rng.pick(&[
-            1.0,
-            0.5,
-            1e-300,
-            f64::MIN_POSITIVE,
-            f64::from_bits(1),
-            f64::MAX,
-        ]),
+        6 => -rng.pick(&[1.0, 0.5, 1e-300, f64::MIN_POSITIVE, f64::from_bits(1), f64::MAX]),
         _ => f64::from_bits(rng.next() & !INFINITE | SIGN | (rng.next() % 0x7FF) << 52),
     };
     match kind.written(value) {
@@ -570,11 +519,7 @@ fn giving_back(hour: Hour) -> Made {
         .chain(hour.volumes.iter().copied())
         .chain(hour.flows.iter().copied())
         .chain(hour.shadow_prices.iter().copied());
-    let values = kinds(&hour)
-        .into_iter()
-        .zip(numbers)
-        .map(|(kind, number)| giving(kind, number).to_bits())
-        .collect();
+    let values = kinds(&hour).into_iter().zip(numbers).map(|(kind, number)| giving(kind, number).to_bits()).collect();
     Made::of(hour, values)
 }
 
@@ -583,22 +528,9 @@ fn one_of_each(quantity: u32, version: Version) -> Hour {
     Hour {
         version,
         zones: 2,
-        branches: vec![Branch {
-            ram: 0,
-            ptdfs: vec![0, 0],
-        }],
-        links: vec![Link {
-            from: 0,
-            to: 1,
-            capacity: 100_000,
-            contracted: 7,
-        }],
-        orders: vec![Row {
-            zone: 1,
-            side: SELLS,
-            quantity,
-            price: 0,
-        }],
+        branches: vec![Branch { ram: 0, ptdfs: vec![0, 0] }],
+        links: vec![Link { from: 0, to: 1, capacity: 100_000, contracted: 7 }],
+        orders: vec![Row { zone: 1, side: SELLS, quantity, price: 0 }],
         ..Hour::default()
     }
 }
@@ -694,9 +626,7 @@ fn given_back(dumps: &mut Dumps, rng: &mut Rng) {
         let made = giving_back(hour);
         if made.due().2 != proposal {
             let dump = made.dump();
-            dumps.fault(&made.case, &dump, made.room, || {
-                "it does not give the hour's proposal".into()
-            });
+            dumps.fault(&made.case, &dump, made.room, || "it does not give the hour's proposal".into());
         }
         dumps.feed_made(&made);
     }
@@ -715,10 +645,7 @@ fn volumes_near(dumps: &mut Dumps, made: &Made) {
         if volume > order.quantity || !within_one_tenth(bits, order.quantity, volume) {
             let dump = made.dump();
             dumps.fault(&made.case, &dump, made.room, || {
-                format!(
-                    "volume {volume} of share {bits:016x} and {}",
-                    order.quantity
-                )
+                format!("volume {volume} of share {bits:016x} and {}", order.quantity)
             });
         }
     }
@@ -726,22 +653,13 @@ fn volumes_near(dumps: &mut Dumps, made: &Made) {
 
 /// Each limit of each kind, with the values next to it and the rest good.
 fn at_the_limits(dumps: &mut Dumps, rng: &mut Rng) {
-    dumps
-        .run
-        .begin("each limit of each value, and the values next to it");
+    dumps.run.begin("each limit of each value, and the values next to it");
     for quantity in [1, 2, 3, 10, 999, 4_096, 99_999, 100_000] {
         let hour = one_of_each(quantity, rng.pick(&[Version::One, Version::Two]));
         for (at, kind) in kinds(&hour).into_iter().enumerate() {
             let factor = f64::from(kind.factor());
             let (least, greatest) = kind.range();
-            let mut limits = vec![
-                0.0,
-                -0.0,
-                1.0,
-                f64::MIN_POSITIVE,
-                f64::MAX,
-                f64::MAX / factor,
-            ];
+            let mut limits = vec![0.0, -0.0, 1.0, f64::MIN_POSITIVE, f64::MAX, f64::MAX / factor];
             for whole in [least, greatest] {
                 for past in [-1.0, -0.5, 0.0, 0.5, 1.0] {
                     limits.push((whole + past) / factor);
@@ -780,9 +698,7 @@ fn at_the_limits(dumps: &mut Dumps, rng: &mut Rng) {
     }
     dumps.run.end();
 
-    dumps
-        .run
-        .begin("every price of three decimals up to 20 euros");
+    dumps.run.begin("every price of three decimals up to 20 euros");
     for thousandths in 0..20_000 {
         let mut made = Made::of(one_of_each(1, Version::Two), vec![0; 5]);
         let euros = f64::from(thousandths) / 1_000.0;
@@ -797,10 +713,7 @@ fn at_the_limits(dumps: &mut Dumps, rng: &mut Rng) {
         giving_back(three_zone_hour()),
         giving_back(contracted_hour()),
         giving_back(good(rng, Shape::LARGEST)),
-        giving_back(Hour {
-            zones: 1,
-            ..Hour::default()
-        }),
+        giving_back(Hour { zones: 1, ..Hour::default() }),
     ] {
         let (dump, needed) = (made.dump(), made.room);
         let due = dump.len();
@@ -879,13 +792,9 @@ fn by_bytes(dumps: &mut Dumps, rng: &mut Rng) {
     dumps.run.begin("null with length 0");
     let made = giving_back(three_zone_hour());
     let (case, dump, none) = (&made.case[..], &made.dump()[..], &[][..]);
-    for (case, dump, room) in [
-        (none, none, 0),
-        (none, dump, ROOM),
-        (case, none, ROOM),
-        (case, none, 0),
-        (case, dump, 0),
-    ] {
+    for (case, dump, room) in
+        [(none, none, 0), (none, dump, ROOM), (case, none, ROOM), (case, none, 0), (case, dump, 0)]
+    {
         dumps.feed_as(case, dump, room, true);
     }
     dumps.run.end();

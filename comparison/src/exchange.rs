@@ -41,10 +41,7 @@ pub fn annex(second: bool) -> Exchange {
     Exchange {
         net: vec![1_000, 13_000, -7_000, -3_000, -4_000],
         prices: prices.to_vec(),
-        pairs: [(0, 1), (0, 2), (1, 4), (2, 3), (3, 4)]
-            .into_iter()
-            .flat_map(both)
-            .collect(),
+        pairs: [(0, 1), (0, 2), (1, 4), (2, 3), (3, 4)].into_iter().flat_map(both).collect(),
         known: Some(second),
     }
 }
@@ -101,9 +98,7 @@ fn transfer(rng: &mut Rng, net: &mut [i64], one: usize, other: usize, largest: i
     if one == other {
         return;
     }
-    let room = (MOST_EXPORT - net[one])
-        .min(MOST_EXPORT + net[other])
-        .min(largest);
+    let room = (MOST_EXPORT - net[one]).min(MOST_EXPORT + net[other]).min(largest);
     let amount = rng.between_or_end(0, room);
     net[one] += amount;
     net[other] -= amount;
@@ -146,8 +141,7 @@ pub fn shut(rng: &mut Rng, zones: usize) -> Exchange {
     let inside = |zone: u8| usize::from(zone) < size;
     let leaves = |pair: &(u8, u8)| inside(pair.0) && !inside(pair.1);
     let prices = made.prices.clone();
-    made.pairs
-        .retain(|pair| !(leaves(pair) && counts(&prices, *pair)));
+    made.pairs.retain(|pair| !(leaves(pair) && counts(&prices, *pair)));
     made.net = vec![0; zones];
     let largest = rng.pick(&[1, 1_000, MOST_EXPORT]);
     for _ in 0..rng.below(zones) {
@@ -159,9 +153,7 @@ pub fn shut(rng: &mut Rng, zones: usize) -> Exchange {
     }
     // One tenth at least goes from the set to the others.
     let from = (0..size).min_by_key(|z| made.net[*z]).expect("not empty");
-    let to = (size..zones)
-        .max_by_key(|z| made.net[*z])
-        .expect("not empty");
+    let to = (size..zones).max_by_key(|z| made.net[*z]).expect("not empty");
     let room = (MOST_EXPORT - made.net[from]).min(MOST_EXPORT + made.net[to]);
     let amount = rng.between_or_end(1, room.min(largest));
     made.net[from] += amount;
@@ -180,11 +172,7 @@ pub fn ladder(rng: &mut Rng, rungs: usize) -> Exchange {
     let mut net = vec![0; 2 * rungs];
     let mut pairs = Vec::new();
     for rung in 0..rungs {
-        let amount = if alike {
-            largest
-        } else {
-            rng.between_or_end(1, largest)
-        };
+        let amount = if alike { largest } else { rng.between_or_end(1, largest) };
         net[rung] = amount;
         net[rungs + rung] = -amount;
         let (export, import) = (rung as u8, (rungs + rung) as u8);
@@ -197,15 +185,8 @@ pub fn ladder(rng: &mut Rng, rungs: usize) -> Exchange {
     }
     let base = rng.between(LOWEST, HIGHEST - 1);
     let step = rng.below(2) as i64;
-    let prices = (0..2 * rungs)
-        .map(|zone| base + if zone < rungs { 0 } else { step })
-        .collect();
-    let mut made = Exchange {
-        net,
-        prices,
-        pairs,
-        known: Some(whole),
-    };
+    let prices = (0..2 * rungs).map(|zone| base + if zone < rungs { 0 } else { step }).collect();
+    let mut made = Exchange { net, prices, pairs, known: Some(whole) };
     if 2 * rungs < MOST_ZONES && rng.one_in(2) {
         made.through_a_zone(rng);
     }

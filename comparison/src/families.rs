@@ -120,11 +120,7 @@ fn tolerance_about_the_gap(run: &mut Run, rng: &mut Rng) {
 
 fn limits_of_each_field(run: &mut Run, rng: &mut Rng) {
     let every = rng.one_in(2);
-    let shape = if every {
-        Shape::small(rng)
-    } else {
-        Shape::any(rng)
-    };
+    let shape = if every { Shape::small(rng) } else { Shape::any(rng) };
     let hour = good(rng, shape);
     let (mut case, mut proposal) = (hour.case(), hour.proposal());
     let originals = (case.clone(), proposal.clone());
@@ -134,14 +130,7 @@ fn limits_of_each_field(run: &mut Run, rng: &mut Rng) {
     for n in 0..count {
         let field = if every { list[n] } else { rng.pick(&list) };
         let (least, greatest) = (field.least, field.greatest);
-        for value in [
-            least - 1,
-            least,
-            least + 1,
-            greatest - 1,
-            greatest,
-            greatest + 1,
-        ] {
+        for value in [least - 1, least, least + 1, greatest - 1, greatest, greatest + 1] {
             let (lowest, highest) = field.room();
             if value < lowest || value > highest {
                 continue;
@@ -200,11 +189,7 @@ fn made_longer(run: &mut Run, rng: &mut Rng) {
     let hour = good(rng, shape);
     let (mut case, mut proposal) = (hour.case(), hour.proposal());
     let lengthen_case = rng.one_in(2);
-    let file = if lengthen_case {
-        &mut case
-    } else {
-        &mut proposal
-    };
+    let file = if lengthen_case { &mut case } else { &mut proposal };
     for _ in 0..rng.pick(&[1, 1, 4, 10, 1_000]) {
         file.push(rng.next() as u8);
     }
@@ -217,11 +202,7 @@ fn bytes_flipped(run: &mut Run, rng: &mut Rng) {
     let hour = good(rng, shape);
     let (mut case, mut proposal) = (hour.case(), hour.proposal());
     for _ in 0..1 + rng.below(3) {
-        let file = if rng.one_in(2) {
-            &mut case
-        } else {
-            &mut proposal
-        };
+        let file = if rng.one_in(2) { &mut case } else { &mut proposal };
         change_a_byte(rng, file);
     }
     run.feed(&case, &proposal, enough(rng));
@@ -237,11 +218,7 @@ pub fn change_a_byte(rng: &mut Rng, file: &mut [u8]) {
 }
 
 /// Such a field of an hour that its bytes can put out of range, and such a value.
-pub fn one_outside(
-    rng: &mut Rng,
-    hour: &Hour,
-    such: impl Fn(&Field) -> bool,
-) -> Option<(Field, i64)> {
+pub fn one_outside(rng: &mut Rng, hour: &Hour, such: impl Fn(&Field) -> bool) -> Option<(Field, i64)> {
     let list: Vec<Field> = fields(hour).into_iter().filter(such).collect();
     if list.is_empty() {
         return None;
@@ -257,9 +234,7 @@ pub fn outside(rng: &mut Rng, field: &Field) -> Option<i64> {
     let below = lowest < field.least;
     match (above, below) {
         (false, false) => None,
-        (true, below) if !below || rng.one_in(2) => {
-            Some(rng.between_or_end(field.greatest + 1, highest))
-        }
+        (true, below) if !below || rng.one_in(2) => Some(rng.between_or_end(field.greatest + 1, highest)),
         _ => Some(rng.between_or_end(lowest, field.least - 1)),
     }
 }
@@ -270,15 +245,7 @@ fn several_faults(run: &mut Run, rng: &mut Rng) {
     let hour = good(rng, shape);
     let (mut case, mut proposal) = (hour.case(), hour.proposal());
     // From one part of the files only, for else small numbers hide the others.
-    let numbers = rng.pick(&[
-        (0, 30),
-        (2, 4),
-        (6, 8),
-        (7, 8),
-        (10, 14),
-        (13, 21),
-        (14, 23),
-    ]);
+    let numbers = rng.pick(&[(0, 30), (2, 4), (6, 8), (7, 8), (10, 14), (13, 21), (14, 23)]);
     let mut list = fields(&hour);
     list.retain(|field| numbers.0 <= field.number && field.number <= numbers.1);
     let mut due = (u32::MAX, 0);
@@ -328,8 +295,7 @@ fn bad_pairs(run: &mut Run, rng: &mut Rng) {
     let mut due = (later, 0);
     if rng.one_in(2) {
         let earlier = rng.below(later);
-        (hour.links[later].from, hour.links[later].to) =
-            (hour.links[earlier].from, hour.links[earlier].to);
+        (hour.links[later].from, hour.links[later].to) = (hour.links[earlier].from, hour.links[earlier].to);
     } else {
         hour.links[later].from = hour.links[later].to;
         due = (later, 1);
@@ -356,11 +322,7 @@ fn row(rng: &mut Rng, count: usize) -> usize {
 }
 
 fn rules_at_their_edges(run: &mut Run, rng: &mut Rng) {
-    let shape = if rng.one_in(20) {
-        Shape::LARGEST
-    } else {
-        Shape::any(rng)
-    };
+    let shape = if rng.one_in(20) { Shape::LARGEST } else { Shape::any(rng) };
     let mut hour = good(rng, shape);
     match rng.below(6) {
         0 => volume_past_balance(run, rng, &mut hour),
@@ -471,12 +433,7 @@ fn gap_by_one_microcent(run: &mut Run, rng: &mut Rng, zones: u8) {
             version: version(rng),
             zones,
             branches: vec![Branch { ram: 0, ptdfs }],
-            orders: vec![Row {
-                zone: zone as u8,
-                side,
-                quantity: 1,
-                price: price as i32,
-            }],
+            orders: vec![Row { zone: zone as u8, side, quantity: 1, price: price as i32 }],
             volumes: vec![0],
             shadow_prices: vec![1],
             system_price,
@@ -514,14 +471,7 @@ fn plain_shapes(run: &mut Run, rng: &mut Rng) {
         2 => shape.branches = 0,
         3 => shape.links = 0,
         4 => shape.orders = 0,
-        5 => {
-            shape = Shape {
-                zones: shape.zones,
-                branches: 0,
-                links: 0,
-                orders: 0,
-            }
-        }
+        5 => shape = Shape { zones: shape.zones, branches: 0, links: 0, orders: 0 },
         6 => shape.branches = shape.branches.max(1),
         _ if rng.one_in(4) => shape = Shape::LARGEST,
         _ => {}
@@ -544,10 +494,7 @@ pub fn widest_totals(run: &mut Run) {
     run.begin("totals at their widest");
     for case in widest() {
         for tolerance in [0, 10_000] {
-            let hour = Hour {
-                tolerance,
-                ..case.hour.clone()
-            };
+            let hour = Hour { tolerance, ..case.hour.clone() };
             let verdict = run.feed(&hour.case(), &hour.proposal(), LEAST_BUFFER);
             if verdict.number != 0 && verdict.number != 26 {
                 run.fault(|| format!("{}: {verdict:?}", case.name));

@@ -44,26 +44,10 @@ struct Walk {
 }
 
 impl Walk {
-    fn field(
-        &mut self,
-        width: usize,
-        least: i64,
-        greatest: i64,
-        number: u32,
-        index: usize,
-    ) -> &mut Field {
+    fn field(&mut self, width: usize, least: i64, greatest: i64, number: u32, index: usize) -> &mut Field {
         let (in_case, at, index) = (self.in_case, self.at, index as u32);
         self.at += width;
-        self.list.push(Field {
-            in_case,
-            at,
-            width,
-            least,
-            greatest,
-            number,
-            index,
-            tied: false,
-        });
+        self.list.push(Field { in_case, at, width, least, greatest, number, index, tied: false });
         self.list.last_mut().expect("just pushed")
     }
 
@@ -76,11 +60,7 @@ impl Walk {
 
 /// Every field of both files, in file order.
 pub fn fields(hour: &Hour) -> Vec<Field> {
-    let mut case = Walk {
-        list: Vec::new(),
-        in_case: true,
-        at: 0,
-    };
+    let mut case = Walk { list: Vec::new(), in_case: true, at: 0 };
     case.mark(b"LTC", 2);
     case.field(2, 1, 2, 3, 0);
     case.field(1, 1, 16, 4, 5);
@@ -114,18 +94,12 @@ pub fn fields(hour: &Hour) -> Vec<Field> {
         case.field(4, -50_000, 400_000, 8, case.at);
     }
 
-    let mut proposal = Walk {
-        list: case.list,
-        in_case: false,
-        at: 0,
-    };
+    let mut proposal = Walk { list: case.list, in_case: false, at: 0 };
     proposal.mark(b"LTP", 10);
     proposal.field(2, 1, 1, 11, 0);
     proposal.field(4, 0, 100_000, 13, 0);
     // The system price: no value is refused, and none is outside.
-    proposal
-        .field(4, i32::MIN.into(), i32::MAX.into(), 0, 0)
-        .tied = true;
+    proposal.field(4, i32::MIN.into(), i32::MAX.into(), 0, 0).tied = true;
     for (o, row) in hour.orders.iter().enumerate() {
         proposal.field(4, 0, row.quantity.into(), 21, o);
     }

@@ -2,10 +2,10 @@
 //! cause alone and beside others, every limit, and all small exchanges. Each
 //! input goes to S-13's entries too, whose answers must be the wide ones'.
 
-use crate::archive;
 use crate::exchange::*;
 use crate::families::good;
 use crate::lent::Lent;
+use crate::library;
 use crate::make::{random as random_hour, Shape};
 use crate::planted::{Cause, Planted, CAUSES};
 use crate::rng::Rng;
@@ -17,9 +17,8 @@ use second_judge::{hour_intuitive_as, intuitive_as, CarriedAnswer, IntuitiveBuil
 const LEAST_HOURS: u64 = 10_000;
 const NUMBERS: [u32; 6] = [0, 81, 82, 83, 84, 85];
 /// Those of the judgement but 30, and the two that an accepted hour can have.
-const HOUR_NUMBERS: [u32; 25] = [
-    0, 1, 2, 3, 4, 5, 6, 7, 8, 9, 10, 11, 12, 13, 14, 15, 21, 22, 23, 24, 25, 26, 27, 84, 85,
-];
+const HOUR_NUMBERS: [u32; 25] =
+    [0, 1, 2, 3, 4, 5, 6, 7, 8, 9, 10, 11, 12, 13, 14, 15, 21, 22, 23, 24, 25, 26, 27, 84, 85];
 
 /// Things a good stream of inputs must come across, counted; the first so many
 /// of lta_intuitive, the others of lta_hour_intuitive.
@@ -57,40 +56,24 @@ enum Asked<'a> {
 }
 
 impl Asked<'_> {
-    fn second(
-        self,
-        build: IntuitiveBuild,
-        size: ScratchSize,
-        pairs: &[u8],
-        scratch: &mut [i64],
-    ) -> CarriedAnswer {
+    fn second(self, build: IntuitiveBuild, size: ScratchSize, pairs: &[u8], scratch: &mut [i64]) -> CarriedAnswer {
         match self {
             Asked::Positions(net, prices) => intuitive_as(build, size, net, prices, pairs, scratch),
-            Asked::Hour(case, proposal) => {
-                hour_intuitive_as(build, size, case, proposal, pairs, scratch)
-            }
+            Asked::Hour(case, proposal) => hour_intuitive_as(build, size, case, proposal, pairs, scratch),
         }
     }
 
-    fn archive(
-        self,
-        size: ScratchSize,
-        pairs: &[u8],
-        scratch: &mut [i64],
-        null: bool,
-    ) -> CarriedAnswer {
+    fn archive(self, size: ScratchSize, pairs: &[u8], scratch: &mut [i64], null: bool) -> CarriedAnswer {
         match (self, size) {
-            (Asked::Positions(net, prices), ScratchSize::Wide) => {
-                archive::intuitive(net, prices, pairs, scratch, null)
-            }
+            (Asked::Positions(net, prices), ScratchSize::Wide) => library::intuitive(net, prices, pairs, scratch, null),
             (Asked::Positions(net, prices), ScratchSize::Small) => {
-                archive::intuitive_small(net, prices, pairs, scratch, null)
+                library::intuitive_small(net, prices, pairs, scratch, null)
             }
             (Asked::Hour(case, proposal), ScratchSize::Wide) => {
-                archive::hour_intuitive(case, proposal, pairs, scratch, null)
+                library::hour_intuitive(case, proposal, pairs, scratch, null)
             }
             (Asked::Hour(case, proposal), ScratchSize::Small) => {
-                archive::hour_intuitive_small(case, proposal, pairs, scratch, null)
+                library::hour_intuitive_small(case, proposal, pairs, scratch, null)
             }
         }
     }
@@ -112,11 +95,7 @@ impl Asked<'_> {
                 format!("{} positions, {} prices", net.len(), prices.len())
             }
             Asked::Hour(case, proposal) => {
-                format!(
-                    "case of {} bytes, proposal of {}",
-                    case.len(),
-                    proposal.len()
-                )
+                format!("case of {} bytes, proposal of {}", case.len(), proposal.len())
             }
         }
     }
@@ -133,13 +112,7 @@ struct Tally {
 
 impl Tally {
     fn new(wrong: &[(IntuitiveBuild, &str)]) -> Tally {
-        Tally {
-            inputs: 0,
-            hours: 0,
-            numbers: [0; 86],
-            hour_numbers: [0; 86],
-            second_wrong: vec![0; wrong.len()],
-        }
+        Tally { inputs: 0, hours: 0, numbers: [0; 86], hour_numbers: [0; 86], second_wrong: vec![0; wrong.len()] }
     }
 
     fn count(&mut self, asked: Asked, answer: CarriedAnswer, wrong: &[bool]) {
@@ -229,10 +202,8 @@ impl Exchanges<'_> {
             ScratchSize::Wide => (&IntuitiveBuild::WRONG[..], &mut self.wide),
             ScratchSize::Small => (&IntuitiveBuild::SMALL_WRONG[..], &mut self.small),
         };
-        let wrong: Vec<bool> = builds
-            .iter()
-            .map(|(build, _)| lent.to(|scratch| second(*build, scratch)) != theirs)
-            .collect();
+        let wrong: Vec<bool> =
+            builds.iter().map(|(build, _)| lent.to(|scratch| second(*build, scratch)) != theirs).collect();
         tally.count(asked, ours.answer, &wrong);
         (ours.answer, wrong)
     }
@@ -245,12 +216,7 @@ impl Exchanges<'_> {
     }
 
     fn meet(&mut self, asked: Asked, pairs: &[u8], answer: CarriedAnswer, wrong: &[bool]) {
-        let CarriedAnswer {
-            number,
-            index,
-            intuitive,
-            total,
-        } = answer;
+        let CarriedAnswer { number, index, intuitive, total } = answer;
         let (yes, no) = (number == 0 && intuitive == 1, number == 0 && intuitive == 0);
         let found = |build| {
             let at = IntuitiveBuild::WRONG.iter().position(|row| row.0 == build);
@@ -302,13 +268,9 @@ impl Exchanges<'_> {
         let answer = self.feed(asked, &pairs, SCRATCH + self.inputs as usize % 3);
         let exports: i64 = made.net.iter().map(|one| one.max(&0)).sum();
         let whole = (answer.number, answer.total == exports) == (0, answer.intuitive == 1);
-        let as_made = made
-            .known
-            .is_none_or(|known| answer.intuitive == known.into());
+        let as_made = made.known.is_none_or(|known| answer.intuitive == known.into());
         if !whole || !as_made {
-            self.fault(asked, &pairs, SCRATCH, || {
-                format!("{answer:?} where {:?} is due", made.known)
-            });
+            self.fault(asked, &pairs, SCRATCH, || format!("{answer:?} where {:?} is due", made.known));
         }
         answer
     }
@@ -320,9 +282,7 @@ impl Exchanges<'_> {
         let answer = self.feed(asked, &pairs, made.room);
         let due = made.due();
         if (answer.number, answer.index) != due {
-            self.fault(asked, &pairs, made.room, || {
-                format!("{answer:?} where {due:?} is due")
-            });
+            self.fault(asked, &pairs, made.room, || format!("{answer:?} where {due:?} is due"));
         }
     }
 }
@@ -359,20 +319,11 @@ pub fn exchanges(run: &mut Run, rng: &mut Rng) {
     ];
     told(run, sections, &all.small, &IntuitiveBuild::SMALL_WRONG);
     run.section("the smaller scratch, and the wide one on the same input");
-    run.check_times(
-        "both took it, and said the same".into(),
-        all.both_took,
-        LEAST_INPUTS,
-    );
+    run.check_times("both took it, and said the same".into(), all.both_took, LEAST_INPUTS);
 }
 
 /// What the entries of one size met: inputs, each number, and the wrong builds.
-fn told(
-    run: &mut Run,
-    sections: [&'static str; 3],
-    tally: &Tally,
-    builds: &[(IntuitiveBuild, &str)],
-) {
+fn told(run: &mut Run, sections: [&'static str; 3], tally: &Tally, builds: &[(IntuitiveBuild, &str)]) {
     let Tally { inputs, hours, .. } = *tally;
     run.section(sections[0]);
     run.check_times("inputs".into(), inputs, LEAST_INPUTS);
@@ -401,11 +352,8 @@ fn answered(all: &mut Exchanges, rng: &mut Rng) {
     all.run.end();
 
     type Maker = fn(&mut Rng, usize) -> Exchange;
-    let kinds: [(&str, u64, Maker); 3] = [
-        ("random exchanges", 8_000, random),
-        ("carried by flows", 5_000, carried),
-        ("a set shut in", 5_000, shut),
-    ];
+    let kinds: [(&str, u64, Maker); 3] =
+        [("random exchanges", 8_000, random), ("carried by flows", 5_000, carried), ("a set shut in", 5_000, shut)];
     for (name, times, make) in kinds {
         all.run.begin(name);
         for _ in 0..times {
@@ -432,14 +380,10 @@ fn answered(all: &mut Exchanges, rng: &mut Rng) {
 /// Each exchange of three zones with every choice of pairs, prices from 0 to 2
 /// and positions from -2 to 2.
 fn small_ones(all: &mut Exchanges) {
-    all.run
-        .begin("all of three zones, prices 0 to 2, positions -2 to 2");
+    all.run.begin("all of three zones, prices 0 to 2, positions -2 to 2");
     let every = [(0, 1), (0, 2), (1, 0), (1, 2), (2, 0), (2, 1)];
     for chosen in 0..64 {
-        let pairs: Vec<(u8, u8)> = (0..6)
-            .filter(|n| chosen >> n & 1 == 1)
-            .map(|n| every[n])
-            .collect();
+        let pairs: Vec<(u8, u8)> = (0..6).filter(|n| chosen >> n & 1 == 1).map(|n| every[n]).collect();
         for prices in 0..27 {
             for (one, other) in (-2..=2).flat_map(|one| (-2..=2).map(move |other| (one, other))) {
                 if i64::abs(one + other) > 2 {
@@ -516,8 +460,7 @@ fn at_the_limits(all: &mut Exchanges, rng: &mut Rng) {
             let answer = all.feed(Asked::Positions(&net, &list), &[], SCRATCH);
             let good = (1..=MOST_ZONES).contains(&zones) && zones == prices;
             if (answer.number == 0) != good {
-                all.run
-                    .fault(|| format!("{answer:?} for {zones}, {prices}"));
+                all.run.fault(|| format!("{answer:?} for {zones}, {prices}"));
             }
         }
     }
@@ -615,9 +558,7 @@ fn at_the_limits(all: &mut Exchanges, rng: &mut Rng) {
     all.run.end();
 
     all.run.begin("lengths of the scratch");
-    for room in (0..=660)
-        .filter(|n| *n < 4 || (90..=102).contains(n) || (318..=332).contains(n) || n % 50 == 0)
-    {
+    for room in (0..=660).filter(|n| *n < 4 || (90..=102).contains(n) || (318..=332).contains(n) || n % 50 == 0) {
         // By threes, so that each length goes to both entries as it is.
         for zones in [1, 5, MOST_ZONES] {
             let mut made = Planted::good(rng, zones);
@@ -629,13 +570,9 @@ fn at_the_limits(all: &mut Exchanges, rng: &mut Rng) {
 
     all.run.begin("null with length 0");
     let one: (&[i64], &[i64]) = (&[0], &[0]);
-    for (net, prices, room) in [
-        (&[][..], &[][..], 0),
-        (one.0, &[], 0),
-        (&[], one.1, SCRATCH),
-        (one.0, one.1, 0),
-        (one.0, one.1, SCRATCH),
-    ] {
+    for (net, prices, room) in
+        [(&[][..], &[][..], 0), (one.0, &[], 0), (&[], one.1, SCRATCH), (one.0, one.1, 0), (one.0, one.1, SCRATCH)]
+    {
         all.feed_as(Asked::Positions(net, prices), &[], room, true);
     }
     all.feed_as(Asked::Hour(&[], &[]), &[], 0, true);
@@ -684,8 +621,7 @@ fn hours(all: &mut Exchanges, rng: &mut Rng) {
                 let answer = all.feed(Asked::Hour(&hour.case, &hour.proposal), pairs, room);
                 let judged = (hour.number, hour.index);
                 if hour.number != 0 && (answer.number, answer.index) != judged {
-                    all.run
-                        .fault(|| format!("{answer:?} where {judged:?} is due"));
+                    all.run.fault(|| format!("{answer:?} where {judged:?} is due"));
                 }
             }
         }
@@ -716,11 +652,7 @@ fn hours(all: &mut Exchanges, rng: &mut Rng) {
         let shape = Shape::small(rng);
         let hour = good(rng, shape);
         let (mut case, mut proposal) = (hour.case(), hour.proposal());
-        let file = if rng.one_in(2) {
-            &mut case
-        } else {
-            &mut proposal
-        };
+        let file = if rng.one_in(2) { &mut case } else { &mut proposal };
         let at = rng.below(file.len());
         match rng.below(4) {
             0 => file.truncate(at),

@@ -32,10 +32,7 @@ impl Lent<u8> {
 impl<T: Clone> Lent<T> {
     pub fn filled(room: usize, pattern: impl Fn(u64) -> T) -> Lent<T> {
         let space = 0..(GUARD + room + GUARD) as u64;
-        Lent {
-            filled: space.map(pattern).collect(),
-            room: GUARD..GUARD + room,
-        }
+        Lent { filled: space.map(pattern).collect(), room: GUARD..GUARD + room }
     }
 
     /// Lends only so much of the room: the rest is a side too.
@@ -48,15 +45,10 @@ impl<T: Clone> Lent<T> {
     pub fn to<A>(&self, entry: impl FnOnce(&mut [T]) -> A) -> Left<A, T> {
         let (mut space, room) = (self.filled.clone(), self.room.clone());
         let answer = entry(&mut space[room.clone()]);
-        Left {
-            answer,
-            space,
-            room,
-        }
+        Left { answer, space, room }
     }
 
     /// Counts each wrong build of the second judge that is told from the archive.
-    #[allow(dead_code)] // by entries beside the judgement, where one is built
     pub fn tell<A: PartialEq, B: Copy>(
         &self,
         archive: &Left<A, T>,
@@ -90,8 +82,6 @@ impl<A: PartialEq + Debug, T: PartialEq + Display> Left<A, T> {
         let mut both = self.space.iter().zip(&second.space).zip(0..);
         let ((one, other), at) = both.find(|((one, other), _)| one != other)?;
         let at: i64 = at - GUARD as i64;
-        Some(format!(
-            "place {at} of the room: archive {one}, second judge {other}"
-        ))
+        Some(format!("place {at} of the room: archive {one}, second judge {other}"))
     }
 }

@@ -6,44 +6,9 @@
 //!
 //! Arguments, both optional: the seed, the number of inputs for the judgement.
 
-mod archive;
-#[cfg(feature = "book")]
-mod book;
-#[cfg(feature = "columns")]
-mod columns;
-#[cfg(feature = "desk")]
-mod desk;
-#[cfg(feature = "dump")]
-mod dump;
-#[cfg(feature = "intuitive")]
-mod exchange;
-mod families;
-mod fields;
-#[cfg(feature = "intuitive")]
-mod intuitive;
-mod lent;
-mod make;
-mod no_links;
-mod offsets;
-#[cfg(feature = "families")]
-mod parents;
-mod places;
-#[cfg(feature = "intuitive")]
-mod planted;
-#[cfg(feature = "queue")]
-mod queue;
-mod rearranged;
-mod rng;
-mod run;
-#[cfg(feature = "sheet")]
-mod sheet;
-#[cfg(feature = "shortfalls")]
-mod shortfalls;
-mod versions;
-mod wide;
-
-use rng::Rng;
-use run::{Check, Run, MET};
+use comparison::rng::Rng;
+use comparison::run::{Check, Run, MET};
+use comparison::*;
 use second_judge::Build;
 use std::process::ExitCode;
 use std::time::Instant;
@@ -51,9 +16,7 @@ use std::time::Instant;
 const SEED: u64 = 1;
 const INPUTS: u64 = 260_000;
 /// Every number of the verdict table.
-const NUMBERS: [u32; 24] = [
-    0, 1, 2, 3, 4, 5, 6, 7, 8, 9, 10, 11, 12, 13, 14, 15, 21, 22, 23, 24, 25, 26, 27, 30,
-];
+const NUMBERS: [u32; 24] = [0, 1, 2, 3, 4, 5, 6, 7, 8, 9, 10, 11, 12, 13, 14, 15, 21, 22, 23, 24, 25, 26, 27, 30];
 
 fn main() -> ExitCode {
     let mut arguments = std::env::args().skip(1).map(|text| text.parse::<u64>());
@@ -92,26 +55,15 @@ fn main() -> ExitCode {
     no_links::hours(&mut run, &mut Rng::new(seed));
     wide::hours(&mut run, &mut Rng::new(seed));
     rearranged::hours(&mut run, &mut Rng::new(seed));
-    #[cfg(feature = "desk")]
-    {
-        desk::end(&mut run);
-        desk::three_zone_lines(&mut run);
-    }
-    #[cfg(feature = "book")]
+    desk::end(&mut run);
+    desk::three_zone_lines(&mut run);
     book::books(&mut run, &mut Rng::new(seed));
-    #[cfg(feature = "sheet")]
     sheet::sheets(&mut run, &mut Rng::new(seed));
-    #[cfg(feature = "intuitive")]
     intuitive::exchanges(&mut run, &mut Rng::new(seed));
-    #[cfg(feature = "dump")]
     dump::dumps(&mut run, &mut Rng::new(seed));
-    #[cfg(feature = "columns")]
     columns::files(&mut run, &mut Rng::new(seed));
-    #[cfg(feature = "families")]
     parents::lists(&mut run, &mut Rng::new(seed));
-    #[cfg(feature = "shortfalls")]
     shortfalls::hours(&mut run, &mut Rng::new(seed));
-    #[cfg(feature = "queue")]
     queue::queues(&mut run, &mut Rng::new(seed));
 
     run.section("verdicts, times met");
@@ -125,35 +77,12 @@ fn main() -> ExitCode {
     run.section("the second judge's wrong builds, times told from the archive");
     for ((_, name), found) in Build::WRONG.iter().zip(run.second_wrong) {
         let tried = run.second_wrong_tried;
-        let note = format!(
-            "{} of the paper, {} of {tried} made",
-            found.of_paper, found.made
-        );
+        let note = format!("{} of the paper, {} of {tried} made", found.of_paper, found.made);
         run.check(name.to_string(), found.made > 0, note);
     }
 
     print_table(&run.checks);
-    // Fewer checks must not look like a whole run.
-    for (name, built) in [
-        ("book", cfg!(feature = "book")),
-        ("desk", cfg!(feature = "desk")),
-        ("sheet", cfg!(feature = "sheet")),
-        ("intuitive", cfg!(feature = "intuitive")),
-        ("dump", cfg!(feature = "dump")),
-        ("columns", cfg!(feature = "columns")),
-        ("families", cfg!(feature = "families")),
-        ("shortfalls", cfg!(feature = "shortfalls")),
-        ("queue", cfg!(feature = "queue")),
-    ] {
-        if !built {
-            println!("NOT COMPARED: the {name} entry (built without the feature {name})");
-        }
-    }
-    println!(
-        "{} inputs in {:.1} s",
-        run.inputs,
-        start.elapsed().as_secs_f64()
-    );
+    println!("{} inputs in {:.1} s", run.inputs, start.elapsed().as_secs_f64());
     let passed = run.checks.iter().filter(|check| check.passed).count();
     let failed = run.checks.len() - passed;
     println!("{passed} passed, {failed} failed");
@@ -177,10 +106,7 @@ fn print_table(checks: &[Check]) {
             .collect();
         let width = 2 + entries.iter().map(String::len).max().unwrap_or(0);
         for line in entries.chunks((96 / width).max(1)) {
-            let line: String = line
-                .iter()
-                .map(|entry| format!("{entry:<width$}"))
-                .collect();
+            let line: String = line.iter().map(|entry| format!("{entry:<width$}")).collect();
             println!("  {}", line.trim_end());
         }
     }

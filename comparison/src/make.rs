@@ -29,12 +29,7 @@ pub struct Shape {
 }
 
 impl Shape {
-    pub const LARGEST: Shape = Shape {
-        zones: 16,
-        branches: 64,
-        links: 64,
-        orders: 512,
-    };
+    pub const LARGEST: Shape = Shape { zones: 16, branches: 64, links: 64, orders: 512 };
 
     pub fn small(rng: &mut Rng) -> Shape {
         Shape::within(rng, [4, 4, 6, 12])
@@ -51,7 +46,6 @@ impl Shape {
     }
 
     /// A small one, but for one out of so many.
-    #[allow(dead_code)] // by entries beside the judgement, where one is built
     pub fn mostly_small(rng: &mut Rng, every: usize) -> Shape {
         match rng.one_in(every) {
             true => Shape::any(rng),
@@ -102,12 +96,7 @@ pub fn version(rng: &mut Rng) -> Version {
 
 /// A link of which nothing is contracted yet.
 fn link((from, to): (u8, u8), capacity: u32) -> Link {
-    Link {
-        from,
-        to,
-        capacity,
-        contracted: 0,
-    }
+    Link { from, to, capacity, contracted: 0 }
 }
 
 /// Contracts a part of each link's capacity, often all of it or none.
@@ -120,10 +109,8 @@ fn contract(rng: &mut Rng, links: &mut [Link]) {
 /// So many different ordered pairs of zones.
 pub fn pairs(rng: &mut Rng, zones: usize, count: usize) -> Vec<(u8, u8)> {
     let zones = zones as u8;
-    let mut all: Vec<(u8, u8)> = (0..zones)
-        .flat_map(|from| (0..zones).map(move |to| (from, to)))
-        .filter(|(from, to)| from != to)
-        .collect();
+    let mut all: Vec<(u8, u8)> =
+        (0..zones).flat_map(|from| (0..zones).map(move |to| (from, to))).filter(|(from, to)| from != to).collect();
     for n in 0..count {
         let other = n + rng.below(all.len() - n);
         all.swap(n, other);
@@ -154,12 +141,7 @@ pub fn flow_based_parts(hour: &Hour) -> [i64; 16] {
 
 /// Rule 5, the left side of a branch.
 pub fn used(branch: &Branch, parts: &[i64; 16]) -> i64 {
-    branch
-        .ptdfs
-        .iter()
-        .zip(parts)
-        .map(|(&ptdf, part)| i64::from(ptdf) * part)
-        .sum()
+    branch.ptdfs.iter().zip(parts).map(|(&ptdf, part)| i64::from(ptdf) * part).sum()
 }
 
 /// Rule 5: the least RAM that lets so much pass; none at share 100,000.
@@ -173,14 +155,11 @@ pub fn least_ram(used: i64, share: u32) -> Option<i64> {
 pub fn zone_price(hour: &Hour, zone: usize) -> i64 {
     let branches = hour.branches.iter().zip(&hour.shadow_prices);
     ONE * i64::from(hour.system_price)
-        + branches
-            .map(|(row, &shadow)| i64::from(row.ptdfs[zone]) * i64::from(shadow))
-            .sum::<i64>()
+        + branches.map(|(row, &shadow)| i64::from(row.ptdfs[zone]) * i64::from(shadow)).sum::<i64>()
 }
 
 fn prices_in_range(hour: &Hour) -> bool {
-    (0..usize::from(hour.zones))
-        .all(|zone| (ONE * LOW..=ONE * HIGH).contains(&zone_price(hour, zone)))
+    (0..usize::from(hour.zones)).all(|zone| (ONE * LOW..=ONE * HIGH).contains(&zone_price(hour, zone)))
 }
 
 /// Rule 4: the most flow a link takes.
@@ -191,22 +170,15 @@ pub fn most_flow(share: u32, capacity: u32) -> i64 {
 /// An hour with gap zero, made as told above.
 pub fn optimal(rng: &mut Rng, shape: Shape) -> Hour {
     // Where a volume does not fit its orders, all volumes are halved.
-    (0..)
-        .find_map(|halvings| try_optimal(rng, shape, halvings))
-        .expect("volumes end at zero")
+    (0..).find_map(|halvings| try_optimal(rng, shape, halvings)).expect("volumes end at zero")
 }
 
 fn try_optimal(rng: &mut Rng, shape: Shape, halvings: u32) -> Option<Hour> {
     // PTDFs in thousands and shadow prices in hundreds, so that zone prices
     // are whole cents and orders can be just at them.
     let widest = rng.pick(&[20, 100, 200]);
-    let ptdfs: Vec<Vec<i64>> = (0..shape.branches)
-        .map(|_| {
-            (0..shape.zones)
-                .map(|_| 1_000 * rng.between(-widest, widest))
-                .collect()
-        })
-        .collect();
+    let ptdfs: Vec<Vec<i64>> =
+        (0..shape.branches).map(|_| (0..shape.zones).map(|_| 1_000 * rng.between(-widest, widest)).collect()).collect();
     let dearest = rng.pick(&[1, 10, 60, 500, 10_000]);
     let mut shadows: Vec<i64> = (0..shape.branches)
         .map(|_| match shape.orders > 0 && rng.one_in(3) {
@@ -217,19 +189,13 @@ fn try_optimal(rng: &mut Rng, shape: Shape, halvings: u32) -> Option<Hour> {
     let mut prices = vec![0; shape.zones];
     let system_price = loop {
         for (zone, price) in prices.iter_mut().enumerate() {
-            *price = ptdfs
-                .iter()
-                .zip(&shadows)
-                .map(|(row, shadow)| row[zone] * shadow / ONE)
-                .sum();
+            *price = ptdfs.iter().zip(&shadows).map(|(row, shadow)| row[zone] * shadow / ONE).sum();
         }
         let (least, greatest) = (prices.iter().min()?, prices.iter().max()?);
         if greatest - least <= HIGH - LOW {
             break rng.between_or_end(LOW - least, HIGH - greatest);
         }
-        shadows
-            .iter_mut()
-            .for_each(|shadow| *shadow = *shadow / 200 * 100);
+        shadows.iter_mut().for_each(|shadow| *shadow = *shadow / 200 * 100);
     };
     prices.iter_mut().for_each(|price| *price += system_price);
 
@@ -251,11 +217,7 @@ fn try_optimal(rng: &mut Rng, shape: Shape, halvings: u32) -> Option<Hour> {
     let mut flows = Vec::with_capacity(links.len());
     for link in &links {
         let (capacity, full) = (i64::from(link.capacity), spread(link) > 0);
-        flows.push(if full {
-            most_flow(share, link.capacity) as u32
-        } else {
-            0
-        });
+        flows.push(if full { most_flow(share, link.capacity) as u32 } else { 0 });
         if full {
             net[usize::from(link.to)] += capacity;
             net[usize::from(link.from)] -= capacity;
@@ -270,12 +232,7 @@ fn try_optimal(rng: &mut Rng, shape: Shape, halvings: u32) -> Option<Hour> {
     }
     let mut branches = Vec::with_capacity(shape.branches);
     for (row, &shadow) in ptdfs.iter().zip(&shadows) {
-        let full: i64 = row
-            .iter()
-            .zip(net)
-            .map(|(ptdf, position)| ptdf * position)
-            .sum::<i64>()
-            / ONE;
+        let full: i64 = row.iter().zip(net).map(|(ptdf, position)| ptdf * position).sum::<i64>() / ONE;
         if full.abs() > 500_000 {
             return None;
         }
@@ -286,10 +243,7 @@ fn try_optimal(rng: &mut Rng, shape: Shape, halvings: u32) -> Option<Hour> {
             (_, 0) => rng.between_or_end(full, 500_000),
             (_, _) => full,
         };
-        branches.push(Branch {
-            ram: ram as i32,
-            ptdfs: row.iter().map(|&ptdf| ptdf as i32).collect(),
-        });
+        branches.push(Branch { ram: ram as i32, ptdfs: row.iter().map(|&ptdf| ptdf as i32).collect() });
     }
     if share == 0 && rng.one_in(2) {
         // All is flow-based: what the LTAs would earn may be less.
@@ -332,23 +286,11 @@ fn priced_orders(
         let (zone, side) = (rng.below(zones), rng.below(2) as u8);
         let away = rng.between_or_end(0, nearness);
         let dearer = (side == BUYS) == taken;
-        let price = if dearer {
-            prices[zone] + away
-        } else {
-            prices[zone] - away
-        };
+        let price = if dearer { prices[zone] + away } else { prices[zone] - away };
         let quantity = rng.between_or_end(1, largest) as u32;
         let price = price.clamp(LOW, HIGH) as i32;
         let volume = if taken { quantity } else { 0 };
-        (
-            Row {
-                zone: zone as u8,
-                side,
-                quantity,
-                price,
-            },
-            volume,
-        )
+        (Row { zone: zone as u8, side, quantity, price }, volume)
     };
     // Room is kept for the orders at the zone price that even out each zone.
     for _ in 0..count.min(MOST_ORDERS - 3 * zones) {
@@ -364,12 +306,7 @@ fn priced_orders(
         while open > 0 {
             let volume = open.min(ONE);
             let quantity = rng.between_or_end(volume, ONE) as u32;
-            let row = Row {
-                zone: zone as u8,
-                side,
-                quantity,
-                price: prices[zone] as i32,
-            };
+            let row = Row { zone: zone as u8, side, quantity, price: prices[zone] as i32 };
             orders.push((row, volume as u32));
             open -= volume;
         }
@@ -400,11 +337,7 @@ pub fn feasible(rng: &mut Rng, shape: Shape) -> Hour {
 
 fn disturb(rng: &mut Rng, hour: &mut Hour) {
     if rng.one_in(2) {
-        for ptdf in hour
-            .branches
-            .iter_mut()
-            .flat_map(|branch| &mut branch.ptdfs)
-        {
+        for ptdf in hour.branches.iter_mut().flat_map(|branch| &mut branch.ptdfs) {
             *ptdf = (i64::from(*ptdf) + rng.between(-999, 999)).clamp(-200_000, 200_000) as i32;
         }
     }
@@ -468,9 +401,7 @@ pub fn random(rng: &mut Rng, shape: Shape) -> Hour {
         branches: (0..shape.branches)
             .map(|_| Branch {
                 ram: field(-500_000, 500_000) as i32,
-                ptdfs: (0..zones)
-                    .map(|_| field(-200_000, 200_000) as i32)
-                    .collect(),
+                ptdfs: (0..zones).map(|_| field(-200_000, 200_000) as i32).collect(),
             })
             .collect(),
         orders: (0..shape.orders)
@@ -483,15 +414,11 @@ pub fn random(rng: &mut Rng, shape: Shape) -> Hour {
             .collect(),
         share: field(0, ONE) as u32,
         system_price: field(LOW, HIGH) as i32,
-        shadow_prices: (0..shape.branches)
-            .map(|_| field(0, 1_000_000) as u32)
-            .collect(),
+        shadow_prices: (0..shape.branches).map(|_| field(0, 1_000_000) as u32).collect(),
         ..Hour::default()
     };
-    hour.links = pairs(rng, zones, shape.links)
-        .into_iter()
-        .map(|pair| link(pair, rng.between_or_end(0, ONE) as u32))
-        .collect();
+    hour.links =
+        pairs(rng, zones, shape.links).into_iter().map(|pair| link(pair, rng.between_or_end(0, ONE) as u32)).collect();
     contract(rng, &mut hour.links);
     hour.version = version(rng);
 
@@ -517,11 +444,7 @@ pub fn random(rng: &mut Rng, shape: Shape) -> Hour {
     }
     if seen_to >= 4 {
         // Small PTDFs, for else no margin is wide enough.
-        for ptdf in hour
-            .branches
-            .iter_mut()
-            .flat_map(|branch| &mut branch.ptdfs)
-        {
+        for ptdf in hour.branches.iter_mut().flat_map(|branch| &mut branch.ptdfs) {
             *ptdf /= rng.pick(&[1_000, 10_000]);
         }
         if hour.share == 100_000 && rng.one_in(2) {
@@ -533,9 +456,7 @@ pub fn random(rng: &mut Rng, shape: Shape) -> Hour {
         fit_margins(rng, &mut hour);
     }
     if seen_to >= 5 {
-        hour.shadow_prices
-            .iter_mut()
-            .for_each(|shadow| *shadow /= 64);
+        hour.shadow_prices.iter_mut().for_each(|shadow| *shadow /= 64);
     }
     if seen_to >= 6 {
         hour.system_price = hour.system_price.clamp(0, 300_000);
@@ -566,16 +487,8 @@ pub fn at_limits(rng: &mut Rng, shape: Shape) -> Hour {
     for branch in &mut hour.branches {
         branch.ram = rng.pick(&[-500_000, 500_000]);
     }
-    let ptdfs: &[i32] = if rng.one_in(2) {
-        &[0]
-    } else {
-        &[-200_000, 0, 200_000]
-    };
-    for ptdf in hour
-        .branches
-        .iter_mut()
-        .flat_map(|branch| &mut branch.ptdfs)
-    {
+    let ptdfs: &[i32] = if rng.one_in(2) { &[0] } else { &[-200_000, 0, 200_000] };
+    for ptdf in hour.branches.iter_mut().flat_map(|branch| &mut branch.ptdfs) {
         *ptdf = rng.pick(ptdfs);
     }
     for (n, row) in hour.orders.iter_mut().enumerate() {
@@ -620,35 +533,13 @@ pub fn widest() -> Vec<Widest> {
     const LOWEST: i32 = -50_000;
     const HIGHEST: i32 = 400_000;
     const ALL: i64 = 100_000 * 450_000 * ONE; // a full order across all prices
-    let order = |zone, side, price| Row {
-        zone,
-        side,
-        quantity: 100_000,
-        price,
-    };
+    let order = |zone, side, price| Row { zone, side, quantity: 100_000, price };
     let halves = |first: Row, second: Row| [vec![first; 256], vec![second; 256]].concat();
-    let flat = |ram, count| {
-        vec![
-            Branch {
-                ram,
-                ptdfs: vec![0]
-            };
-            count
-        ]
-    };
+    let flat = |ram, count| vec![Branch { ram, ptdfs: vec![0] }; count];
     // Zones of the second half have the highest price, the others the lowest.
     let split = |zones: usize, ram| -> Vec<Branch> {
-        let row = |ptdf| {
-            (0..zones)
-                .map(|zone| if zone < zones / 2 { 0 } else { ptdf })
-                .collect()
-        };
-        (0..64)
-            .map(|b| Branch {
-                ram,
-                ptdfs: row(if b == 63 { 711 } else { 703 }),
-            })
-            .collect()
+        let row = |ptdf| (0..zones).map(|zone| if zone < zones / 2 { 0 } else { ptdf }).collect();
+        (0..64).map(|b| Branch { ram, ptdfs: row(if b == 63 { 711 } else { 703 }) }).collect()
     };
     let across = |to_higher: bool| -> Vec<Link> {
         (0..64u8)
@@ -657,38 +548,21 @@ pub fn widest() -> Vec<Widest> {
             .map(|pair| link(pair, 100_000))
             .collect()
     };
-    let one_zone = Hour {
-        zones: 1,
-        ..Hour::default()
-    };
+    let one_zone = Hour { zones: 1, ..Hour::default() };
     let traded = |first, second, system_price| Hour {
         orders: halves(first, second),
         volumes: vec![100_000; 512],
         system_price,
         ..one_zone.clone()
     };
-    let untraded = |row, system_price| Hour {
-        orders: vec![row; 512],
-        volumes: vec![0; 512],
-        system_price,
-        ..one_zone.clone()
-    };
-    let with_branches = |hour: &Hour, ram| Hour {
-        branches: flat(ram, 64),
-        shadow_prices: vec![1_000_000; 64],
-        ..hour.clone()
-    };
+    let untraded =
+        |row, system_price| Hour { orders: vec![row; 512], volumes: vec![0; 512], system_price, ..one_zone.clone() };
+    let with_branches =
+        |hour: &Hour, ram| Hour { branches: flat(ram, 64), shadow_prices: vec![1_000_000; 64], ..hour.clone() };
     // A second zone and a link of no capacity, for the whole share.
     let leaning = |hour: Hour| Hour {
         zones: 2,
-        branches: hour
-            .branches
-            .iter()
-            .map(|branch| Branch {
-                ptdfs: vec![0, 0],
-                ..branch.clone()
-            })
-            .collect(),
+        branches: hour.branches.iter().map(|branch| Branch { ptdfs: vec![0, 0], ..branch.clone() }).collect(),
         links: vec![link((0, 1), 0)],
         flows: vec![0],
         share: 100_000,
@@ -698,18 +572,8 @@ pub fn widest() -> Vec<Widest> {
     // sells for 4,000, and earn as much below zero.
     let forced = Hour {
         zones: 2,
-        branches: vec![
-            Branch {
-                ram: -500_000,
-                ptdfs: vec![0, -2_000],
-            };
-            23
-        ],
-        orders: [
-            vec![order(0, SELLS, HIGHEST); 250],
-            vec![order(1, BUYS, LOWEST); 250],
-        ]
-        .concat(),
+        branches: vec![Branch { ram: -500_000, ptdfs: vec![0, -2_000] }; 23],
+        orders: [vec![order(0, SELLS, HIGHEST); 250], vec![order(1, BUYS, LOWEST); 250]].concat(),
         volumes: vec![100_000; 500],
         shadow_prices: [vec![1_000_000; 22], vec![500_000]].concat(),
         system_price: HIGHEST,
@@ -728,13 +592,7 @@ pub fn widest() -> Vec<Widest> {
         version: contracted.map_or(Version::One, |_| Version::Two),
         zones: 16,
         branches: split(16, -500_000),
-        links: across(to_higher)
-            .into_iter()
-            .map(|link| Link {
-                contracted: contracted.unwrap_or(0),
-                ..link
-            })
-            .collect(),
+        links: across(to_higher).into_iter().map(|link| Link { contracted: contracted.unwrap_or(0), ..link }).collect(),
         flows: vec![0; 64],
         shadow_prices: vec![1_000_000; 64],
         system_price: LOWEST,
@@ -746,88 +604,33 @@ pub fn widest() -> Vec<Widest> {
     let branch_total = 64 * 500_000 * 1_000_000 * ONE;
     let high = traded(order(0, BUYS, HIGHEST), order(0, SELLS, LOWEST), 0);
     let low = traded(order(0, BUYS, LOWEST), order(0, SELLS, HIGHEST), 0);
-    let widest = |name, hour: Hour, total, value| Widest {
-        name,
-        hour,
-        total,
-        value,
-    };
+    let widest = |name, hour: Hour, total, value| Widest { name, hour, total, value };
     vec![
         widest("welfare", high, WELFARE, 256 * ALL),
         widest("welfare, negative", low.clone(), WELFARE, -256 * ALL),
-        widest(
-            "gap of welfare, negative",
-            with_branches(&low, 500_000),
-            GAP,
-            256 * ALL + branch_total,
-        ),
+        widest("gap of welfare, negative", with_branches(&low, 500_000), GAP, 256 * ALL + branch_total),
         widest("surplus of buys", buys.clone(), BOUND, 512 * ALL),
         widest("surplus of sells", sells.clone(), BOUND, 512 * ALL),
-        widest(
-            "branch total",
-            with_branches(&one_zone, 500_000),
-            BOUND,
-            branch_total,
-        ),
-        widest(
-            "branch total, negative",
-            leaning(with_branches(&buys, -500_000)),
-            BOUND,
-            512 * ALL,
-        ),
+        widest("branch total", with_branches(&one_zone, 500_000), BOUND, branch_total),
+        widest("branch total, negative", leaning(with_branches(&buys, -500_000)), BOUND, 512 * ALL),
         widest("bound, negative", forced.clone(), BOUND, -250 * ALL),
-        widest(
-            "bound, negative: the rent",
-            forced.clone(),
-            RENT,
-            -250 * ALL,
-        ),
+        widest("bound, negative: the rent", forced.clone(), RENT, -250 * ALL),
         widest("bound, negative: the gap", forced, GAP, 0),
-        widest(
-            "bound",
-            with_branches(&buys, 500_000),
-            BOUND,
-            512 * ALL + branch_total,
-        ),
-        widest(
-            "gap",
-            with_branches(&sells, 500_000),
-            GAP,
-            512 * ALL + branch_total,
-        ),
+        widest("bound", with_branches(&buys, 500_000), BOUND, 512 * ALL + branch_total),
+        widest("gap", with_branches(&sells, 500_000), GAP, 512 * ALL + branch_total),
         widest("rent", carried(1, 0), RENT, 256 * ALL),
         widest("rent, negative", carried(0, 1), RENT, -256 * ALL),
         widest("owed", linked(true, 100_000, None), OWED, 64 * ALL),
-        widest(
-            "owed, every spread negative",
-            linked(false, 100_000, None),
-            OWED,
-            0,
-        ),
+        widest("owed, every spread negative", linked(false, 100_000, None), OWED, 0),
         // S-4: all contracted, a tenth less in each link, nothing.
-        widest(
-            "owed, all contracted",
-            linked(true, 100_000, Some(100_000)),
-            OWED,
-            64 * ALL,
-        ),
+        widest("owed, all contracted", linked(true, 100_000, Some(100_000)), OWED, 64 * ALL),
         widest(
             "owed, a tenth of each not contracted",
             linked(true, 100_000, Some(99_999)),
             OWED,
             64 * ALL / 100_000 * 99_999,
         ),
-        widest(
-            "bound, nothing contracted",
-            linked(true, 100_000, Some(0)),
-            BOUND,
-            64 * ALL,
-        ),
-        widest(
-            "owed, nothing contracted",
-            linked(true, 100_000, Some(0)),
-            OWED,
-            0,
-        ),
+        widest("bound, nothing contracted", linked(true, 100_000, Some(0)), BOUND, 64 * ALL),
+        widest("owed, nothing contracted", linked(true, 100_000, Some(0)), OWED, 0),
     ]
 }

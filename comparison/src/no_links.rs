@@ -54,19 +54,13 @@ pub fn hours(run: &mut Run, rng: &mut Rng) {
     for (name, times) in ["negative", "zero", "positive"].into_iter().zip(signs) {
         at_least(run, format!("branch total {name}"), times);
     }
-    for (name, times) in ["the bound as it was", "the bound raised"]
-        .into_iter()
-        .zip(moved)
-    {
+    for (name, times) in ["the bound as it was", "the bound raised"].into_iter().zip(moved) {
         at_least(run, format!("link added: {name}"), times);
     }
 }
 
 fn alone(rng: &mut Rng) -> Shape {
-    Shape {
-        links: 0,
-        ..Shape::any(rng)
-    }
+    Shape { links: 0, ..Shape::any(rng) }
 }
 
 /// A good hour, or one with a further cause, first with share 0 and then with one above.
@@ -142,9 +136,7 @@ fn brought(rng: &mut Rng, hour: &mut Hour, cause: Cause) -> bool {
 
 fn branch_total(hour: &Hour) -> i64 {
     let branches = hour.branches.iter().zip(&hour.shadow_prices);
-    branches
-        .map(|(branch, &shadow)| 100_000 * i64::from(branch.ram) * i64::from(shadow))
-        .sum()
+    branches.map(|(branch, &shadow)| 100_000 * i64::from(branch.ram) * i64::from(shadow)).sum()
 }
 
 /// At a gap of zero rent and branch total are the same, and a negative one leaves the rent below zero, which is owed.
@@ -161,21 +153,13 @@ fn rent_is_the_branch_total(run: &mut Run, rng: &mut Rng, signs: &mut [u64; 3]) 
 
 /// The same hour with a link over which nothing can flow: the bound has the larger of branch total and zero again.
 fn link_added(run: &mut Run, rng: &mut Rng, moved: &mut [u64; 2]) {
-    let shape = Shape {
-        zones: 2 + rng.below(15),
-        ..alone(rng)
-    };
+    let shape = Shape { zones: 2 + rng.below(15), ..alone(rng) };
     let mut hour = good(rng, shape);
     if !breaks_no_rule(run, rng, &hour) {
         return;
     }
     let (bound, total) = (run.total(BOUND), branch_total(&hour));
-    hour.links.push(Link {
-        from: 0,
-        to: 1,
-        capacity: 0,
-        contracted: 0,
-    });
+    hour.links.push(Link { from: 0, to: 1, capacity: 0, contracted: 0 });
     hour.flows.push(0);
     run.feed(&hour.case(), &hour.proposal(), enough(rng));
     run.expect_total(BOUND, bound + (-total).max(0));

@@ -47,23 +47,11 @@ const CAUSES: [(&str, u32, Zones, &[usize], usize); 36] = [
     ("link: equal zones, capacity", 7, Equal, &[2], 1),
     ("link: repeated, capacity", 7, Repeated(1), &[2], 0),
     ("link: contracted", 7, Kept, &[CONTRACTED], CONTRACTED),
-    (
-        "link: unknown from, contracted",
-        7,
-        Kept,
-        &[0, CONTRACTED],
-        0,
-    ),
+    ("link: unknown from, contracted", 7, Kept, &[0, CONTRACTED], 0),
     ("link: unknown to, contracted", 7, Kept, &[1, CONTRACTED], 1),
     ("link: equal zones, contracted", 7, Equal, &[CONTRACTED], 1),
     ("link: capacity, contracted", 7, Kept, &[2, CONTRACTED], 2),
-    (
-        "link: repeated, contracted",
-        7,
-        Repeated(1),
-        &[CONTRACTED],
-        0,
-    ),
+    ("link: repeated, contracted", 7, Repeated(1), &[CONTRACTED], 0),
     ("order: zone", 8, Kept, &[0], 0),
     ("order: side", 8, Kept, &[1], 1),
     ("order: quantity", 8, Kept, &[2], 2),
@@ -79,12 +67,8 @@ const CAUSES: [(&str, u32, Zones, &[usize], usize); 36] = [
 ];
 
 /// The parts by number, with the last row that each can have.
-const PARTS: [(u32, &str, usize); 4] = [
-    (6, "branch", 63),
-    (7, "link", 63),
-    (8, "order", 511),
-    (14, "shadow price", 63),
-];
+const PARTS: [(u32, &str, usize); 4] =
+    [(6, "branch", 63), (7, "link", 63), (8, "order", 511), (14, "shadow price", 63)];
 
 /// How often each cause was named, and each part's first and greatest row.
 struct Named {
@@ -93,10 +77,7 @@ struct Named {
 }
 
 pub fn offsets(run: &mut Run, rng: &mut Rng) {
-    let mut named = Named {
-        causes: [0; CAUSES.len()],
-        ends: [[0; 2]; PARTS.len()],
-    };
+    let mut named = Named { causes: [0; CAUSES.len()], ends: [[0; 2]; PARTS.len()] };
     run.begin("offset of each field");
     while run.family_inputs() < INPUTS {
         let shape = match rng.below(4) {
@@ -144,11 +125,7 @@ fn plant(
 ) {
     let (name, number, change, outsiders, due) = CAUSES[cause];
     let zones = usize::from(hour.zones);
-    let part: Vec<Field> = list
-        .iter()
-        .filter(|f| f.number == number)
-        .copied()
-        .collect();
+    let part: Vec<Field> = list.iter().filter(|f| f.number == number).copied().collect();
     let width = match number {
         6 => 1 + zones,
         7 if hour.version == Version::One => 3,
@@ -156,9 +133,7 @@ fn plant(
         _ => 1,
     };
     let (count, first) = (part.len() / width, least_row(change));
-    let has_fields = outsiders
-        .iter()
-        .all(|&field| field < width || field == LAST);
+    let has_fields = outsiders.iter().all(|&field| field < width || field == LAST);
     if count <= first || !has_fields {
         return;
     }

@@ -6,23 +6,19 @@
 //! What is due is found here once more, by the walk up and by products. Without the
 //! list the same files are judged too, and that answer is as it was.
 
-use crate::archive;
 use crate::families::{change_a_byte, enough, good, one_outside};
 use crate::fields::Field;
 use crate::lent::{Left, Lent};
+use crate::library;
 use crate::make::{at_limits, narrow, optimal, random, wide, Shape};
 use crate::rng::Rng;
 use crate::run::{hex, Run, LEAST_INPUTS, LEAST_TIMES};
 use second_judge::hours::{three_zone_hour, Hour};
 use second_judge::limits::{BUYS, LEAST_BUFFER, SELLS};
-use second_judge::{
-    judge, judge_families, judge_families_as, list_of, FamilyBuild, Row, Verdict, NO_PARENT,
-};
+use second_judge::{judge, judge_families, judge_families_as, list_of, FamilyBuild, Row, Verdict, NO_PARENT};
 
-const NUMBERS: [u32; 28] = [
-    0, 1, 2, 3, 4, 5, 6, 7, 8, 9, 10, 11, 12, 13, 14, 15, 16, 17, 18, 21, 28, 22, 27, 23, 24, 25,
-    26, 30,
-];
+const NUMBERS: [u32; 28] =
+    [0, 1, 2, 3, 4, 5, 6, 7, 8, 9, 10, 11, 12, 13, 14, 15, 16, 17, 18, 21, 28, 22, 27, 23, 24, 25, 26, 30];
 /// The numbers of the list, in the order in which they are asked among the others.
 const OF_THE_LIST: [u32; 4] = [16, 17, 18, 28];
 
@@ -76,11 +72,7 @@ struct Files {
 
 impl Files {
     fn new(hour: &Hour, list: Vec<u8>) -> Files {
-        Files {
-            case: hour.case(),
-            proposal: hour.proposal(),
-            list,
-        }
+        Files { case: hour.case(), proposal: hour.proposal(), list }
     }
 }
 
@@ -93,18 +85,11 @@ impl Lists<'_> {
     fn feed_as(&mut self, files: &Files, lent: usize, null: bool) -> Verdict {
         self.run.count();
         self.inputs += 1;
-        let Files {
-            case,
-            proposal,
-            list,
-        } = files;
+        let Files { case, proposal, list } = files;
         let copies = (case.clone(), proposal.clone(), list.clone());
         let lent = Lent::bytes(MOST_LENT, self.inputs).only(lent);
         let second = |build, out: &mut [u8]| judge_families_as(build, case, proposal, list, out);
-        let theirs = lent.to(|report| {
-            let returned = archive::judge_families(case, proposal, list, report, null);
-            archive::verdict(returned)
-        });
+        let theirs = lent.to(|report| library::judge_families(case, proposal, list, report, null));
         let ours = lent.to(|report| judge_families(case, proposal, list, report));
         if let Some(text) = theirs.unlike(&ours) {
             self.fault(files, || text);
@@ -123,7 +108,7 @@ impl Lists<'_> {
     /// answer with the list is another for the list's own numbers alone.
     fn without_list(&mut self, files: &Files, lent: &Lent<u8>, with: &Left<Verdict, u8>) {
         let (case, proposal) = (&files.case, &files.proposal);
-        let theirs = lent.to(|report| archive::verdict(archive::judge(case, proposal, report)));
+        let theirs = lent.to(|report| library::judge(case, proposal, report));
         let ours = lent.to(|report| judge(case, proposal, report));
         if let Some(text) = theirs.unlike(&ours) {
             self.fault(files, || format!("without the list: {text}"));
@@ -140,29 +125,20 @@ impl Lists<'_> {
             _ => (1..=15).contains(&free.number) || free.number == 30,
         };
         if !kept || own && earlier {
-            self.fault(files, || {
-                format!("{verdict:?} with the list, {free:?} without it")
-            });
+            self.fault(files, || format!("{verdict:?} with the list, {free:?} without it"));
         }
     }
 
     fn fault(&mut self, files: &Files, text: impl FnOnce() -> String) {
-        let Files {
-            case,
-            proposal,
-            list,
-        } = files;
-        self.run
-            .fault(|| text() + &hex(&[("case", case), ("proposal", proposal), ("list", list)]));
+        let Files { case, proposal, list } = files;
+        self.run.fault(|| text() + &hex(&[("case", case), ("proposal", proposal), ("list", list)]));
     }
 
     /// The answer that is due.
     fn expect(&mut self, files: &Files, lent: usize, number: u32, index: usize) -> Verdict {
         let verdict = self.feed(files, lent);
         if (verdict.number, verdict.index as usize) != (number, index) {
-            self.fault(files, || {
-                format!("{verdict:?} where {number} {index} is due")
-            });
+            self.fault(files, || format!("{verdict:?} where {number} {index} is due"));
         }
         verdict
     }
@@ -200,9 +176,8 @@ fn back(parents: &[Option<u16>], order: usize) -> Option<usize> {
 
 /// Whether a child's fraction exceeds its parent's, by products.
 fn ahead(hour: &Hour, child: usize, parent: usize) -> bool {
-    let product = |volume: usize, quantity: usize| {
-        u128::from(hour.volumes[volume]) * u128::from(hour.orders[quantity].quantity)
-    };
+    let product =
+        |volume: usize, quantity: usize| u128::from(hour.volumes[volume]) * u128::from(hour.orders[quantity].quantity);
     product(child, parent) > product(parent, child)
 }
 
@@ -252,9 +227,7 @@ fn holding(rng: &mut Rng, hour: &Hour) -> Vec<Option<u16>> {
 /// Parents of so many orders, drawn; circles are frequent where few have none.
 fn drawn(rng: &mut Rng, count: usize) -> Vec<Option<u16>> {
     let none = rng.pick(&[1, 2, 4, 40]);
-    (0..count)
-        .map(|_| (!rng.one_in(none)).then(|| rng.below(count) as u16))
-        .collect()
+    (0..count).map(|_| (!rng.one_in(none)).then(|| rng.below(count) as u16)).collect()
 }
 
 /// So many different orders, drawn.
@@ -292,12 +265,7 @@ fn hour_with_orders(rng: &mut Rng, least: usize) -> Hour {
 /// The most orders there can be, and little else.
 fn many_orders(rng: &mut Rng) -> Hour {
     loop {
-        let shape = Shape {
-            zones: 2,
-            branches: 1,
-            links: 1,
-            orders: MOST_ORDERS,
-        };
+        let shape = Shape { zones: 2, branches: 1, links: 1, orders: MOST_ORDERS };
         let hour = optimal(rng, shape);
         if hour.orders.len() == MOST_ORDERS {
             return hour;
@@ -311,12 +279,7 @@ fn even_orders(rng: &mut Rng) -> Hour {
     let quantity = rng.between_or_end(1, 100_000) as u32;
     let volume = rng.between_or_end(0, quantity.into()) as u32;
     let price = rng.between(-50_000, 400_000) as i32;
-    let order = |o: usize| Row {
-        zone: 0,
-        side: if o % 2 == 0 { BUYS } else { SELLS },
-        quantity,
-        price,
-    };
+    let order = |o: usize| Row { zone: 0, side: if o % 2 == 0 { BUYS } else { SELLS }, quantity, price };
     Hour {
         zones: 1,
         orders: (0..MOST_ORDERS).map(order).collect(),
@@ -328,13 +291,8 @@ fn even_orders(rng: &mut Rng) -> Hour {
 
 pub fn lists(run: &mut Run, rng: &mut Rng) {
     run.section("families");
-    let mut lists = Lists {
-        run,
-        inputs: 0,
-        numbers: [0; 31],
-        met: Default::default(),
-        second_wrong: Default::default(),
-    };
+    let mut lists =
+        Lists { run, inputs: 0, numbers: [0; 31], met: Default::default(), second_wrong: Default::default() };
     the_three_zone_hour(&mut lists);
     families_that_hold(&mut lists, rng);
     families_drawn(&mut lists, rng);
@@ -381,15 +339,10 @@ fn families_that_hold(lists: &mut Lists, rng: &mut Rng) {
         let verdict = lists.expect_of(&hour, &parents, lent);
         let count = parents.len();
         let accepted = verdict.number == 0;
-        let related: Vec<(usize, usize)> = (0..count)
-            .filter_map(|o| parents[o].map(|parent| (o, usize::from(parent))))
-            .collect();
-        let larger =
-            |(child, parent): &(usize, usize)| hour.volumes[*child] > hour.volumes[*parent];
-        lists.meet(
-            7,
-            accepted && related.iter().any(|(_, parent)| *parent == count - 1),
-        );
+        let related: Vec<(usize, usize)> =
+            (0..count).filter_map(|o| parents[o].map(|parent| (o, usize::from(parent)))).collect();
+        let larger = |(child, parent): &(usize, usize)| hour.volumes[*child] > hour.volumes[*parent];
+        lists.meet(7, accepted && related.iter().any(|(_, parent)| *parent == count - 1));
         lists.meet(13, accepted && count == 0);
         lists.meet(19, accepted && related.iter().any(larger));
         lists.meet(23, verdict.number == 26 && !related.is_empty());
@@ -514,16 +467,10 @@ fn most_orders(lists: &mut Lists, rng: &mut Rng) {
         let mut shapes: Vec<Vec<Option<u16>>> = vec![
             (0..MOST_ORDERS).map(up).collect(),
             (0..MOST_ORDERS).map(down).collect(),
-            (0..MOST_ORDERS)
-                .map(|o| Some((o + 1) as u16 % 512))
-                .collect(),
-            (0..MOST_ORDERS)
-                .map(|o| Some((o + last) as u16 % 512))
-                .collect(),
+            (0..MOST_ORDERS).map(|o| Some((o + 1) as u16 % 512)).collect(),
+            (0..MOST_ORDERS).map(|o| Some((o + last) as u16 % 512)).collect(),
             (0..MOST_ORDERS).map(|o| Some(o as u16 ^ 1)).collect(),
-            (0..MOST_ORDERS)
-                .map(|o| (o > 0).then_some((o as u16 - 1) / 2))
-                .collect(),
+            (0..MOST_ORDERS).map(|o| (o > 0).then_some((o as u16 - 1) / 2)).collect(),
             vec![Some(last as u16); MOST_ORDERS],
             vec![None; MOST_ORDERS],
             holding(rng, &hour),
@@ -532,11 +479,7 @@ fn most_orders(lists: &mut Lists, rng: &mut Rng) {
             tail,
         ];
         // One order on a circle, the last one, and all others lead to it.
-        shapes.push(
-            (0..MOST_ORDERS)
-                .map(|o| Some(o.max(last - 1) as u16))
-                .collect(),
-        );
+        shapes.push((0..MOST_ORDERS).map(|o| Some(o.max(last - 1) as u16)).collect());
         for (n, parents) in shapes.iter().enumerate() {
             let verdict = lists.expect_of(&hour, parents, LEAST_BUFFER);
             lists.meet(0, n <= 1 && verdict.number == 0);
@@ -563,15 +506,7 @@ fn strays(lists: &mut Lists, rng: &mut Rng) {
         let circle = (0..count).any(|o| back(&parents, o).is_some());
         for _ in 0..1 + rng.below(2) {
             let any = rng.between(count as i64, 65_534) as u16;
-            let past = rng.pick(&[
-                count as u16,
-                count as u16,
-                count as u16 + 1,
-                NO_PARENT - 1,
-                512,
-                32_768,
-                any,
-            ]);
+            let past = rng.pick(&[count as u16, count as u16, count as u16 + 1, NO_PARENT - 1, 512, 32_768, any]);
             parents[rng.below(count)] = Some(past);
         }
         let lent = enough(rng);
@@ -647,12 +582,7 @@ fn two_and_a_third(rng: &mut Rng, child: (u32, u32), parent: (u32, u32)) -> Hour
         _ => -i64::from(volume),
     };
     let left = signed(sides.0, child.0) + signed(sides.1, parent.0);
-    let order = |side, quantity| Row {
-        zone: 0,
-        side,
-        quantity,
-        price,
-    };
+    let order = |side, quantity| Row { zone: 0, side, quantity, price };
     let mut hour = Hour {
         zones: 1,
         orders: vec![order(sides.0, child.1), order(sides.1, parent.1)],
@@ -664,8 +594,7 @@ fn two_and_a_third(rng: &mut Rng, child: (u32, u32), parent: (u32, u32)) -> Hour
     while open > 0 {
         let volume = open.min(100_000);
         let quantity = rng.between_or_end(volume.into(), 100_000) as u32;
-        hour.orders
-            .push(order(if left > 0 { SELLS } else { BUYS }, quantity));
+        hour.orders.push(order(if left > 0 { SELLS } else { BUYS }, quantity));
         hour.volumes.push(volume);
         open -= volume;
     }
@@ -680,22 +609,16 @@ fn fractions(lists: &mut Lists, rng: &mut Rng) {
         let quantity = rng.between(1, most) as u32;
         let volume = rng.between_or_end(0, quantity.into()) as u32;
         let times = 100_000 / quantity;
-        let (one, other) = (
-            rng.between_or_end(1, times.into()) as u32,
-            rng.between_or_end(1, times.into()) as u32,
-        );
+        let (one, other) = (rng.between_or_end(1, times.into()) as u32, rng.between_or_end(1, times.into()) as u32);
         let child = (volume * one, quantity * one);
         let parent = (volume * other, quantity * other);
         let steps = [(0, 0), (1, 0), (-1, 0), (0, 1), (0, -1), (1, 1), (-1, -1)];
         for (of_child, of_parent) in steps {
             let moved = |(volume, quantity): (u32, u32), step: i64| {
                 let volume = i64::from(volume) + step;
-                (0..=i64::from(quantity))
-                    .contains(&volume)
-                    .then_some((volume as u32, quantity))
+                (0..=i64::from(quantity)).contains(&volume).then_some((volume as u32, quantity))
             };
-            let (Some(child), Some(parent)) = (moved(child, of_child), moved(parent, of_parent))
-            else {
+            let (Some(child), Some(parent)) = (moved(child, of_child), moved(parent, of_parent)) else {
                 continue;
             };
             let hour = two_and_a_third(rng, child, parent);
@@ -703,10 +626,7 @@ fn fractions(lists: &mut Lists, rng: &mut Rng) {
             parents[0] = Some(1);
             let verdict = lists.expect_of(&hour, &parents, LEAST_BUFFER);
             let number = verdict.number;
-            lists.meet(
-                16,
-                (of_child, of_parent) == (0, 0) && one != other && number == 0,
-            );
+            lists.meet(16, (of_child, of_parent) == (0, 0) && one != other && number == 0);
             lists.meet(17, (of_child, of_parent) == (1, 0) && number == 28);
             let right = match (of_child, of_parent) {
                 (0, 0) | (-1, 0) | (0, 1) => number == 0,
@@ -715,17 +635,13 @@ fn fractions(lists: &mut Lists, rng: &mut Rng) {
             };
             if !right {
                 let files = Files::new(&hour, list_of(&parents));
-                lists.fault(&files, || {
-                    format!("{verdict:?}, off by {of_child} and {of_parent}")
-                });
+                lists.fault(&files, || format!("{verdict:?}, off by {of_child} and {of_parent}"));
             }
         }
     }
     lists.run.end();
 
-    lists
-        .run
-        .begin("neighbouring fractions of the largest quantities");
+    lists.run.begin("neighbouring fractions of the largest quantities");
     for _ in 0..2_000 {
         let near = |rng: &mut Rng| {
             let quantity = 100_000 - rng.below(4) as u32;

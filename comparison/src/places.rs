@@ -82,16 +82,14 @@ fn at_fault(rng: &mut Rng, number: u32, index: u32) -> (Vec<u8>, Vec<u8>) {
             // At share 100,000 no margin is too small.
             let wide = |hour: &Hour| {
                 let parts = flow_based_parts(hour);
-                least_ram(used(&hour.branches[at], &parts), hour.share)
-                    .is_some_and(|least| least > -500_000)
+                least_ram(used(&hour.branches[at], &parts), hour.share).is_some_and(|least| least > -500_000)
             };
             while !wide(&hour) {
                 hour = good(rng, Shape::LARGEST);
             }
             let parts = flow_based_parts(&hour);
             for n in at..hour.branches.len() {
-                let least = least_ram(used(&hour.branches[n], &parts), hour.share)
-                    .expect("the share is not whole");
+                let least = least_ram(used(&hour.branches[n], &parts), hour.share).expect("the share is not whole");
                 if least > -500_000 && also(rng, n) {
                     hour.branches[n].ram = rng.between_or_end(-500_000, least - 1) as i32;
                 }
@@ -104,10 +102,7 @@ fn at_fault(rng: &mut Rng, number: u32, index: u32) -> (Vec<u8>, Vec<u8>) {
             hour = Hour {
                 version,
                 zones: 16,
-                branches: vec![Branch {
-                    ram: 0,
-                    ptdfs: (0..16).map(&mut ptdf).collect(),
-                }],
+                branches: vec![Branch { ram: 0, ptdfs: (0..16).map(&mut ptdf).collect() }],
                 shadow_prices: vec![1],
                 system_price,
                 ..Hour::default()

@@ -183,8 +183,7 @@ impl Planted {
                 _ => self.prices.resize(self.net.len() + 16, 0),
             },
         }
-        self.zones_at_fault |=
-            matches!(cause, Cause::NoZones | Cause::ManyZones | Cause::TwoLengths);
+        self.zones_at_fault |= matches!(cause, Cause::NoZones | Cause::ManyZones | Cause::TwoLengths);
     }
 
     /// A pair at fault, put in at a place that is not before this one.

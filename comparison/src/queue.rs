@@ -1,7 +1,7 @@
 //! The desk queue of both over runs of posts and serves, from the empty queue
 //! and from any bytes: after each event the answers, what waits, and every byte.
 
-use crate::archive;
+use crate::library;
 use crate::rng::Rng;
 use crate::run::{Run, LEAST_TIMES};
 use second_judge::{queue_post_as, queue_serve_as, Queue, QueueBuild, ServedAnswer, QUEUE_BYTES};
@@ -66,8 +66,8 @@ impl Event {
 
     fn on_archive(self, bytes: &mut [u8; QUEUE_BYTES]) -> Answer {
         match self {
-            Event::Post(area, hour) => Answer::Posted(archive::queue_post(bytes, area, hour)),
-            Event::Serve => Answer::Served(archive::queue_serve(bytes)),
+            Event::Post(area, hour) => Answer::Posted(library::queue_post(bytes, area, hour)),
+            Event::Serve => Answer::Served(library::queue_serve(bytes)),
         }
     }
 }
@@ -105,10 +105,7 @@ struct Followed {
 
 /// Whether a build is wrong in bytes alone.
 fn of_bytes(build: QueueBuild) -> bool {
-    matches!(
-        build,
-        QueueBuild::RepeatedCellCounts | QueueBuild::CellOver25Counts | QueueBuild::AllAreasWritten
-    )
+    matches!(build, QueueBuild::RepeatedCellCounts | QueueBuild::CellOver25Counts | QueueBuild::AllAreasWritten)
 }
 
 fn lent(space: &mut [u8; SPACE]) -> &mut [u8; QUEUE_BYTES] {
@@ -148,8 +145,7 @@ impl Queues<'_> {
             ours: bytes,
             queue,
             // From zeros the builds that read or write bytes wrongly are right.
-            wrong: QueueBuild::WRONG
-                .map(|(build, _)| (!from_zeros || !of_bytes(build)).then(|| followed(build))),
+            wrong: QueueBuild::WRONG.map(|(build, _)| (!from_zeros || !of_bytes(build)).then(|| followed(build))),
             area_waits,
             hour_waits,
             last: None,
@@ -164,26 +160,20 @@ impl Queues<'_> {
         let of_bytes = event.on_bytes(RIGHT, &mut one.ours);
         let after: [u8; QUEUE_BYTES] = *lent(&mut one.theirs);
         if theirs != ours || theirs != of_bytes {
-            self.run.fault(|| {
-                format!("{event:?}: archive {theirs:?}, second judge {ours:?} and {of_bytes:?}")
-            });
+            self.run.fault(|| format!("{event:?}: archive {theirs:?}, second judge {ours:?} and {of_bytes:?}"));
         } else if after != one.ours {
             let ours = one.ours;
-            self.run
-                .fault(|| format!("{event:?}: archive {after:?}, second judge {ours:?}"));
+            self.run.fault(|| format!("{event:?}: archive {after:?}, second judge {ours:?}"));
         } else if !Queue::read(RIGHT, &after).waits_as(&one.queue) {
             let queue = &one.queue;
-            self.run
-                .fault(|| format!("{event:?}: {after:?} is not {queue:?}"));
+            self.run.fault(|| format!("{event:?}: {after:?} is not {queue:?}"));
         }
         let (front, back) = (..GUARD, GUARD + QUEUE_BYTES..);
         if one.theirs[front] != before[front] || one.theirs[back.clone()] != before[back] {
-            self.run
-                .fault(|| format!("{event:?}: a byte beside the queue"));
+            self.run.fault(|| format!("{event:?}: a byte beside the queue"));
         }
         if theirs.number() != 0 && one.theirs != before {
-            self.run
-                .fault(|| format!("{event:?}: refused, and a byte written"));
+            self.run.fault(|| format!("{event:?}: refused, and a byte written"));
         }
         self.numbers[ours.number() as usize] += 1;
         self.try_wrong(one, event, theirs, before, after);
@@ -222,9 +212,9 @@ impl Queues<'_> {
                 let (area, hour) = (area as usize, hour as usize);
                 one.area_waits[area].get_or_insert(0);
                 one.hour_waits[area][hour] = Some(0);
-                let again = one.last.is_some_and(|last| {
-                    (last.number, last.area as usize, last.hour as usize) == (0, area, hour)
-                });
+                let again = one
+                    .last
+                    .is_some_and(|last| (last.number, last.area as usize, last.hour as usize) == (0, area, hour));
                 self.met[6] += u64::from(again);
                 let waiting = one.queue.waiting(area as u32).len();
                 let all = (0..4).map(|area| one.queue.waiting(area).len());
@@ -252,8 +242,7 @@ impl Queues<'_> {
                 let hour_longest = one.hour_waits.iter().flatten().flatten().max();
                 if area_longest >= Some(&AREA_WAITS) || hour_longest >= Some(&HOUR_WAITS) {
                     let waited = (area_longest.copied(), hour_longest.copied());
-                    self.run
-                        .fault(|| format!("still waiting after {waited:?} serves"));
+                    self.run.fault(|| format!("still waiting after {waited:?} serves"));
                 }
             }
             (Event::Serve, Answer::Posted(_)) => unreachable!("a serve answers as one"),
@@ -273,13 +262,7 @@ impl Queues<'_> {
 
 pub fn queues(run: &mut Run, rng: &mut Rng) {
     run.section("the desk queue, runs of 500 events");
-    let mut all = Queues {
-        run,
-        runs: 0,
-        numbers: [0; 65],
-        met: Default::default(),
-        second_wrong: Default::default(),
-    };
+    let mut all = Queues { run, runs: 0, numbers: [0; 65], met: Default::default(), second_wrong: Default::default() };
     made(&mut all, rng);
     longest_waits(&mut all);
     every_cell(&mut all, rng);
@@ -351,11 +334,7 @@ fn made(all: &mut Queues, rng: &mut Rng) {
         all.run.begin(name);
         let runs = if from_zeros { 5_000 } else { RUNS - 5_000 };
         for _ in 0..runs {
-            let bytes = if from_zeros {
-                [0; QUEUE_BYTES]
-            } else {
-                any_bytes(rng)
-            };
+            let bytes = if from_zeros { [0; QUEUE_BYTES] } else { any_bytes(rng) };
             random_run(all, rng, bytes);
         }
         all.run.end();
@@ -409,8 +388,7 @@ fn longest_waits(all: &mut Queues) {
                 };
                 let it = (served.area, served.hour) == (area, hour);
                 if it != (serve == due) {
-                    all.run
-                        .fault(|| format!("{area} {hour} served by {serve}, and {due} is due"));
+                    all.run.fault(|| format!("{area} {hour} served by {serve}, and {due} is due"));
                 }
                 all.feed(&mut one, Event::Post(served.area, served.hour));
             }
@@ -427,10 +405,7 @@ fn every_cell(all: &mut Queues, rng: &mut Rng) {
             let mut bytes = [0; QUEUE_BYTES];
             bytes[at] = value;
             let mut one = all.start(bytes);
-            all.feed(
-                &mut one,
-                Event::Post(rng.below(4) as u32, rng.below(25) as u32),
-            );
+            all.feed(&mut one, Event::Post(rng.below(4) as u32, rng.below(25) as u32));
             for _ in 0..3 {
                 all.feed(&mut one, Event::Serve);
             }

@@ -2,11 +2,10 @@
 //! proposal's volumes, are rearranged: number, index and every byte of the buffer are the same, but for the index
 //! of 21. Books are joined in both orders.
 
-use crate::archive;
-#[cfg(feature = "book")]
 use crate::book;
 use crate::families::{good, outside};
 use crate::fields::{fields, Field};
+use crate::library;
 use crate::make::{at_limits, random, Shape};
 use crate::offsets::at_least;
 use crate::rng::Rng;
@@ -15,7 +14,6 @@ use second_judge::hours::Hour;
 use second_judge::limits::LEAST_BUFFER;
 
 const HOURS: u64 = 20_000;
-#[cfg(feature = "book")]
 const BOOKS: u64 = 20_000;
 const MOST_LENT: usize = 256;
 
@@ -49,12 +47,7 @@ pub fn hours(run: &mut Run, rng: &mut Rng) {
     at_least(run, "sorted".into(), met.sorted);
     at_least(run, "21, index moved".into(), met.index_moved);
     at_least(run, "21, index stayed".into(), met.index_stayed);
-    at_least(
-        run,
-        "volumes left in place, told apart".into(),
-        met.left_in_place,
-    );
-    #[cfg(feature = "book")]
+    at_least(run, "volumes left in place, told apart".into(), met.left_in_place);
     books(run, rng);
 }
 
@@ -144,8 +137,8 @@ fn hour(run: &mut Run, rng: &mut Rng, met: &mut Met) {
     filled.iter_mut().for_each(|byte| *byte = rng.next() as u8);
     let judged = |case: &[u8], proposal: &[u8]| {
         let mut buffer = filled;
-        let answer = archive::judge(case, proposal, &mut buffer[..lent]);
-        ((answer % 256) as usize, (answer / 256) as usize, buffer)
+        let answer = library::judge(case, proposal, &mut buffer[..lent]);
+        (answer.number as usize, answer.index as usize, buffer)
     };
     let (number, index, buffer) = judged(&case, &proposal);
     let (moved_number, moved_index, moved_buffer) = judged(&moved_case, &moved_proposal);
@@ -158,9 +151,7 @@ fn hour(run: &mut Run, rng: &mut Rng, met: &mut Met) {
         _ => index,
     };
     if (moved_number, moved_index) != (number, due) {
-        run.fault(|| {
-            format!("{number} {index}, rearranged {moved_number} {moved_index}, {due} is due")
-        });
+        run.fault(|| format!("{number} {index}, rearranged {moved_number} {moved_index}, {due} is due"));
     }
     if moved_buffer != buffer {
         run.fault(|| format!("another buffer, rearranged, for {number} {index}"));
@@ -178,12 +169,10 @@ fn hour(run: &mut Run, rng: &mut Rng, met: &mut Met) {
 fn first_above(orders: &[u8], volumes: &[u8]) -> usize {
     let number = |bytes: &[u8]| u32::from_le_bytes(bytes.try_into().expect("four bytes"));
     let mut rows = orders.chunks_exact(10).zip(volumes.chunks_exact(4));
-    rows.position(|(order, volume)| number(volume) > number(&order[2..6]))
-        .expect("21 was answered")
+    rows.position(|(order, volume)| number(volume) > number(&order[2..6])).expect("21 was answered")
 }
 
 /// Two books at the same prices, each alone and joined in both orders.
-#[cfg(feature = "book")]
 fn books(run: &mut Run, rng: &mut Rng) {
     let (mut full, mut over, mut refused) = (0, 0, 0);
     run.begin("books joined, in both orders");
@@ -197,13 +186,9 @@ fn books(run: &mut Run, rng: &mut Rng) {
             prices[zone] = rng.pick(&[i64::MIN, i64::MAX]);
         }
         let (one, other) = rows.split_at(rng.below(together + 1));
-        let [first, second, joined, turned] = [
-            one.to_vec(),
-            other.to_vec(),
-            [one, other].concat(),
-            [other, one].concat(),
-        ]
-        .map(|rows| book::feed(run, &rows, &prices));
+        let [first, second, joined, turned] =
+            [one.to_vec(), other.to_vec(), [one, other].concat(), [other, one].concat()]
+                .map(|rows| book::feed(run, &rows, &prices));
         if joined != turned {
             run.fault(|| format!("{joined:?} one way, {turned:?} the other"));
         }

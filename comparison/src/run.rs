@@ -1,7 +1,7 @@
 //! Feeds both judges the same input, compares all they leave behind, and counts.
 
-use crate::archive;
 use crate::lent::{Left, Lent};
+use crate::library;
 use crate::places::PLACES;
 use second_judge::{judge, judge_as, Build, Verdict};
 
@@ -9,7 +9,6 @@ use second_judge::{judge, judge_as, Build, Verdict};
 const MOST_LENT: usize = 256;
 
 /// Each entry beside the judgement gets so many inputs at least.
-#[allow(dead_code)] // where one is built
 pub const LEAST_INPUTS: u64 = 50_000;
 /// What must be met often is met so many times at least.
 pub const LEAST_TIMES: u64 = 100;
@@ -83,7 +82,6 @@ pub struct Run {
     pub inputs: u64,
     /// Inputs of the paper's hours, not of the generator.
     pub of_paper: bool,
-    #[cfg(feature = "desk")]
     pub desk: crate::desk::Desk,
 
     section: &'static str,
@@ -96,7 +94,7 @@ pub struct Run {
 }
 
 impl Run {
-    pub fn new(_seed: u64) -> Run {
+    pub fn new(seed: u64) -> Run {
         Run {
             checks: Vec::new(),
             verdicts: [0; 31],
@@ -108,16 +106,12 @@ impl Run {
             places: [0; PLACES.len()],
             inputs: 0,
             of_paper: false,
-            #[cfg(feature = "desk")]
-            desk: crate::desk::Desk::new(_seed),
+            desk: crate::desk::Desk::new(seed),
             section: "",
             family: String::new(),
             family_inputs: 0,
             family_faults: 0,
-            verdict: Verdict {
-                number: 0,
-                index: 0,
-            },
+            verdict: Verdict { number: 0, index: 0 },
             buffer: Vec::new(),
             copies: Default::default(),
         }
@@ -155,12 +149,7 @@ impl Run {
     }
 
     pub fn check(&mut self, name: String, passed: bool, note: String) {
-        self.checks.push(Check {
-            section: self.section,
-            name,
-            passed,
-            note,
-        });
+        self.checks.push(Check { section: self.section, name, passed, note });
     }
 
     /// A check that something was met so many times at least.
@@ -184,7 +173,6 @@ impl Run {
 
     /// A check for each wrong build of the second judge that some of the inputs told it
     /// from the archive.
-    #[allow(dead_code)] // by entries beside the judgement, where one is built
     pub fn check_told<B>(&mut self, builds: &[(B, &str)], times: &[u64], inputs: u64) {
         for ((_, name), times) in builds.iter().zip(times) {
             self.check(name.to_string(), *times > 0, format!("{times} of {inputs}"));
@@ -192,7 +180,6 @@ impl Run {
     }
 
     /// Counts an input that was compared elsewhere.
-    #[allow(dead_code)] // by entries beside the judgement, where one is built
     pub fn count(&mut self) {
         self.family_inputs += 1;
     }
@@ -200,12 +187,7 @@ impl Run {
     pub fn fault(&mut self, text: impl FnOnce() -> String) {
         self.family_faults += 1;
         if self.family_faults <= SHOWN {
-            println!(
-                "amiss in {}, input {}: {}",
-                self.family,
-                self.family_inputs,
-                text()
-            );
+            println!("amiss in {}, input {}: {}", self.family, self.family_inputs, text());
         }
     }
 
@@ -229,10 +211,7 @@ impl Run {
         self.copies.1.extend(proposal);
 
         let lent = Lent::bytes(MOST_LENT, self.inputs).only(lent);
-        let theirs = lent.to(|report| {
-            let returned = archive::judge_as(case, proposal, report, null);
-            archive::verdict(returned)
-        });
+        let theirs = lent.to(|report| library::judge_as(case, proposal, report, null));
         let ours = lent.to(|report| judge(case, proposal, report));
         self.verdict = ours.answer;
         self.buffer = ours.room().to_vec();
@@ -259,7 +238,6 @@ impl Run {
         if self.of_paper || self.inputs.is_multiple_of(WRONG_EVERY) {
             self.try_second_wrong(case, proposal, &lent, &theirs);
         }
-        #[cfg(feature = "desk")]
         self.desk.feed(case, proposal);
         self.verdict
     }
@@ -291,8 +269,7 @@ impl Run {
         if number != 0 && number != 26 {
             return;
         }
-        let u32_at =
-            |file: &[u8], at| u32::from_le_bytes(file[at..at + 4].try_into().expect("four"));
+        let u32_at = |file: &[u8], at| u32::from_le_bytes(file[at..at + 4].try_into().expect("four"));
         let zones = usize::from(case[5]);
         let (branches, links) = (usize::from(case[6]), usize::from(case[7]));
         let orders = usize::from(case[8]) + 256 * usize::from(case[9]);
@@ -354,22 +331,12 @@ impl Run {
 
     /// Each wrong build of the second judge in place of the right one: told from
     /// the archive, by what it answered and left in the buffer, or not.
-    fn try_second_wrong(
-        &mut self,
-        case: &[u8],
-        proposal: &[u8],
-        lent: &Lent<u8>,
-        archive: &Left<Verdict, u8>,
-    ) {
+    fn try_second_wrong(&mut self, case: &[u8], proposal: &[u8], lent: &Lent<u8>, archive: &Left<Verdict, u8>) {
         self.second_wrong_tried += u64::from(!self.of_paper);
         for (found, (build, _)) in self.second_wrong.iter_mut().zip(Build::WRONG) {
             let wrong = lent.to(|report| judge_as(build, case, proposal, report));
             if wrong != *archive {
-                *(if self.of_paper {
-                    &mut found.of_paper
-                } else {
-                    &mut found.made
-                }) += 1;
+                *(if self.of_paper { &mut found.of_paper } else { &mut found.made }) += 1;
             }
         }
     }

@@ -17,7 +17,7 @@ pub fn of_each<const FIELDS: usize>(
         let fields: Result<[&str; FIELDS], _> = fields.collect::<Vec<_>>().try_into();
         let both = fields.ok().and_then(&said);
         let both = both.ok_or_else(|| Error::other(format!("a line is no {what}")))?;
-        for (judge, lines) in ["archive", "second"].into_iter().zip(both) {
+        for (judge, lines) in ["library", "second"].into_iter().zip(both) {
             for words in lines {
                 writeln!(out, "{name} {judge} {words}")?;
             }
@@ -31,11 +31,7 @@ pub fn bytes(digits: &str) -> Option<Vec<u8>> {
     if digits == "-" {
         return Some(Vec::new());
     }
-    digits
-        .as_bytes()
-        .chunks(2)
-        .map(|pair| u8::from_str_radix(std::str::from_utf8(pair).ok()?, 16).ok())
-        .collect()
+    digits.as_bytes().chunks(2).map(|pair| u8::from_str_radix(std::str::from_utf8(pair).ok()?, 16).ok()).collect()
 }
 
 pub fn hex(bytes: &[u8]) -> String {

@@ -1,8 +1,8 @@
 //! The margin sheet's entry of both: good sheets, each cause alone and beside
 //! others, every limit, damaged sheets, and all the short ones.
 
-use crate::archive;
 use crate::lent::Lent;
+use crate::library;
 use crate::rng::Rng;
 use crate::run::{count_met, Run, LEAST_INPUTS, LEAST_TIMES};
 use second_judge::{sheet_branches_as, OutputAnswer, SheetBuild};
@@ -47,19 +47,13 @@ impl Sheets<'_> {
         self.feed_as(sheet, zones, room, false)
     }
 
-    fn feed_as(
-        &mut self,
-        sheet: &[u8],
-        zones: usize,
-        room: usize,
-        null: bool,
-    ) -> (OutputAnswer, Vec<u8>) {
+    fn feed_as(&mut self, sheet: &[u8], zones: usize, room: usize, null: bool) -> (OutputAnswer, Vec<u8>) {
         self.run.count();
         self.inputs += 1;
         let copy = sheet.to_vec();
         let lent = Lent::bytes(room, self.inputs);
         let second = |build, out: &mut [u8]| sheet_branches_as(build, sheet, zones, out);
-        let theirs = lent.to(|out| archive::sheet_branches(sheet, zones, out, null));
+        let theirs = lent.to(|out| library::sheet_branches(sheet, zones, out, null));
         let ours = lent.to(|out| second(SheetBuild::Right, out));
         if let Some(text) = theirs.unlike(&ours) {
             self.fault(sheet, zones, room, || text);
@@ -84,11 +78,7 @@ impl Sheets<'_> {
     }
 
     fn meet(&mut self, sheet: &[u8], zones: usize, answer: OutputAnswer) {
-        let OutputAnswer {
-            number,
-            index,
-            length,
-        } = answer;
+        let OutputAnswer { number, index, length } = answer;
         let newlines = sheet.iter().filter(|byte| **byte == b'\n').count() as u64;
         let ended = sheet.ends_with(b"\n");
         let last = (newlines + u64::from(!ended)).saturating_sub(1);
@@ -113,19 +103,11 @@ impl Sheets<'_> {
             0 => made.branches(),
             _ => Vec::new(),
         };
-        let due = OutputAnswer {
-            number,
-            index,
-            length: written.len() as u64,
-        };
+        let due = OutputAnswer { number, index, length: written.len() as u64 };
         if answer != due {
-            self.fault(&sheet, made.zones, made.room, || {
-                format!("{answer:?} where {due:?} is due")
-            });
+            self.fault(&sheet, made.zones, made.room, || format!("{answer:?} where {due:?} is due"));
         } else if out[..written.len()] != written {
-            self.fault(&sheet, made.zones, made.room, || {
-                "other branches than were made".into()
-            });
+            self.fault(&sheet, made.zones, made.room, || "other branches than were made".into());
         }
     }
 }
@@ -162,22 +144,8 @@ const CAUSES: [(Cause, u32, &str); 9] = [
 const NO_NUMBERS: &str = "|-|+1|.5|1.|-.5|-1.|--1|1-|1e3| 1|1 |1\r|1\t|1.2.3|1..2|.|-.|0x1|1_0|NaN\
     |1\0|\u{661}|\u{feff}1|\"1\"|:";
 
-const WRONG_ZONES: [usize; 14] = [
-    0,
-    17,
-    18,
-    64,
-    255,
-    256,
-    257,
-    65_537,
-    1 << 32,
-    (1 << 32) + 1,
-    1 << 62,
-    (1 << 62) + 2,
-    usize::MAX - 1,
-    usize::MAX,
-];
+const WRONG_ZONES: [usize; 14] =
+    [0, 17, 18, 64, 255, 256, 257, 65_537, 1 << 32, (1 << 32) + 1, 1 << 62, (1 << 62) + 2, usize::MAX - 1, usize::MAX];
 
 /// A sheet, field by field, with what is wrong with it.
 struct Made {
@@ -195,9 +163,8 @@ struct Made {
 impl Made {
     /// A good sheet, with room for it.
     fn good(rng: &mut Rng, zones: usize, count: usize) -> Made {
-        let units: Vec<Vec<i128>> = (0..count)
-            .map(|_| (0..=zones).map(|field| in_range(rng, field)).collect())
-            .collect();
+        let units: Vec<Vec<i128>> =
+            (0..count).map(|_| (0..=zones).map(|field| in_range(rng, field)).collect()).collect();
         let lines = units
             .iter()
             .map(|row| {
@@ -235,10 +202,7 @@ impl Made {
         let lines: Vec<String> = self.lines.iter().map(|line| line.join(",")).collect();
         let mut text = lines.join("\n");
         // An empty line at the end would be none without its newline.
-        if lines
-            .last()
-            .is_some_and(|last| self.ended || last.is_empty())
-        {
+        if lines.last().is_some_and(|last| self.ended || last.is_empty()) {
             text.push('\n');
         }
         text.into_bytes()
@@ -261,10 +225,7 @@ impl Made {
 
     /// Plants a cause; to be called in the order of `CAUSES`.
     fn plant(&mut self, rng: &mut Rng, cause: Cause) {
-        let (_, number, _) = CAUSES
-            .iter()
-            .find(|row| row.0 == cause)
-            .expect("in the list");
+        let (_, number, _) = CAUSES.iter().find(|row| row.0 == cause).expect("in the list");
         let last = self.lines.len() - 1;
         let l = rng.between_or_end(0, last as i64) as usize;
         let f = rng.between_or_end(0, self.units[l].len() as i64 - 1) as usize;
@@ -303,8 +264,7 @@ impl Made {
             Cause::Zones => self.zones = rng.pick(&WRONG_ZONES),
         }
         let named = (51..=53).contains(number);
-        self.causes
-            .push((*number, if named { l as u64 } else { 0 }));
+        self.causes.push((*number, if named { l as u64 } else { 0 }));
     }
 }
 
@@ -406,13 +366,8 @@ fn damaged(rng: &mut Rng, mut sheet: Vec<u8>) -> Vec<u8> {
 
 pub fn sheets(run: &mut Run, rng: &mut Rng) {
     run.section("margin sheets");
-    let mut sheets = Sheets {
-        run,
-        inputs: 0,
-        numbers: [0; 56],
-        met: Default::default(),
-        second_wrong: Default::default(),
-    };
+    let mut sheets =
+        Sheets { run, inputs: 0, numbers: [0; 56], met: Default::default(), second_wrong: Default::default() };
 
     sheets.run.begin("good sheets");
     for _ in 0..12_000 {
@@ -466,9 +421,7 @@ pub fn sheets(run: &mut Run, rng: &mut Rng) {
     }
     sheets.run.end();
 
-    sheets
-        .run
-        .begin("every sheet of up to six bytes, of 1 9 - . , and newline");
+    sheets.run.begin("every sheet of up to six bytes, of 1 9 - . , and newline");
     let letters = b"19-.,\n";
     for length in 0..=6 {
         for n in 0..letters.len().pow(length) {
@@ -480,13 +433,7 @@ pub fn sheets(run: &mut Run, rng: &mut Rng) {
     sheets.run.end();
 
     sheets.run.begin("null with length 0");
-    for (sheet, zones, room) in [
-        ("", 1, 0),
-        ("", 16, 4),
-        ("1,1", 1, 0),
-        ("", 0, 0),
-        ("1,1", 17, 0),
-    ] {
+    for (sheet, zones, room) in [("", 1, 0), ("", 16, 4), ("1,1", 1, 0), ("", 0, 0), ("1,1", 17, 0)] {
         sheets.feed_as(sheet.as_bytes(), zones, room, true);
     }
     sheets.run.end();
@@ -524,19 +471,11 @@ fn at_the_limits(sheets: &mut Sheets, rng: &mut Rng) {
     }
     sheets.run.end();
 
-    sheets
-        .run
-        .begin("counts of lines and lengths of room about their limits");
+    sheets.run.begin("counts of lines and lengths of room about their limits");
     for zones in 1..=MOST_ZONES {
         for count in [0, 1, 2, 63, 64, 65, 66, 128] {
             let needed = 4 * (zones + 1) * count;
-            for room in [
-                0,
-                needed.saturating_sub(4),
-                needed.saturating_sub(1),
-                needed,
-                needed + 1,
-            ] {
+            for room in [0, needed.saturating_sub(4), needed.saturating_sub(1), needed, needed + 1] {
                 let mut made = Made::good(rng, zones, count);
                 made.room = room;
                 if count > MOST_LINES {
@@ -550,9 +489,7 @@ fn at_the_limits(sheets: &mut Sheets, rng: &mut Rng) {
     }
     sheets.run.end();
 
-    sheets
-        .run
-        .begin("zone counts about their limits and far past");
+    sheets.run.begin("zone counts about their limits and far past");
     for zones in (0..40).chain(WRONG_ZONES) {
         for room in [0, ROOM] {
             for sheet in ["", "\n", "1,1\n", "x"] {

@@ -7,12 +7,11 @@
 //! most 100,000 times the gap, what is left is the larger total's lead weighed by the two
 //! shares, and at gap zero each is zero.
 
-use crate::archive;
 use crate::families::{good, one_outside};
 use crate::lent::Lent;
+use crate::library;
 use crate::make::{
-    at_limits, flow_based_parts, least_ram, most_flow, optimal, pairs, random, used, version,
-    zone_price, Shape,
+    at_limits, flow_based_parts, least_ram, most_flow, optimal, pairs, random, used, version, zone_price, Shape,
 };
 use crate::rng::Rng;
 use crate::run::{count_met, hex, Run, LEAST_INPUTS, LEAST_TIMES};
@@ -21,9 +20,7 @@ use second_judge::limits::{BUYS, LEAST_BUFFER, SELLS, SHADOW_PRICE, ZONE_PRICE};
 use second_judge::{shortfalls_as, OutputAnswer, Row, ShortfallBuild};
 
 /// Every number that can be answered; 30 cannot.
-const NUMBERS: [u32; 24] = [
-    0, 1, 2, 3, 4, 5, 6, 7, 8, 9, 10, 11, 12, 13, 14, 15, 21, 22, 23, 24, 25, 26, 27, 86,
-];
+const NUMBERS: [u32; 24] = [0, 1, 2, 3, 4, 5, 6, 7, 8, 9, 10, 11, 12, 13, 14, 15, 21, 22, 23, 24, 25, 26, 27, 86];
 /// So many accepted hours at least have a gap.
 const LEAST_GAPS: u64 = 10_000;
 
@@ -108,10 +105,7 @@ impl Files<'_> {
     /// Margin and shadow price.
     fn branch(&self, b: usize) -> (i128, i128) {
         let [zones, _, links, orders] = self.counts();
-        (
-            Files::signed(self.case, 14 + b * (4 + 4 * zones)),
-            Files::word(self.proposal, 13 + 4 * (orders + links + b)),
-        )
+        (Files::signed(self.case, 14 + b * (4 + 4 * zones)), Files::word(self.proposal, 13 + 4 * (orders + links + b)))
     }
 
     fn link_at(&self, l: usize) -> usize {
@@ -136,11 +130,7 @@ impl Files<'_> {
         let at = self.link_at(self.counts()[2]) + 10 * o;
         let above = ONE * Files::signed(self.case, at + 6) - self.price(self.case[at]);
         [
-            if self.case[at + 1] == 0 {
-                above
-            } else {
-                -above
-            },
+            if self.case[at + 1] == 0 { above } else { -above },
             Files::word(self.case, at + 2),
             Files::word(self.proposal, 13 + 4 * o),
         ]
@@ -149,22 +139,16 @@ impl Files<'_> {
     /// All that is promised of an answer of these numbers.
     fn held(&self, out: &[i64]) -> Answered {
         let [_, branches, links, orders] = self.counts();
-        let amounts: Vec<i128> = out
-            .chunks_exact(2)
-            .map(|pair| ONE * i128::from(pair[0]) + i128::from(pair[1]))
-            .collect();
+        let amounts: Vec<i128> =
+            out.chunks_exact(2).map(|pair| ONE * i128::from(pair[0]) + i128::from(pair[1])).collect();
         let gap = ONE * self.reported(2);
         let tolerance = ONE * 1_000_000 * Files::word(self.case, 10);
         let sum: i128 = amounts.iter().sum();
         let share = self.share();
-        let branch_total: i128 = (0..branches)
-            .map(|b| self.branch(b))
-            .map(|(margin, shadow)| ONE * margin * shadow)
-            .sum();
-        let link_total: i128 = (0..links)
-            .map(|l| self.link(l))
-            .map(|[capacity, _, _, spread]| capacity * spread.max(0))
-            .sum();
+        let branch_total: i128 =
+            (0..branches).map(|b| self.branch(b)).map(|(margin, shadow)| ONE * margin * shadow).sum();
+        let link_total: i128 =
+            (0..links).map(|l| self.link(l)).map(|[capacity, _, _, spread]| capacity * spread.max(0)).sum();
         let larger = match links {
             0 => branch_total,
             _ => branch_total.max(link_total),
@@ -182,21 +166,16 @@ impl Files<'_> {
         };
         for (n, pair) in out.chunks_exact(2).enumerate() {
             promise(pair[0] >= 0, &|| format!("shortfall {n} is {}", pair[0]));
-            promise((0..100_000).contains(&pair[1]), &|| {
-                format!("shortfall {n} has {} hundred-thousandths", pair[1])
-            });
+            promise((0..100_000).contains(&pair[1]), &|| format!("shortfall {n} has {} hundred-thousandths", pair[1]));
             promise(n >= orders + branches || pair[1] == 0, &|| {
                 format!("an order or branch, {n}, has a part of a microcent")
             });
         }
         promise(sum <= gap, &|| format!("sum {sum} above the gap {gap}"));
-        promise(gap - sum == lead, &|| {
-            format!("{} is left, and the lead is {lead}", gap - sum)
+        promise(gap - sum == lead, &|| format!("{} is left, and the lead is {lead}", gap - sum));
+        promise(gap != 0 || amounts.iter().all(|&amount| amount == 0), &|| {
+            "gap zero, and something falls short".into()
         });
-        promise(
-            gap != 0 || amounts.iter().all(|&amount| amount == 0),
-            &|| "gap zero, and something falls short".into(),
-        );
 
         let most = |list: &[i128]| list.iter().copied().max().unwrap_or(0);
         let largest = most(&amounts);
@@ -255,23 +234,15 @@ impl Hours<'_> {
 
     /// Gives both this hour and so much room, and holds the answer to the archive's
     /// judgement and to what is promised.
-    fn feed_as(
-        &mut self,
-        case: &[u8],
-        proposal: &[u8],
-        room: usize,
-        null: bool,
-    ) -> (OutputAnswer, Vec<i64>) {
+    fn feed_as(&mut self, case: &[u8], proposal: &[u8], room: usize, null: bool) -> (OutputAnswer, Vec<i64>) {
         self.run.count();
         self.inputs += 1;
         let copies = (case.to_vec(), proposal.to_vec());
         // A pattern of its own for each input, so that no number is right by luck.
         let salt = self.inputs.wrapping_mul(0x9E37_79B9_7F4A_7C15);
-        let lent = Lent::filled(room, |n| {
-            (n.wrapping_mul(0xBF58_476D_1CE4_E5B9) ^ salt) as i64
-        });
+        let lent = Lent::filled(room, |n| (n.wrapping_mul(0xBF58_476D_1CE4_E5B9) ^ salt) as i64);
         let second = |build, out: &mut [i64]| shortfalls_as(build, case, proposal, out);
-        let theirs = lent.to(|out| archive::shortfalls(case, proposal, out, null));
+        let theirs = lent.to(|out| library::shortfalls(case, proposal, out, null));
         let ours = lent.to(|out| second(ShortfallBuild::Right, out));
         if let Some(text) = theirs.unlike(&ours) {
             self.fault(case, proposal, room, || text);
@@ -293,13 +264,9 @@ impl Hours<'_> {
     /// It judges first; what it answers with 0 keeps what is promised.
     fn held(&mut self, case: &[u8], proposal: &[u8], answer: &OutputAnswer, out: &[i64]) {
         let mut report = [0; LEAST_BUFFER];
-        let returned = archive::judge(case, proposal, &mut report);
-        let files = Files {
-            case,
-            proposal,
-            report: &report,
-        };
-        let (number, index) = (returned % 256, returned / 256);
+        let returned = library::judge(case, proposal, &mut report);
+        let files = Files { case, proposal, report: &report };
+        let (number, index) = (returned.number.into(), returned.index.into());
         let answered = (u64::from(answer.number), answer.index, answer.length);
         let due = match number {
             0 => {
@@ -313,9 +280,7 @@ impl Hours<'_> {
             _ => (number, index, 0),
         };
         if answered != due {
-            self.fault(case, proposal, out.len(), || {
-                format!("{answer:?} where {due:?} is due")
-            });
+            self.fault(case, proposal, out.len(), || format!("{answer:?} where {due:?} is due"));
             return;
         }
         if due.0 != 0 {
@@ -344,9 +309,7 @@ impl Hours<'_> {
         let (case, proposal) = (hour.case(), hour.proposal());
         let (answer, out) = self.feed(&case, &proposal, room);
         if answer.number != number {
-            self.fault(&case, &proposal, room, || {
-                format!("{answer:?} where {number} is due")
-            });
+            self.fault(&case, &proposal, room, || format!("{answer:?} where {number} is due"));
         }
         (answer, out)
     }
@@ -482,26 +445,16 @@ fn odd(rng: &mut Rng) -> Hour {
             zones: zones as u8,
             tolerance: TOLERANCE,
             branches: (0..branches)
-                .map(|_| Branch {
-                    ram: rng.between(-9, 9) as i32,
-                    ptdfs: (0..zones).map(|_| ptdf(rng)).collect(),
-                })
+                .map(|_| Branch { ram: rng.between(-9, 9) as i32, ptdfs: (0..zones).map(|_| ptdf(rng)).collect() })
                 .collect(),
             share,
             system_price: rng.between(1_000, 9_000) as i32,
-            shadow_prices: (0..branches)
-                .map(|_| rng.between_or_end(0, 700) as u32)
-                .collect(),
+            shadow_prices: (0..branches).map(|_| rng.between_or_end(0, 700) as u32).collect(),
             ..Hour::default()
         };
         for (from, to) in pairs(rng, zones, count) {
             let capacity = rng.between_or_end(0, 12) as u32;
-            hour.links.push(Link {
-                from,
-                to,
-                capacity,
-                contracted: rng.between(0, capacity.into()) as u32,
-            });
+            hour.links.push(Link { from, to, capacity, contracted: rng.between(0, capacity.into()) as u32 });
             let most = most_flow(share, capacity);
             hour.flows.push(rng.between_or_end(0, most) as u32);
         }
@@ -574,11 +527,7 @@ pub fn hours(run: &mut Run, rng: &mut Rng) {
         run.check_times(name.to_string(), times, least);
     }
     run.section("shortfalls, the second judge's wrong builds, times told from the archive");
-    run.check_told(
-        &ShortfallBuild::WRONG,
-        &hours.second_wrong,
-        hours.wrong_tried,
-    );
+    run.check_told(&ShortfallBuild::WRONG, &hours.second_wrong, hours.wrong_tried);
 }
 
 /// The hours that the paper names, and P1 and P3 a 125th as large.
@@ -601,9 +550,7 @@ fn gap_zero(hours: &mut Hours, rng: &mut Rng) {
         let room = enough(rng, &hour);
         let (answer, out) = hours.expect(&hour, room, 0);
         if out[..answer.length as usize].iter().any(|&n| n != 0) {
-            hours.fault(&hour.case(), &hour.proposal(), room, || {
-                "an optimal hour falls short".into()
-            });
+            hours.fault(&hour.case(), &hour.proposal(), room, || "an optimal hour falls short".into());
         }
     }
     hours.run.end();
@@ -627,7 +574,7 @@ fn gaps(hours: &mut Hours, rng: &mut Rng) {
         let shape = Shape::small(rng);
         let mut hour = near(rng, shape);
         let mut report = [0; LEAST_BUFFER];
-        if archive::judge(&hour.case(), &hour.proposal(), &mut report) != 0 {
+        if library::judge(&hour.case(), &hour.proposal(), &mut report).number != 0 {
             continue;
         }
         let gap = i64::from_le_bytes(report[24..32].try_into().expect("eight bytes"));
@@ -656,10 +603,7 @@ fn of_links(hours: &mut Hours, rng: &mut Rng) {
 fn without_links(hours: &mut Hours, rng: &mut Rng) {
     hours.run.begin("no link");
     for _ in 0..5_000 {
-        let shape = Shape {
-            links: 0,
-            ..Shape::small(rng)
-        };
+        let shape = Shape { links: 0, ..Shape::small(rng) };
         let hour = near(rng, shape);
         let room = enough(rng, &hour);
         hours.hour(&hour, room);
@@ -688,9 +632,7 @@ fn contracted(hours: &mut Hours, rng: &mut Rng) {
         let (second, of_second) = hours.hour(&hour, room);
         let count = first.length as usize;
         if first != second || of_first[..count] != of_second[..count] {
-            hours.fault(&hour.case(), &hour.proposal(), room, || {
-                "another answer with other contracted volumes".into()
-            });
+            hours.fault(&hour.case(), &hour.proposal(), room, || "another answer with other contracted volumes".into());
         }
     }
     hours.run.end();
@@ -728,12 +670,7 @@ fn lone_order(rng: &mut Rng) -> (Hour, usize, i64, i64) {
     let hour = Hour {
         zones: 1,
         tolerance: TOLERANCE,
-        orders: vec![Row {
-            zone: 0,
-            side,
-            quantity: quantity as u32,
-            price: price.clamp(-50_000, 400_000) as i32,
-        }],
+        orders: vec![Row { zone: 0, side, quantity: quantity as u32, price: price.clamp(-50_000, 400_000) as i32 }],
         volumes: vec![0],
         ..Hour::default()
     };
@@ -745,16 +682,11 @@ fn lone_order(rng: &mut Rng) -> (Hour, usize, i64, i64) {
 /// is free in full.
 fn lone_branch(rng: &mut Rng) -> (Hour, usize, i64, i64) {
     let margin = rng.between_or_end(0, 10_000);
-    let shadow = rng
-        .between_or_end(0, 100_000 / margin.max(1))
-        .min(1_000_000);
+    let shadow = rng.between_or_end(0, 100_000 / margin.max(1)).min(1_000_000);
     let hour = Hour {
         zones: 1,
         tolerance: TOLERANCE,
-        branches: vec![Branch {
-            ram: margin as i32,
-            ptdfs: vec![rng.between(-1_000, 1_000) as i32],
-        }],
+        branches: vec![Branch { ram: margin as i32, ptdfs: vec![rng.between(-1_000, 1_000) as i32] }],
         shadow_prices: vec![shadow as u32],
         system_price: 10_000,
         ..Hour::default()
@@ -772,16 +704,8 @@ fn lone_link(rng: &mut Rng) -> (Hour, usize, i64, i64) {
         version: rng.pick(&[Version::One, Version::Two]),
         zones: 2,
         tolerance: TOLERANCE,
-        branches: vec![Branch {
-            ram: 0,
-            ptdfs: vec![0, ptdf as i32],
-        }],
-        links: vec![Link {
-            from: 0,
-            to: 1,
-            capacity: capacity as u32,
-            contracted: rng.between(0, capacity) as u32,
-        }],
+        branches: vec![Branch { ram: 0, ptdfs: vec![0, ptdf as i32] }],
+        links: vec![Link { from: 0, to: 1, capacity: capacity as u32, contracted: rng.between(0, capacity) as u32 }],
         flows: vec![0],
         share: share as u32,
         shadow_prices: vec![shadow as u32],
@@ -797,25 +721,12 @@ fn link_against(rng: &mut Rng) -> (Hour, usize, i64, i64) {
     let flow = rng.between_or_end(0, 100);
     let cents = rng.between(0, 100_000 / flow.max(1)).min(40_000);
     let capacity = 2 * flow + rng.below(10) as i64;
-    let order = |zone, side, price| Row {
-        zone,
-        side,
-        quantity: 100,
-        price,
-    };
+    let order = |zone, side, price| Row { zone, side, quantity: 100, price };
     let hour = Hour {
         zones: 2,
         tolerance: TOLERANCE,
-        branches: vec![Branch {
-            ram: 0,
-            ptdfs: vec![100_000, 0],
-        }],
-        links: vec![Link {
-            from: 0,
-            to: 1,
-            capacity: capacity as u32,
-            contracted: capacity as u32,
-        }],
+        branches: vec![Branch { ram: 0, ptdfs: vec![100_000, 0] }],
+        links: vec![Link { from: 0, to: 1, capacity: capacity as u32, contracted: capacity as u32 }],
         orders: vec![order(0, SELLS, cents as i32), order(1, BUYS, 0)],
         volumes: vec![flow as u32; 2],
         flows: vec![flow as u32],
@@ -852,10 +763,7 @@ fn rooms(hours: &mut Hours, rng: &mut Rng) {
     }
     hours.run.end();
     hours.run.begin("empty files, null pointers, no room");
-    let bare = Hour {
-        zones: 1,
-        ..Hour::default()
-    };
+    let bare = Hour { zones: 1, ..Hour::default() };
     let hour = second_judge::hours::three_zone_hour();
     for null in [false, true] {
         for room in [0, 16] {

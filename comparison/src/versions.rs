@@ -13,9 +13,7 @@ use second_judge::Verdict;
 /// Of each of the two laws.
 const INPUTS: u64 = 24_000;
 /// The numbers that a case of version 2 can get: all but 3.
-const NUMBERS: [usize; 23] = [
-    0, 1, 2, 4, 5, 6, 7, 8, 9, 10, 11, 12, 13, 14, 15, 21, 22, 23, 24, 25, 26, 27, 30,
-];
+const NUMBERS: [usize; 23] = [0, 1, 2, 4, 5, 6, 7, 8, 9, 10, 11, 12, 13, 14, 15, 21, 22, 23, 24, 25, 26, 27, 30];
 
 pub fn laws(run: &mut Run, rng: &mut Rng) {
     let mut shifted = [0; 2];
@@ -65,10 +63,7 @@ fn any_hour(rng: &mut Rng) -> Hour {
 
 /// An hour of version 1, often damaged, and the same of version 2 with each link contracted whole.
 fn one_as_two(run: &mut Run, rng: &mut Rng, shifted: &mut [u64; 2]) {
-    let hour = Hour {
-        version: Version::One,
-        ..any_hour(rng)
-    };
+    let hour = Hour { version: Version::One, ..any_hour(rng) };
     let (mut one, mut proposal) = (hour.case(), hour.proposal());
     for _ in 0..rng.pick(&[0, 0, 1, 1, 1, 3]) {
         let list = damageable(rng, &hour);
@@ -94,10 +89,7 @@ fn one_as_two(run: &mut Run, rng: &mut Rng, shifted: &mut [u64; 2]) {
     let first = run.feed(&one, &proposal, enough(rng));
     let before = reported(run, first, &hour);
     let second = run.feed(&two, &proposal, enough(rng));
-    let due = Verdict {
-        number: first.number,
-        index: in_version_two(&hour, first),
-    };
+    let due = Verdict { number: first.number, index: in_version_two(&hour, first) };
     if second != due || before != reported(run, second, &hour) {
         run.fault(|| format!("version 1 {first:?}, version 2 {second:?} where {due:?} is due"));
     }
@@ -109,16 +101,7 @@ fn one_as_two(run: &mut Run, rng: &mut Rng, shifted: &mut [u64; 2]) {
 /// The fields of one part of the files; else those with many rows would have all.
 fn damageable(rng: &mut Rng, hour: &Hour) -> Vec<Field> {
     let mut list = fields(hour);
-    let numbers = rng.pick(&[
-        (2, 2),
-        (4, 4),
-        (6, 6),
-        (7, 7),
-        (7, 7),
-        (8, 8),
-        (10, 14),
-        (21, 23),
-    ]);
+    let numbers = rng.pick(&[(2, 2), (4, 4), (6, 6), (7, 7), (7, 7), (8, 8), (10, 14), (21, 23)]);
     let of_part = |field: &Field| numbers.0 <= field.number && field.number <= numbers.1;
     if list.iter().any(of_part) {
         list.retain(of_part);
@@ -160,19 +143,14 @@ fn in_version_two(hour: &Hour, verdict: Verdict) -> u32 {
 /// The totals and prices of the last report, none without one.
 fn reported(run: &Run, verdict: Verdict, hour: &Hour) -> Vec<i64> {
     match verdict.number {
-        0 | 26 => (0..5 + usize::from(hour.zones))
-            .map(|n| run.total(n))
-            .collect(),
+        0 | 26 => (0..5 + usize::from(hour.zones)).map(|n| run.total(n)).collect(),
         _ => Vec::new(),
     }
 }
 
 /// An hour of version 2 as made, and with each link contracted whole.
 fn owed_alone(run: &mut Run, rng: &mut Rng) {
-    let mut hour = Hour {
-        version: Version::Two,
-        ..any_hour(rng)
-    };
+    let mut hour = Hour { version: Version::Two, ..any_hour(rng) };
     let proposal = hour.proposal();
     let first = run.feed(&hour.case(), &proposal, enough(rng));
     let mut part = reported(run, first, &hour);
@@ -188,8 +166,6 @@ fn owed_alone(run: &mut Run, rng: &mut Rng) {
         *owed = *most;
     }
     if first != second || part != whole {
-        run.fault(|| {
-            format!("{first:?} for a part, {second:?} for all, or another total than owed")
-        });
+        run.fault(|| format!("{first:?} for a part, {second:?} for all, or another total than owed"));
     }
 }

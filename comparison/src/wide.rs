@@ -57,10 +57,7 @@ fn about_the_widest(run: &mut Run, rng: &mut Rng, met: &mut [u64; MET.len()]) {
         return;
     };
     let any = [narrow(rng), wide(rng)];
-    for tolerance in [9_999, 10_000, 10_001, 1_000_000_000, 1_000_000_001]
-        .into_iter()
-        .chain(any)
-    {
+    for tolerance in [9_999, 10_000, 10_001, 1_000_000_000, 1_000_000_001].into_iter().chain(any) {
         hour.tolerance = tolerance;
         run.feed(&hour.case(), &hour.proposal(), enough(rng));
         let cents = i64::from(tolerance);
@@ -92,10 +89,8 @@ fn another_cause(run: &mut Run, rng: &mut Rng, met: &mut [u64; MET.len()]) {
     if rng.one_in(2) {
         let numbers = rng.pick(&[(2, 8), (6, 8), (10, 14), (14, 14), (21, 23)]);
         // The tolerance itself is put below.
-        let such = |field: &Field| {
-            (numbers.0..=numbers.1).contains(&field.number)
-                && (field.number, field.index) != (4, 10)
-        };
+        let such =
+            |field: &Field| (numbers.0..=numbers.1).contains(&field.number) && (field.number, field.index) != (4, 10);
         if let Some((field, value)) = one_outside(rng, &hour, such) {
             field.put(&mut case, &mut proposal, value);
         }
@@ -121,23 +116,12 @@ fn gaps(run: &mut Run, rng: &mut Rng, met: &mut [u64; MET.len()]) {
         (WIDEST * MICROCENTS + 1, 27_961, 101, 3_541),
     ];
     for (gap, capacity, shadow, ptdf) in products {
-        assert_eq!(
-            i64::from(capacity) * i64::from(shadow) * i64::from(ptdf),
-            gap
-        );
+        assert_eq!(i64::from(capacity) * i64::from(shadow) * i64::from(ptdf), gap);
         let mut hour = Hour {
             version: version(rng),
             zones: 2,
-            branches: vec![Branch {
-                ram: 0,
-                ptdfs: vec![ptdf, 0],
-            }],
-            links: vec![Link {
-                from: 1,
-                to: 0,
-                capacity,
-                contracted: rng.between_or_end(0, capacity.into()) as u32,
-            }],
+            branches: vec![Branch { ram: 0, ptdfs: vec![ptdf, 0] }],
+            links: vec![Link { from: 1, to: 0, capacity, contracted: rng.between_or_end(0, capacity.into()) as u32 }],
             flows: vec![0],
             shadow_prices: vec![shadow],
             system_price: rng.between(-50_000, 399_990) as i32,

@@ -30,11 +30,7 @@ impl Row {
     /// Rule 8: the order's surplus at a zone price in grains, in microcents.
     pub(crate) fn surplus(&self, zone_price: i128) -> i128 {
         let order_price = i128::from(GRAINS) * i128::from(self.price);
-        let above = if self.side == BUYS {
-            order_price - zone_price
-        } else {
-            zone_price - order_price
-        };
+        let above = if self.side == BUYS { order_price - zone_price } else { zone_price - order_price };
         i128::from(self.quantity) * above.max(0)
     }
 }
@@ -49,11 +45,7 @@ pub struct BookAnswer {
 
 /// The sum of rule 8 over the rows, at zone prices in grains.
 pub fn book_surplus(rows: &[Row], prices: &[i64]) -> BookAnswer {
-    let refusal = |number, index: usize| BookAnswer {
-        number,
-        index: index as u32,
-        sum: 0,
-    };
+    let refusal = |number, index: usize| BookAnswer { number, index: index as u32, sum: 0 };
     if prices.is_empty() || prices.len() > MOST_ZONES {
         return refusal(4, 5);
     }
@@ -66,13 +58,6 @@ pub fn book_surplus(rows: &[Row], prices: &[i64]) -> BookAnswer {
     if let Some(z) = prices.iter().position(|price| !ZONE_PRICE.contains(price)) {
         return refusal(25, z);
     }
-    let sum: i128 = rows
-        .iter()
-        .map(|row| row.surplus(prices[usize::from(row.zone)].into()))
-        .sum();
-    BookAnswer {
-        number: 0,
-        index: 0,
-        sum: i64::try_from(sum).expect("the sum fits 64 bits"),
-    }
+    let sum: i128 = rows.iter().map(|row| row.surplus(prices[usize::from(row.zone)].into())).sum();
+    BookAnswer { number: 0, index: 0, sum: i64::try_from(sum).expect("the sum fits 64 bits") }
 }

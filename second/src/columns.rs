@@ -34,20 +34,14 @@ impl ColumnBuild {
     pub const WRONG: [(ColumnBuild, &'static str); 13] = [
         (ColumnBuild::RowByRow, "columns by order of rows"),
         (ColumnBuild::PriceHighestFirst, "price's highest byte first"),
-        (
-            ColumnBuild::QuantityHighestFirst,
-            "quantity's highest byte first",
-        ),
+        (ColumnBuild::QuantityHighestFirst, "quantity's highest byte first"),
         (ColumnBuild::SidesFirst, "sides before zones"),
         (ColumnBuild::MarkKept, "mark not changed"),
         (ColumnBuild::LastOrderLeftOut, "last order left out"),
         (ColumnBuild::LinksOfSix, "links of six bytes in version 2"),
         (ColumnBuild::TakesCase, "way back takes LTC"),
         (ColumnBuild::AnyMark, "way back takes any mark"),
-        (
-            ColumnBuild::ReadableOfColumns,
-            "readable asked of the columns",
-        ),
+        (ColumnBuild::ReadableOfColumns, "readable asked of the columns"),
         (ColumnBuild::RoomFirst, "72 before 71"),
         (ColumnBuild::RefusalHasLength, "length of a refusal by 72"),
         (ColumnBuild::WideRefused, "wide tolerances refused"),
@@ -78,17 +72,8 @@ pub fn case_restored_as(build: ColumnBuild, file: &[u8], out: &mut [u8]) -> Outp
 }
 
 /// 71 where there are no bytes, 72 where they have no room.
-fn written(
-    build: ColumnBuild,
-    length: usize,
-    bytes: Option<Vec<u8>>,
-    out: &mut [u8],
-) -> OutputAnswer {
-    let answer = |number, length: usize| OutputAnswer {
-        number,
-        index: 0,
-        length: length as u64,
-    };
+fn written(build: ColumnBuild, length: usize, bytes: Option<Vec<u8>>, out: &mut [u8]) -> OutputAnswer {
+    let answer = |number, length: usize| OutputAnswer { number, index: 0, length: length as u64 };
     let short = out.len() < length;
     if build == ColumnBuild::RoomFirst && short {
         return answer(72, 0);
@@ -124,11 +109,7 @@ fn columned(build: ColumnBuild, bytes: &[u8]) -> Option<Vec<u8>> {
     let start = orders_at(build, &case);
     file.extend(&bytes[3..start]);
     // A build that is mistaken about the start takes the orders from there on.
-    let rows: Vec<Row> = bytes[start..]
-        .chunks_exact(ORDER_BYTES)
-        .map(row_of)
-        .take(case.orders)
-        .collect();
+    let rows: Vec<Row> = bytes[start..].chunks_exact(ORDER_BYTES).map(row_of).take(case.orders).collect();
     match build {
         ColumnBuild::RowByRow => file.extend(&bytes[start..]),
         ColumnBuild::LastOrderLeftOut => {
@@ -146,12 +127,7 @@ fn columned(build: ColumnBuild, bytes: &[u8]) -> Option<Vec<u8>> {
 
 fn row_of(bytes: &[u8]) -> Row {
     let word = |at: usize| [bytes[at], bytes[at + 1], bytes[at + 2], bytes[at + 3]];
-    Row {
-        zone: bytes[0],
-        side: bytes[1],
-        quantity: u32::from_le_bytes(word(2)),
-        price: i32::from_le_bytes(word(6)),
-    }
+    Row { zone: bytes[0], side: bytes[1], quantity: u32::from_le_bytes(word(2)), price: i32::from_le_bytes(word(6)) }
 }
 
 /// Zones, sides, four bytes of the quantities, four of the prices.

@@ -1,9 +1,7 @@
 //! The desk's printing: cuts an input, judges it and gives the lines.
 
 use crate::judge::judge;
-use crate::limits::{
-    LEAST_BUFFER, LEAST_OUTPUT, REPORT_FIELD, REPORT_HEADER, REPORT_TOTALS, REPORT_ZONES_AT,
-};
+use crate::limits::{LEAST_BUFFER, LEAST_OUTPUT, REPORT_FIELD, REPORT_HEADER, REPORT_TOTALS, REPORT_ZONES_AT};
 use crate::read::Case;
 use crate::OutputAnswer;
 use std::io::Write;
@@ -43,16 +41,9 @@ pub fn desk_lines(input: &[u8]) -> Vec<u8> {
         let zones = usize::from(report[REPORT_ZONES_AT]);
         let value = |n: usize| {
             let at = REPORT_HEADER + REPORT_FIELD * n;
-            i64::from_le_bytes(
-                report[at..at + REPORT_FIELD]
-                    .try_into()
-                    .expect("eight bytes"),
-            )
+            i64::from_le_bytes(report[at..at + REPORT_FIELD].try_into().expect("eight bytes"))
         };
-        for (n, name) in ["welfare", "bound", "gap", "rent", "owed"]
-            .iter()
-            .enumerate()
-        {
+        for (n, name) in ["welfare", "bound", "gap", "rent", "owed"].iter().enumerate() {
             line(format_args!("{name} {}", amount(value(n), MONEY)));
         }
         for z in 0..zones {
@@ -70,11 +61,7 @@ pub fn desk_output(input: &[u8], out: &mut [u8]) -> OutputAnswer {
         _ => (31, Vec::new()),
     };
     out[..lines.len()].copy_from_slice(&lines);
-    OutputAnswer {
-        number,
-        index: 0,
-        length: lines.len() as u64,
-    }
+    OutputAnswer { number, index: 0, length: lines.len() as u64 }
 }
 
 #[cfg(test)]
@@ -102,10 +89,7 @@ mod tests {
                 _ => (0, b"verdict 1 0\n"),
             };
             let length = due.1.len() as u64;
-            assert_eq!(
-                (answer.number, answer.index, answer.length),
-                (due.0, 0, length)
-            );
+            assert_eq!((answer.number, answer.index, answer.length), (due.0, 0, length));
             let (written, rest) = out.split_at(due.1.len());
             assert_eq!(written, due.1);
             assert!(rest.iter().all(|byte| *byte == 7));

@@ -40,16 +40,10 @@ impl DumpBuild {
         (DumpBuild::PriceCut, "price cut"),
         (DumpBuild::HalvesToEven, "halves to even"),
         (DumpBuild::HalvesUp, "halves up, not away from zero"),
-        (
-            DumpBuild::PriceRoundedTwice,
-            "price's product rounded twice",
-        ),
+        (DumpBuild::PriceRoundedTwice, "price's product rounded twice"),
         (DumpBuild::PriceUnrounded, "price's product not rounded"),
         (DumpBuild::VolumeUnrounded, "volume's product not rounded"),
-        (
-            DumpBuild::RangeBeforeLaterFinite,
-            "59 before 58 of a later value",
-        ),
+        (DumpBuild::RangeBeforeLaterFinite, "59 before 58 of a later value"),
         (DumpBuild::InfinityOutOfRange, "infinity is 59"),
         (DumpBuild::IndexInBytes, "index in bytes"),
         (DumpBuild::CaseIndexNamed, "56: the case's index"),
@@ -66,36 +60,18 @@ pub fn dump_proposal(case: &[u8], dump: &[u8], out: &mut [u8]) -> OutputAnswer {
 }
 
 /// The dump as one of the builds reads it.
-pub fn dump_proposal_as(
-    build: DumpBuild,
-    case: &[u8],
-    dump: &[u8],
-    out: &mut [u8],
-) -> OutputAnswer {
+pub fn dump_proposal_as(build: DumpBuild, case: &[u8], dump: &[u8], out: &mut [u8]) -> OutputAnswer {
     match proposal(build, case, dump, out.len()) {
         Ok(bytes) => {
             out[..bytes.len()].copy_from_slice(&bytes);
-            OutputAnswer {
-                number: 0,
-                index: 0,
-                length: bytes.len() as u64,
-            }
+            OutputAnswer { number: 0, index: 0, length: bytes.len() as u64 }
         }
-        Err((number, index)) => OutputAnswer {
-            number,
-            index: index as u64,
-            length: 0,
-        },
+        Err((number, index)) => OutputAnswer { number, index: index as u64, length: 0 },
     }
 }
 
 /// The bytes to be written, or number and index of the refusal.
-fn proposal(
-    build: DumpBuild,
-    case: &[u8],
-    dump: &[u8],
-    room: usize,
-) -> Result<Vec<u8>, (u32, usize)> {
+fn proposal(build: DumpBuild, case: &[u8], dump: &[u8], room: usize) -> Result<Vec<u8>, (u32, usize)> {
     let case = Case::read(case).map_err(|verdict| match build {
         DumpBuild::CaseIndexNamed => (56, verdict.index as usize),
         _ => (56, verdict.number as usize),
@@ -254,11 +230,7 @@ impl Value {
             0 => (fraction, -1_074),
             _ => (fraction | (FRACTION + 1), exponent as i32 - 1_075),
         };
-        Some(Value {
-            negative: bits & SIGN != 0,
-            whole: whole.into(),
-            power,
-        })
+        Some(Value { negative: bits & SIGN != 0, whole: whole.into(), power })
     }
 
     fn above_one(&self) -> bool {
@@ -271,10 +243,7 @@ impl Value {
 
     /// The exact product: 53 digits by 17 at most, which is 70.
     fn times(&self, factor: u32) -> Value {
-        Value {
-            whole: self.whole * u128::from(factor),
-            ..*self
-        }
+        Value { whole: self.whole * u128::from(factor), ..*self }
     }
 
     /// The binary64 nearest to it, ties to even; none where that is infinite. The
@@ -290,11 +259,7 @@ impl Value {
             std::cmp::Ordering::Equal => kept % 2,
             std::cmp::Ordering::Greater => 1,
         };
-        let nearest = Value {
-            whole: kept + up,
-            power: self.power + spare as i32,
-            ..*self
-        };
+        let nearest = Value { whole: kept + up, power: self.power + spare as i32, ..*self };
         (digits(nearest.whole) as i32 + nearest.power <= INFINITE).then_some(nearest)
     }
 
@@ -311,17 +276,13 @@ impl Value {
     /// The whole number nearest to its size, halves up, and so away from zero.
     fn nearest(&self, build: DumpBuild) -> u128 {
         // Twice the size, cut: odd where what is cut off is a half or more.
-        let doubled = Value {
-            power: self.power + 1,
-            ..*self
-        };
+        let doubled = Value { power: self.power + 1, ..*self };
         let (floor, twice) = (self.cut(), doubled.cut());
         if floor == u128::MAX || twice % 2 == 0 {
             return floor;
         }
         // Just a half, if nothing is left behind the digit that makes it odd.
-        let half = u32::try_from(-doubled.power)
-            .is_ok_and(|places| places < 127 && self.whole == twice << places);
+        let half = u32::try_from(-doubled.power).is_ok_and(|places| places < 127 && self.whole == twice << places);
         match build {
             DumpBuild::HalvesToEven if half => floor + floor % 2,
             DumpBuild::HalvesUp if half && self.negative => floor,
@@ -344,32 +305,16 @@ mod tests {
     const FILL: u8 = 0xA5;
 
     fn bytes(values: &[f64]) -> Vec<u8> {
-        values
-            .iter()
-            .flat_map(|value| value.to_le_bytes())
-            .collect()
+        values.iter().flat_map(|value| value.to_le_bytes()).collect()
     }
 
     /// An hour with one of each, whose order has this quantity.
     fn one_of_each(quantity: u32) -> Hour {
         Hour {
             zones: 2,
-            branches: vec![Branch {
-                ram: 10,
-                ptdfs: vec![0, 0],
-            }],
-            links: vec![Link {
-                from: 0,
-                to: 1,
-                capacity: 10,
-                contracted: 10,
-            }],
-            orders: vec![Row {
-                zone: 0,
-                side: 1,
-                quantity,
-                price: 1,
-            }],
+            branches: vec![Branch { ram: 10, ptdfs: vec![0, 0] }],
+            links: vec![Link { from: 0, to: 1, capacity: 10, contracted: 10 }],
+            orders: vec![Row { zone: 0, side: 1, quantity, price: 1 }],
             ..Hour::default()
         }
     }
@@ -385,17 +330,14 @@ mod tests {
             return (answer.number, answer.index, vec![]);
         }
         assert_eq!(out[..5], *b"LTP\x01\x00");
-        let numbers = out[5..length]
-            .chunks_exact(4)
-            .enumerate()
-            .map(|(n, field)| {
-                let bits = u32::from_le_bytes(field.try_into().unwrap());
-                if n == 1 {
-                    (bits as i32).into()
-                } else {
-                    bits.into()
-                }
-            });
+        let numbers = out[5..length].chunks_exact(4).enumerate().map(|(n, field)| {
+            let bits = u32::from_le_bytes(field.try_into().unwrap());
+            if n == 1 {
+                (bits as i32).into()
+            } else {
+                bits.into()
+            }
+        });
         (answer.number, answer.index, numbers.collect())
     }
 
@@ -429,29 +371,14 @@ mod tests {
     const SHADOW: usize = 4;
 
     /// The three-zone hour's proposal as a solver has it.
-    const THREE_ZONES: [f64; 10] = [
-        0.875,
-        22.5,
-        1.0,
-        1_375.0 / 6_000.0,
-        1.0,
-        0.0,
-        0.4375,
-        350.0,
-        55.0,
-        2.5,
-    ];
+    const THREE_ZONES: [f64; 10] = [0.875, 22.5, 1.0, 1_375.0 / 6_000.0, 1.0, 0.0, 0.4375, 350.0, 55.0, 2.5];
 
     #[test]
     fn the_three_zone_hour() {
         for hour in [three_zone_hour(), contracted_hour()] {
             let mut out = vec![FILL; ROOM];
             let answer = dump_proposal(&hour.case(), &bytes(&THREE_ZONES), &mut out);
-            let due = OutputAnswer {
-                number: 0,
-                index: 0,
-                length: 45,
-            };
+            let due = OutputAnswer { number: 0, index: 0, length: 45 };
             assert_eq!(answer, due);
             assert_eq!(out[..45], hour.proposal());
             let verdict = judge(&hour.case(), &out[..45], &mut [0; LEAST_BUFFER]);
@@ -487,10 +414,7 @@ mod tests {
         assert_eq!(becomes(SYSTEM, 1, 1.115), Some(112));
         // 0.045 is below 45 thousandths, and its product is rounded onto the half.
         assert_eq!(becomes(SYSTEM, 1, 0.045), Some(5));
-        assert_eq!(
-            becomes_as(DumpBuild::PriceUnrounded, SYSTEM, 1, 0.045),
-            Some(4)
-        );
+        assert_eq!(becomes_as(DumpBuild::PriceUnrounded, SYSTEM, 1, 0.045), Some(4));
         for (euros, cents) in [(0.125, 13), (0.375, 38), (0.5, 50), (0.005, 1)] {
             assert_eq!(becomes(SYSTEM, 1, euros), Some(cents));
             assert_eq!(becomes(SYSTEM, 1, -euros), Some(-cents));
@@ -543,9 +467,7 @@ mod tests {
     fn by_hand_as_by_the_machine() {
         let mut state = 1u64;
         let mut number = || {
-            state = state
-                .wrapping_mul(6_364_136_223_846_793_005)
-                .wrapping_add(1_442_695_040_888_963_407);
+            state = state.wrapping_mul(6_364_136_223_846_793_005).wrapping_add(1_442_695_040_888_963_407);
             state >> 11 ^ state << 31
         };
         for n in 0..200_000 {
@@ -627,14 +549,7 @@ mod tests {
         for (case, number) in [
             (vec![], 1),
             (b"LTP".iter().chain(&case[3..]).copied().collect(), 2),
-            (
-                Hour {
-                    zones: 0,
-                    ..hour.clone()
-                }
-                .case(),
-                4,
-            ),
+            (Hour { zones: 0, ..hour.clone() }.case(), 4),
             (case[..101].to_vec(), 5),
         ] {
             assert_eq!(read_in(0, right, &case, &[]), (56, number, vec![]));
@@ -651,10 +566,7 @@ mod tests {
         use DumpBuild::*;
         assert_eq!(becomes_as(VolumeToNearest, ACCEPTED, 10, 0.29), Some(3));
         assert_eq!(becomes_as(FlowToNearest, FLOW, 10, 0.19), Some(2));
-        assert_eq!(
-            becomes_as(LtaShareToNearest, LTA_SHARE, 10, 0.000019),
-            Some(2)
-        );
+        assert_eq!(becomes_as(LtaShareToNearest, LTA_SHARE, 10, 0.000019), Some(2));
         assert_eq!(becomes_as(PriceCut, SYSTEM, 1, -0.019), Some(-1));
         assert_eq!(becomes_as(HalvesToEven, SYSTEM, 1, 0.125), Some(12));
         assert_eq!(becomes_as(HalvesToEven, SYSTEM, 1, 0.375), Some(38));

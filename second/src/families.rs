@@ -55,14 +55,8 @@ impl FamilyBuild {
         (FamilyBuild::LastOnACircle, "18: the last one named"),
         (FamilyBuild::CirclesNotAsked, "18 not asked"),
         (FamilyBuild::WithoutQuantities, "28: without quantities"),
-        (
-            FamilyBuild::EqualFractionsRefused,
-            "28: equal fractions refused",
-        ),
-        (
-            FamilyBuild::ParentInTheChild,
-            "28: child and parent exchanged",
-        ),
+        (FamilyBuild::EqualFractionsRefused, "28: equal fractions refused"),
+        (FamilyBuild::ParentInTheChild, "28: child and parent exchanged"),
         (FamilyBuild::ParentNamed, "28: the parent named"),
         (FamilyBuild::TopOfTheFamily, "28: held to the topmost"),
         (FamilyBuild::FractionsBeforeVolumes, "28 before 21"),
@@ -88,9 +82,7 @@ impl Families {
     /// The list for a case of so many orders: verdicts 16 to 18.
     pub fn read(build: FamilyBuild, list: &[u8], orders: usize) -> Result<Families, Verdict> {
         if build == FamilyBuild::EmptyIsNoFamilies && list.is_empty() {
-            return Ok(Families {
-                parents: vec![None; orders],
-            });
+            return Ok(Families { parents: vec![None; orders] });
         }
         let marked = build == FamilyBuild::MarkNotAsked || list.starts_with(LIST_MARK);
         let version = list.get(3..LIST_HEADER);
@@ -100,20 +92,15 @@ impl Families {
         if !marked || !versioned || list.len() != due && !long {
             return Err(Verdict::new(16, 0));
         }
-        let named: Vec<u16> = list[LIST_HEADER..due]
-            .chunks_exact(2)
-            .map(|field| u16::from_le_bytes([field[0], field[1]]))
-            .collect();
+        let named: Vec<u16> =
+            list[LIST_HEADER..due].chunks_exact(2).map(|field| u16::from_le_bytes([field[0], field[1]])).collect();
         let exists = |&parent: &u16| {
             let parent = usize::from(parent);
             parent < orders || build == FamilyBuild::ParentAtTheCount && parent == orders
         };
         let families = Families {
             // A parent that does not exist leads nowhere.
-            parents: named
-                .iter()
-                .map(|parent| Some(usize::from(*parent)).filter(|parent| *parent < orders))
-                .collect(),
+            parents: named.iter().map(|parent| Some(usize::from(*parent)).filter(|parent| *parent < orders)).collect(),
         };
         let stray = named
             .iter()
@@ -121,9 +108,7 @@ impl Families {
             .filter(|_| build != FamilyBuild::StraysTaken);
         let circle = families.circle(build);
         let refused = match build {
-            FamilyBuild::CirclesFirst => {
-                (circle.map(|order| (18, order))).or(stray.map(|order| (17, order)))
-            }
+            FamilyBuild::CirclesFirst => (circle.map(|order| (18, order))).or(stray.map(|order| (17, order))),
             _ => (stray.map(|order| (17, order))).or(circle.map(|order| (18, order))),
         };
         match refused {
@@ -140,8 +125,7 @@ impl Families {
             FamilyBuild::SelfParentTaken => standing[order] && self.parents[order] != Some(order),
             FamilyBuild::CirclesOfTwoTaken => {
                 let up = |order: usize| self.parents[order];
-                standing[order]
-                    && (up(order) == Some(order) || up(order).and_then(up) != Some(order))
+                standing[order] && (up(order) == Some(order) || up(order).and_then(up) != Some(order))
             }
             FamilyBuild::CirclesNotAsked => false,
             _ => standing[order],
@@ -187,34 +171,26 @@ impl Families {
 
     /// S-11, verdict 28: the first child whose fraction exceeds its parent's. Volumes
     /// and quantities are those of the orders.
-    pub fn ahead(
-        &self,
-        build: FamilyBuild,
-        accepted: impl Fn(usize) -> (u32, u32),
-    ) -> Option<usize> {
+    pub fn ahead(&self, build: FamilyBuild, accepted: impl Fn(usize) -> (u32, u32)) -> Option<usize> {
         if build == FamilyBuild::FractionsNotAsked {
             return None;
         }
-        let (child, parent) = self
-            .parents
-            .iter()
-            .enumerate()
-            .find_map(|(child, parent)| {
-                let parent = match build {
-                    FamilyBuild::TopOfTheFamily => self.top(child),
-                    _ => *parent,
-                }?;
-                let (one, other) = match build {
-                    FamilyBuild::ParentInTheChild => (accepted(parent), accepted(child)),
-                    _ => (accepted(child), accepted(parent)),
-                };
-                let ahead = match build {
-                    FamilyBuild::WithoutQuantities => one.0 > other.0,
-                    FamilyBuild::EqualFractionsRefused => !exceeds(other, one),
-                    _ => exceeds(one, other),
-                };
-                ahead.then_some((child, parent))
-            })?;
+        let (child, parent) = self.parents.iter().enumerate().find_map(|(child, parent)| {
+            let parent = match build {
+                FamilyBuild::TopOfTheFamily => self.top(child),
+                _ => *parent,
+            }?;
+            let (one, other) = match build {
+                FamilyBuild::ParentInTheChild => (accepted(parent), accepted(child)),
+                _ => (accepted(child), accepted(parent)),
+            };
+            let ahead = match build {
+                FamilyBuild::WithoutQuantities => one.0 > other.0,
+                FamilyBuild::EqualFractionsRefused => !exceeds(other, one),
+                _ => exceeds(one, other),
+            };
+            ahead.then_some((child, parent))
+        })?;
         Some(match build {
             FamilyBuild::ParentNamed => parent,
             _ => child,
@@ -328,10 +304,7 @@ mod tests {
         assert_eq!(refused(&[Some(0)]), (18, 0));
         assert_eq!(refused(&[None, Some(0), Some(1)]), (0, 0));
         // Two circles: the first order on either.
-        assert_eq!(
-            refused(&[Some(3), Some(4), Some(2), Some(4), Some(1)]),
-            (18, 1)
-        );
+        assert_eq!(refused(&[Some(3), Some(4), Some(2), Some(4), Some(1)]), (18, 1));
         let circle: Vec<Option<u16>> = (0..512).map(|o| Some((o + 1) % 512)).collect();
         assert_eq!(refused(&circle), (18, 0));
         let chain: Vec<Option<u16>> = (0..512).map(|o| (o < 511).then_some(o + 1)).collect();

@@ -58,19 +58,12 @@ impl Hour {
         );
         out.extend(b"LTC");
         out.extend((self.version as u16).to_le_bytes());
-        out.extend([
-            self.zones,
-            self.branches.len() as u8,
-            self.links.len() as u8,
-        ]);
+        out.extend([self.zones, self.branches.len() as u8, self.links.len() as u8]);
         out.extend((self.orders.len() as u16).to_le_bytes());
         out.extend(self.tolerance.to_le_bytes());
         for branch in &self.branches {
             out.extend(branch.ram.to_le_bytes());
-            branch
-                .ptdfs
-                .iter()
-                .for_each(|ptdf| out.extend(ptdf.to_le_bytes()));
+            branch.ptdfs.iter().for_each(|ptdf| out.extend(ptdf.to_le_bytes()));
         }
         for link in &self.links {
             out.extend([link.from, link.to]);
@@ -103,32 +96,16 @@ impl Hour {
 
 /// The three-zone hour, P1.
 pub fn three_zone_hour() -> Hour {
-    let order = |zone, side, quantity, price| Row {
-        zone,
-        side,
-        quantity,
-        price,
-    };
+    let order = |zone, side, quantity, price| Row { zone, side, quantity, price };
     Hour {
         version: Version::One,
         zones: 3,
         tolerance: 0,
         branches: vec![
-            Branch {
-                ram: 2_500,
-                ptdfs: vec![0, 75_000, 50_000],
-            },
-            Branch {
-                ram: 15_000,
-                ptdfs: vec![-100_000, 0, 0],
-            },
+            Branch { ram: 2_500, ptdfs: vec![0, 75_000, 50_000] },
+            Branch { ram: 15_000, ptdfs: vec![-100_000, 0, 0] },
         ],
-        links: vec![Link {
-            from: 0,
-            to: 1,
-            capacity: 4_000,
-            contracted: 4_000,
-        }],
+        links: vec![Link { from: 0, to: 1, capacity: 4_000, contracted: 4_000 }],
         orders: vec![
             order(0, SELLS, 4_000, 1_000),
             order(0, SELLS, 6_000, 2_000),
@@ -187,18 +164,10 @@ pub fn contracted_hour() -> Hour {
 /// S-6: no link, and a margin of -1,000 tenths that makes the second zone import
 /// so much: what A sells at 50 euros B buys at 40. The branch earns -1,000 euros.
 pub fn forced_hour() -> Hour {
-    let order = |zone, side, price| Row {
-        zone,
-        side,
-        quantity: 1_000,
-        price,
-    };
+    let order = |zone, side, price| Row { zone, side, quantity: 1_000, price };
     Hour {
         zones: 2,
-        branches: vec![Branch {
-            ram: -1_000,
-            ptdfs: vec![0, -100_000],
-        }],
+        branches: vec![Branch { ram: -1_000, ptdfs: vec![0, -100_000] }],
         orders: vec![order(0, SELLS, 5_000), order(1, BUYS, 4_000)],
         system_price: 5_000,
         volumes: vec![1_000, 1_000],
@@ -212,15 +181,7 @@ pub fn stored() -> Vec<Stored> {
     let mut list = Vec::new();
     let mut bytes = |name, case, proposal, number, index| {
         let (totals, prices) = (Totals::default(), Vec::new());
-        list.push(Stored {
-            name,
-            case,
-            proposal,
-            number,
-            index,
-            totals,
-            prices,
-        });
+        list.push(Stored { name, case, proposal, number, index, totals, prices });
     };
     let mut hour = |name, number, index, hour: &Hour| {
         bytes(name, hour.case(), hour.proposal(), number, index);
@@ -240,99 +201,24 @@ pub fn stored() -> Vec<Stored> {
     };
     hour("P2", 0, 0, &p2);
 
-    let p3 = Hour {
-        links: p1.links.clone(),
-        flows: vec![0],
-        ..p2.clone()
-    };
+    let p3 = Hour { links: p1.links.clone(), flows: vec![0], ..p2.clone() };
     hour("P3", 26, 0, &p3);
-    hour(
-        "P3, tolerance 299,999",
-        15,
-        0,
-        &Hour {
-            tolerance: 299_999,
-            ..p3.clone()
-        },
-    );
-    hour(
-        "P4",
-        15,
-        0,
-        &Hour {
-            tolerance: 300_000,
-            ..p3.clone()
-        },
-    );
+    hour("P3, tolerance 299,999", 15, 0, &Hour { tolerance: 299_999, ..p3.clone() });
+    hour("P4", 15, 0, &Hour { tolerance: 300_000, ..p3.clone() });
 
-    hour(
-        "P5",
-        21,
-        1,
-        &Hour {
-            volumes: vec![4_000, 6_001, 1_000, 0, 4_375],
-            ..p1.clone()
-        },
-    );
-    hour(
-        "P6",
-        22,
-        0,
-        &Hour {
-            volumes: vec![4_000, 1_375, 1_000, 0, 4_376],
-            ..p1.clone()
-        },
-    );
-    hour(
-        "P7",
-        23,
-        0,
-        &Hour {
-            flows: vec![3_501],
-            ..p1.clone()
-        },
-    );
-    hour(
-        "P8",
-        23,
-        0,
-        &Hour {
-            share: 87_499,
-            ..p1.clone()
-        },
-    );
-    hour(
-        "P9",
-        24,
-        0,
-        &Hour {
-            share: 87_501,
-            ..p1.clone()
-        },
-    );
+    hour("P5", 21, 1, &Hour { volumes: vec![4_000, 6_001, 1_000, 0, 4_375], ..p1.clone() });
+    hour("P6", 22, 0, &Hour { volumes: vec![4_000, 1_375, 1_000, 0, 4_376], ..p1.clone() });
+    hour("P7", 23, 0, &Hour { flows: vec![3_501], ..p1.clone() });
+    hour("P8", 23, 0, &Hour { share: 87_499, ..p1.clone() });
+    hour("P9", 24, 0, &Hour { share: 87_501, ..p1.clone() });
 
-    let p10 = Hour {
-        zones: 1,
-        system_price: 400_000,
-        ..Hour::default()
-    };
+    let p10 = Hour { zones: 1, system_price: 400_000, ..Hour::default() };
     hour("P10", 0, 0, &p10);
-    hour(
-        "P11",
-        25,
-        0,
-        &Hour {
-            system_price: 400_001,
-            ..p10
-        },
-    );
+    hour("P11", 25, 0, &Hour { system_price: 400_001, ..p10 });
 
     let p12 = Hour {
         zones: 1,
-        branches: vec![Branch {
-            ram: -1,
-            ptdfs: vec![0],
-        }],
+        branches: vec![Branch { ram: -1, ptdfs: vec![0] }],
         share: 100_000,
         shadow_prices: vec![1_000_000],
         ..Hour::default()
@@ -340,15 +226,7 @@ pub fn stored() -> Vec<Stored> {
     hour("P12", 27, 0, &p12);
     hour("P12, share 0", 24, 0, &Hour { share: 0, ..p12 });
 
-    hour(
-        "shadow price 1,000,001",
-        14,
-        37,
-        &Hour {
-            shadow_prices: vec![1_000_001, 250],
-            ..p1.clone()
-        },
-    );
+    hour("shadow price 1,000,001", 14, 37, &Hour { shadow_prices: vec![1_000_001, 250], ..p1.clone() });
     hour("P1, 2,500 of 4,000 contracted", 0, 0, &contracted_hour());
     let mut all = contracted_hour();
     all.links[0].contracted = 4_000;
@@ -357,25 +235,8 @@ pub fn stored() -> Vec<Stored> {
     hour("P1, 4,001 of 4,000 contracted", 7, 52, &all);
     let forced = forced_hour();
     hour("no link, negative branch total", 0, 0, &forced);
-    hour(
-        "no link, a share of 1",
-        27,
-        0,
-        &Hour {
-            share: 1,
-            ..forced.clone()
-        },
-    );
-    hour(
-        "no link, a share, out of balance",
-        22,
-        0,
-        &Hour {
-            share: 1,
-            volumes: vec![1_000, 999],
-            ..forced
-        },
-    );
+    hour("no link, a share of 1", 27, 0, &Hour { share: 1, ..forced.clone() });
+    hour("no link, a share, out of balance", 22, 0, &Hour { share: 1, volumes: vec![1_000, 999], ..forced });
     bytes("empty input", vec![], vec![], 1, 0);
     let mut long = p1.proposal();
     long.push(0);

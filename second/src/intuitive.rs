@@ -74,14 +74,8 @@ pub enum IntuitiveBuild {
 impl IntuitiveBuild {
     /// Every wrong build, with the name a table gives it.
     pub const WRONG: [(IntuitiveBuild, &'static str); 15] = [
-        (
-            IntuitiveBuild::FirstPriceAbove,
-            "counted: first price above",
-        ),
-        (
-            IntuitiveBuild::EqualPricesLeftOut,
-            "equal prices not counted",
-        ),
+        (IntuitiveBuild::FirstPriceAbove, "counted: first price above"),
+        (IntuitiveBuild::EqualPricesLeftOut, "equal prices not counted"),
         (IntuitiveBuild::EveryPair, "every pair counted"),
         (IntuitiveBuild::PairsBothWays, "pairs carry both ways"),
         (IntuitiveBuild::NoWayBack, "no flow back along a used pair"),
@@ -89,10 +83,7 @@ impl IntuitiveBuild {
         (IntuitiveBuild::YesToAll, "sham: yes to every hour"),
         (IntuitiveBuild::NotTurned, "net positions not turned"),
         (IntuitiveBuild::ScratchNotCleared, "scratch not cleared"),
-        (
-            IntuitiveBuild::ScratchClearedPast,
-            "scratch cleared past 324",
-        ),
+        (IntuitiveBuild::ScratchClearedPast, "scratch cleared past 324"),
         (IntuitiveBuild::SumBeforeRanges, "82: sum before the ranges"),
         (IntuitiveBuild::ZoneByZone, "82 and 83 zone by zone"),
         (IntuitiveBuild::PairTooMany, "65th pair let through"),
@@ -103,48 +94,23 @@ impl IntuitiveBuild {
     /// Those of the smaller scratch.
     pub const SMALL_WRONG: [(IntuitiveBuild, &'static str); 6] = [
         (IntuitiveBuild::NumberTooFew, "95 numbers let through"),
-        (
-            IntuitiveBuild::WideZeros,
-            "the wide scratch's zeros written",
-        ),
+        (IntuitiveBuild::WideZeros, "the wide scratch's zeros written"),
         (IntuitiveBuild::WideRoom, "85 under 324 numbers"),
         (IntuitiveBuild::ImportUsedKept, "import used not given back"),
         (IntuitiveBuild::ScratchNotCleared, "scratch not cleared"),
-        (
-            IntuitiveBuild::ScratchClearedPast,
-            "scratch cleared past 96",
-        ),
+        (IntuitiveBuild::ScratchClearedPast, "scratch cleared past 96"),
     ];
 }
 
 /// Whether these net positions, export positive and in tenths, can be carried
 /// along counted pairs at these zone prices, and how much of them at most.
 pub fn intuitive(net: &[i64], prices: &[i64], pairs: &[u8], scratch: &mut [i64]) -> CarriedAnswer {
-    intuitive_as(
-        IntuitiveBuild::Right,
-        ScratchSize::Wide,
-        net,
-        prices,
-        pairs,
-        scratch,
-    )
+    intuitive_as(IntuitiveBuild::Right, ScratchSize::Wide, net, prices, pairs, scratch)
 }
 
 /// The same with the smaller scratch.
-pub fn intuitive_small(
-    net: &[i64],
-    prices: &[i64],
-    pairs: &[u8],
-    scratch: &mut [i64],
-) -> CarriedAnswer {
-    intuitive_as(
-        IntuitiveBuild::Right,
-        ScratchSize::Small,
-        net,
-        prices,
-        pairs,
-        scratch,
-    )
+pub fn intuitive_small(net: &[i64], prices: &[i64], pairs: &[u8], scratch: &mut [i64]) -> CarriedAnswer {
+    intuitive_as(IntuitiveBuild::Right, ScratchSize::Small, net, prices, pairs, scratch)
 }
 
 /// The same as one of the builds answers.
@@ -157,48 +123,19 @@ pub fn intuitive_as(
     scratch: &mut [i64],
 ) -> CarriedAnswer {
     match carried(build, size, net, prices, pairs, scratch) {
-        Ok((intuitive, total)) => CarriedAnswer {
-            number: 0,
-            index: 0,
-            intuitive: intuitive.into(),
-            total,
-        },
+        Ok((intuitive, total)) => CarriedAnswer { number: 0, index: 0, intuitive: intuitive.into(), total },
         Err((number, index)) => refusal(number, index as u32),
     }
 }
 
 /// The same of an hour, which must be an accepted one.
-pub fn hour_intuitive(
-    case: &[u8],
-    proposal: &[u8],
-    pairs: &[u8],
-    scratch: &mut [i64],
-) -> CarriedAnswer {
-    hour_intuitive_as(
-        IntuitiveBuild::Right,
-        ScratchSize::Wide,
-        case,
-        proposal,
-        pairs,
-        scratch,
-    )
+pub fn hour_intuitive(case: &[u8], proposal: &[u8], pairs: &[u8], scratch: &mut [i64]) -> CarriedAnswer {
+    hour_intuitive_as(IntuitiveBuild::Right, ScratchSize::Wide, case, proposal, pairs, scratch)
 }
 
 /// The same with the smaller scratch.
-pub fn hour_intuitive_small(
-    case: &[u8],
-    proposal: &[u8],
-    pairs: &[u8],
-    scratch: &mut [i64],
-) -> CarriedAnswer {
-    hour_intuitive_as(
-        IntuitiveBuild::Right,
-        ScratchSize::Small,
-        case,
-        proposal,
-        pairs,
-        scratch,
-    )
+pub fn hour_intuitive_small(case: &[u8], proposal: &[u8], pairs: &[u8], scratch: &mut [i64]) -> CarriedAnswer {
+    hour_intuitive_as(IntuitiveBuild::Right, ScratchSize::Small, case, proposal, pairs, scratch)
 }
 
 /// The same as one of the builds answers.
@@ -212,8 +149,7 @@ pub fn hour_intuitive_as(
 ) -> CarriedAnswer {
     let mut report = [0; LEAST_BUFFER];
     let verdict = judge(case, proposal, &mut report);
-    let answered =
-        verdict.number == 0 || verdict.number == 26 && build == IntuitiveBuild::GapAnswered;
+    let answered = verdict.number == 0 || verdict.number == 26 && build == IntuitiveBuild::GapAnswered;
     if !answered {
         return refusal(verdict.number, verdict.index);
     }
@@ -227,12 +163,7 @@ pub fn hour_intuitive_as(
 }
 
 fn refusal(number: u32, index: u32) -> CarriedAnswer {
-    CarriedAnswer {
-        number,
-        index,
-        intuitive: 0,
-        total: 0,
-    }
+    CarriedAnswer { number, index, intuitive: 0, total: 0 }
 }
 
 /// Rule 1 turned: what each zone of a good hour sells less what it buys.
@@ -246,11 +177,7 @@ fn net_exports(build: IntuitiveBuild, case: &[u8], proposal: &[u8], zones: usize
     let mut net = vec![0; zones];
     for o in 0..case.orders {
         let (order, volume) = (case.order(o), i64::from(proposal.volume(o)));
-        net[usize::from(order.zone)] += if order.side == exporting {
-            volume
-        } else {
-            -volume
-        };
+        net[usize::from(order.zone)] += if order.side == exporting { volume } else { -volume };
     }
     net
 }
@@ -269,11 +196,7 @@ fn carried(
         return Err((81, 0));
     }
     // The sum of sixteen numbers of 64 bits, whatever they are.
-    let unbalanced = net
-        .iter()
-        .map(|position| i128::from(*position))
-        .sum::<i128>()
-        != 0;
+    let unbalanced = net.iter().map(|position| i128::from(*position)).sum::<i128>() != 0;
     if build == IntuitiveBuild::SumBeforeRanges && unbalanced {
         return Err((82, 0));
     }
@@ -355,11 +278,7 @@ fn carried(
 
 /// The pairs, or 84 with the first that has an unknown zone or equal ones,
 /// repeats an earlier one or is past the 64th.
-fn listed(
-    build: IntuitiveBuild,
-    bytes: &[u8],
-    zones: usize,
-) -> Result<Vec<(usize, usize)>, (u32, usize)> {
+fn listed(build: IntuitiveBuild, bytes: &[u8], zones: usize) -> Result<Vec<(usize, usize)>, (u32, usize)> {
     let most = MOST_PAIRS + usize::from(build == IntuitiveBuild::PairTooMany);
     let mut pairs: Vec<(usize, usize)> = Vec::new();
     for (n, pair) in bytes.chunks(2).enumerate() {
@@ -391,10 +310,7 @@ type Flows = Vec<Vec<i128>>;
 
 impl Graph {
     fn new(net: &[i64]) -> Graph {
-        Graph {
-            net: net.iter().map(|position| i128::from(*position)).collect(),
-            leads: vec![0; net.len()],
-        }
+        Graph { net: net.iter().map(|position| i128::from(*position)).collect(), leads: vec![0; net.len()] }
     }
 
     fn zones(&self) -> usize {
@@ -437,10 +353,8 @@ impl Graph {
         }
         while let Some(z) = (0..zones).find(|z| lies[*z] > 0) {
             let open = |to: &usize| left[z][*to] > 0;
-            let lowest = (0..nodes)
-                .filter(open)
-                .min_by_key(|to| height[*to])
-                .expect("what lies in a zone came from somewhere");
+            let lowest =
+                (0..nodes).filter(open).min_by_key(|to| height[*to]).expect("what lies in a zone came from somewhere");
             height[z] = height[z].max(height[lowest] + 1);
             let amount = lies[z].min(left[z][lowest]);
             left[z][lowest] -= amount;
@@ -449,13 +363,7 @@ impl Graph {
             lies[lowest] += amount;
         }
         // What went, less what went the other way where both were counted.
-        (0..zones)
-            .map(|from| {
-                (0..zones)
-                    .map(|to| (capacity[from][to] - left[from][to]).max(0))
-                    .collect()
-            })
-            .collect()
+        (0..zones).map(|from| (0..zones).map(|to| (capacity[from][to] - left[from][to]).max(0)).collect()).collect()
     }
 
     /// What flows carry, if they go along counted pairs alone and no zone lets
@@ -485,9 +393,7 @@ impl Graph {
             let into: i128 = flows.iter().map(|row| row[z]).sum();
             into - flows[z].iter().sum::<i128>()
         };
-        (0..self.zones())
-            .map(|z| i64::try_from(brought(z).max(0)).expect("within the imports"))
-            .collect()
+        (0..self.zones()).map(|z| i64::try_from(brought(z).max(0)).expect("within the imports")).collect()
     }
 
     /// By how much the exports of a set that no counted pair leaves can exceed
@@ -505,18 +411,9 @@ impl Graph {
             return (excess, set);
         }
         let without = self.excess_from(zone + 1, set, leads, excess);
-        let with = self.excess_from(
-            zone + 1,
-            set | 1 << zone,
-            leads | self.leads[zone],
-            excess + self.net[zone],
-        );
+        let with = self.excess_from(zone + 1, set | 1 << zone, leads | self.leads[zone], excess + self.net[zone]);
         // A negative excess is worse than that of the empty set.
-        [without, with]
-            .into_iter()
-            .max()
-            .expect("two of them")
-            .max((0, 0))
+        [without, with].into_iter().max().expect("two of them").max((0, 0))
     }
 
     /// A wrong build's: exports walk along counted pairs to the first import
@@ -542,9 +439,8 @@ impl Graph {
     fn reached(&self, from: usize) -> u32 {
         let mut reached = 1 << from;
         loop {
-            let further = (0..self.zones())
-                .filter(|z| reached >> z & 1 == 1)
-                .fold(reached, |all, z| all | self.leads[z]);
+            let further =
+                (0..self.zones()).filter(|z| reached >> z & 1 == 1).fold(reached, |all, z| all | self.leads[z]);
             if further == reached {
                 return reached;
             }
@@ -565,12 +461,7 @@ mod tests {
     const FIVE: [i64; 5] = [1_000, 13_000, -7_000, -3_000, -4_000];
 
     fn answer(number: u32, index: u32, intuitive: u32, total: i64) -> CarriedAnswer {
-        CarriedAnswer {
-            number,
-            index,
-            intuitive,
-            total,
-        }
+        CarriedAnswer { number, index, intuitive, total }
     }
 
     /// The answer of a build, whose scratch must be as it should, of either size.
@@ -594,11 +485,7 @@ mod tests {
     }
 
     fn refuses(net: &[i64], prices: &[i64], pairs: &[u8], number: u32, index: u32) {
-        assert_eq!(
-            asked(net, prices, pairs),
-            answer(number, index, 0, 0),
-            "{net:?} {prices:?} {pairs:?}"
-        );
+        assert_eq!(asked(net, prices, pairs), answer(number, index, 0, 0), "{net:?} {prices:?} {pairs:?}");
     }
 
     #[test]
@@ -640,10 +527,7 @@ mod tests {
             let due = answer(0, 0, yes, total);
             assert_eq!(asked(&[7, -7], &[first, second], &[0, 1]), due);
             // The other way it carries nothing.
-            assert_eq!(
-                asked(&[7, -7], &[first, second], &[1, 0]),
-                answer(0, 0, 0, 0)
-            );
+            assert_eq!(asked(&[7, -7], &[first, second], &[1, 0]), answer(0, 0, 0, 0));
         }
     }
 
@@ -670,10 +554,7 @@ mod tests {
         net[8..].fill(-51_200_000);
         let prices: Vec<i64> = (0..16).map(|z| if z < 8 { -5 } else { 5 }).collect();
         let pairs: Vec<u8> = (0..64).flat_map(|n| [n / 8, 8 + n % 8]).collect();
-        assert_eq!(
-            asked(&net, &prices, &pairs),
-            answer(0, 0, 1, 8 * 51_200_000)
-        );
+        assert_eq!(asked(&net, &prices, &pairs), answer(0, 0, 1, 8 * 51_200_000));
         let mut more = pairs.clone();
         more.extend([0, 1]);
         refuses(&net, &prices, &more, 84, 64);
@@ -829,42 +710,21 @@ mod tests {
             let mut scratch = vec![FILL; SCRATCH + 1];
             let answer = intuitive_as(build, ScratchSize::Wide, net, prices, pairs, &mut scratch);
             let cleared = scratch.iter().filter(|number| **number == 0).count();
-            (
-                answer.number,
-                answer.index,
-                answer.intuitive,
-                answer.total,
-                cleared,
-            )
+            (answer.number, answer.index, answer.intuitive, answer.total, cleared)
         };
         let (up, one) = ([1, 2], [0, 1]);
         assert_eq!(wrong(Right, &[9, -9], &up, &one), (0, 0, 1, 9, 324));
-        assert_eq!(
-            wrong(FirstPriceAbove, &[9, -9], &up, &one),
-            (0, 0, 0, 0, 324)
-        );
-        assert_eq!(
-            wrong(FirstPriceAbove, &[9, -9], &[2, 1], &one),
-            (0, 0, 1, 9, 324)
-        );
-        assert_eq!(
-            wrong(EqualPricesLeftOut, &[9, -9], &[1, 1], &one),
-            (0, 0, 0, 0, 324)
-        );
+        assert_eq!(wrong(FirstPriceAbove, &[9, -9], &up, &one), (0, 0, 0, 0, 324));
+        assert_eq!(wrong(FirstPriceAbove, &[9, -9], &[2, 1], &one), (0, 0, 1, 9, 324));
+        assert_eq!(wrong(EqualPricesLeftOut, &[9, -9], &[1, 1], &one), (0, 0, 0, 0, 324));
         assert_eq!(wrong(EveryPair, &[9, -9], &[2, 1], &one).2, 1);
         assert_eq!(wrong(PairsBothWays, &[-9, 9], &up, &one).2, 1);
         assert_eq!(wrong(ImportsForANo, &[9, -9], &up, &[]), (0, 0, 0, 9, 324));
         assert_eq!(wrong(YesToAll, &[9, -9], &up, &[]), (0, 0, 1, 0, 324));
         assert_eq!(wrong(ScratchNotCleared, &[9, -9], &up, &one).4, 0);
         assert_eq!(wrong(ScratchClearedPast, &[9, -9], &up, &one).4, 325);
-        assert_eq!(
-            wrong(SumBeforeRanges, &[0, i64::MAX], &up, &one),
-            (82, 0, 0, 0, 0)
-        );
-        assert_eq!(
-            wrong(ZoneByZone, &[0, i64::MAX], &[i64::MAX, 0], &one),
-            (83, 0, 0, 0, 0)
-        );
+        assert_eq!(wrong(SumBeforeRanges, &[0, i64::MAX], &up, &one), (82, 0, 0, 0, 0));
+        assert_eq!(wrong(ZoneByZone, &[0, i64::MAX], &[i64::MAX, 0], &one), (83, 0, 0, 0, 0));
         assert_eq!(wrong(LoneByteDropped, &[9, -9], &up, &[0, 1, 0]).3, 9);
         let every: Vec<u8> = (0..9u8)
             .flat_map(|from| (0..9).map(move |to| [from, to]))
@@ -877,21 +737,11 @@ mod tests {
         let hour = |build, hour: &Hour, pairs: &[u8]| {
             let mut scratch = [FILL; SCRATCH];
             let (case, proposal) = (hour.case(), hour.proposal());
-            hour_intuitive_as(
-                build,
-                ScratchSize::Wide,
-                &case,
-                &proposal,
-                pairs,
-                &mut scratch,
-            )
+            hour_intuitive_as(build, ScratchSize::Wide, &case, &proposal, pairs, &mut scratch)
         };
         assert_eq!(hour(NotTurned, &p1, &[0, 1, 0, 2]), answer(0, 0, 0, 0));
         let mut over = p1.clone();
         over.system_price += 1;
-        assert_eq!(
-            hour(GapAnswered, &over, &[0, 1, 0, 2]),
-            answer(0, 0, 1, 5_375)
-        );
+        assert_eq!(hour(GapAnswered, &over, &[0, 1, 0, 2]), answer(0, 0, 1, 5_375));
     }
 }

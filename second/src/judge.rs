@@ -94,10 +94,7 @@ impl Build {
         (Build::ContractedEqualRefused, "contracted, equal: refused"),
         (Build::ContractedToItsOwnLimit, "contracted up to 100,000"),
         (Build::ContractedNamesCapacity, "contracted: capacity named"),
-        (
-            Build::ContractedBeforeCapacity,
-            "contracted before capacity",
-        ),
+        (Build::ContractedBeforeCapacity, "contracted before capacity"),
         (Build::ShareNotAsked, "27 not asked"),
         (Build::ShareBeforeBalance, "27 before 22"),
         (Build::ShareAfterBranches, "27 after 24"),
@@ -141,15 +138,8 @@ pub fn judge_families(case: &[u8], proposal: &[u8], list: &[u8], report: &mut [u
 }
 
 /// The judgement with a list as one of the builds gives it.
-pub fn judge_families_as(
-    build: FamilyBuild,
-    case: &[u8],
-    proposal: &[u8],
-    list: &[u8],
-    report: &mut [u8],
-) -> Verdict {
-    let (Ok(verdict) | Err(verdict)) =
-        decide(Build::Right, case, proposal, Some((build, list)), report);
+pub fn judge_families_as(build: FamilyBuild, case: &[u8], proposal: &[u8], list: &[u8], report: &mut [u8]) -> Verdict {
+    let (Ok(verdict) | Err(verdict)) = decide(Build::Right, case, proposal, Some((build, list)), report);
     verdict
 }
 
@@ -256,11 +246,7 @@ fn decide(
     }
 
     // Rule 4, verdict 23, and rule 2: the LTA parts.
-    let link_share = if build == Build::CapacityWithoutShare {
-        ONE
-    } else {
-        share
-    };
+    let link_share = if build == Build::CapacityWithoutShare { ONE } else { share };
     let mut lta = [0i128; MOST_ZONES];
     for l in 0..case.links {
         let (link, flow) = (case.link(l), i128::from(proposal.flow(l)));
@@ -309,10 +295,7 @@ fn decide(
             *price += i128::from(ptdf) * shadow_price;
         }
     }
-    let (least, greatest) = (
-        i128::from(*ZONE_PRICE.start()),
-        i128::from(*ZONE_PRICE.end()),
-    );
+    let (least, greatest) = (i128::from(*ZONE_PRICE.start()), i128::from(*ZONE_PRICE.end()));
     for (z, &price) in prices[..case.zones].iter().enumerate() {
         if price < least || price > greatest {
             return Err(Verdict::new(25, z));
@@ -338,11 +321,7 @@ fn decide(
     for l in 0..case.links {
         let link = case.link(l);
         let spread = prices[usize::from(link.to)] - prices[usize::from(link.from)];
-        let counted = if build == Build::SpreadsNetted {
-            spread
-        } else {
-            spread.max(0)
-        };
+        let counted = if build == Build::SpreadsNetted { spread } else { spread.max(0) };
         let contracted = match build {
             Build::ContractedPastTheLink => case.volume_behind(l),
             _ => link.contracted,
@@ -370,11 +349,7 @@ fn decide(
             _ => branch_total.max(link_total),
         };
     let gap = bound - welfare;
-    let rent: i128 = net
-        .iter()
-        .zip(prices)
-        .map(|(position, price)| position * price)
-        .sum();
+    let rent: i128 = net.iter().zip(prices).map(|(position, price)| position * price).sum();
 
     // Verdicts 26 and 0.
     let over = gap > i128::from(MICROCENTS) * i128::from(case.tolerance);
@@ -401,10 +376,7 @@ fn write_report(report: &mut [u8], number: u8, totals: &[i128; REPORT_TOTALS], p
     report[REPORT_NUMBER_AT] = number;
     report[REPORT_ZONES_AT] = prices.len() as u8;
     report[REPORT_ZERO_AT] = 0;
-    for (field, &value) in report[REPORT_HEADER..]
-        .chunks_exact_mut(REPORT_FIELD)
-        .zip(totals.iter().chain(prices))
-    {
+    for (field, &value) in report[REPORT_HEADER..].chunks_exact_mut(REPORT_FIELD).zip(totals.iter().chain(prices)) {
         let value = i64::try_from(value).expect("every total fits 64 bits");
         field.copy_from_slice(&value.to_le_bytes());
     }

@@ -27,14 +27,11 @@ pub use desk::{desk_lines, desk_output};
 pub use dump::{dump_proposal, dump_proposal_as, DumpBuild};
 pub use families::{list_of, FamilyBuild, LIST_HEADER, NO_PARENT};
 pub use intuitive::{
-    hour_intuitive, hour_intuitive_as, hour_intuitive_small, intuitive, intuitive_as,
-    intuitive_small, CarriedAnswer, IntuitiveBuild, ScratchSize,
+    hour_intuitive, hour_intuitive_as, hour_intuitive_small, intuitive, intuitive_as, intuitive_small, CarriedAnswer,
+    IntuitiveBuild, ScratchSize,
 };
 pub use judge::{judge, judge_as, judge_families, judge_families_as, Build};
-pub use queue::{
-    queue_post, queue_post_as, queue_serve, queue_serve_as, Queue, QueueBuild, ServedAnswer,
-    QUEUE_BYTES,
-};
+pub use queue::{queue_post, queue_post_as, queue_serve, queue_serve_as, Queue, QueueBuild, ServedAnswer, QUEUE_BYTES};
 pub use sheet::{sheet_branches, sheet_branches_as, SheetBuild};
 pub use shortfalls::{hour_shortfalls, shortfalls, shortfalls_as, ShortfallBuild, Shortfalls};
 
@@ -48,10 +45,7 @@ pub struct Verdict {
 impl Verdict {
     pub(crate) fn new(number: u32, index: usize) -> Verdict {
         // A row's number or an offset in a case of at most 10,126 bytes.
-        Verdict {
-            number,
-            index: index as u32,
-        }
+        Verdict { number, index: index as u32 }
     }
 }
 

@@ -32,9 +32,7 @@ pub fn misnamed(build: Build, verdict: Verdict, bytes: &[u8]) -> Verdict {
         (Build::OffsetInPart, _) => Some(at - start),
         (Build::EqualZonesFirstByte, 7) if equal(row) => Some(row_at),
         (Build::PairEarlierLink, 7) => case.same_pair_before(row).map(|l| case.link_at(l)),
-        (Build::PtdfBeforeMargin, 6) if at == row_at => {
-            case.branch_fields().find(further).map(offset)
-        }
+        (Build::PtdfBeforeMargin, 6) if at == row_at => case.branch_fields().find(further).map(offset),
         (Build::LastFieldOfRow, 6) => case.branch_fields().filter(further).last().map(offset),
         (Build::LastFieldOfRow, 7) => case.link_fields(build).filter(further).last().map(offset),
         (Build::LastFieldOfRow, 8) => case.order_fields().filter(further).last().map(offset),

@@ -78,12 +78,7 @@ pub struct Queue {
 impl Queue {
     /// Nothing is waiting, and nothing was served.
     pub fn empty(build: QueueBuild) -> Queue {
-        Queue {
-            build,
-            posted: Vec::new(),
-            last: None,
-            served: Vec::new(),
-        }
+        Queue { build, posted: Vec::new(), last: None, served: Vec::new() }
     }
 
     pub fn post(&mut self, area: u32, hour: u32) -> u32 {
@@ -104,9 +99,10 @@ impl Queue {
                 return number;
             }
         }
-        let waits = self.posted.iter().any(|&(other, waiting)| {
-            waiting == hour && (other == area || self.build == QueueBuild::WaitsInAnyArea)
-        });
+        let waits = self
+            .posted
+            .iter()
+            .any(|&(other, waiting)| waiting == hour && (other == area || self.build == QueueBuild::WaitsInAnyArea));
         let was_served = self.build == QueueBuild::NoRepost && self.served.contains(&(area, hour));
         if waits || was_served {
             if self.build == QueueBuild::RefusedPostWaits {
@@ -139,22 +135,12 @@ impl Queue {
             if self.build == QueueBuild::TurnOfAnEmptyArea {
                 self.last = Some(after % AREAS);
             }
-            return ServedAnswer {
-                number: 64,
-                index: 0,
-                area: 0,
-                hour: 0,
-            };
+            return ServedAnswer { number: 64, index: 0, area: 0, hour: 0 };
         };
         let (area, hour) = self.posted.remove(place);
         self.last = Some(area);
         self.served.push((area, hour));
-        ServedAnswer {
-            number: 0,
-            index: 0,
-            area,
-            hour,
-        }
+        ServedAnswer { number: 0, index: 0, area, hour }
     }
 
     /// What waits in an area, the earliest posted first.
@@ -222,12 +208,7 @@ pub fn queue_post(bytes: &mut [u8; QUEUE_BYTES], area: u32, hour: u32) -> u32 {
 }
 
 /// The same as one of the builds answers.
-pub fn queue_post_as(
-    build: QueueBuild,
-    bytes: &mut [u8; QUEUE_BYTES],
-    area: u32,
-    hour: u32,
-) -> u32 {
+pub fn queue_post_as(build: QueueBuild, bytes: &mut [u8; QUEUE_BYTES], area: u32, hour: u32) -> u32 {
     let mut queue = Queue::read(build, bytes);
     let number = queue.post(area, hour);
     if number == 0 {

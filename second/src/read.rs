@@ -134,8 +134,7 @@ impl<'a> Case<'a> {
             let at = self.branch_at(b);
             let margin = (at, RAM.contains(&self.ram(b)));
             let ptdfs = self.ptdfs(b).enumerate();
-            iter::once(margin)
-                .chain(ptdfs.map(move |(z, ptdf)| (at + 4 + 4 * z, PTDF.contains(&ptdf))))
+            iter::once(margin).chain(ptdfs.map(move |(z, ptdf)| (at + 4 + 4 * z, PTDF.contains(&ptdf))))
         })
     }
 
@@ -180,12 +179,7 @@ impl<'a> Case<'a> {
         (0..self.orders).flat_map(|o| {
             let at = self.order_at(o);
             let [zone, side, quantity, price] = self.order(o).fields_in_range(self.zones);
-            [
-                (at, zone),
-                (at + 1, side),
-                (at + 2, quantity),
-                (at + 6, price),
-            ]
+            [(at, zone), (at + 1, side), (at + 2, quantity), (at + 6, price)]
         })
     }
 
@@ -216,9 +210,7 @@ impl<'a> Case<'a> {
 
     /// A branch's PTDFs, one per zone.
     pub fn ptdfs(&self, b: usize) -> impl Iterator<Item = i32> + 'a {
-        self.branch_row(b)[4..]
-            .chunks_exact(4)
-            .map(|field| i32_at(field, 0))
+        self.branch_row(b)[4..].chunks_exact(4).map(|field| i32_at(field, 0))
     }
 
     pub fn link(&self, l: usize) -> Link {
@@ -247,12 +239,7 @@ impl<'a> Case<'a> {
     pub fn order(&self, o: usize) -> Row {
         let at = self.order_at(o);
         let row = &self.bytes[at..at + ORDER_BYTES];
-        Row {
-            zone: row[0],
-            side: row[1],
-            quantity: u32_at(row, 2),
-            price: i32_at(row, 6),
-        }
+        Row { zone: row[0], side: row[1], quantity: u32_at(row, 2), price: i32_at(row, 6) }
     }
 }
 

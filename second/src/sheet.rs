@@ -26,10 +26,7 @@ impl SheetBuild {
         (SheetBuild::SignNotTurned, "PTDFs keep their sign"),
         (SheetBuild::MarginTurnedToo, "margins turned too"),
         (SheetBuild::DecimalsCutOff, "decimals past ours cut off"),
-        (
-            SheetBuild::UnendedLineDropped,
-            "line without newline dropped",
-        ),
+        (SheetBuild::UnendedLineDropped, "line without newline dropped"),
         (SheetBuild::CausesLineByLine, "51 and 52 line by line"),
         (SheetBuild::LongNumberWrapped, "long number wrapped"),
         (SheetBuild::LineTooMany, "65th line let through"),
@@ -42,53 +39,28 @@ pub fn sheet_branches(sheet: &[u8], zones: usize, out: &mut [u8]) -> OutputAnswe
 }
 
 /// The sheet as one of the builds reads it.
-pub fn sheet_branches_as(
-    build: SheetBuild,
-    sheet: &[u8],
-    zones: usize,
-    out: &mut [u8],
-) -> OutputAnswer {
+pub fn sheet_branches_as(build: SheetBuild, sheet: &[u8], zones: usize, out: &mut [u8]) -> OutputAnswer {
     match branches(build, sheet, zones, out.len()) {
         Ok(bytes) => {
             out[..bytes.len()].copy_from_slice(&bytes);
-            OutputAnswer {
-                number: 0,
-                index: 0,
-                length: bytes.len() as u64,
-            }
+            OutputAnswer { number: 0, index: 0, length: bytes.len() as u64 }
         }
-        Err((number, line)) => OutputAnswer {
-            number,
-            index: line as u64,
-            length: 0,
-        },
+        Err((number, line)) => OutputAnswer { number, index: line as u64, length: 0 },
     }
 }
 
 /// The bytes to be written, or number and index of the refusal.
-fn branches(
-    build: SheetBuild,
-    sheet: &[u8],
-    zones: usize,
-    room: usize,
-) -> Result<Vec<u8>, (u32, usize)> {
+fn branches(build: SheetBuild, sheet: &[u8], zones: usize, room: usize) -> Result<Vec<u8>, (u32, usize)> {
     if zones == 0 || zones > MOST_ZONES {
         return Err((50, 0));
     }
-    let columns: Vec<Column> = std::iter::once(MARGIN)
-        .chain(std::iter::repeat_n(PTDF_OF_A_ZONE, zones))
-        .collect();
-    let lines: Vec<Option<Vec<Numeral>>> = lines(build, sheet)
-        .into_iter()
-        .map(|line| numerals(line, columns.len()))
-        .collect();
+    let columns: Vec<Column> = std::iter::once(MARGIN).chain(std::iter::repeat_n(PTDF_OF_A_ZONE, zones)).collect();
+    let lines: Vec<Option<Vec<Numeral>>> =
+        lines(build, sheet).into_iter().map(|line| numerals(line, columns.len())).collect();
     let in_line = |line: &[Numeral], cause: &dyn Fn(&Numeral, &Column) -> bool| {
-        line.iter()
-            .zip(&columns)
-            .any(|(n, column)| cause(n, column))
+        line.iter().zip(&columns).any(|(n, column)| cause(n, column))
     };
-    let past_ours =
-        |n: &Numeral, column: &Column| build != SheetBuild::DecimalsCutOff && n.past(column);
+    let past_ours = |n: &Numeral, column: &Column| build != SheetBuild::DecimalsCutOff && n.past(column);
     let out_of_range = |n: &Numeral, column: &Column| n.units(build, column).is_none();
 
     if build == SheetBuild::CausesLineByLine {
@@ -154,17 +126,9 @@ struct Column {
 }
 
 /// MW to one decimal are tenths.
-const MARGIN: Column = Column {
-    decimals: 1,
-    range: RAM,
-    turned: false,
-};
+const MARGIN: Column = Column { decimals: 1, range: RAM, turned: false };
 /// PTDFs to five decimals are hundred-thousandths.
-const PTDF_OF_A_ZONE: Column = Column {
-    decimals: 5,
-    range: PTDF,
-    turned: true,
-};
+const PTDF_OF_A_ZONE: Column = Column { decimals: 5, range: PTDF, turned: true };
 
 /// A number as it is written: the digits before and after its point.
 struct Numeral<'a> {
@@ -196,11 +160,7 @@ impl<'a> Numeral<'a> {
             Some(_) => return None,
             None => (size, ""),
         };
-        digits(whole).then_some(Numeral {
-            negative,
-            whole,
-            decimals: decimals.trim_end_matches('0'),
-        })
+        digits(whole).then_some(Numeral { negative, whole, decimals: decimals.trim_end_matches('0') })
     }
 
     /// A decimal past ours is not zero: verdict 52.
@@ -216,14 +176,9 @@ impl<'a> Numeral<'a> {
         let text = format!("{}{ours:0<width$}", self.whole);
         let size = text.trim_start_matches('0');
         if build == SheetBuild::LongNumberWrapped {
-            let wrapped = size.bytes().fold(0u32, |sum, digit| {
-                sum.wrapping_mul(10).wrapping_add(u32::from(digit - b'0'))
-            });
-            let units = if self.negative {
-                wrapped.wrapping_neg()
-            } else {
-                wrapped
-            } as i32;
+            let wrapped =
+                size.bytes().fold(0u32, |sum, digit| sum.wrapping_mul(10).wrapping_add(u32::from(digit - b'0')));
+            let units = if self.negative { wrapped.wrapping_neg() } else { wrapped } as i32;
             return column.range.contains(&units).then_some(units);
         }
         // Without zeros before it the longer number is the larger one, and of
@@ -257,40 +212,24 @@ mod tests {
 
     /// The answer of a build in this much room, and the numbers written. What
     /// lies past them must be as it was.
-    fn read_in(
-        room: usize,
-        build: SheetBuild,
-        sheet: &[u8],
-        zones: usize,
-    ) -> (OutputAnswer, Vec<i32>) {
+    fn read_in(room: usize, build: SheetBuild, sheet: &[u8], zones: usize) -> (OutputAnswer, Vec<i32>) {
         let mut out = vec![FILL; room];
         let answer = sheet_branches_as(build, sheet, zones, &mut out);
         let (written, rest) = out.split_at(answer.length as usize);
         assert!(rest.iter().all(|byte| *byte == FILL), "{answer:?}");
-        let numbers = written
-            .chunks_exact(4)
-            .map(|bytes| i32::from_le_bytes(bytes.try_into().unwrap()))
-            .collect();
+        let numbers = written.chunks_exact(4).map(|bytes| i32::from_le_bytes(bytes.try_into().unwrap())).collect();
         (answer, numbers)
     }
 
     fn gives(sheet: &str, zones: usize, numbers: &[i32]) {
         let (answer, written) = read_in(ROOM, SheetBuild::Right, sheet.as_bytes(), zones);
-        let due = OutputAnswer {
-            number: 0,
-            index: 0,
-            length: 4 * numbers.len() as u64,
-        };
+        let due = OutputAnswer { number: 0, index: 0, length: 4 * numbers.len() as u64 };
         assert_eq!((answer, &written[..]), (due, numbers), "{sheet:?}");
     }
 
     fn refuses_in(room: usize, sheet: &[u8], zones: usize, number: u32, index: u64) {
         let (answer, _) = read_in(room, SheetBuild::Right, sheet, zones);
-        let due = OutputAnswer {
-            number,
-            index,
-            length: 0,
-        };
+        let due = OutputAnswer { number, index, length: 0 };
         let start = String::from_utf8_lossy(&sheet[..sheet.len().min(60)]);
         assert_eq!(answer, due, "{start:?} of {zones} zones");
     }
@@ -324,11 +263,7 @@ mod tests {
     #[test]
     fn zeros_before_and_behind_in_any_count() {
         let zeros = "0".repeat(1_000);
-        gives(
-            &format!("{zeros}7.5{zeros},-{zeros}.00001{zeros}"),
-            1,
-            &[75, 1],
-        );
+        gives(&format!("{zeros}7.5{zeros},-{zeros}.00001{zeros}"), 1, &[75, 1]);
         gives(&format!("-{zeros},-{zeros}.{zeros}"), 1, &[0, 0]);
         gives("-0,-0.0", 1, &[0, 0]);
         gives("0.5,0.00009", 1, &[5, -9]);
@@ -337,8 +272,7 @@ mod tests {
 
     #[test]
     fn what_is_no_number() {
-        let broken =
-            "|-|+1|.5|1.|-.5|-1.|--1|1-|1e3|1E3| 1|1 |1\r|1\t|1.2.3|1..2|.|-.|0x1|1_0|NaN|inf\
+        let broken = "|-|+1|.5|1.|-.5|-1.|--1|1-|1e3|1E3| 1|1 |1\r|1\t|1.2.3|1..2|.|-.|0x1|1_0|NaN|inf\
             |1\0|\u{661}|1\u{2212}|\u{feff}1|1;2|\"1\"|1'0|/|:";
         for field in broken.split('|') {
             refuses(&format!("{field},0"), 1, 51, 0);
@@ -374,19 +308,8 @@ mod tests {
 
     #[test]
     fn ranges() {
-        gives(
-            "50000.0,2.00000\n-50000.0,-2",
-            1,
-            &[500_000, -200_000, -500_000, 200_000],
-        );
-        for line in [
-            "50000.1,0",
-            "-50000.1,0",
-            "100000,0",
-            "0,2.00001",
-            "0,-2.00001",
-            "0,10",
-        ] {
+        gives("50000.0,2.00000\n-50000.0,-2", 1, &[500_000, -200_000, -500_000, 200_000]);
+        for line in ["50000.1,0", "-50000.1,0", "100000,0", "0,2.00001", "0,-2.00001", "0,10"] {
             refuses(&format!("0,0\n{line}"), 1, 53, 1);
         }
         let long = "9".repeat(1_000);
@@ -401,18 +324,7 @@ mod tests {
 
     #[test]
     fn zones() {
-        for zones in [
-            0,
-            17,
-            18,
-            255,
-            256,
-            257,
-            1 << 32,
-            (1 << 32) + 1,
-            1 << 62,
-            usize::MAX,
-        ] {
+        for zones in [0, 17, 18, 255, 256, 257, 1 << 32, (1 << 32) + 1, 1 << 62, usize::MAX] {
             refuses("", zones, 50, 0);
             refuses("x", zones, 50, 0);
         }
@@ -429,10 +341,7 @@ mod tests {
             refuses_in(room, b"1,1\n", 1, 55, 0);
         }
         for room in [8, 9] {
-            assert_eq!(
-                read_in(room, SheetBuild::Right, b"1,1\n", 1).1,
-                [10, -100_000]
-            );
+            assert_eq!(read_in(room, SheetBuild::Right, b"1,1\n", 1).1, [10, -100_000]);
         }
         refuses_in(511, of(64).as_bytes(), 1, 55, 0);
         assert_eq!(read_in(0, SheetBuild::Right, b"", 16).0.number, 0);
@@ -468,19 +377,10 @@ mod tests {
         assert_eq!(wrong(SignNotTurned, "1,1"), (0, 0, vec![10, 100_000]));
         assert_eq!(wrong(MarginTurnedToo, "1,1"), (0, 0, vec![-10, -100_000]));
         assert_eq!(wrong(DecimalsCutOff, "1.29,1"), (0, 0, vec![12, -100_000]));
-        assert_eq!(
-            wrong(UnendedLineDropped, "1,1\n2,1"),
-            (0, 0, vec![10, -100_000])
-        );
+        assert_eq!(wrong(UnendedLineDropped, "1,1\n2,1"), (0, 0, vec![10, -100_000]));
         assert_eq!(wrong(CausesLineByLine, "1.01,1\n1,x"), (52, 0, vec![]));
-        assert_eq!(
-            wrong(LongNumberWrapped, "429496729.7,0"),
-            (0, 0, vec![1, 0])
-        );
-        assert_eq!(
-            wrong(LongNumberWrapped, "0,-42949.67297"),
-            (0, 0, vec![0, 1])
-        );
+        assert_eq!(wrong(LongNumberWrapped, "429496729.7,0"), (0, 0, vec![1, 0]));
+        assert_eq!(wrong(LongNumberWrapped, "0,-42949.67297"), (0, 0, vec![0, 1]));
         assert_eq!(wrong(LineTooMany, &"1,1\n".repeat(65)).0, 0);
         assert_eq!(wrong(LineTooMany, &"1,1\n".repeat(66)).0, 54);
     }

@@ -47,52 +47,28 @@ impl ShortfallBuild {
     /// Every wrong build, with the name a table gives it.
     pub const WRONG: [(ShortfallBuild, &'static str); 23] = [
         (ShortfallBuild::SpreadNotCut, "spread not cut at zero"),
-        (
-            ShortfallBuild::SpreadCutOnTheFlow,
-            "spread cut on the flow's side",
-        ),
-        (
-            ShortfallBuild::ContractedForCapacity,
-            "contracted for capacity",
-        ),
-        (
-            ShortfallBuild::FlowWithoutShare,
-            "capacity without the share",
-        ),
+        (ShortfallBuild::SpreadCutOnTheFlow, "spread cut on the flow's side"),
+        (ShortfallBuild::ContractedForCapacity, "contracted for capacity"),
+        (ShortfallBuild::FlowWithoutShare, "capacity without the share"),
         (ShortfallBuild::SpreadTurned, "spread turned"),
         (ShortfallBuild::PartDropped, "part of a microcent dropped"),
         (ShortfallBuild::SharesExchanged, "shares exchanged"),
-        (
-            ShortfallBuild::LinkByFlowBasedShare,
-            "link by the flow-based share",
-        ),
+        (ShortfallBuild::LinkByFlowBasedShare, "link by the flow-based share"),
         (ShortfallBuild::BranchByLtaShare, "branch by the LTA share"),
         (ShortfallBuild::MarginNotScaled, "margin not scaled"),
-        (
-            ShortfallBuild::NetPositionLoads,
-            "load of the net positions",
-        ),
+        (ShortfallBuild::NetPositionLoads, "load of the net positions"),
         (ShortfallBuild::RamNeverNegative, "RAM never negative"),
         (ShortfallBuild::QuantityEarns, "quantity for the volume"),
         (ShortfallBuild::LossNotCounted, "a loss earns nothing"),
         (ShortfallBuild::SidesExchanged, "buys as sells"),
-        (
-            ShortfallBuild::OrdersNotScaled,
-            "orders without the 100,000",
-        ),
+        (ShortfallBuild::OrdersNotScaled, "orders without the 100,000"),
         (ShortfallBuild::OrderOfProposal, "links before branches"),
-        (
-            ShortfallBuild::HundredThousandthsFirst,
-            "hundred-thousandths first",
-        ),
+        (ShortfallBuild::HundredThousandthsFirst, "hundred-thousandths first"),
         (ShortfallBuild::AnswersTwentySix, "26 answered too"),
         (ShortfallBuild::RoomFirst, "86 asked first"),
         (ShortfallBuild::RoomInPairs, "room counted in pairs"),
         (ShortfallBuild::LengthInBytes, "length in bytes"),
-        (
-            ShortfallBuild::RefusalHasLength,
-            "length of a refusal by 86",
-        ),
+        (ShortfallBuild::RefusalHasLength, "length of a refusal by 86"),
     ];
 }
 
@@ -110,10 +86,7 @@ pub struct Shortfalls {
 
 impl Shortfalls {
     pub fn sum(&self) -> i128 {
-        [&self.orders, &self.branches, &self.links]
-            .into_iter()
-            .flatten()
-            .sum()
+        [&self.orders, &self.branches, &self.links].into_iter().flatten().sum()
     }
 }
 
@@ -123,17 +96,9 @@ pub fn shortfalls(case: &[u8], proposal: &[u8], out: &mut [i64]) -> OutputAnswer
 }
 
 /// The entry as one of the builds has it.
-pub fn shortfalls_as(
-    build: ShortfallBuild,
-    case: &[u8],
-    proposal: &[u8],
-    out: &mut [i64],
-) -> OutputAnswer {
-    let answer = |number: u32, index: u32, length: usize| OutputAnswer {
-        number,
-        index: index.into(),
-        length: length as u64,
-    };
+pub fn shortfalls_as(build: ShortfallBuild, case: &[u8], proposal: &[u8], out: &mut [i64]) -> OutputAnswer {
+    let answer =
+        |number: u32, index: u32, length: usize| OutputAnswer { number, index: index.into(), length: length as u64 };
     let verdict = judge(case, proposal, &mut [0; LEAST_BUFFER]);
     let taken = verdict.number == 0
         || build == ShortfallBuild::AnswersTwentySix && verdict.number == 26
@@ -188,11 +153,7 @@ pub fn hour_shortfalls(case: &[u8], proposal: &[u8]) -> Result<Shortfalls, Verdi
     hour_shortfalls_as(ShortfallBuild::Right, case, proposal)
 }
 
-fn hour_shortfalls_as(
-    build: ShortfallBuild,
-    case: &[u8],
-    proposal: &[u8],
-) -> Result<Shortfalls, Verdict> {
+fn hour_shortfalls_as(build: ShortfallBuild, case: &[u8], proposal: &[u8]) -> Result<Shortfalls, Verdict> {
     let case = Case::read(case)?;
     let proposal = Proposal::read(proposal, &case)?;
     let lta_share = i128::from(proposal.share);
@@ -244,11 +205,7 @@ fn hour_shortfalls_as(
     // The shadow price times what is left free: a cent on a hundred-thousandth of a
     // tenth is a microcent.
     let of_branch = |b| {
-        let load: i128 = case
-            .ptdfs(b)
-            .zip(&flow_based)
-            .map(|(ptdf, part)| i128::from(ptdf) * part)
-            .sum();
+        let load: i128 = case.ptdfs(b).zip(&flow_based).map(|(ptdf, part)| i128::from(ptdf) * part).sum();
         let share = match build {
             ShortfallBuild::SharesExchanged | ShortfallBuild::BranchByLtaShare => lta_share,
             ShortfallBuild::MarginNotScaled => ONE,
@@ -274,9 +231,7 @@ fn hour_shortfalls_as(
             _ => row.capacity,
         });
         let share = match build {
-            ShortfallBuild::SharesExchanged | ShortfallBuild::LinkByFlowBasedShare => {
-                flow_based_share
-            }
+            ShortfallBuild::SharesExchanged | ShortfallBuild::LinkByFlowBasedShare => flow_based_share,
             ShortfallBuild::FlowWithoutShare => ONE,
             _ => lta_share,
         };

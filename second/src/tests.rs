@@ -24,35 +24,20 @@ fn stored_hours() {
     for hour in stored() {
         let (verdict, report) = run(Build::Right, &hour);
         let name = hour.name;
-        assert_eq!(
-            verdict,
-            Verdict {
-                number: hour.number,
-                index: hour.index
-            },
-            "{name}"
-        );
+        assert_eq!(verdict, Verdict { number: hour.number, index: hour.index }, "{name}");
         if hour.number != 0 && hour.number != 26 {
             assert_eq!(report, [0xA5; 200], "{name}");
             continue;
         }
         let zones = hour.case[5];
-        assert_eq!(
-            report[..REPORT_HEADER],
-            [b'L', b'T', b'R', 1, 0, hour.number as u8, zones, 0],
-            "{name}"
-        );
+        assert_eq!(report[..REPORT_HEADER], [b'L', b'T', b'R', 1, 0, hour.number as u8, zones, 0], "{name}");
         for (n, total) in hour.totals.in_order().into_iter().enumerate() {
             if let Some(total) = total {
                 assert_eq!(field(&report, n), total, "{name}, total {n}");
             }
         }
         for (z, price) in hour.prices.iter().enumerate() {
-            assert_eq!(
-                field(&report, REPORT_TOTALS + z),
-                *price,
-                "{name}, zone {z}"
-            );
+            assert_eq!(field(&report, REPORT_TOTALS + z), *price, "{name}, zone {z}");
         }
         assert!(
             report[REPORT_HEADER + REPORT_FIELD * (REPORT_TOTALS + usize::from(zones))..]
@@ -68,17 +53,11 @@ fn bytes_of_the_three_zone_hour() {
     let hour = three_zone_hour();
     let (case, proposal) = (hour.case(), hour.proposal());
     assert_eq!((case.len(), proposal.len()), (102, 45));
-    assert_eq!(
-        case[..14],
-        [b'L', b'T', b'C', 1, 0, 3, 2, 1, 5, 0, 0, 0, 0, 0]
-    );
+    assert_eq!(case[..14], [b'L', b'T', b'C', 1, 0, 3, 2, 1, 5, 0, 0, 0, 0, 0]);
     assert_eq!(case[14..18], 2_500i32.to_le_bytes());
     assert_eq!(case[46..52], [0, 1, 0xA0, 0x0F, 0, 0]);
     assert_eq!(case[52..62], [0, 1, 0xA0, 0x0F, 0, 0, 0xE8, 3, 0, 0]);
-    assert_eq!(
-        proposal[..13],
-        [b'L', b'T', b'P', 1, 0, 0xCC, 0x55, 1, 0, 0xCA, 8, 0, 0]
-    );
+    assert_eq!(proposal[..13], [b'L', b'T', b'P', 1, 0, 0xCC, 0x55, 1, 0, 0xCA, 8, 0, 0]);
 }
 
 #[test]
@@ -128,21 +107,12 @@ fn buffer_is_asked_first() {
         let mut report = vec![7; length];
         for case in [&hour.case[..], &[]] {
             let verdict = judge(case, &hour.proposal, &mut report);
-            assert_eq!(
-                verdict,
-                Verdict {
-                    number: 30,
-                    index: 0
-                }
-            );
+            assert_eq!(verdict, Verdict { number: 30, index: 0 });
         }
         assert!(report.iter().all(|byte| *byte == 7));
     }
     // The whole length counts, not what this report would fill.
-    assert_eq!(
-        judge(&hour.case, &hour.proposal, &mut [7; LEAST_BUFFER]).number,
-        0
-    );
+    assert_eq!(judge(&hour.case, &hour.proposal, &mut [7; LEAST_BUFFER]).number, 0);
 }
 
 #[test]
@@ -175,33 +145,18 @@ fn header_refusals() {
         (53, 2, 8, 53),
         (97, 1, 8, 94),
     ] {
-        assert_eq!(
-            with(at, value),
-            Verdict { number, index },
-            "byte {at} as {value}"
-        );
+        assert_eq!(with(at, value), Verdict { number, index }, "byte {at} as {value}");
     }
 }
 
 #[test]
 fn repeated_pair_is_sought_among_all_earlier_links() {
     let mut hour = three_zone_hour();
-    let link = |from, to| hours::Link {
-        from,
-        to,
-        capacity: 1,
-        contracted: 1,
-    };
+    let link = |from, to| hours::Link { from, to, capacity: 1, contracted: 1 };
     hour.links = vec![link(0, 1), link(1, 0), link(2, 1), link(0, 1)];
     hour.flows = vec![0; 4];
     let verdict = judge(&hour.case(), &hour.proposal(), &mut [0; LEAST_BUFFER]);
-    assert_eq!(
-        verdict,
-        Verdict {
-            number: 7,
-            index: 64
-        }
-    );
+    assert_eq!(verdict, Verdict { number: 7, index: 64 });
 }
 
 #[test]
@@ -212,13 +167,7 @@ fn smallest_number_then_smallest_index() {
     hour.orders[4].quantity = 0;
     hour.orders[2].price = 400_001;
     let verdict = judge(&hour.case(), &hour.proposal(), &mut [0; LEAST_BUFFER]);
-    assert_eq!(
-        verdict,
-        Verdict {
-            number: 8,
-            index: 78
-        }
-    );
+    assert_eq!(verdict, Verdict { number: 8, index: 78 });
 }
 
 // S-2. Offsets by hand: P1's branches begin at 14 and 30, its link at 46, its
@@ -236,22 +185,13 @@ fn told_apart(build: Build, hour: &Hour, right: (u32, u32), wrong: (u32, u32)) {
 
 /// A link that is contracted whole.
 fn link(from: u8, to: u8, capacity: u32) -> hours::Link {
-    hours::Link {
-        from,
-        to,
-        capacity,
-        contracted: capacity,
-    }
+    hours::Link { from, to, capacity, contracted: capacity }
 }
 
 /// P1 with these links, none of which has a flow.
 fn with_links(links: &[(u8, u8, u32)]) -> Hour {
     let link = |&(from, to, capacity): &(u8, u8, u32)| link(from, to, capacity);
-    Hour {
-        links: links.iter().map(link).collect(),
-        flows: vec![0; links.len()],
-        ..three_zone_hour()
-    }
+    Hour { links: links.iter().map(link).collect(), flows: vec![0; links.len()], ..three_zone_hour() }
 }
 
 #[test]
@@ -397,12 +337,7 @@ fn bound_by_contracted_volumes() {
 
 #[test]
 fn flow_limited_to_what_is_contracted() {
-    told_apart(
-        Build::LinkRuleByContracted,
-        &contracted_hour(),
-        (0, 0),
-        (23, 0),
-    );
+    told_apart(Build::LinkRuleByContracted, &contracted_hour(), (0, 0), (23, 0));
 }
 
 #[test]
@@ -411,12 +346,7 @@ fn contracted_read_in_version_1() {
     // The first order's bytes 00 01 a0 0f as a volume: over 100,000 tenths.
     let right = (0, 0, 22_125.0, 17_500.0);
     let wrong = (0, 0, 22_125.0, 100_000.0 * 4.375);
-    told_apart_by_totals(
-        Build::ContractedPastTheLink,
-        &three_zone_hour(),
-        right,
-        wrong,
-    );
+    told_apart_by_totals(Build::ContractedPastTheLink, &three_zone_hour(), right, wrong);
 }
 
 #[test]
@@ -437,11 +367,7 @@ fn another_version_taken() {
         case[3..5].copy_from_slice(&version.to_le_bytes());
         let given = [Build::Right, Build::VersionThreeTaken]
             .map(|build| judge_as(build, &case, &hour.proposal(), &mut [0; LEAST_BUFFER]).number);
-        assert_eq!(
-            given,
-            [3, if version == 3 { 0 } else { 3 }],
-            "version {version}"
-        );
+        assert_eq!(given, [3, if version == 3 { 0 } else { 3 }], "version {version}");
     }
 }
 
@@ -467,10 +393,7 @@ fn contracted_above_capacity_named_by_its_own_field() {
     told_apart(Build::ContractedNamesCapacity, &hour, (7, 52), (7, 48));
     // In the second link, behind a good first one.
     hour.links[0].contracted = 4_000;
-    hour.links.push(hours::Link {
-        contracted: 1,
-        ..link(1, 0, 0)
-    });
+    hour.links.push(hours::Link { contracted: 1, ..link(1, 0, 0) });
     hour.flows.push(0);
     told_apart(Build::RowForOffset, &hour, (7, 62), (7, 1));
     told_apart(Build::OffsetInPart, &hour, (7, 62), (7, 16));
@@ -552,16 +475,8 @@ fn desk_cuts_version_2_at_its_own_length() {
 fn version_2_with_the_most_links() {
     let mut hour = contracted_hour();
     hour.zones = 16;
-    hour.branches = vec![
-        hours::Branch {
-            ram: 500_000,
-            ptdfs: vec![0; 16]
-        };
-        64
-    ];
-    hour.links = (0..64)
-        .map(|l| link(l / 4, (l / 4 + l % 4 + 1) % 16, 100_000))
-        .collect();
+    hour.branches = vec![hours::Branch { ram: 500_000, ptdfs: vec![0; 16] }; 64];
+    hour.links = (0..64).map(|l| link(l / 4, (l / 4 + l % 4 + 1) % 16, 100_000)).collect();
     hour.orders = vec![hour.orders[0]; 512];
     assert_eq!(hour.case().len(), 10_126);
     hour.links[63].contracted = 100_001;
@@ -631,19 +546,10 @@ fn a_link_brings_back_the_zero_exchange() {
 /// Two zones with the spread of one link positive and of the other negative.
 fn two_way_hour() -> Stored {
     let p1 = three_zone_hour();
-    let hour = Hour {
-        tolerance: 10_000,
-        links: vec![link(0, 1, 4_000), link(1, 0, 1_000)],
-        flows: vec![3_500, 0],
-        ..p1
-    };
+    let hour =
+        Hour { tolerance: 10_000, links: vec![link(0, 1, 4_000), link(1, 0, 1_000)], flows: vec![3_500, 0], ..p1 };
     let (case, proposal) = (hour.case(), hour.proposal());
-    Stored {
-        name: "two ways",
-        case,
-        proposal,
-        ..named("P10")
-    }
+    Stored { name: "two ways", case, proposal, ..named("P10") }
 }
 
 #[test]
@@ -655,12 +561,7 @@ fn wrong_builds_do_what_the_paper_says_of_them() {
     assert_eq!(run(Build::CapacityWithoutShare, &p8).0.number, 0);
     assert_eq!(run(Build::BranchTotalAlone, &p3).0.number, 0);
     assert_eq!(run(Build::SmallerTotal, &p3).0.number, 0);
-    assert_eq!(
-        run(Build::RamNeverNegative, &named("P12, share 0"))
-            .0
-            .number,
-        0
-    );
+    assert_eq!(run(Build::RamNeverNegative, &named("P12, share 0")).0.number, 0);
 
     let two = two_way_hour();
     let owed = |build| field(&run(build, &two).1, 4);
@@ -673,58 +574,27 @@ fn shams_are_found_where_the_paper_says() {
     let (p1, p3) = (named("P1"), named("P3"));
     assert_eq!(run(Build::AlwaysOverTolerance, &p1).0.number, 26);
     assert_eq!(run(Build::AcceptsWithZeroTotals, &p3).0.number, 0);
-    assert_eq!(
-        run(Build::ReportUntouched, &p1),
-        (
-            Verdict {
-                number: 0,
-                index: 0
-            },
-            [0xA5; 200]
-        )
-    );
+    assert_eq!(run(Build::ReportUntouched, &p1), (Verdict { number: 0, index: 0 }, [0xA5; 200]));
 }
 
 #[test]
 fn book_answers() {
-    let row = |zone, side, quantity, price| Row {
-        zone,
-        side,
-        quantity,
-        price,
-    };
+    let row = |zone, side, quantity, price| Row { zone, side, quantity, price };
     let answer = |number, index, sum| BookAnswer { number, index, sum };
     let p1 = three_zone_hour();
     let prices = named("P1").prices;
     // P1: bound less the owed, 22,125 - 17,500 euros.
-    assert_eq!(
-        book_surplus(&p1.orders, &prices),
-        answer(0, 0, 4_625 * EURO)
-    );
+    assert_eq!(book_surplus(&p1.orders, &prices), answer(0, 0, 4_625 * EURO));
     assert_eq!(book_surplus(&[], &prices), answer(0, 0, 0));
 
     // In the paper's order: prices, rows, each row, each price.
     let (bad_row, bad_price) = (row(3, 0, 1, 0), [0, -5_000_000_001, 0]);
     assert_eq!(book_surplus(&[bad_row; 513], &[]), answer(4, 5, 0));
-    assert_eq!(
-        book_surplus(&[bad_row; 513], &[40_000_000_001; 17]),
-        answer(4, 5, 0)
-    );
+    assert_eq!(book_surplus(&[bad_row; 513], &[40_000_000_001; 17]), answer(4, 5, 0));
     assert_eq!(book_surplus(&[bad_row; 513], &bad_price), answer(4, 8, 0));
-    assert_eq!(
-        book_surplus(&[row(0, 1, 1, 0), bad_row], &bad_price),
-        answer(8, 1, 0)
-    );
-    assert_eq!(
-        book_surplus(&[row(0, 1, 1, 0)], &bad_price),
-        answer(25, 1, 0)
-    );
-    for bad in [
-        row(0, 2, 1, 0),
-        row(0, 0, 0, 0),
-        row(0, 0, 100_001, 0),
-        row(0, 0, 1, 400_001),
-    ] {
+    assert_eq!(book_surplus(&[row(0, 1, 1, 0), bad_row], &bad_price), answer(8, 1, 0));
+    assert_eq!(book_surplus(&[row(0, 1, 1, 0)], &bad_price), answer(25, 1, 0));
+    for bad in [row(0, 2, 1, 0), row(0, 0, 0, 0), row(0, 0, 100_001, 0), row(0, 0, 1, 400_001)] {
         assert_eq!(book_surplus(&[bad], &prices), answer(8, 0, 0));
     }
 
@@ -770,12 +640,7 @@ fn queue_runs(build: QueueBuild, events: &str) -> String {
                 let of_bytes = queue_serve_as(build, &mut bytes);
                 let followed = queue.serve();
                 let answer = if by_bytes { of_bytes } else { followed };
-                let ServedAnswer {
-                    number,
-                    index,
-                    area,
-                    hour,
-                } = answer;
+                let ServedAnswer { number, index, area, hour } = answer;
                 printed += &format!(": {number} {index} {area} {hour}");
             }
             word => panic!("no event: {word}"),
@@ -879,28 +744,14 @@ fn columns_by_hand() {
     let hour = Hour {
         zones: 1,
         orders: vec![
-            Row {
-                zone: 0,
-                side: 0,
-                quantity: 513,
-                price: -2,
-            },
-            Row {
-                zone: 0,
-                side: 1,
-                quantity: 7,
-                price: 66_051,
-            },
+            Row { zone: 0, side: 0, quantity: 513, price: -2 },
+            Row { zone: 0, side: 1, quantity: 7, price: 66_051 },
         ],
         ..Hour::default()
     };
     let case = hour.case();
     let (mut out, mut back) = ([9; 35], [9; 34]);
-    let written = |length| OutputAnswer {
-        number: 0,
-        index: 0,
-        length,
-    };
+    let written = |length| OutputAnswer { number: 0, index: 0, length };
     assert_eq!(case_columned(&case, &mut out), written(34));
     assert_eq!((&out[..3], &out[3..14]), (&b"LTK"[..], &case[3..14]));
     assert_eq!(out[14..20], [0, 0, 0, 1, 1, 7]);
@@ -932,9 +783,7 @@ fn families_of_the_three_zone_hour() {
     assert_eq!(with_list(&hour, &list_of(&none)), (0, 0));
     let of = |pairs: &[(usize, u16)]| {
         let mut parents = none;
-        pairs
-            .iter()
-            .for_each(|&(o, parent)| parents[o] = Some(parent));
+        pairs.iter().for_each(|&(o, parent)| parents[o] = Some(parent));
         list_of(&parents)
     };
     assert_eq!(with_list(&hour, &of(&[(1, 0), (4, 2), (3, 1)])), (0, 0));
@@ -980,10 +829,7 @@ fn families_asked_out_of_their_turn() {
     assert_eq!(with_list(&hour, &list(1, 1)), (14, at));
     // No room for a report: asked first of all.
     let (case, proposal) = (p1.case(), p1.proposal());
-    assert_eq!(
-        judge_families(&case, &proposal, &[], &mut [0; 175]).number,
-        30
-    );
+    assert_eq!(judge_families(&case, &proposal, &[], &mut [0; 175]).number, 30);
 }
 
 #[test]
@@ -998,10 +844,7 @@ fn wide_tolerances_are_read_and_not_judged() {
         }
     };
     let p1 = three_zone_hour();
-    let at = |tolerance| Hour {
-        tolerance,
-        ..p1.clone()
-    };
+    let at = |tolerance| Hour { tolerance, ..p1.clone() };
     told(Build::WideAtTheLimit, &at(10_000), (0, 0), (15, 0));
     told(Build::WideNotAsked, &at(10_001), (15, 0), (0, 0));
     told(Build::WideInHeader, &at(10_001), (15, 0), (4, 10));
@@ -1019,8 +862,7 @@ fn wide_tolerances_are_read_and_not_judged() {
     told(Build::WideAfterVolumes, &hour, (15, 0), (21, 1));
     // With a list it is asked before 16.
     let (case, proposal) = (at(10_001).case(), p1.proposal());
-    let number =
-        |build, list: &[u8]| judge_families_as(build, &case, &proposal, list, &mut [0; 176]).number;
+    let number = |build, list: &[u8]| judge_families_as(build, &case, &proposal, list, &mut [0; 176]).number;
     assert_eq!(number(FamilyBuild::Right, &[]), 15);
     assert_eq!(number(FamilyBuild::WideAfterList, &[]), 16);
     assert_eq!(number(FamilyBuild::WideNotAsked, &list_of(&[None; 5])), 0);

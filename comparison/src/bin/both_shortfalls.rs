@@ -7,23 +7,15 @@
 //! crates/shortfall_runs prints; and the name, the judge, `written` and the output's
 //! numbers that were changed, from its first on.
 
-#[path = "../archive.rs"]
-#[allow(dead_code)] // one of its entries is asked
-mod archive;
-#[path = "../said.rs"]
-#[allow(dead_code)] // what is written is no bytes
-mod said;
-
-use said::{bytes, of_each, written};
+use comparison::library;
+use comparison::said::{bytes, of_each, written};
 use second_judge::OutputAnswer;
 
 fn main() -> std::io::Result<()> {
     of_each("hour", |[room, case, proposal]| {
         let (room, case, proposal) = (room.parse().ok()?, bytes(case)?, bytes(proposal)?);
         Some([
-            said_of(room, |out| {
-                archive::shortfalls(&case, &proposal, out, false)
-            }),
+            said_of(room, |out| library::shortfalls(&case, &proposal, out, false)),
             said_of(room, |out| second_judge::shortfalls(&case, &proposal, out)),
         ])
     })
@@ -35,14 +27,7 @@ fn joined(numbers: &[i64]) -> String {
 
 fn said_of(room: usize, entry: impl Fn(&mut [i64]) -> OutputAnswer) -> Vec<String> {
     let (answer, out, count) = written(room, [0, -1], entry);
-    let OutputAnswer {
-        number,
-        index,
-        length,
-    } = answer;
+    let OutputAnswer { number, index, length } = answer;
     let numbers = joined(&out[..(length as usize).min(room)]);
-    vec![
-        format!("{number} {index} {length}{numbers}"),
-        format!("written{}", joined(&out[..count])),
-    ]
+    vec![format!("{number} {index} {length}{numbers}"), format!("written{}", joined(&out[..count]))]
 }

@@ -1,9 +1,7 @@
 //! Shortfalls by hand, on the paper's hours and on the three-zone hour scaled down.
 
 use super::*;
-use crate::hours::{
-    contracted_hour, forced_hour, stored, three_zone_hour, Hour, Link, Version, EURO,
-};
+use crate::hours::{contracted_hour, forced_hour, stored, three_zone_hour, Hour, Link, Version, EURO};
 
 /// A microcent in hundred-thousandths.
 const MICROCENT: i128 = ONE;
@@ -58,14 +56,10 @@ fn accepted(hour: &Hour) -> (i128, Shortfalls) {
     assert_eq!((answer.number, answer.index), (0, 0));
     assert_eq!(answer.length, count as u64);
     assert_eq!(out[count..], [-7; 3]);
-    let written = out[..count]
-        .chunks(2)
-        .map(|pair| ONE * i128::from(pair[0]) + i128::from(pair[1]));
+    let written = out[..count].chunks(2).map(|pair| ONE * i128::from(pair[0]) + i128::from(pair[1]));
     let in_order = [&found.orders, &found.branches, &found.links];
     assert!(written.eq(in_order.into_iter().flatten().copied()));
-    assert!(out[..count]
-        .chunks(2)
-        .all(|pair| pair[0] >= 0 && (0..100_000).contains(&pair[1])));
+    assert!(out[..count].chunks(2).all(|pair| pair[0] >= 0 && (0..100_000).contains(&pair[1])));
     (ONE * i128::from(gap), found)
 }
 
@@ -107,11 +101,7 @@ fn p3s_gap_is_the_larger_totals_lead_and_no_shortfall() {
 
 #[test]
 fn without_its_link_p3_is_p2_with_gap_zero() {
-    let hour = Hour {
-        links: vec![],
-        flows: vec![],
-        ..small_unused_link_hour()
-    };
+    let hour = Hour { links: vec![], flows: vec![], ..small_unused_link_hour() };
     let (gap, found) = accepted(&hour);
     assert_eq!((gap, found.sum()), (0, 0));
     assert_eq!(found.links.len(), 0);
@@ -120,10 +110,7 @@ fn without_its_link_p3_is_p2_with_gap_zero() {
 #[test]
 fn an_order_left_out_for_a_dearer_one() {
     // Ten tenths of order 0 at 10 euros are left to order 1 at 20: a MWh at 10 euros.
-    let hour = Hour {
-        volumes: vec![22, 21, 8, 0, 35],
-        ..small_hour()
-    };
+    let hour = Hour { volumes: vec![22, 21, 8, 0, 35], ..small_hour() };
     let (gap, found) = accepted(&hour);
     assert_eq!(gap, euros(10));
     assert_eq!(found.orders, [euros(10), 0, 0, 0, 0]);
@@ -134,10 +121,7 @@ fn an_order_left_out_for_a_dearer_one() {
 fn an_order_accepted_at_a_loss() {
     // A tenth goes from order 2, which would have gained 6.25 euros per MWh, to order 3,
     // which loses 3.75: its volume earns less than nothing.
-    let hour = Hour {
-        volumes: vec![32, 11, 7, 1, 35],
-        ..small_hour()
-    };
+    let hour = Hour { volumes: vec![32, 11, 7, 1, 35], ..small_hour() };
     let (gap, found) = accepted(&hour);
     let (left_out, lost) = (cents_on_a_tenth(625), cents_on_a_tenth(375));
     assert_eq!(found.orders, [0, 0, left_out, lost, 0]);
@@ -147,11 +131,7 @@ fn an_order_accepted_at_a_loss() {
 #[test]
 fn a_margin_left_free() {
     // P2's hour with five tenths more on the branch that has a price of 60 euros.
-    let mut hour = Hour {
-        links: vec![],
-        flows: vec![],
-        ..small_unused_link_hour()
-    };
+    let mut hour = Hour { links: vec![], flows: vec![], ..small_unused_link_hour() };
     hour.branches[0].ram += 5;
     let (gap, found) = accepted(&hour);
     assert_eq!(found.branches, [cents_on_a_tenth(5 * 6_000), 0]);
@@ -190,16 +170,8 @@ fn grain_hour() -> Hour {
     Hour {
         zones: 2,
         tolerance: 1,
-        branches: vec![crate::hours::Branch {
-            ram: 0,
-            ptdfs: vec![0, 1],
-        }],
-        links: vec![Link {
-            from: 0,
-            to: 1,
-            capacity: 1,
-            contracted: 1,
-        }],
+        branches: vec![crate::hours::Branch { ram: 0, ptdfs: vec![0, 1] }],
+        links: vec![Link { from: 0, to: 1, capacity: 1, contracted: 1 }],
         share: 1,
         flows: vec![0],
         shadow_prices: vec![1],
@@ -225,12 +197,7 @@ fn a_flow_against_the_spread() {
     // A tenth flows from zone 1 at 63.75 to zone 0 at 20 euros; a tenth less is bought
     // in zone 1 and sold in zone 0, so that the margins hold.
     let mut hour = small_hour();
-    hour.links.push(Link {
-        from: 1,
-        to: 0,
-        capacity: 8,
-        contracted: 8,
-    });
+    hour.links.push(Link { from: 1, to: 0, capacity: 8, contracted: 8 });
     hour.flows.push(1);
     hour.volumes = vec![32, 10, 7, 0, 35];
     let (gap, found) = accepted(&hour);
@@ -306,24 +273,11 @@ fn a_links_terms_pass_64_bits() {
     // A link across all prices, full: 100,000 * 100,000 * 450,000 cents in grains, less
     // as much. With nothing on it, and nothing sold, all of it falls short: the hour is
     // far from accepted, and the shortfall past 64 bits.
-    let order = |zone, side, price| crate::Row {
-        zone,
-        side,
-        quantity: 100_000,
-        price,
-    };
+    let order = |zone, side, price| crate::Row { zone, side, quantity: 100_000, price };
     let mut hour = Hour {
         zones: 2,
-        branches: vec![crate::hours::Branch {
-            ram: -500_000,
-            ptdfs: vec![0, 45_000],
-        }],
-        links: vec![Link {
-            from: 0,
-            to: 1,
-            capacity: 100_000,
-            contracted: 0,
-        }],
+        branches: vec![crate::hours::Branch { ram: -500_000, ptdfs: vec![0, 45_000] }],
+        links: vec![Link { from: 0, to: 1, capacity: 100_000, contracted: 0 }],
         orders: vec![order(0, SELLS, -50_000), order(1, BUYS, 400_000)],
         share: 100_000,
         system_price: -50_000,
@@ -352,12 +306,7 @@ fn each_wrong_build_is_told_by_some_hour() {
     free.version = Version::Two;
     free.volumes = vec![22, 21, 7, 1, 35];
     let mut against = small_hour();
-    against.links.push(Link {
-        from: 1,
-        to: 0,
-        capacity: 8,
-        contracted: 8,
-    });
+    against.links.push(Link { from: 1, to: 0, capacity: 8, contracted: 8 });
     against.flows.push(1);
     against.volumes = vec![32, 10, 7, 0, 35];
     let mut negative = forced_hour();
