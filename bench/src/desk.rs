@@ -4,7 +4,7 @@
 
 use crate::{heading, heading_against, measure, print, Times};
 use comparison::library;
-use second_judge::hours::three_zone_hour;
+use paper_hours::three_zone_hour;
 use second_judge::limits::{LEAST_BUFFER, LEAST_OUTPUT};
 use std::ffi::{c_char, c_int, c_void, CString};
 use std::hint::black_box;

@@ -2,7 +2,7 @@
 
 use crate::{heading_against, measure, print, sized, Times, CLASSES};
 use comparison::library;
-use second_judge::hours::{three_zone_hour, Hour, Version};
+use paper_hours::{three_zone_hour, Hour, Version};
 use second_judge::{dump_proposal, OutputAnswer};
 use std::hint::black_box;
 

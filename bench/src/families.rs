@@ -4,7 +4,7 @@
 
 use crate::{heading, heading_against, measure, print, sized, Times, CLASSES};
 use comparison::library;
-use second_judge::hours::Hour;
+use paper_hours::Hour;
 use second_judge::limits::LEAST_BUFFER;
 use second_judge::{judge_families, list_of};
 use std::hint::black_box;

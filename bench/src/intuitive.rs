@@ -6,7 +6,7 @@ use crate::plain_flow::{by_dinic, by_edmonds_karp};
 use crate::{accepted, heading_against, measure, print};
 use comparison::library;
 use comparison::rng::Rng;
-use second_judge::hours::{three_zone_hour, Hour};
+use paper_hours::{three_zone_hour, Hour};
 use second_judge::limits::{LEAST_BUFFER, SELLS};
 use second_judge::{hour_intuitive, intuitive, judge, CarriedAnswer};
 use std::hint::black_box;

@@ -13,7 +13,7 @@ mod sheet;
 mod shortfalls;
 
 use comparison::library;
-use second_judge::hours::{contracted_hour, three_zone_hour, Branch, Hour, Link, Version};
+use paper_hours::{contracted_hour, three_zone_hour, Branch, Hour, Link, Version};
 use second_judge::limits::{BUYS, LEAST_BUFFER, SELLS};
 use second_judge::{judge, Row};
 use std::hint::black_box;

@@ -3,7 +3,7 @@
 
 use crate::{heading, heading_against, measure, print, sized, Times, CLASSES};
 use comparison::library;
-use second_judge::hours::{contracted_hour, three_zone_hour, Hour};
+use paper_hours::{contracted_hour, three_zone_hour, Hour};
 use second_judge::limits::LEAST_BUFFER;
 use second_judge::shortfalls;
 use std::hint::black_box;

@@ -12,9 +12,10 @@ use crate::library;
 use crate::make::{at_limits, random, Shape};
 use crate::rng::Rng;
 use crate::run::{hex, Run, LEAST_INPUTS, LEAST_TIMES};
-use second_judge::hours::{contracted_hour, three_zone_hour, Hour, Version};
+use paper_hours::{contracted_hour, three_zone_hour, Hour, Version};
 use second_judge::limits::LEAST_BUFFER;
-use second_judge::{case_columned_as, case_restored_as, judge, ColumnBuild, OutputAnswer};
+use second_judge::{case_columned, case_restored, judge, OutputAnswer};
+use wrong_builds::columns::{Rearrange, BUILDS};
 
 const NUMBERS: [u32; 3] = [0, 71, 72];
 
@@ -51,10 +52,10 @@ impl Entry {
         }
     }
 
-    fn second(self, build: ColumnBuild, file: &[u8], out: &mut [u8]) -> OutputAnswer {
+    fn second(self, file: &[u8], out: &mut [u8]) -> OutputAnswer {
         match self {
-            Entry::Columned => case_columned_as(build, file, out),
-            Entry::Restored => case_restored_as(build, file, out),
+            Entry::Columned => case_columned(file, out),
+            Entry::Restored => case_restored(file, out),
         }
     }
 
@@ -72,7 +73,7 @@ struct Files<'a> {
     inputs: [u64; 2],
     numbers: [[u64; 73]; 2],
     met: [u64; MET.len()],
-    second_wrong: [u64; ColumnBuild::WRONG.len()],
+    second_wrong: [u64; BUILDS.len()],
 }
 
 impl Files<'_> {
@@ -98,9 +99,9 @@ impl Files<'_> {
         self.inputs[entry as usize] += 1;
         let copy = file.to_vec();
         let lent = Lent::bytes(room, self.inputs[entry as usize]);
-        let second = |build, out: &mut [u8]| entry.second(build, file, out);
+        let wrong = |build: [Rearrange; 2], out: &mut [u8]| build[entry as usize](file, out);
         let theirs = lent.to(|out| entry.archive(file, out, null));
-        let ours = lent.to(|out| second(ColumnBuild::Right, out));
+        let ours = lent.to(|out| entry.second(file, out));
         if let Some(text) = theirs.unlike(&ours) {
             self.fault(entry, file, room, || text);
         }
@@ -109,7 +110,7 @@ impl Files<'_> {
         }
 
         self.numbers[entry as usize][ours.answer.number as usize] += 1;
-        lent.tell(&theirs, &ColumnBuild::WRONG, &mut self.second_wrong, second);
+        lent.tell(&theirs, &BUILDS, &mut self.second_wrong, wrong);
         (ours.answer, ours.room().to_vec())
     }
 
@@ -153,7 +154,7 @@ impl Files<'_> {
 /// A case's columns, which the second judge makes.
 fn columned(case: &[u8]) -> Vec<u8> {
     let mut out = vec![0; case.len()];
-    let answer = case_columned_as(ColumnBuild::Right, case, &mut out);
+    let answer = case_columned(case, &mut out);
     assert_eq!(answer.number, 0, "the case is readable");
     out
 }
@@ -238,7 +239,7 @@ pub fn files(run: &mut Run, rng: &mut Rng) {
     run.section("columns, met, times");
     run.check_met(&MET, &files.met);
     run.section("columns, the second judge's wrong builds, times told from the archive");
-    run.check_told(&ColumnBuild::WRONG, &files.second_wrong, inputs[0] + inputs[1]);
+    run.check_told(&BUILDS, &files.second_wrong, inputs[0] + inputs[1]);
 }
 
 /// Outputs of every kind of length, of readable files and of others.

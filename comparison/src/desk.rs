@@ -95,7 +95,7 @@ pub fn end(run: &mut Run) {
 /// The nine lines of P1, which the paper gives.
 pub fn three_zone_lines(run: &mut Run) {
     run.begin("the nine lines of P1");
-    let hour = second_judge::hours::three_zone_hour();
+    let hour = paper_hours::three_zone_hour();
     let mut lines = [0x5A; LEAST_OUTPUT];
     let answer = library::desk_lines(&[hour.case(), hour.proposal()].concat(), &mut lines);
     let due = "verdict 0 0\nwelfare 22125.00000000\nbound 22125.00000000\ngap 0.00000000\n\

@@ -11,9 +11,10 @@ use crate::library;
 use crate::make::{tolerance, Shape};
 use crate::rng::Rng;
 use crate::run::{count_met, hex, Run, LEAST_INPUTS, LEAST_TIMES};
-use second_judge::hours::{contracted_hour, three_zone_hour, Branch, Hour, Link, Version};
+use paper_hours::{contracted_hour, three_zone_hour, Branch, Hour, Link, Version};
 use second_judge::limits::{LEAST_BUFFER, SELLS, WIDEST_TOLERANCE};
-use second_judge::{dump_proposal_as, judge, DumpBuild, OutputAnswer, Row};
+use second_judge::{dump_proposal, judge, OutputAnswer, Row};
+use wrong_builds::dump::{Convert, BUILDS};
 
 const NUMBERS: [u32; 6] = [0, 56, 57, 58, 59, 60];
 
@@ -143,7 +144,7 @@ struct Dumps<'a> {
     /// What the judges say of a proposal written.
     judged: [u64; 31],
     met: [u64; MET.len()],
-    second_wrong: [u64; DumpBuild::WRONG.len()],
+    second_wrong: [u64; BUILDS.len()],
 }
 
 impl Dumps<'_> {
@@ -157,9 +158,9 @@ impl Dumps<'_> {
         self.inputs += 1;
         let copies = (case.to_vec(), dump.to_vec());
         let lent = Lent::bytes(room, self.inputs);
-        let second = |build, out: &mut [u8]| dump_proposal_as(build, case, dump, out);
+        let wrong = |build: Convert, out: &mut [u8]| build(case, dump, out);
         let theirs = lent.to(|out| library::dump_proposal(case, dump, out, null));
-        let ours = lent.to(|out| second(DumpBuild::Right, out));
+        let ours = lent.to(|out| dump_proposal(case, dump, out));
         if let Some(text) = theirs.unlike(&ours) {
             self.fault(case, dump, room, || text);
         }
@@ -172,7 +173,7 @@ impl Dumps<'_> {
         if answer.number == 56 {
             self.cases[answer.index as usize] += 1;
         }
-        lent.tell(&theirs, &DumpBuild::WRONG, &mut self.second_wrong, second);
+        lent.tell(&theirs, &BUILDS, &mut self.second_wrong, wrong);
         if answer.number == 0 {
             self.judge(case, dump, &ours.room()[..answer.length as usize]);
         }
@@ -199,7 +200,7 @@ impl Dumps<'_> {
             });
         }
         let tolerance = case[10..14].try_into().map(u32::from_le_bytes);
-        let wide = tolerance.expect("four bytes") > WIDEST_TOLERANCE;
+        let wide = tolerance.expect("four bytes") > WIDEST_TOLERANCE as u32;
         if !matches!(number, 0 | 15 | 22..=27) || wide != (number == 15) {
             self.fault(case, dump, proposal.len(), || format!("the proposal written is refused by {number} {index}"));
         }
@@ -610,7 +611,7 @@ pub fn dumps(run: &mut Run, rng: &mut Rng) {
     run.section("solver's dumps, met, times");
     run.check_met(&MET, &dumps.met);
     run.section("solver's dumps, the second judge's wrong builds, times told from the archive");
-    run.check_told(&DumpBuild::WRONG, &dumps.second_wrong, inputs);
+    run.check_told(&BUILDS, &dumps.second_wrong, inputs);
 }
 
 /// Dumps that give the proposals of good hours, which are judged as those are.

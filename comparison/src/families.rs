@@ -4,7 +4,7 @@ use crate::fields::{fields, Field};
 use crate::make::*;
 use crate::rng::Rng;
 use crate::run::Run;
-use second_judge::hours::{stored, Branch, Hour};
+use paper_hours::{stored, Branch, Hour};
 use second_judge::limits::{BUYS, LEAST_BUFFER, SELLS};
 use second_judge::Row;
 
@@ -528,7 +528,7 @@ pub fn buffer_lengths(run: &mut Run, rng: &mut Rng) {
 /// Null pointers with length 0, as a C host may pass them.
 pub fn null_pointers(run: &mut Run) {
     run.begin("null with length 0");
-    let hour = second_judge::hours::three_zone_hour();
+    let hour = paper_hours::three_zone_hour();
     let (case, proposal) = (hour.case(), hour.proposal());
     run.feed_null(&[], &proposal, LEAST_BUFFER);
     run.expect(1, 0);

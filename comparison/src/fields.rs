@@ -1,7 +1,7 @@
 //! The fields of an hour's two files: where each stands and what it may hold.
 
 use crate::make::most_flow;
-use second_judge::hours::{Hour, Version};
+use paper_hours::{Hour, Version};
 
 #[derive(Clone, Copy)]
 pub struct Field {

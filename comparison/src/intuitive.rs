@@ -10,8 +10,9 @@ use crate::make::{random as random_hour, Shape};
 use crate::planted::{Cause, Planted, CAUSES};
 use crate::rng::Rng;
 use crate::run::{count_met, Run, LEAST_INPUTS, LEAST_TIMES};
-use second_judge::hours::{stored, three_zone_hour, Hour};
-use second_judge::{hour_intuitive_as, intuitive_as, CarriedAnswer, IntuitiveBuild, ScratchSize};
+use paper_hours::{stored, three_zone_hour, Hour};
+use second_judge::{CarriedAnswer, IntuitiveHours, Papers, ScratchSize};
+use wrong_builds::intuitive::{Entries, BUILDS, EQUAL_PRICES, NO_WAY_BACK, SMALL_BUILDS};
 
 /// So many of the inputs at least are hours.
 const LEAST_HOURS: u64 = 10_000;
@@ -56,14 +57,21 @@ enum Asked<'a> {
 }
 
 impl Asked<'_> {
-    fn second(self, build: IntuitiveBuild, size: ScratchSize, pairs: &[u8], scratch: &mut [i64]) -> CarriedAnswer {
+    fn second(self, size: ScratchSize, pairs: &[u8], scratch: &mut [i64]) -> CarriedAnswer {
         match self {
-            Asked::Positions(net, prices) => intuitive_as(build, size, net, prices, pairs, scratch),
-            Asked::Hour(case, proposal) => hour_intuitive_as(build, size, case, proposal, pairs, scratch),
+            Asked::Positions(net, prices) => Papers.intuitive(size, net, prices, pairs, scratch),
+            Asked::Hour(case, proposal) => Papers.hour_intuitive(size, case, proposal, pairs, scratch),
         }
     }
 
-    fn archive(self, size: ScratchSize, pairs: &[u8], scratch: &mut [i64], null: bool) -> CarriedAnswer {
+    fn wrong(self, build: Entries, size: ScratchSize, pairs: &[u8], scratch: &mut [i64]) -> CarriedAnswer {
+        match self {
+            Asked::Positions(net, prices) => (build.intuitive)(size, net, prices, pairs, scratch),
+            Asked::Hour(case, proposal) => (build.hour_intuitive)(size, case, proposal, pairs, scratch),
+        }
+    }
+
+    fn library(self, size: ScratchSize, pairs: &[u8], scratch: &mut [i64], null: bool) -> CarriedAnswer {
         match (self, size) {
             (Asked::Positions(net, prices), ScratchSize::Wide) => library::intuitive(net, prices, pairs, scratch, null),
             (Asked::Positions(net, prices), ScratchSize::Small) => {
@@ -111,7 +119,7 @@ struct Tally {
 }
 
 impl Tally {
-    fn new(wrong: &[(IntuitiveBuild, &str)]) -> Tally {
+    fn new(wrong: &[(Entries, &str)]) -> Tally {
         Tally { inputs: 0, hours: 0, numbers: [0; 86], hour_numbers: [0; 86], second_wrong: vec![0; wrong.len()] }
     }
 
@@ -188,9 +196,8 @@ impl Exchanges<'_> {
         // number is right by luck.
         let salt = self.inputs as i64;
         let lent = Lent::filled(room, |n| (n as i64 * 0x1_0001_0003 + salt * 0x51_7CC1) | 1);
-        let second = |build, scratch: &mut [i64]| asked.second(build, size, pairs, scratch);
-        let theirs = lent.to(|scratch| asked.archive(size, pairs, scratch, null));
-        let ours = lent.to(|scratch| second(IntuitiveBuild::Right, scratch));
+        let theirs = lent.to(|scratch| asked.library(size, pairs, scratch, null));
+        let ours = lent.to(|scratch| asked.second(size, pairs, scratch));
         if let Some(text) = theirs.unlike(&ours) {
             self.fault(asked, pairs, room, || format!("{size:?}: {text}"));
         }
@@ -199,11 +206,13 @@ impl Exchanges<'_> {
         }
 
         let (builds, tally) = match size {
-            ScratchSize::Wide => (&IntuitiveBuild::WRONG[..], &mut self.wide),
-            ScratchSize::Small => (&IntuitiveBuild::SMALL_WRONG[..], &mut self.small),
+            ScratchSize::Wide => (&BUILDS[..], &mut self.wide),
+            ScratchSize::Small => (&SMALL_BUILDS[..], &mut self.small),
         };
-        let wrong: Vec<bool> =
-            builds.iter().map(|(build, _)| lent.to(|scratch| second(*build, scratch)) != theirs).collect();
+        let wrong: Vec<bool> = builds
+            .iter()
+            .map(|(build, _)| lent.to(|scratch| asked.wrong(*build, size, pairs, scratch)) != theirs)
+            .collect();
         tally.count(asked, ours.answer, &wrong);
         (ours.answer, wrong)
     }
@@ -219,7 +228,7 @@ impl Exchanges<'_> {
         let CarriedAnswer { number, index, intuitive, total } = answer;
         let (yes, no) = (number == 0 && intuitive == 1, number == 0 && intuitive == 0);
         let found = |build| {
-            let at = IntuitiveBuild::WRONG.iter().position(|row| row.0 == build);
+            let at = BUILDS.iter().position(|row| row.1 == build);
             wrong[at.expect("in the list")]
         };
         match asked {
@@ -235,8 +244,8 @@ impl Exchanges<'_> {
                     no && total > 0,
                     yes && largest,
                     no && largest,
-                    number == 0 && found(IntuitiveBuild::EqualPricesLeftOut),
-                    number == 0 && found(IntuitiveBuild::NoWayBack),
+                    number == 0 && found(EQUAL_PRICES),
+                    number == 0 && found(NO_WAY_BACK),
                     yes && total == 8 * MOST_EXPORT,
                     number == 82 && !outside,
                     (number == 82 || number == 83) && index == 15,
@@ -292,8 +301,8 @@ pub fn exchanges(run: &mut Run, rng: &mut Rng) {
     let mut all = Exchanges {
         run,
         inputs: 0,
-        wide: Tally::new(&IntuitiveBuild::WRONG),
-        small: Tally::new(&IntuitiveBuild::SMALL_WRONG),
+        wide: Tally::new(&BUILDS),
+        small: Tally::new(&SMALL_BUILDS),
         both_took: 0,
         met: Default::default(),
     };
@@ -309,7 +318,7 @@ pub fn exchanges(run: &mut Run, rng: &mut Rng) {
         "intuitive hours, numbers of lta_hour_intuitive, times met",
         "intuitive hours, the second judge's wrong builds, times told from the archive",
     ];
-    told(run, sections, &all.wide, &IntuitiveBuild::WRONG);
+    told(run, sections, &all.wide, &BUILDS);
     run.section("intuitive hours, met, times");
     run.check_met(&MET, &all.met);
     let sections = [
@@ -317,13 +326,13 @@ pub fn exchanges(run: &mut Run, rng: &mut Rng) {
         "the smaller scratch, numbers of lta_hour_intuitive_small, times met",
         "the smaller scratch, the second judge's wrong builds, times told from the archive",
     ];
-    told(run, sections, &all.small, &IntuitiveBuild::SMALL_WRONG);
+    told(run, sections, &all.small, &SMALL_BUILDS);
     run.section("the smaller scratch, and the wide one on the same input");
     run.check_times("both took it, and said the same".into(), all.both_took, LEAST_INPUTS);
 }
 
 /// What the entries of one size met: inputs, each number, and the wrong builds.
-fn told(run: &mut Run, sections: [&'static str; 3], tally: &Tally, builds: &[(IntuitiveBuild, &str)]) {
+fn told(run: &mut Run, sections: [&'static str; 3], tally: &Tally, builds: &[(Entries, &str)]) {
     let Tally { inputs, hours, .. } = *tally;
     run.section(sections[0]);
     run.check_times("inputs".into(), inputs, LEAST_INPUTS);

@@ -9,9 +9,9 @@
 use comparison::rng::Rng;
 use comparison::run::{Check, Run, MET};
 use comparison::*;
-use second_judge::Build;
 use std::process::ExitCode;
 use std::time::Instant;
+use wrong_builds::judgement::BUILDS;
 
 const SEED: u64 = 1;
 const INPUTS: u64 = 260_000;
@@ -75,7 +75,7 @@ fn main() -> ExitCode {
     let met = run.met;
     run.check_met(&MET, &met);
     run.section("the second judge's wrong builds, times told from the archive");
-    for ((_, name), found) in Build::WRONG.iter().zip(run.second_wrong) {
+    for ((_, name), found) in BUILDS.iter().zip(run.second_wrong) {
         let tried = run.second_wrong_tried;
         let note = format!("{} of the paper, {} of {tried} made", found.of_paper, found.made);
         run.check(name.to_string(), found.made > 0, note);

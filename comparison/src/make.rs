@@ -10,7 +10,7 @@
 //! positions are drawn: branch total and rent are equal, and often negative.
 
 use crate::rng::Rng;
-use second_judge::hours::{Branch, Hour, Link, Version};
+use paper_hours::{Branch, Hour, Link, Version};
 use second_judge::limits::{BUYS, SELLS};
 use second_judge::Row;
 

@@ -5,7 +5,7 @@ use crate::make::{flow_based_parts, least_ram, optimal, random, used, Shape, BOU
 use crate::offsets::at_least;
 use crate::rng::Rng;
 use crate::run::Run;
-use second_judge::hours::{Hour, Link};
+use paper_hours::{Hour, Link};
 
 const INPUTS: u64 = 50_000;
 

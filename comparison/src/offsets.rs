@@ -5,7 +5,7 @@ use crate::fields::{fields, Field};
 use crate::make::{random, Shape};
 use crate::rng::Rng;
 use crate::run::{Run, LEAST_TIMES};
-use second_judge::hours::{Hour, Version};
+use paper_hours::{Hour, Version};
 
 const INPUTS: u64 = 60_000;
 

@@ -13,9 +13,10 @@ use crate::library;
 use crate::make::{at_limits, narrow, optimal, random, wide, Shape};
 use crate::rng::Rng;
 use crate::run::{hex, Run, LEAST_INPUTS, LEAST_TIMES};
-use second_judge::hours::{three_zone_hour, Hour};
+use paper_hours::{three_zone_hour, Hour};
 use second_judge::limits::{BUYS, LEAST_BUFFER, SELLS};
-use second_judge::{judge, judge_families, judge_families_as, list_of, FamilyBuild, Row, Verdict, NO_PARENT};
+use second_judge::{judge, judge_families, list_of, Row, Verdict, NO_PARENT};
+use wrong_builds::families::{JudgeFamilies, BUILDS};
 
 const NUMBERS: [u32; 28] =
     [0, 1, 2, 3, 4, 5, 6, 7, 8, 9, 10, 11, 12, 13, 14, 15, 16, 17, 18, 21, 28, 22, 27, 23, 24, 25, 26, 30];
@@ -60,7 +61,7 @@ struct Lists<'a> {
     inputs: u64,
     numbers: [u64; 31],
     met: [u64; MET.len()],
-    second_wrong: [u64; FamilyBuild::WRONG.len()],
+    second_wrong: [u64; BUILDS.len()],
 }
 
 /// An hour's files and a list beside them.
@@ -88,7 +89,7 @@ impl Lists<'_> {
         let Files { case, proposal, list } = files;
         let copies = (case.clone(), proposal.clone(), list.clone());
         let lent = Lent::bytes(MOST_LENT, self.inputs).only(lent);
-        let second = |build, out: &mut [u8]| judge_families_as(build, case, proposal, list, out);
+        let wrong = |build: JudgeFamilies, out: &mut [u8]| build(case, proposal, list, out);
         let theirs = lent.to(|report| library::judge_families(case, proposal, list, report, null));
         let ours = lent.to(|report| judge_families(case, proposal, list, report));
         if let Some(text) = theirs.unlike(&ours) {
@@ -100,7 +101,7 @@ impl Lists<'_> {
         self.without_list(files, &lent, &ours);
 
         self.numbers[ours.answer.number as usize] += 1;
-        lent.tell(&theirs, &FamilyBuild::WRONG, &mut self.second_wrong, second);
+        lent.tell(&theirs, &BUILDS, &mut self.second_wrong, wrong);
         ours.answer
     }
 
@@ -311,7 +312,7 @@ pub fn lists(run: &mut Run, rng: &mut Rng) {
     run.section("families, met, times");
     run.check_met(&MET, &lists.met);
     run.section("families, the second judge's wrong builds, times told from the archive");
-    run.check_told(&FamilyBuild::WRONG, &lists.second_wrong, inputs);
+    run.check_told(&BUILDS, &lists.second_wrong, inputs);
 }
 
 /// Each single parent of each order of P1, two at a time too.

@@ -7,7 +7,7 @@ use crate::make::{flow_based_parts, least_ram, most_flow, used, version, Shape};
 use crate::offsets::at_least;
 use crate::rng::Rng;
 use crate::run::{Run, LEAST_TIMES};
-use second_judge::hours::{Branch, Hour};
+use paper_hours::{Branch, Hour};
 
 /// Number and index.
 pub const PLACES: [(u32, u32); 13] = [

@@ -4,14 +4,13 @@
 use crate::library;
 use crate::rng::Rng;
 use crate::run::{Run, LEAST_TIMES};
-use second_judge::{queue_post_as, queue_serve_as, Queue, QueueBuild, ServedAnswer, QUEUE_BYTES};
+use second_judge::{DeskQueue, Papers, Queue, ServedAnswer, QUEUE_BYTES};
+use wrong_builds::queue::{BUILDS, OF_BYTES};
 
 /// So many runs of so many events.
 const RUNS: u64 = 6_000;
 const EVENTS: usize = 500;
 const NUMBERS: [u32; 5] = [0, 61, 62, 63, 64];
-/// The right queue, read and written as bytes.
-const RIGHT: QueueBuild = QueueBuild::Right;
 
 /// Bytes kept on either side of the queue, which nobody may touch.
 const GUARD: usize = 16;
@@ -48,23 +47,23 @@ enum Answer {
 }
 
 impl Event {
-    /// The queue that is followed by its events alone.
-    fn on(self, queue: &mut Queue) -> Answer {
+    /// A queue that is followed by its events alone.
+    fn on(self, build: &dyn DeskQueue, queue: &mut Queue) -> Answer {
         match self {
-            Event::Post(area, hour) => Answer::Posted(queue.post(area, hour)),
-            Event::Serve => Answer::Served(queue.serve()),
+            Event::Post(area, hour) => Answer::Posted(build.post(queue, area, hour)),
+            Event::Serve => Answer::Served(build.serve(queue)),
         }
     }
 
     /// The second judge's entries over bytes.
-    fn on_bytes(self, build: QueueBuild, bytes: &mut [u8; QUEUE_BYTES]) -> Answer {
+    fn on_bytes(self, build: &dyn DeskQueue, bytes: &mut [u8; QUEUE_BYTES]) -> Answer {
         match self {
-            Event::Post(area, hour) => Answer::Posted(queue_post_as(build, bytes, area, hour)),
-            Event::Serve => Answer::Served(queue_serve_as(build, bytes)),
+            Event::Post(area, hour) => Answer::Posted(build.queue_post(bytes, area, hour)),
+            Event::Serve => Answer::Served(build.queue_serve(bytes)),
         }
     }
 
-    fn on_archive(self, bytes: &mut [u8; QUEUE_BYTES]) -> Answer {
+    fn on_library(self, bytes: &mut [u8; QUEUE_BYTES]) -> Answer {
         match self {
             Event::Post(area, hour) => Answer::Posted(library::queue_post(bytes, area, hour)),
             Event::Serve => Answer::Served(library::queue_serve(bytes)),
@@ -87,7 +86,7 @@ struct Queues<'a> {
     runs: u64,
     numbers: [u64; 65],
     met: [u64; MET.len()],
-    second_wrong: [u64; QueueBuild::WRONG.len()],
+    second_wrong: [u64; BUILDS.len()],
 }
 
 /// One run: the archive's bytes, the second judge's, and its queues.
@@ -96,16 +95,11 @@ struct Followed {
     ours: [u8; QUEUE_BYTES],
     queue: Queue,
     /// A wrong queue for each wrong build, until it is told from the archive.
-    wrong: [Option<Queue>; QueueBuild::WRONG.len()],
+    wrong: Vec<Option<(Box<dyn DeskQueue>, Queue)>>,
     /// Serves since each area began to wait, and since each hour was posted.
     area_waits: [Option<u64>; 4],
     hour_waits: [[Option<u64>; 25]; 4],
     last: Option<ServedAnswer>,
-}
-
-/// Whether a build is wrong in bytes alone.
-fn of_bytes(build: QueueBuild) -> bool {
-    matches!(build, QueueBuild::RepeatedCellCounts | QueueBuild::CellOver25Counts | QueueBuild::AllAreasWritten)
 }
 
 fn lent(space: &mut [u8; SPACE]) -> &mut [u8; QUEUE_BYTES] {
@@ -126,11 +120,16 @@ impl Queues<'_> {
         let from_zeros = bytes == [0; QUEUE_BYTES];
         self.met[0] += u64::from(from_zeros);
         self.met[1] += u64::from(!from_zeros);
-        let followed = |build| match from_zeros {
-            true => Queue::empty(build),
-            false => Queue::read(build, &bytes),
+        let followed = |build: &dyn DeskQueue| match from_zeros {
+            true => Queue::default(),
+            false => build.read(&bytes),
         };
-        let queue = followed(RIGHT);
+        let queue = followed(&Papers);
+        let wrong = BUILDS.iter().enumerate().map(|(n, (build, _))| {
+            let build = build();
+            let queue = followed(&*build);
+            (!from_zeros || n < OF_BYTES).then_some((build, queue))
+        });
         let mut area_waits = [None; 4];
         let mut hour_waits = [[None; 25]; 4];
         for area in 0..4 {
@@ -145,7 +144,7 @@ impl Queues<'_> {
             ours: bytes,
             queue,
             // From zeros the builds that read or write bytes wrongly are right.
-            wrong: QueueBuild::WRONG.map(|(build, _)| (!from_zeros || !of_bytes(build)).then(|| followed(build))),
+            wrong: wrong.collect(),
             area_waits,
             hour_waits,
             last: None,
@@ -155,16 +154,16 @@ impl Queues<'_> {
     /// Gives both this event, and compares all they leave.
     fn feed(&mut self, one: &mut Followed, event: Event) -> Answer {
         let before = one.theirs;
-        let theirs = event.on_archive(lent(&mut one.theirs));
-        let ours = event.on(&mut one.queue);
-        let of_bytes = event.on_bytes(RIGHT, &mut one.ours);
+        let theirs = event.on_library(lent(&mut one.theirs));
+        let ours = event.on(&Papers, &mut one.queue);
+        let of_bytes = event.on_bytes(&Papers, &mut one.ours);
         let after: [u8; QUEUE_BYTES] = *lent(&mut one.theirs);
         if theirs != ours || theirs != of_bytes {
             self.run.fault(|| format!("{event:?}: archive {theirs:?}, second judge {ours:?} and {of_bytes:?}"));
         } else if after != one.ours {
             let ours = one.ours;
             self.run.fault(|| format!("{event:?}: archive {after:?}, second judge {ours:?}"));
-        } else if !Queue::read(RIGHT, &after).waits_as(&one.queue) {
+        } else if !Papers.read(&after).waits_as(&one.queue) {
             let queue = &one.queue;
             self.run.fault(|| format!("{event:?}: {after:?} is not {queue:?}"));
         }
@@ -190,13 +189,12 @@ impl Queues<'_> {
         mut before: [u8; SPACE],
         after: [u8; QUEUE_BYTES],
     ) {
-        let builds = QueueBuild::WRONG.iter().zip(&mut one.wrong);
-        for (((build, _), wrong), times) in builds.zip(&mut self.second_wrong) {
-            let Some(queue) = wrong else { continue };
-            let mut told = event.on(queue) != theirs || !queue.waits_as(&one.queue);
-            if of_bytes(*build) {
+        for (n, (wrong, times)) in one.wrong.iter_mut().zip(&mut self.second_wrong).enumerate() {
+            let Some((build, queue)) = wrong else { continue };
+            let mut told = event.on(&**build, queue) != theirs || !queue.waits_as(&one.queue);
+            if n >= OF_BYTES {
                 let mut bytes = *lent(&mut before);
-                told |= event.on_bytes(*build, &mut bytes) != theirs || bytes != after;
+                told |= event.on_bytes(&**build, &mut bytes) != theirs || bytes != after;
             }
             if told {
                 *times += 1;
@@ -273,7 +271,7 @@ pub fn queues(run: &mut Run, rng: &mut Rng) {
     run.section("the desk queue, met, times");
     run.check_met(&MET, &all.met);
     run.section("the desk queue, the second judge's wrong builds, runs told from the archive");
-    run.check_told(&QueueBuild::WRONG, &all.second_wrong, all.runs);
+    run.check_told(&BUILDS, &all.second_wrong, all.runs);
 }
 
 /// How a run goes: which areas and hours are posted, how often it serves.

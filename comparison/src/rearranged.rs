@@ -10,7 +10,7 @@ use crate::make::{at_limits, random, Shape};
 use crate::offsets::at_least;
 use crate::rng::Rng;
 use crate::run::Run;
-use second_judge::hours::Hour;
+use paper_hours::Hour;
 use second_judge::limits::LEAST_BUFFER;
 
 const HOURS: u64 = 20_000;

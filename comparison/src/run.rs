@@ -3,7 +3,8 @@
 use crate::lent::{Left, Lent};
 use crate::library;
 use crate::places::PLACES;
-use second_judge::{judge, judge_as, Build, Verdict};
+use second_judge::{judge, Verdict};
+use wrong_builds::judgement::BUILDS;
 
 /// The longest buffer that is lent.
 const MOST_LENT: usize = 256;
@@ -75,7 +76,7 @@ pub struct Run {
     pub verdicts_on_two: [u64; 31],
     /// Cases of version 1, of version 2, and of none.
     pub versions: [u64; 3],
-    pub second_wrong: [Found; Build::WRONG.len()],
+    pub second_wrong: [Found; BUILDS.len()],
     pub second_wrong_tried: u64,
     pub met: [u64; MET.len()],
     pub places: [u64; PLACES.len()],
@@ -100,7 +101,7 @@ impl Run {
             verdicts: [0; 31],
             verdicts_on_two: [0; 31],
             versions: [0; 3],
-            second_wrong: [Found::default(); Build::WRONG.len()],
+            second_wrong: [Found::default(); BUILDS.len()],
             second_wrong_tried: 0,
             met: [0; MET.len()],
             places: [0; PLACES.len()],
@@ -333,8 +334,8 @@ impl Run {
     /// the archive, by what it answered and left in the buffer, or not.
     fn try_second_wrong(&mut self, case: &[u8], proposal: &[u8], lent: &Lent<u8>, archive: &Left<Verdict, u8>) {
         self.second_wrong_tried += u64::from(!self.of_paper);
-        for (found, (build, _)) in self.second_wrong.iter_mut().zip(Build::WRONG) {
-            let wrong = lent.to(|report| judge_as(build, case, proposal, report));
+        for (found, (build, _)) in self.second_wrong.iter_mut().zip(BUILDS) {
+            let wrong = lent.to(|report| build(case, proposal, report));
             if wrong != *archive {
                 *(if self.of_paper { &mut found.of_paper } else { &mut found.made }) += 1;
             }

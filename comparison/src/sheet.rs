@@ -5,7 +5,8 @@ use crate::lent::Lent;
 use crate::library;
 use crate::rng::Rng;
 use crate::run::{count_met, Run, LEAST_INPUTS, LEAST_TIMES};
-use second_judge::{sheet_branches_as, OutputAnswer, SheetBuild};
+use second_judge::{sheet_branches, OutputAnswer};
+use wrong_builds::sheet::{Read, BUILDS};
 
 const NUMBERS: [u32; 7] = [0, 50, 51, 52, 53, 54, 55];
 
@@ -38,7 +39,7 @@ struct Sheets<'a> {
     inputs: u64,
     numbers: [u64; 56],
     met: [u64; MET.len()],
-    second_wrong: [u64; SheetBuild::WRONG.len()],
+    second_wrong: [u64; BUILDS.len()],
 }
 
 impl Sheets<'_> {
@@ -52,9 +53,9 @@ impl Sheets<'_> {
         self.inputs += 1;
         let copy = sheet.to_vec();
         let lent = Lent::bytes(room, self.inputs);
-        let second = |build, out: &mut [u8]| sheet_branches_as(build, sheet, zones, out);
+        let wrong = |build: Read, out: &mut [u8]| build(sheet, zones, out);
         let theirs = lent.to(|out| library::sheet_branches(sheet, zones, out, null));
-        let ours = lent.to(|out| second(SheetBuild::Right, out));
+        let ours = lent.to(|out| sheet_branches(sheet, zones, out));
         if let Some(text) = theirs.unlike(&ours) {
             self.fault(sheet, zones, room, || text);
         }
@@ -64,7 +65,7 @@ impl Sheets<'_> {
 
         self.numbers[ours.answer.number as usize] += 1;
         self.meet(sheet, zones, ours.answer);
-        lent.tell(&theirs, &SheetBuild::WRONG, &mut self.second_wrong, second);
+        lent.tell(&theirs, &BUILDS, &mut self.second_wrong, wrong);
         (ours.answer, ours.room().to_vec())
     }
 
@@ -445,7 +446,7 @@ pub fn sheets(run: &mut Run, rng: &mut Rng) {
     run.section("margin sheets, met, times");
     run.check_met(&MET, &sheets.met);
     run.section("margin sheets, the second judge's wrong builds, times told from the archive");
-    run.check_told(&SheetBuild::WRONG, &sheets.second_wrong, inputs);
+    run.check_told(&BUILDS, &sheets.second_wrong, inputs);
 }
 
 /// Each limit, one on either side of it, and everything else good.

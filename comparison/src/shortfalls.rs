@@ -15,9 +15,10 @@ use crate::make::{
 };
 use crate::rng::Rng;
 use crate::run::{count_met, hex, Run, LEAST_INPUTS, LEAST_TIMES};
-use second_judge::hours::{stored, Branch, Hour, Link, Version};
+use paper_hours::{stored, Branch, Hour, Link, Version};
 use second_judge::limits::{BUYS, LEAST_BUFFER, SELLS, SHADOW_PRICE, ZONE_PRICE};
-use second_judge::{shortfalls_as, OutputAnswer, Row, ShortfallBuild};
+use second_judge::{shortfalls, OutputAnswer, Row};
+use wrong_builds::shortfalls::{Value, BUILDS};
 
 /// Every number that can be answered; 30 cannot.
 const NUMBERS: [u32; 24] = [0, 1, 2, 3, 4, 5, 6, 7, 8, 9, 10, 11, 12, 13, 14, 15, 21, 22, 23, 24, 25, 26, 27, 86];
@@ -224,7 +225,7 @@ struct Hours<'a> {
     numbers: [u64; 87],
     met: [u64; MET.len()],
     wrong_tried: u64,
-    second_wrong: [u64; ShortfallBuild::WRONG.len()],
+    second_wrong: [u64; BUILDS.len()],
 }
 
 impl Hours<'_> {
@@ -241,9 +242,8 @@ impl Hours<'_> {
         // A pattern of its own for each input, so that no number is right by luck.
         let salt = self.inputs.wrapping_mul(0x9E37_79B9_7F4A_7C15);
         let lent = Lent::filled(room, |n| (n.wrapping_mul(0xBF58_476D_1CE4_E5B9) ^ salt) as i64);
-        let second = |build, out: &mut [i64]| shortfalls_as(build, case, proposal, out);
         let theirs = lent.to(|out| library::shortfalls(case, proposal, out, null));
-        let ours = lent.to(|out| second(ShortfallBuild::Right, out));
+        let ours = lent.to(|out| shortfalls(case, proposal, out));
         if let Some(text) = theirs.unlike(&ours) {
             self.fault(case, proposal, room, || text);
         }
@@ -255,8 +255,8 @@ impl Hours<'_> {
         self.numbers[ours.answer.number as usize] += 1;
         if self.inputs.is_multiple_of(WRONG_EVERY) {
             self.wrong_tried += 1;
-            let wrong = &ShortfallBuild::WRONG;
-            lent.tell(&theirs, wrong, &mut self.second_wrong, second);
+            let wrong = |build: Value, out: &mut [i64]| build(case, proposal, out);
+            lent.tell(&theirs, &BUILDS, &mut self.second_wrong, wrong);
         }
         (ours.answer, ours.room().to_vec())
     }
@@ -373,7 +373,7 @@ fn nudge(rng: &mut Rng, hour: &mut Hour) {
         0 => hour.system_price += step(rng) as i32,
         1 if branches > 0 => {
             let b = rng.below(branches);
-            hour.shadow_prices[b] = moved(rng, hour.shadow_prices[b], (*SHADOW_PRICE.end()).into());
+            hour.shadow_prices[b] = moved(rng, hour.shadow_prices[b], *SHADOW_PRICE.end() as i64);
         }
         2 if branches > 0 => {
             let b = rng.below(branches);
@@ -493,7 +493,7 @@ fn fitted(hour: &mut Hour) -> bool {
         branch.ram = i64::from(branch.ram).max(least).min(500_000) as i32;
         i64::from(branch.ram) >= least
     });
-    held && (0..hour.zones.into()).all(|zone| ZONE_PRICE.contains(&zone_price(hour, zone)))
+    held && (0..hour.zones.into()).all(|zone| ZONE_PRICE.contains(&zone_price(hour, zone).into()))
 }
 
 pub fn hours(run: &mut Run, rng: &mut Rng) {
@@ -527,7 +527,7 @@ pub fn hours(run: &mut Run, rng: &mut Rng) {
         run.check_times(name.to_string(), times, least);
     }
     run.section("shortfalls, the second judge's wrong builds, times told from the archive");
-    run.check_told(&ShortfallBuild::WRONG, &hours.second_wrong, hours.wrong_tried);
+    run.check_told(&BUILDS, &hours.second_wrong, hours.wrong_tried);
 }
 
 /// The hours that the paper names, and P1 and P3 a 125th as large.
@@ -764,7 +764,7 @@ fn rooms(hours: &mut Hours, rng: &mut Rng) {
     hours.run.end();
     hours.run.begin("empty files, null pointers, no room");
     let bare = Hour { zones: 1, ..Hour::default() };
-    let hour = second_judge::hours::three_zone_hour();
+    let hour = paper_hours::three_zone_hour();
     for null in [false, true] {
         for room in [0, 16] {
             for (case, proposal) in [

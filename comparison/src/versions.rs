@@ -7,7 +7,7 @@ use crate::make::{at_limits, random, Shape, OWED};
 use crate::offsets::at_least;
 use crate::rng::Rng;
 use crate::run::Run;
-use second_judge::hours::{Hour, Version};
+use paper_hours::{Hour, Version};
 use second_judge::Verdict;
 
 /// Of each of the two laws.

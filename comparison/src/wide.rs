@@ -7,7 +7,7 @@ use crate::make::{narrow, random, version, wide, Shape, GAP};
 use crate::offsets::at_least;
 use crate::rng::Rng;
 use crate::run::Run;
-use second_judge::hours::{Branch, Hour, Link};
+use paper_hours::{Branch, Hour, Link};
 
 const INPUTS: u64 = 50_000;
 /// Cents.

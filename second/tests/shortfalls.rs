@@ -1,7 +1,8 @@
 //! Shortfalls by hand, on the paper's hours and on the three-zone hour scaled down.
 
-use super::*;
-use crate::hours::{contracted_hour, forced_hour, stored, three_zone_hour, Hour, Link, Version, EURO};
+use paper_hours::{contracted_hour, forced_hour, stored, three_zone_hour, Branch, Hour, Link, Version, EURO};
+use second_judge::limits::{BUYS, LEAST_BUFFER, ONE, SELLS};
+use second_judge::*;
 
 /// A microcent in hundred-thousandths.
 const MICROCENT: i128 = ONE;
@@ -170,7 +171,7 @@ fn grain_hour() -> Hour {
     Hour {
         zones: 2,
         tolerance: 1,
-        branches: vec![crate::hours::Branch { ram: 0, ptdfs: vec![0, 1] }],
+        branches: vec![Branch { ram: 0, ptdfs: vec![0, 1] }],
         links: vec![Link { from: 0, to: 1, capacity: 1, contracted: 1 }],
         share: 1,
         flows: vec![0],
@@ -273,10 +274,10 @@ fn a_links_terms_pass_64_bits() {
     // A link across all prices, full: 100,000 * 100,000 * 450,000 cents in grains, less
     // as much. With nothing on it, and nothing sold, all of it falls short: the hour is
     // far from accepted, and the shortfall past 64 bits.
-    let order = |zone, side, price| crate::Row { zone, side, quantity: 100_000, price };
+    let order = |zone, side, price| Row { zone, side, quantity: 100_000, price };
     let mut hour = Hour {
         zones: 2,
-        branches: vec![crate::hours::Branch { ram: -500_000, ptdfs: vec![0, 45_000] }],
+        branches: vec![Branch { ram: -500_000, ptdfs: vec![0, 45_000] }],
         links: vec![Link { from: 0, to: 1, capacity: 100_000, contracted: 0 }],
         orders: vec![order(0, SELLS, -50_000), order(1, BUYS, 400_000)],
         share: 100_000,
@@ -295,64 +296,4 @@ fn a_links_terms_pass_64_bits() {
     assert!(found.links[0] > i128::from(i64::MAX));
     let answer = shortfalls(&hour.case(), &hour.proposal(), &mut [0; 8]);
     assert_eq!((answer.number, answer.length), (26, 0));
-}
-
-#[test]
-fn each_wrong_build_is_told_by_some_hour() {
-    let mut free = small_hour();
-    free.branches[0].ram += 1;
-    free.links[0].capacity += 2;
-    free.links[0].contracted = 3;
-    free.version = Version::Two;
-    free.volumes = vec![22, 21, 7, 1, 35];
-    let mut against = small_hour();
-    against.links.push(Link { from: 1, to: 0, capacity: 8, contracted: 8 });
-    against.flows.push(1);
-    against.volumes = vec![32, 10, 7, 0, 35];
-    let mut negative = forced_hour();
-    negative.tolerance = 10_000;
-    negative.branches[0].ram = -999;
-    let mut refused = free.clone();
-    refused.tolerance = 1;
-    let hours = [small_hour(), free, against, negative, refused, grain_hour()];
-    for (build, name) in ShortfallBuild::WRONG {
-        let told = hours.iter().any(|hour| {
-            let (case, proposal) = (hour.case(), hour.proposal());
-            (0..=24).any(|room| {
-                let (mut out, mut right) = (vec![-7; room], vec![-7; room]);
-                let answer = shortfalls_as(build, &case, &proposal, &mut out);
-                (answer, out) != (shortfalls(&case, &proposal, &mut right), right)
-            })
-        });
-        assert!(told, "{name}");
-    }
-}
-
-/// What crates/shortfall_runs prints for its input, as one of the builds has it.
-fn shortfall_runs(build: ShortfallBuild, input: &[u8]) -> String {
-    let (mut printed, mut rest) = (String::new(), input);
-    let word = |bytes: &[u8]| u32::from_le_bytes(bytes[..4].try_into().unwrap()) as usize;
-    while !rest.is_empty() {
-        let (room, case, proposal) = (word(rest), word(&rest[4..]), word(&rest[8..]));
-        let (files, next) = rest[12..].split_at(case + proposal);
-        let mut out = vec![0; room];
-        let answer = shortfalls_as(build, &files[..case], &files[case..], &mut out);
-        printed += &format!("{} {} {}", answer.number, answer.index, answer.length);
-        for number in out.iter().take(answer.length as usize) {
-            printed += &format!(" {number}");
-        }
-        printed += "\n";
-        rest = next;
-    }
-    printed
-}
-
-#[test]
-fn stored_shortfalls() {
-    let input = include_bytes!("../../../crates/shortfall_runs/stdin");
-    let printed = include_str!("../../../crates/shortfall_runs/stdout");
-    assert_eq!(shortfall_runs(ShortfallBuild::Right, input), printed);
-    for (build, name) in ShortfallBuild::WRONG {
-        assert_ne!(shortfall_runs(build, input), printed, "{name}");
-    }
 }

@@ -1,7 +1,7 @@
 //! Hours as values, their bytes, and the hours the paper names with their outcomes.
 
-use crate::book::Row;
-use crate::limits::{BUYS, SELLS};
+use second_judge::limits::{BUYS, SELLS};
+use second_judge::Row;
 
 #[derive(Clone, Debug)]
 pub struct Branch {
