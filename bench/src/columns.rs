@@ -1,4 +1,4 @@
-//! The archive's entries, columning and the way back, against the second judge's.
+//! The library's entries, columning and the way back, against the second judge's.
 
 use crate::{heading, measure, print, sized, Times, CLASSES};
 use comparison::library;
@@ -24,7 +24,7 @@ fn of(file: &[u8], proved: Entry, other: Entry) -> (Times, Vec<u8>) {
 }
 
 pub fn files() {
-    heading("archive");
+    heading("columns");
     for (name, [zones, branches, links, orders]) in CLASSES {
         let case = sized(zones, branches, links, orders).case();
         let (there, made) = of(&case, |file, out| library::case_columned(file, out, false), case_columned);

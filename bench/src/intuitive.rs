@@ -50,7 +50,7 @@ impl Exchange {
         self.plain(by_edmonds_karp, &mut [0; SCRATCH]).1
     }
 
-    /// Nanoseconds of the archive's call, the least of some tries.
+    /// Nanoseconds of the library's call, the least of some tries.
     fn time(&self) -> f64 {
         let mut scratch = [0; SCRATCH];
         let mut one = || {

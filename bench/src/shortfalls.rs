@@ -26,7 +26,7 @@ fn near(counts: [usize; 4]) -> Hour {
     hour
 }
 
-/// Both against the second judge's entry, and against the archive's judgement.
+/// Both against the second judge's entry, and against the library's judgement.
 fn of(hour: &Hour) -> (Times, Times) {
     let (case, proposal) = (hour.case(), hour.proposal());
     let (mut one, mut two) = ([0; ROOM], [0; ROOM]);

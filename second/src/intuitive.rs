@@ -299,9 +299,9 @@ impl Graph {
         // Along a pair nothing limits but what there is to be carried.
         let all = self.exports();
         let mut capacity = vec![vec![0i128; nodes]; nodes];
-        for z in 0..zones {
-            capacity[source][z] = self.net[z].max(0);
-            capacity[z][sink] = (-self.net[z]).max(0);
+        for (z, net) in self.net.iter().enumerate() {
+            capacity[source][z] = (*net).max(0);
+            capacity[z][sink] = (-net).max(0);
             for to in (0..zones).filter(|to| self.leads_to(z, *to)) {
                 capacity[z][to] = all;
             }

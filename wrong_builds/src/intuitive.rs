@@ -5,11 +5,14 @@ use second_judge::intuitive::{causes, Cause, Exchange, Graph};
 use second_judge::limits::*;
 use second_judge::{CarriedAnswer, IntuitiveHours, Papers, ScratchSize};
 
+/// An entry over net positions and prices, or over a case and a proposal.
+pub type Carry<T> = fn(ScratchSize, &[T], &[T], &[u8], &mut [i64]) -> CarriedAnswer;
+
 /// The two entries of a build.
 #[derive(Clone, Copy)]
 pub struct Entries {
-    pub intuitive: fn(ScratchSize, &[i64], &[i64], &[u8], &mut [i64]) -> CarriedAnswer,
-    pub hour_intuitive: fn(ScratchSize, &[u8], &[u8], &[u8], &mut [i64]) -> CarriedAnswer,
+    pub intuitive: Carry<i64>,
+    pub hour_intuitive: Carry<u8>,
 }
 
 macro_rules! entries {

@@ -6,18 +6,18 @@
 //! judge, `written` and the output's bytes that were changed, from its first on.
 
 use comparison::library;
-use comparison::said::{bytes, hex, of_each, written};
+use comparison::stored_lines::{bytes, hex, of_each, written};
 use second_judge::limits::LEAST_BUFFER;
 use second_judge::{OutputAnswer, Verdict};
 
 fn main() -> std::io::Result<()> {
     of_each("dump", |[room, case, dump]| {
         let (room, case, dump) = (room.parse().ok()?, bytes(case)?, bytes(dump)?);
-        Some([archive_says(&case, &dump, room), second_says(&case, &dump, room)])
+        Some([library_says(&case, &dump, room), second_says(&case, &dump, room)])
     })
 }
 
-fn archive_says(case: &[u8], dump: &[u8], room: usize) -> Vec<String> {
+fn library_says(case: &[u8], dump: &[u8], room: usize) -> Vec<String> {
     said_of(
         room,
         |out| library::dump_proposal(case, dump, out, false),

@@ -6,18 +6,18 @@
 //! name, the judge and the line that crates/family_runs prints.
 
 use comparison::library;
-use comparison::said::{bytes, hex, of_each};
+use comparison::stored_lines::{bytes, hex, of_each};
 use second_judge::limits::LEAST_BUFFER;
 use second_judge::Verdict;
 
 fn main() -> std::io::Result<()> {
     of_each("hour with families", |[case, proposal, list]| {
         let (case, proposal, list) = (bytes(case)?, bytes(proposal)?, bytes(list)?);
-        Some([archive_says(&case, &proposal, &list), second_says(&case, &proposal, &list)])
+        Some([library_says(&case, &proposal, &list), second_says(&case, &proposal, &list)])
     })
 }
 
-fn archive_says(case: &[u8], proposal: &[u8], list: &[u8]) -> Vec<String> {
+fn library_says(case: &[u8], proposal: &[u8], list: &[u8]) -> Vec<String> {
     said_of(
         |report| library::judge_families(case, proposal, list, report, false),
         |report| library::judge(case, proposal, report),

@@ -7,7 +7,7 @@
 //! are the desk's.
 
 use comparison::library;
-use comparison::said::{bytes, of_each};
+use comparison::stored_lines::{bytes, of_each};
 use second_judge::limits::{LEAST_BUFFER, LEAST_OUTPUT, REPORT_FIELD, REPORT_HEADER};
 use second_judge::Verdict;
 
@@ -18,7 +18,7 @@ fn main() -> std::io::Result<()> {
         let (case, proposal) = (bytes(case)?, bytes(proposal)?);
         let joined = [&case[..], &proposal].concat();
         Some([
-            both_ways(archive_apart(&case, &proposal), &archive_lines(&joined)),
+            both_ways(library_apart(&case, &proposal), &library_lines(&joined)),
             both_ways(second_apart(&case, &proposal), &second_judge::desk_lines(&joined)),
         ])
     })
@@ -31,7 +31,7 @@ fn both_ways(apart: Vec<String>, lines: &[u8]) -> Vec<String> {
     apart.chain(joined).collect()
 }
 
-fn archive_apart(case: &[u8], proposal: &[u8]) -> Vec<String> {
+fn library_apart(case: &[u8], proposal: &[u8]) -> Vec<String> {
     let mut report = [0; LEAST_BUFFER];
     let verdict = library::judge(case, proposal, &mut report);
     verdict_and_totals(verdict, &report)
@@ -55,7 +55,7 @@ fn verdict_and_totals(verdict: Verdict, report: &[u8]) -> Vec<String> {
     said
 }
 
-fn archive_lines(input: &[u8]) -> Vec<u8> {
+fn library_lines(input: &[u8]) -> Vec<u8> {
     let mut out = [0; LEAST_OUTPUT];
     let length = library::desk_lines(input, &mut out).length as usize;
     out[..length].to_vec()

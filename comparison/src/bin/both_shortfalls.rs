@@ -8,7 +8,7 @@
 //! numbers that were changed, from its first on.
 
 use comparison::library;
-use comparison::said::{bytes, of_each, written};
+use comparison::stored_lines::{bytes, of_each, written};
 use second_judge::OutputAnswer;
 
 fn main() -> std::io::Result<()> {

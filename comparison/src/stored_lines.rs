@@ -4,7 +4,7 @@ use second_judge::OutputAnswer;
 use std::io::{Error, Write};
 
 /// Reads the lines on standard input, each a name and some fields, and prints what the
-/// archive says of them and what the second judge does: the name, the judge, the words.
+/// library says of them and what the second judge does: the name, the judge, the words.
 pub fn of_each<const FIELDS: usize>(
     what: &str,
     said: impl Fn([&str; FIELDS]) -> Option<[Vec<String>; 2]>,

@@ -1,10 +1,10 @@
 //! Verdicts 6, 7, 8 and 14: every cause in rows of hours of any size, and the offset that S-2 has named for it.
 
-use crate::families::{enough, outside};
-use crate::fields::{fields, Field};
-use crate::make::{random, Shape};
+use crate::makers::fields::{fields, outside, Field};
+use crate::makers::hours::{enough, random, Shape};
+use crate::numbers::LEAST_TIMES;
 use crate::rng::Rng;
-use crate::run::{Run, LEAST_TIMES};
+use crate::run::Run;
 use paper_hours::{Hour, Version};
 
 const INPUTS: u64 = 60_000;
@@ -79,7 +79,7 @@ struct Named {
 pub fn offsets(run: &mut Run, rng: &mut Rng) {
     let mut named = Named { causes: [0; CAUSES.len()], ends: [[0; 2]; PARTS.len()] };
     run.begin("offset of each field");
-    while run.family_inputs() < INPUTS {
+    while run.fed() < INPUTS {
         let shape = match rng.below(4) {
             0 => Shape::LARGEST,
             _ => Shape::any(rng),
@@ -172,7 +172,7 @@ fn plant(
     let offset = at(row, due).at as u32;
     let verdict = run.feed(case, proposal, enough(rng));
     if (verdict.number, verdict.index) != (number, offset) {
-        run.fault(|| format!("{name}: {verdict:?} where {number} {offset} is due"));
+        run.fault_in_last(|| format!("{name}: {verdict:?} where {number} {offset} is due"));
         return;
     }
     named.causes[cause] += 1;

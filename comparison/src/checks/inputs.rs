@@ -1,18 +1,19 @@
-//! The families of inputs for the judgement, and how often each is fed.
+//! The kinds of inputs for the judgement, and how often each is fed.
 
-use crate::fields::{fields, Field};
-use crate::make::*;
+use crate::makers::fields::{change_a_byte, fields, outside};
+use crate::makers::hours::*;
+use crate::makers::limits::{at_limits, widest, GAP};
 use crate::rng::Rng;
 use crate::run::Run;
 use paper_hours::{stored, Branch, Hour};
 use second_judge::limits::{BUYS, LEAST_BUFFER, SELLS};
 use second_judge::Row;
 
-/// A maker of inputs: each call feeds one or a few.
+/// Each call feeds one input or a few.
 type Feed = fn(&mut Run, &mut Rng);
 
 /// Name, share of the run's inputs in hundredths, maker.
-pub const FAMILIES: [(&str, u64, Feed); 13] = [
+pub const KINDS: [(&str, u64, Feed); 13] = [
     ("random hours", 15, random_hours),
     ("optimal hours", 12, optimal_hours),
     ("tolerance about the gap", 18, tolerance_about_the_gap),
@@ -28,14 +29,6 @@ pub const FAMILIES: [(&str, u64, Feed); 13] = [
     ("plain and full shapes", 4, plain_shapes),
 ];
 
-/// A length that is enough, mostly the least that is.
-pub fn enough(rng: &mut Rng) -> usize {
-    match rng.below(3) {
-        0 => LEAST_BUFFER + rng.below(81),
-        _ => LEAST_BUFFER,
-    }
-}
-
 fn feed_hour(run: &mut Run, rng: &mut Rng, hour: &Hour) {
     run.feed(&hour.case(), &hour.proposal(), enough(rng));
 }
@@ -45,7 +38,7 @@ pub fn breaks_no_rule(run: &mut Run, rng: &mut Rng, hour: &Hour) -> bool {
     let verdict = run.feed(&hour.case(), &hour.proposal(), enough(rng));
     let reported = matches!(verdict.number, 0 | 26);
     if !reported {
-        run.fault(|| format!("{verdict:?} for an hour that breaks no rule"));
+        run.fault_in_last(|| format!("{verdict:?} for an hour that breaks no rule"));
     }
     reported
 }
@@ -56,15 +49,6 @@ pub fn hour_and_gap(run: &mut Run, rng: &mut Rng) -> Option<(Hour, i64)> {
     let mut hour = good(rng, shape);
     hour.tolerance = 0;
     breaks_no_rule(run, rng, &hour).then(|| (hour, run.total(GAP)))
-}
-
-/// A good hour: optimal or feasible.
-pub fn good(rng: &mut Rng, shape: Shape) -> Hour {
-    if rng.one_in(2) {
-        optimal(rng, shape)
-    } else {
-        feasible(rng, shape)
-    }
 }
 
 /// The hours the paper names, a check for each.
@@ -140,7 +124,7 @@ fn limits_of_each_field(run: &mut Run, rng: &mut Rng) {
             if !field.allows(value) {
                 run.expect(field.number, field.index);
             } else if verdict.number == field.number && !field.tied {
-                run.fault(|| format!("{verdict:?} for {value}, which is in range"));
+                run.fault_in_last(|| format!("{verdict:?} for {value}, which is in range"));
             }
         }
         case.copy_from_slice(&originals.0);
@@ -191,7 +175,7 @@ fn made_longer(run: &mut Run, rng: &mut Rng) {
     let lengthen_case = rng.one_in(2);
     let file = if lengthen_case { &mut case } else { &mut proposal };
     for _ in 0..rng.pick(&[1, 1, 4, 10, 1_000]) {
-        file.push(rng.next() as u8);
+        file.push(rng.draw() as u8);
     }
     run.feed(&case, &proposal, enough(rng));
     run.expect(if lengthen_case { 5 } else { 12 }, 0);
@@ -206,37 +190,6 @@ fn bytes_flipped(run: &mut Run, rng: &mut Rng) {
         change_a_byte(rng, file);
     }
     run.feed(&case, &proposal, enough(rng));
-}
-
-/// One bit turned, or any of the eight.
-pub fn change_a_byte(rng: &mut Rng, file: &mut [u8]) {
-    let at = rng.below(file.len());
-    file[at] ^= match rng.one_in(2) {
-        true => 1 << rng.below(8),
-        false => rng.next() as u8,
-    };
-}
-
-/// Such a field of an hour that its bytes can put out of range, and such a value.
-pub fn one_outside(rng: &mut Rng, hour: &Hour, such: impl Fn(&Field) -> bool) -> Option<(Field, i64)> {
-    let list: Vec<Field> = fields(hour).into_iter().filter(such).collect();
-    if list.is_empty() {
-        return None;
-    }
-    let field = rng.pick(&list);
-    outside(rng, &field).map(|value| (field, value))
-}
-
-/// A value outside the field's range, if its bytes can hold one.
-pub fn outside(rng: &mut Rng, field: &Field) -> Option<i64> {
-    let (lowest, highest) = field.room();
-    let above = field.greatest < highest;
-    let below = lowest < field.least;
-    match (above, below) {
-        (false, false) => None,
-        (true, below) if !below || rng.one_in(2) => Some(rng.between_or_end(field.greatest + 1, highest)),
-        _ => Some(rng.between_or_end(lowest, field.least - 1)),
-    }
 }
 
 /// The smallest number wins, then the smallest index.
@@ -271,19 +224,6 @@ fn several_faults(run: &mut Run, rng: &mut Rng) {
     }
 }
 
-/// Gives a file another length and tells the verdict for that.
-fn wrong_length(rng: &mut Rng, file: &mut Vec<u8>, header: usize, short: u32, wrong: u32) -> u32 {
-    if file.len() == header || rng.one_in(2) {
-        file.push(rng.next() as u8);
-    } else if rng.one_in(4) {
-        file.truncate(rng.below(header));
-        return short;
-    } else {
-        file.truncate(header + rng.below(file.len() - header));
-    }
-    wrong
-}
-
 fn bad_pairs(run: &mut Run, rng: &mut Rng) {
     let mut shape = Shape::any(rng);
     shape.zones = shape.zones.max(2);
@@ -311,14 +251,6 @@ fn bad_pairs(run: &mut Run, rng: &mut Rng) {
     let links_at = 14 + hour.branches.len() * (4 + 4 * usize::from(hour.zones));
     feed_hour(run, rng, &hour);
     run.expect(7, (links_at + hour.link_bytes() * due.0 + due.1) as u32);
-}
-
-/// A row, often the last one.
-fn row(rng: &mut Rng, count: usize) -> usize {
-    match rng.below(3) {
-        0 => count - 1,
-        _ => rng.below(count),
-    }
 }
 
 fn rules_at_their_edges(run: &mut Run, rng: &mut Rng) {
@@ -379,7 +311,7 @@ fn margin_just_enough(run: &mut Run, rng: &mut Rng, hour: &mut Hour) {
         if refused {
             run.expect(24, b as u32);
         } else if verdict.number != 0 && verdict.number != 26 {
-            run.fault(|| format!("{verdict:?} for a margin that is enough"));
+            run.fault_in_last(|| format!("{verdict:?} for a margin that is enough"));
         }
     }
 }
@@ -497,7 +429,7 @@ pub fn widest_totals(run: &mut Run) {
             let hour = Hour { tolerance, ..case.hour.clone() };
             let verdict = run.feed(&hour.case(), &hour.proposal(), LEAST_BUFFER);
             if verdict.number != 0 && verdict.number != 26 {
-                run.fault(|| format!("{}: {verdict:?}", case.name));
+                run.fault_in_last(|| format!("{}: {verdict:?}", case.name));
             }
             run.expect_total(case.total, case.value);
         }
@@ -541,4 +473,25 @@ pub fn null_pointers(run: &mut Run) {
     run.feed_null(&[], &[], 0);
     run.expect(30, 0);
     run.end();
+}
+
+/// Gives a file another length and tells the verdict for that.
+fn wrong_length(rng: &mut Rng, file: &mut Vec<u8>, header: usize, short: u32, wrong: u32) -> u32 {
+    if file.len() == header || rng.one_in(2) {
+        file.push(rng.draw() as u8);
+    } else if rng.one_in(4) {
+        file.truncate(rng.below(header));
+        return short;
+    } else {
+        file.truncate(header + rng.below(file.len() - header));
+    }
+    wrong
+}
+
+/// A row, often the last one.
+fn row(rng: &mut Rng, count: usize) -> usize {
+    match rng.below(3) {
+        0 => count - 1,
+        _ => rng.below(count),
+    }
 }

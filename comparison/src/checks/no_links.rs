@@ -1,8 +1,9 @@
 //! Hours without links (S-6): no LTA share may be above 0, and the branch total alone is in the bound.
 
-use crate::families::{breaks_no_rule, enough, good};
-use crate::make::{flow_based_parts, least_ram, optimal, random, used, Shape, BOUND, GAP, RENT};
-use crate::offsets::at_least;
+use super::inputs::breaks_no_rule;
+use super::offsets::at_least;
+use crate::makers::hours::{enough, flow_based_parts, good, least_ram, optimal, random, used, Shape};
+use crate::makers::limits::{BOUND, GAP, RENT};
 use crate::rng::Rng;
 use crate::run::Run;
 use paper_hours::{Hour, Link};
@@ -31,19 +32,19 @@ pub fn hours(run: &mut Run, rng: &mut Rng) {
     let mut met = [[0; 2]; CAUSES.len()];
     run.section("hours without links");
     run.begin("share 0 and above");
-    while run.family_inputs() < INPUTS {
+    while run.fed() < INPUTS {
         share_of_nothing(run, rng, &mut met);
     }
     run.end();
     run.begin("gap zero: the rent is the branch total");
     let mut signs = [0; 3];
-    while run.family_inputs() < INPUTS / 2 {
+    while run.fed() < INPUTS / 2 {
         rent_is_the_branch_total(run, rng, &mut signs);
     }
     run.end();
     run.begin("a link of no capacity added");
     let mut moved = [0; 2];
-    while run.family_inputs() < INPUTS / 2 {
+    while run.fed() < INPUTS / 2 {
         link_added(run, rng, &mut moved);
     }
     run.end();
@@ -81,13 +82,13 @@ fn share_of_nothing(run: &mut Run, rng: &mut Rng, met: &mut [[u64; 2]; CAUSES.le
     }
     let verdict = run.feed(&hour.case(), &hour.proposal(), enough(rng));
     if verdict.number != without && !(without == 0 && verdict.number == 26) {
-        run.fault(|| format!("{verdict:?} where {without} is due"));
+        run.fault_in_last(|| format!("{verdict:?} where {without} is due"));
     }
     met[n][0] += u64::from(verdict.number == without);
     hour.share = rng.between_or_end(1, 100_000) as u32;
     let verdict = run.feed(&hour.case(), &hour.proposal(), enough(rng));
     if verdict.number != with {
-        run.fault(|| format!("{verdict:?} where {with} is due"));
+        run.fault_in_last(|| format!("{verdict:?} where {with} is due"));
     }
     met[n][1] += u64::from(verdict.number == with);
 }

@@ -1,6 +1,7 @@
 //! The fields of an hour's two files: where each stands and what it may hold.
 
-use crate::make::most_flow;
+use super::hours::most_flow;
+use crate::rng::Rng;
 use paper_hours::{Hour, Version};
 
 #[derive(Clone, Copy)]
@@ -110,4 +111,35 @@ pub fn fields(hour: &Hour) -> Vec<Field> {
         proposal.field(4, 0, 1_000_000, 14, proposal.at);
     }
     proposal.list
+}
+
+/// A value outside the field's range, if its bytes can hold one.
+pub fn outside(rng: &mut Rng, field: &Field) -> Option<i64> {
+    let (lowest, highest) = field.room();
+    let above = field.greatest < highest;
+    let below = lowest < field.least;
+    match (above, below) {
+        (false, false) => None,
+        (true, below) if !below || rng.one_in(2) => Some(rng.between_or_end(field.greatest + 1, highest)),
+        _ => Some(rng.between_or_end(lowest, field.least - 1)),
+    }
+}
+
+/// Such a field of an hour that its bytes can put out of range, and such a value.
+pub fn one_outside(rng: &mut Rng, hour: &Hour, such: impl Fn(&Field) -> bool) -> Option<(Field, i64)> {
+    let list: Vec<Field> = fields(hour).into_iter().filter(such).collect();
+    if list.is_empty() {
+        return None;
+    }
+    let field = rng.pick(&list);
+    outside(rng, &field).map(|value| (field, value))
+}
+
+/// One bit turned, or any of the eight.
+pub fn change_a_byte(rng: &mut Rng, file: &mut [u8]) {
+    let at = rng.below(file.len());
+    file[at] ^= match rng.one_in(2) {
+        true => 1 << rng.below(8),
+        false => rng.draw() as u8,
+    };
 }

@@ -1,10 +1,11 @@
 //! Wide tolerances retired (S-12): hours with tolerances about 10,000 cents and far
 //! above, alone and beside each other cause, and gaps about 10,000 cents.
 
-use crate::families::{enough, good, hour_and_gap, one_outside};
-use crate::fields::Field;
-use crate::make::{narrow, random, version, wide, Shape, GAP};
-use crate::offsets::at_least;
+use super::inputs::hour_and_gap;
+use super::offsets::at_least;
+use crate::makers::fields::{one_outside, Field};
+use crate::makers::hours::{enough, good, narrow, random, version, wide, Shape};
+use crate::makers::limits::GAP;
 use crate::rng::Rng;
 use crate::run::Run;
 use paper_hours::{Branch, Hour, Link};
@@ -32,12 +33,12 @@ pub fn hours(run: &mut Run, rng: &mut Rng) {
     let mut met = [0; MET.len()];
     run.section("wide tolerances");
     run.begin("tolerances about 10,000 cents");
-    while run.family_inputs() < INPUTS / 2 {
+    while run.fed() < INPUTS / 2 {
         about_the_widest(run, rng, &mut met);
     }
     run.end();
     run.begin("wide, and another cause");
-    while run.family_inputs() < INPUTS / 2 {
+    while run.fed() < INPUTS / 2 {
         another_cause(run, rng, &mut met);
     }
     run.end();

@@ -1,24 +1,20 @@
-//! The order of orders (S-9). Each hour is judged by the archive before and after its orders, and likewise the
-//! proposal's volumes, are rearranged: number, index and every byte of the buffer are the same, but for the index
-//! of 21. Books are joined in both orders.
+//! The order of orders (S-9). Each hour is judged by the library before and after its orders, and likewise the proposal's
+//! volumes, are rearranged: number, index and every byte of the buffer are the same, but for the index of 21. Books are
+//! joined in both orders.
 
-use crate::book;
-use crate::families::{good, outside};
-use crate::fields::{fields, Field};
+use super::book;
+use super::offsets::at_least;
 use crate::library;
-use crate::make::{at_limits, random, Shape};
-use crate::offsets::at_least;
+use crate::makers::books;
+use crate::makers::rearranged::{files, rearrangement, rows_moved};
+use crate::numbers::JUDGE_REARRANGED;
 use crate::rng::Rng;
 use crate::run::Run;
-use paper_hours::Hour;
 use second_judge::limits::LEAST_BUFFER;
 
 const HOURS: u64 = 20_000;
 const BOOKS: u64 = 20_000;
 const MOST_LENT: usize = 256;
-
-/// Every number that a readable case with a proposal of the right length can get.
-const NUMBERS: [usize; 14] = [0, 10, 11, 13, 14, 15, 21, 22, 23, 24, 25, 26, 27, 30];
 
 #[derive(Default)]
 struct Met {
@@ -36,92 +32,25 @@ pub fn hours(run: &mut Run, rng: &mut Rng) {
     let mut met = Met::default();
     run.section("orders rearranged");
     run.begin("hours, before and after");
-    while run.family_inputs() < 2 * HOURS {
+    while run.fed() < 2 * HOURS {
         hour(run, rng, &mut met);
     }
     run.end();
-    for number in NUMBERS {
-        at_least(run, format!("verdict {number}"), met.numbers[number]);
+    for number in JUDGE_REARRANGED.numbers {
+        at_least(run, format!("verdict {number}"), met.numbers[*number as usize]);
     }
     at_least(run, "an order moved".into(), met.moved);
     at_least(run, "sorted".into(), met.sorted);
     at_least(run, "21, index moved".into(), met.index_moved);
     at_least(run, "21, index stayed".into(), met.index_stayed);
     at_least(run, "volumes left in place, told apart".into(), met.left_in_place);
-    books(run, rng);
-}
-
-/// A readable case and a proposal of the right length for it, often with some of its fields changed.
-fn files(rng: &mut Rng) -> (Hour, Vec<u8>, Vec<u8>) {
-    let shape = Shape::any(rng);
-    let hour = match rng.below(8) {
-        0 => at_limits(rng, shape),
-        1 | 2 => random(rng, shape),
-        _ => good(rng, shape),
-    };
-    let (mut case, mut proposal) = (hour.case(), hour.proposal());
-    let of_proposal: Vec<Field> = fields(&hour).into_iter().filter(|f| !f.in_case).collect();
-    let of_numbers = |least, greatest| {
-        let asked = |f: &&Field| least <= f.number && f.number <= greatest;
-        of_proposal.iter().filter(asked).copied().collect()
-    };
-    let list: Vec<Field> = match rng.below(8) {
-        0 => of_numbers(0, 30),
-        1 => of_numbers(10, 13),
-        2..=4 => of_numbers(21, 21),
-        _ => Vec::new(),
-    };
-    if !list.is_empty() {
-        for _ in 0..rng.pick(&[1, 1, 2, 5]) {
-            let field = rng.pick(&list);
-            let value = match outside(rng, &field) {
-                Some(value) if rng.one_in(2) => value,
-                _ => rng.between_or_end(field.least, field.greatest),
-            };
-            field.put(&mut case, &mut proposal, value);
-        }
-    }
-    (hour, case, proposal)
-}
-
-/// For each place the one from which it takes: by chance, turned round, shifted by one, two exchanged, or sorted.
-fn rearrangement(rng: &mut Rng, hour: &Hour, met: &mut Met) -> Vec<usize> {
-    let count = hour.orders.len();
-    let mut source: Vec<usize> = (0..count).collect();
-    match rng.below(6) {
-        0 => source.reverse(),
-        1 if count > 0 => source.rotate_left(1),
-        2 if count > 0 => source.swap(rng.below(count), rng.below(count)),
-        3 => {
-            met.sorted += 1;
-            let key = |&o: &usize| {
-                let order = &hour.orders[o];
-                (order.zone, order.side, order.price, order.quantity)
-            };
-            source.sort_by_key(key);
-        }
-        _ => {
-            for place in 1..count {
-                source.swap(place, rng.below(place + 1));
-            }
-        }
-    }
-    source
-}
-
-/// The file with its rows in another order; what stands before and after them stays.
-fn rows_moved(file: &[u8], start: usize, size: usize, source: &[usize]) -> Vec<u8> {
-    let mut moved = file.to_vec();
-    for (place, from) in source.iter().enumerate() {
-        let row = &file[start + from * size..][..size];
-        moved[start + place * size..][..size].copy_from_slice(row);
-    }
-    moved
+    joined_books(run, rng);
 }
 
 fn hour(run: &mut Run, rng: &mut Rng, met: &mut Met) {
     let (hour, case, proposal) = files(rng);
-    let source = rearrangement(rng, &hour, met);
+    let (source, sorted) = rearrangement(rng, &hour);
+    met.sorted += u64::from(sorted);
     let orders_at = case.len() - 10 * source.len();
     let moved_case = rows_moved(&case, orders_at, 10, &source);
     let moved_proposal = rows_moved(&proposal, 13, 4, &source);
@@ -132,9 +61,9 @@ fn hour(run: &mut Run, rng: &mut Rng, met: &mut Met) {
     run.feed(&case, &proposal, lent);
     run.feed(&moved_case, &moved_proposal, lent);
 
-    // The archive's own answers, over the same bytes in both buffers.
+    // The library's own answers, over the same bytes in both buffers.
     let mut filled = [0; MOST_LENT];
-    filled.iter_mut().for_each(|byte| *byte = rng.next() as u8);
+    filled.iter_mut().for_each(|byte| *byte = rng.draw() as u8);
     let judged = |case: &[u8], proposal: &[u8]| {
         let mut buffer = filled;
         let answer = library::judge(case, proposal, &mut buffer[..lent]);
@@ -142,8 +71,8 @@ fn hour(run: &mut Run, rng: &mut Rng, met: &mut Met) {
     };
     let (number, index, buffer) = judged(&case, &proposal);
     let (moved_number, moved_index, moved_buffer) = judged(&moved_case, &moved_proposal);
-    if !NUMBERS.contains(&number) {
-        run.fault(|| format!("{number} {index} for a readable case and a proposal of its length"));
+    if !JUDGE_REARRANGED.numbers.contains(&(number as u32)) {
+        run.fault_in_last(|| format!("{number} {index} for a readable case and a proposal of its length"));
         return;
     }
     let due = match number {
@@ -151,10 +80,10 @@ fn hour(run: &mut Run, rng: &mut Rng, met: &mut Met) {
         _ => index,
     };
     if (moved_number, moved_index) != (number, due) {
-        run.fault(|| format!("{number} {index}, rearranged {moved_number} {moved_index}, {due} is due"));
+        run.fault_in_last(|| format!("{number} {index}, rearranged {moved_number} {moved_index}, {due} is due"));
     }
     if moved_buffer != buffer {
-        run.fault(|| format!("another buffer, rearranged, for {number} {index}"));
+        run.fault_in_last(|| format!("another buffer, rearranged, for {number} {index}"));
     }
 
     met.numbers[number] += 1;
@@ -173,14 +102,14 @@ fn first_above(orders: &[u8], volumes: &[u8]) -> usize {
 }
 
 /// Two books at the same prices, each alone and joined in both orders.
-fn books(run: &mut Run, rng: &mut Rng) {
+fn joined_books(run: &mut Run, rng: &mut Rng) {
     let (mut full, mut over, mut refused) = (0, 0, 0);
     run.begin("books joined, in both orders");
     for _ in 0..BOOKS {
         let zones = 1 + rng.below(16);
         let most = rng.pick(&[3, 30, 512, 513]);
         let together = rng.between_or_end(0, most) as usize;
-        let (rows, mut prices) = book::book(rng, zones, together);
+        let (rows, mut prices) = books::book(rng, zones, together);
         if rng.one_in(16) {
             let zone = rng.below(zones);
             prices[zone] = rng.pick(&[i64::MIN, i64::MAX]);

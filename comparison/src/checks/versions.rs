@@ -1,10 +1,11 @@
 //! The two case versions of S-4. A case of version 1 is one of version 2 with all of each capacity contracted, whatever
 //! is wrong with it; and what is contracted moves owed alone.
 
-use crate::families::{enough, good, outside};
-use crate::fields::{fields, Field};
-use crate::make::{at_limits, random, Shape, OWED};
-use crate::offsets::at_least;
+use super::offsets::at_least;
+use crate::makers::fields::{fields, outside, Field};
+use crate::makers::hours::{enough, good, random, Shape};
+use crate::makers::limits::{at_limits, OWED};
+use crate::numbers::JUDGE_VERSION_2;
 use crate::rng::Rng;
 use crate::run::Run;
 use paper_hours::{Hour, Version};
@@ -12,19 +13,17 @@ use second_judge::Verdict;
 
 /// Of each of the two laws.
 const INPUTS: u64 = 24_000;
-/// The numbers that a case of version 2 can get: all but 3.
-const NUMBERS: [usize; 23] = [0, 1, 2, 4, 5, 6, 7, 8, 9, 10, 11, 12, 13, 14, 15, 21, 22, 23, 24, 25, 26, 27, 30];
 
 pub fn laws(run: &mut Run, rng: &mut Rng) {
     let mut shifted = [0; 2];
     run.section("the two case versions");
     run.begin("version 1 as 2, all contracted");
-    while run.family_inputs() < INPUTS {
+    while run.fed() < INPUTS {
         one_as_two(run, rng, &mut shifted);
     }
     run.end();
     run.begin("what is contracted moves owed");
-    while run.family_inputs() < INPUTS {
+    while run.fed() < INPUTS {
         owed_alone(run, rng);
     }
     run.end();
@@ -46,10 +45,8 @@ pub fn halves(run: &mut Run) {
 /// What the cases of version 2 met.
 pub fn counted(run: &mut Run) {
     run.section("verdicts on cases of version 2, times met");
-    for number in NUMBERS {
-        let times = run.verdicts_on_two[number];
-        at_least(run, format!("{number}"), times);
-    }
+    let verdicts = run.verdicts_on_two;
+    run.check_numbers(&JUDGE_VERSION_2, &verdicts);
 }
 
 fn any_hour(rng: &mut Rng) -> Hour {
@@ -91,7 +88,7 @@ fn one_as_two(run: &mut Run, rng: &mut Rng, shifted: &mut [u64; 2]) {
     let second = run.feed(&two, &proposal, enough(rng));
     let due = Verdict { number: first.number, index: in_version_two(&hour, first) };
     if second != due || before != reported(run, second, &hour) {
-        run.fault(|| format!("version 1 {first:?}, version 2 {second:?} where {due:?} is due"));
+        run.fault_in_last(|| format!("version 1 {first:?}, version 2 {second:?} where {due:?} is due"));
     }
     for (times, number) in shifted.iter_mut().zip([7, 8]) {
         *times += u64::from(first.number == number && second.index > first.index);
@@ -161,11 +158,11 @@ fn owed_alone(run: &mut Run, rng: &mut Rng) {
     let whole = reported(run, second, &hour);
     if let (Some(owed), Some(most)) = (part.get_mut(OWED), whole.get(OWED)) {
         if *owed > *most {
-            run.fault(|| "more is owed for a part than for all".into());
+            run.fault_in_last(|| "more is owed for a part than for all".into());
         }
         *owed = *most;
     }
     if first != second || part != whole {
-        run.fault(|| format!("{first:?} for a part, {second:?} for all, or another total than owed"));
+        run.fault_in_last(|| format!("{first:?} for a part, {second:?} for all, or another total than owed"));
     }
 }

@@ -1,12 +1,12 @@
 //! Verdicts 4, 21 and 23 to 25: each offset of 4, and the first and the last order, link, branch and zone that an hour
 //! can have. For 6, 7, 8 and 14 that is in `offsets`.
 
-use crate::families::{enough, good, outside};
-use crate::fields::fields;
-use crate::make::{flow_based_parts, least_ram, most_flow, used, version, Shape};
-use crate::offsets::at_least;
+use super::offsets::at_least;
+use crate::makers::fields::{fields, outside};
+use crate::makers::hours::{enough, flow_based_parts, good, least_ram, most_flow, used, version, Shape};
+use crate::numbers::LEAST_TIMES;
 use crate::rng::Rng;
-use crate::run::{Run, LEAST_TIMES};
+use crate::run::Run;
 use paper_hours::{Branch, Hour};
 
 /// Number and index.

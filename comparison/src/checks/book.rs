@@ -1,12 +1,11 @@
 //! The order book entry of both: random books, refusals alone and in pairs, the widest.
 
 use crate::library;
+use crate::makers::books::*;
+use crate::numbers::BOOK;
 use crate::rng::Rng;
 use crate::run::Run;
 use second_judge::{book_surplus, BookAnswer, Row};
-
-const LOWEST: i64 = -50_000 * 100_000;
-const HIGHEST: i64 = 400_000 * 100_000;
 
 pub fn feed(run: &mut Run, rows: &[Row], prices: &[i64]) -> BookAnswer {
     feed_as(run, rows, prices, false)
@@ -18,8 +17,9 @@ fn feed_as(run: &mut Run, rows: &[Row], prices: &[i64], null: bool) -> BookAnswe
     let ours = book_surplus(rows, prices);
     if theirs != ours {
         let (rows, prices) = (rows.len(), prices.len());
-        run.fault(|| format!("{rows} rows, {prices} prices: archive {theirs:?}, second judge {ours:?}"));
+        run.fault(|| format!("{rows} rows, {prices} prices: library {theirs:?}, second judge {ours:?}"));
     }
+    run.books[ours.number as usize] += 1;
     ours
 }
 
@@ -27,60 +27,6 @@ fn expect(run: &mut Run, answer: BookAnswer, number: u32, index: u32, sum: i64) 
     let due = BookAnswer { number, index, sum };
     if answer != due {
         run.fault(|| format!("{answer:?} where {due:?} is due"));
-    }
-}
-
-pub fn book(rng: &mut Rng, zones: usize, count: usize) -> (Vec<Row>, Vec<i64>) {
-    let rows = (0..count)
-        .map(|_| Row {
-            zone: rng.below(zones) as u8,
-            side: rng.below(2) as u8,
-            quantity: rng.between_or_end(1, 100_000) as u32,
-            price: rng.between_or_end(-50_000, 400_000) as i32,
-        })
-        .collect();
-    let prices = (0..zones).map(|_| rng.between_or_end(LOWEST, HIGHEST)).collect();
-    (rows, prices)
-}
-
-/// Faults a book can have, in the order in which they are asked.
-const FAULTS: [(&str, u32); 11] = [
-    ("no prices", 4),
-    ("17 prices", 4),
-    ("513 rows", 4),
-    ("zone", 8),
-    ("side", 8),
-    ("quantity 0", 8),
-    ("quantity over", 8),
-    ("price under", 8),
-    ("price over", 8),
-    ("zone price under", 25),
-    ("zone price over", 25),
-];
-
-/// Plants a fault and gives the index that its refusal names.
-fn plant(rng: &mut Rng, fault: usize, rows: &mut Vec<Row>, prices: &mut Vec<i64>) -> u32 {
-    let r = rng.below(rows.len());
-    let z = if prices.is_empty() { 0 } else { rng.below(prices.len()) };
-    match fault {
-        0 => prices.clear(),
-        1 => prices.resize(17 + rng.below(3), 0),
-        2 => rows.resize(513 + rng.below(3), rows[0]),
-        3 => rows[r].zone = rng.between_or_end(prices.len().min(255) as i64, 255) as u8,
-        4 => rows[r].side = rng.between_or_end(2, 255) as u8,
-        5 => rows[r].quantity = 0,
-        6 => rows[r].quantity = rng.between_or_end(100_001, u32::MAX.into()) as u32,
-        7 => rows[r].price = rng.between_or_end(i32::MIN.into(), -50_001) as i32,
-        8 => rows[r].price = rng.between_or_end(400_001, i32::MAX.into()) as i32,
-        9 if !prices.is_empty() => prices[z] = rng.pick(&[LOWEST - 1, i64::MIN]),
-        10 if !prices.is_empty() => prices[z] = rng.pick(&[HIGHEST + 1, i64::MAX]),
-        _ => {}
-    }
-    match fault {
-        0 | 1 => 5,
-        2 => 8,
-        3..=8 => r as u32,
-        _ => z as u32,
     }
 }
 
@@ -176,4 +122,9 @@ pub fn books(run: &mut Run, rng: &mut Rng) {
     let answer = feed_as(run, &[], &[HIGHEST + 1], true);
     expect(run, answer, 25, 0, 0);
     run.end();
+
+    run.section("order book, numbers, times met");
+    let numbers = run.books;
+    run.check_numbers(&BOOK, &numbers);
+    run.entry("lta_book_surplus", numbers.iter().sum(), &[(&BOOK, &numbers)], &[]);
 }

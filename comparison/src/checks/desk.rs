@@ -2,6 +2,7 @@
 
 use crate::lent::Lent;
 use crate::library;
+use crate::numbers::{COUNTED, DESK};
 use crate::rng::Rng;
 use crate::run::Run;
 use second_judge::limits::LEAST_OUTPUT;
@@ -22,58 +23,64 @@ const NAMES: [&str; 5] = [
 pub struct Desk {
     inputs: [u64; NAMES.len()],
     faults: [u64; NAMES.len()],
+    numbers: [u64; COUNTED],
     rng: Rng,
     joined: Vec<u8>,
 }
 
 impl Desk {
     pub fn new(seed: u64) -> Desk {
-        Desk { inputs: [0; NAMES.len()], faults: [0; NAMES.len()], rng: Rng::new(seed), joined: Vec::new() }
+        let counts = [0; NAMES.len()];
+        Desk { inputs: counts, faults: counts, numbers: [0; COUNTED], rng: Rng::new(seed), joined: Vec::new() }
     }
 
-    pub fn feed(&mut self, case: &[u8], proposal: &[u8]) {
+    /// Feeds the files of an hour, joined; the first input of each kind that differs comes back, with what differs.
+    pub fn feed(&mut self, case: &[u8], proposal: &[u8]) -> Option<(Vec<u8>, String)> {
         let mut joined = std::mem::take(&mut self.joined);
         joined.clear();
         joined.extend(case);
         joined.extend(proposal);
         let room = LEAST_OUTPUT + self.rng.below(MORE + 1);
-        self.compare(0, &joined, room);
-        match self.rng.below(8) {
+        let mut differs = self.compare(0, &joined, room).map(|text| (joined.clone(), text));
+        let further = match self.rng.below(8) {
             0 => {
                 joined.truncate(self.rng.below(joined.len() + 1));
-                self.compare(1, &joined, LEAST_OUTPUT);
+                self.compare(1, &joined, LEAST_OUTPUT)
             }
             1 => {
                 for _ in 0..1 + self.rng.below(20) {
-                    joined.push(self.rng.next() as u8);
+                    joined.push(self.rng.draw() as u8);
                 }
-                self.compare(2, &joined, LEAST_OUTPUT);
+                self.compare(2, &joined, LEAST_OUTPUT)
             }
             2 => self.compare(3, &joined, LEAST_OUTPUT - 1),
             3 => {
                 let room = self.rng.below(LEAST_OUTPUT);
-                self.compare(4, &joined, room);
+                self.compare(4, &joined, room)
             }
-            _ => {}
+            _ => None,
+        };
+        if let Some(text) = further {
+            differs.get_or_insert((joined.clone(), text));
         }
         self.joined = joined;
+        differs
     }
 
     /// Gives both this input and so much room.
-    fn compare(&mut self, kind: usize, input: &[u8], room: usize) {
+    fn compare(&mut self, kind: usize, input: &[u8], room: usize) -> Option<String> {
         self.inputs[kind] += 1;
-        let lent = Lent::bytes(LEAST_OUTPUT + MORE, self.rng.next()).only(room);
+        let lent = Lent::bytes(LEAST_OUTPUT + MORE, self.rng.draw()).only(room);
         let theirs = lent.to(|out| library::desk_lines(input, out));
         let ours = lent.to(|out| desk_output(input, out));
-        if let Some(text) = theirs.unlike(&ours) {
-            self.faults[kind] += 1;
-            if self.faults[kind] == 1 {
-                let name = NAMES[kind];
-                println!("amiss in the desk lines, {name}, room {room}: {text}");
-                println!("archive:\n{}", shown(theirs.room(), theirs.answer));
-                println!("second judge:\n{}", shown(ours.room(), ours.answer));
-            }
-        }
+        self.numbers[ours.answer.number as usize] += 1;
+        let text = theirs.unlike(&ours)?;
+        self.faults[kind] += 1;
+        (self.faults[kind] == 1).then(|| {
+            let shown = [(&theirs, "library"), (&ours, "second judge")]
+                .map(|(left, name)| format!("\n{name}:\n{}", shown(left.room(), left.answer)));
+            format!("amiss in the desk lines, {}, room {room}: {text}{}", NAMES[kind], shown.concat())
+        })
     }
 }
 
@@ -90,10 +97,15 @@ pub fn end(run: &mut Run) {
         let (inputs, faults) = (run.desk.inputs[kind], run.desk.faults[kind]);
         run.check_inputs(name.to_string(), inputs, faults);
     }
+    three_zone_lines(run);
+    run.section("desk lines, numbers, times met");
+    let (inputs, numbers) = (run.desk.inputs.iter().sum(), run.desk.numbers);
+    run.check_numbers(&DESK, &numbers);
+    run.entry("lta_desk_lines", inputs, &[(&DESK, &numbers)], &[]);
 }
 
 /// The nine lines of P1, which the paper gives.
-pub fn three_zone_lines(run: &mut Run) {
+fn three_zone_lines(run: &mut Run) {
     run.begin("the nine lines of P1");
     let hour = paper_hours::three_zone_hour();
     let mut lines = [0x5A; LEAST_OUTPUT];

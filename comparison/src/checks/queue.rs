@@ -1,16 +1,17 @@
-//! The desk queue of both over runs of posts and serves, from the empty queue
-//! and from any bytes: after each event the answers, what waits, and every byte.
+//! The desk queue of both over runs of posts and serves, from the empty queue and from any bytes: after each event the
+//! answers, what waits, and every byte.
 
 use crate::library;
+use crate::makers::queues::{any_bytes, Event, Habit};
+use crate::numbers::{COUNTED, QUEUE};
 use crate::rng::Rng;
-use crate::run::{Run, LEAST_TIMES};
+use crate::run::Run;
 use second_judge::{DeskQueue, Papers, Queue, ServedAnswer, QUEUE_BYTES};
 use wrong_builds::queue::{BUILDS, OF_BYTES};
 
 /// So many runs of so many events.
 const RUNS: u64 = 6_000;
 const EVENTS: usize = 500;
-const NUMBERS: [u32; 5] = [0, 61, 62, 63, 64];
 
 /// Bytes kept on either side of the queue, which nobody may touch.
 const GUARD: usize = 16;
@@ -32,12 +33,6 @@ const MET: [&str; 9] = [
     "61 where the hour is over 24 too",
     "serve of a queue that a serve emptied",
 ];
-
-#[derive(Clone, Copy, Debug)]
-enum Event {
-    Post(u32, u32),
-    Serve,
-}
 
 /// What an event answers: a post its number, a serve all it has.
 #[derive(Clone, Copy, Debug, PartialEq, Eq)]
@@ -84,17 +79,17 @@ impl Answer {
 struct Queues<'a> {
     run: &'a mut Run,
     runs: u64,
-    numbers: [u64; 65],
+    numbers: [u64; COUNTED],
     met: [u64; MET.len()],
     second_wrong: [u64; BUILDS.len()],
 }
 
-/// One run: the archive's bytes, the second judge's, and its queues.
+/// One run: the library's bytes, the second judge's, and its queues.
 struct Followed {
     theirs: [u8; SPACE],
     ours: [u8; QUEUE_BYTES],
     queue: Queue,
-    /// A wrong queue for each wrong build, until it is told from the archive.
+    /// A wrong queue for each wrong build, until it is told from the library.
     wrong: Vec<Option<(Box<dyn DeskQueue>, Queue)>>,
     /// Serves since each area began to wait, and since each hour was posted.
     area_waits: [Option<u64>; 4],
@@ -159,10 +154,10 @@ impl Queues<'_> {
         let of_bytes = event.on_bytes(&Papers, &mut one.ours);
         let after: [u8; QUEUE_BYTES] = *lent(&mut one.theirs);
         if theirs != ours || theirs != of_bytes {
-            self.run.fault(|| format!("{event:?}: archive {theirs:?}, second judge {ours:?} and {of_bytes:?}"));
+            self.run.fault(|| format!("{event:?}: library {theirs:?}, second judge {ours:?} and {of_bytes:?}"));
         } else if after != one.ours {
             let ours = one.ours;
-            self.run.fault(|| format!("{event:?}: archive {after:?}, second judge {ours:?}"));
+            self.run.fault(|| format!("{event:?}: library {after:?}, second judge {ours:?}"));
         } else if !Papers.read(&after).waits_as(&one.queue) {
             let queue = &one.queue;
             self.run.fault(|| format!("{event:?}: {after:?} is not {queue:?}"));
@@ -260,70 +255,21 @@ impl Queues<'_> {
 
 pub fn queues(run: &mut Run, rng: &mut Rng) {
     run.section("the desk queue, runs of 500 events");
-    let mut all = Queues { run, runs: 0, numbers: [0; 65], met: Default::default(), second_wrong: Default::default() };
+    let mut all =
+        Queues { run, runs: 0, numbers: [0; COUNTED], met: Default::default(), second_wrong: Default::default() };
     made(&mut all, rng);
     longest_waits(&mut all);
     every_cell(&mut all, rng);
 
     let run = all.run;
     run.section("the desk queue, numbers, times met");
-    run.check_numbers(&NUMBERS, &all.numbers, LEAST_TIMES);
+    run.check_numbers(&QUEUE, &all.numbers);
     run.section("the desk queue, met, times");
     run.check_met(&MET, &all.met);
-    run.section("the desk queue, the second judge's wrong builds, runs told from the archive");
+    run.section("the desk queue, wrong builds, runs told from the library");
     run.check_told(&BUILDS, &all.second_wrong, all.runs);
-}
-
-/// How a run goes: which areas and hours are posted, how often it serves.
-struct Habit {
-    areas: u32,
-    hours: u32,
-    serves: usize,
-    burst: usize,
-    reposts: bool,
-    strays: bool,
-}
-
-impl Habit {
-    fn any(rng: &mut Rng) -> Habit {
-        Habit {
-            areas: rng.pick(&[1, 2, 4, 4, 4]),
-            hours: rng.pick(&[1, 3, 12, 25, 25]),
-            serves: rng.pick(&[10, 30, 45, 50, 55, 70, 95]),
-            burst: rng.pick(&[1, 1, 4, 30]),
-            reposts: rng.one_in(2),
-            strays: rng.one_in(2),
-        }
-    }
-
-    fn post(&self, rng: &mut Rng) -> Event {
-        let area = rng.below(self.areas as usize) as u32;
-        let hour = rng.below(self.hours as usize) as u32;
-        if !self.strays || !rng.one_in(8) {
-            return Event::Post((area + self.burst as u32) % 4, 24 - hour);
-        }
-        let far = |rng: &mut Rng| rng.pick(&[256, 1 << 16, u32::MAX, 1 << 31]);
-        match rng.below(5) {
-            0 => Event::Post(4 + rng.below(3) as u32, hour),
-            1 => Event::Post(area, 25 + rng.below(3) as u32),
-            2 => Event::Post(4 + rng.below(3) as u32, 25 + rng.below(3) as u32),
-            3 => Event::Post(far(rng) + area, hour),
-            _ => Event::Post(area, far(rng) + hour),
-        }
-    }
-}
-
-/// Bytes that a run starts from, where it is not the empty queue.
-fn any_bytes(rng: &mut Rng) -> [u8; QUEUE_BYTES] {
-    let mut bytes = [0; QUEUE_BYTES];
-    let most = rng.pick(&[256, 256, 28, 27, 26, 4]);
-    let zeros = rng.pick(&[1, 2, 4]);
-    for byte in &mut bytes {
-        if rng.below(zeros) == 0 {
-            *byte = rng.below(most) as u8;
-        }
-    }
-    bytes
+    let events = all.numbers.iter().sum();
+    run.entry("lta_queue_post, lta_queue_serve", events, &[(&QUEUE, &all.numbers)], &all.second_wrong);
 }
 
 /// Random runs, by random habits.

@@ -1,8 +1,8 @@
 //! Inputs of S-3's entry with causes planted in them: which of these must be
 //! named, and where, is known.
 
-use crate::exchange::*;
-use crate::make::pairs;
+use super::exchanges::*;
+use super::hours::pairs;
 use crate::rng::Rng;
 
 /// What can be wrong with an input, in the order in which none undoes another.

@@ -1,8 +1,9 @@
 //! Makes exchanges for the entries of S-3 and S-13: net positions, prices and
 //! pairs. Of some it is known from their making whether all can be carried.
 
-use crate::make::pairs;
+use super::hours::{self, pairs};
 use crate::rng::Rng;
+use paper_hours::Hour;
 
 pub const MOST_ZONES: usize = 16;
 pub const MOST_PAIRS: usize = 64;
@@ -254,5 +255,33 @@ impl Exchange {
 fn shuffle<T>(rng: &mut Rng, list: &mut [T]) {
     for n in (1..list.len()).rev() {
         list.swap(n, rng.below(n + 1));
+    }
+}
+
+/// Pairs for an hour: its links, others, broken ones.
+pub fn pairs_for(rng: &mut Rng, hour: &Hour) -> Vec<u8> {
+    let links: Vec<(u8, u8)> = hour.links.iter().map(|link| (link.from, link.to)).collect();
+    let zones = usize::from(hour.zones);
+    let most = zones * (zones - 1);
+    match rng.below(8) {
+        0..4 => bytes(&links),
+        4 | 5 => bytes(&hours::pairs(rng, zones, most.min(MOST_PAIRS))),
+        6 => {
+            let count = rng.below(most.min(zones) + 1);
+            bytes(&hours::pairs(rng, zones, count))
+        }
+        _ => {
+            let mut made = bytes(&links);
+            let at = rng.below(made.len() + 1);
+            made.insert(at, rng.pick(&[0, 1, zones as u8, 255]));
+            made
+        }
+    }
+}
+
+pub fn scratch_for(rng: &mut Rng) -> usize {
+    match rng.below(8) {
+        0 => rng.between_or_end(0, SCRATCH as i64 - 1) as usize,
+        _ => SCRATCH + rng.below(3),
     }
 }

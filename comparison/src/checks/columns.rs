@@ -1,23 +1,18 @@
-//! The archive's two entries of both: readable cases of every shape and version in
-//! columns and back, each cause alone and beside others, fields out of range in
-//! rows and in columns, lengths, counts and marks, rooms, and bytes of any kind.
-//!
-//! Whatever one entry answers with 0, the other is given, and the same file must
-//! come back; a columned file is judged, and both judges must refuse it by 2.
+//! Columning and the way back of both (S-10): readable cases there and back, rooms, fields out of range in rows and in
+//! columns, lengths, counts, marks, and bytes of any kind.
 
-use crate::families::{change_a_byte, good, one_outside};
-use crate::fields::{fields, Field};
 use crate::lent::Lent;
 use crate::library;
-use crate::make::{at_limits, random, Shape};
+use crate::makers::columned::*;
+use crate::makers::fields::{change_a_byte, fields};
+use crate::makers::hours::{good, Shape};
+use crate::numbers::{COLUMNS, COUNTED, LEAST_INPUTS};
 use crate::rng::Rng;
-use crate::run::{hex, Run, LEAST_INPUTS, LEAST_TIMES};
-use paper_hours::{contracted_hour, three_zone_hour, Hour, Version};
+use crate::run::Run;
+use paper_hours::{contracted_hour, three_zone_hour, Version};
 use second_judge::limits::LEAST_BUFFER;
 use second_judge::{case_columned, case_restored, judge, OutputAnswer};
 use wrong_builds::columns::{Rearrange, BUILDS};
-
-const NUMBERS: [u32; 3] = [0, 71, 72];
 
 /// The longest case: 64 branches of 16 zones, 64 links of version 2, 512 orders.
 const LONGEST: usize = 14 + 64 * 68 + 64 * 10 + 512 * 10;
@@ -45,7 +40,7 @@ enum Entry {
 const ENTRIES: [(Entry, &str); 2] = [(Entry::Columned, "columning"), (Entry::Restored, "way back")];
 
 impl Entry {
-    fn archive(self, file: &[u8], out: &mut [u8], null: bool) -> OutputAnswer {
+    fn library(self, file: &[u8], out: &mut [u8], null: bool) -> OutputAnswer {
         match self {
             Entry::Columned => library::case_columned(file, out, null),
             Entry::Restored => library::case_restored(file, out, null),
@@ -71,7 +66,7 @@ impl Entry {
 struct Files<'a> {
     run: &'a mut Run,
     inputs: [u64; 2],
-    numbers: [[u64; 73]; 2],
+    numbers: [[u64; COUNTED]; 2],
     met: [u64; MET.len()],
     second_wrong: [u64; BUILDS.len()],
 }
@@ -100,7 +95,7 @@ impl Files<'_> {
         let copy = file.to_vec();
         let lent = Lent::bytes(room, self.inputs[entry as usize]);
         let wrong = |build: [Rearrange; 2], out: &mut [u8]| build[entry as usize](file, out);
-        let theirs = lent.to(|out| entry.archive(file, out, null));
+        let theirs = lent.to(|out| entry.library(file, out, null));
         let ours = lent.to(|out| entry.second(file, out));
         if let Some(text) = theirs.unlike(&ours) {
             self.fault(entry, file, room, || text);
@@ -115,11 +110,12 @@ impl Files<'_> {
     }
 
     fn fault(&mut self, entry: Entry, file: &[u8], room: usize, text: impl FnOnce() -> String) {
-        self.run.fault(|| {
-            let (_, name) = ENTRIES[entry as usize];
-            let file = hex(&[("file", file)]);
-            format!("{name}: {}\n  room {room}{file}", text())
-        });
+        let (_, name) = ENTRIES[entry as usize];
+        let suffix = match entry {
+            Entry::Columned => "case",
+            Entry::Restored => "columned",
+        };
+        self.run.fault_in(&[(suffix, file)], || format!("{name}: {}\n  room {room}", text()));
     }
 
     /// The answer that is due.
@@ -151,45 +147,15 @@ impl Files<'_> {
     }
 }
 
-/// A case's columns, which the second judge makes.
-fn columned(case: &[u8]) -> Vec<u8> {
-    let mut out = vec![0; case.len()];
-    let answer = case_columned(case, &mut out);
-    assert_eq!(answer.number, 0, "the case is readable");
-    out
-}
-
-/// The same bytes moved, whatever they are: where the orders begin and how many
-/// they are is the hour's.
-fn moved(hour: &Hour, case: &[u8]) -> Vec<u8> {
-    let count = hour.orders.len();
-    let start = case.len() - 10 * count;
-    let mut file = case[..start].to_vec();
-    for byte in 0..10 {
-        file.extend((0..count).map(|order| case[start + 10 * order + byte]));
-    }
-    file[2] = b'K';
-    file
-}
-
-fn some_hour(rng: &mut Rng) -> Hour {
-    let shape = Shape::mostly_small(rng, 8);
-    match rng.below(4) {
-        0 => random(rng, shape),
-        1 => at_limits(rng, shape),
-        _ => good(rng, shape),
-    }
-}
-
-/// A field of the case that its bytes can put out of range, and such a value.
-fn fault_in(rng: &mut Rng, hour: &Hour, number: std::ops::RangeInclusive<u32>) -> Option<(Field, i64)> {
-    one_outside(rng, hour, |field| field.in_case && number.contains(&field.number))
-}
-
 pub fn files(run: &mut Run, rng: &mut Rng) {
     run.section("columns");
-    let mut files =
-        Files { run, inputs: [0; 2], numbers: [[0; 73]; 2], met: Default::default(), second_wrong: Default::default() };
+    let mut files = Files {
+        run,
+        inputs: [0; 2],
+        numbers: [[0; COUNTED]; 2],
+        met: Default::default(),
+        second_wrong: Default::default(),
+    };
 
     files.run.begin("readable cases and back");
     for hour in [three_zone_hour(), contracted_hour()] {
@@ -231,15 +197,18 @@ pub fn files(run: &mut Run, rng: &mut Rng) {
     for (entry, name) in ENTRIES {
         let inputs = inputs[entry as usize];
         run.check_times(format!("{name}, inputs"), inputs, LEAST_INPUTS);
-        for number in NUMBERS {
-            let times = files.numbers[entry as usize][number as usize];
-            run.check_times(format!("{name}, {number}"), times, LEAST_TIMES);
+        for number in COLUMNS.numbers {
+            let times = files.numbers[entry as usize][*number as usize];
+            run.check_times(format!("{name}, {number}"), times, COLUMNS.times);
         }
     }
     run.section("columns, met, times");
     run.check_met(&MET, &files.met);
-    run.section("columns, the second judge's wrong builds, times told from the archive");
-    run.check_told(&BUILDS, &files.second_wrong, inputs[0] + inputs[1]);
+    run.section("columns, wrong builds, times told from the library");
+    let all = inputs[0] + inputs[1];
+    run.check_told(&BUILDS, &files.second_wrong, all);
+    let reached = files.numbers.each_ref().map(|times| (&COLUMNS, &times[..]));
+    run.entry("lta_case_columned, lta_case_restored", all, &reached, &files.second_wrong);
 }
 
 /// Outputs of every kind of length, of readable files and of others.
@@ -386,7 +355,7 @@ fn by_bytes(files: &mut Files, rng: &mut Rng) {
     files.run.begin("bytes of any kind");
     for _ in 0..4_000 {
         let length = rng.below(200);
-        let mut file: Vec<u8> = (0..length).map(|_| rng.next() as u8).collect();
+        let mut file: Vec<u8> = (0..length).map(|_| rng.draw() as u8).collect();
         let mark = rng.pick(&[b"LTK\x01\x00\x01\x00\x00", b"LTC\x02\x00\x02\x00\x00"]);
         let kept = rng.below(9).min(length);
         file[..kept].copy_from_slice(&mark[..kept]);
