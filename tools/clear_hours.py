@@ -4,13 +4,13 @@
     tools/clear_hours.py [--hours N] [--seed S] FILE
 
 An hour is a market on a small grid: zones, branches with margins and PTDFs, links with capacities, orders. A linear
-program finds the volumes, flows and LTA share of greatest welfare, and its duals are the prices. Ties are frequent: prices
-are round, branches repeat, capacities and margins are zero. Everything is rounded to the units of document 01. To leave
-room for the rounding the volumes are those of margins that are a little smaller; the prices and the optimum are those of
-the true ones.
+program finds the volumes, flows and LTA share of greatest welfare, and its duals are the prices. Ties are frequent:
+prices are round, branches repeat, capacities and margins are zero. Everything is rounded to the units of document 01.
+To leave room for the rounding, the volumes are those of margins that are a little smaller. The prices and the optimum
+are those of the true margins.
 
 FILE is a compressed list, a line for each hour: its case and its proposal in hexadecimal digits, and the optimum in
-microcents. The simplex calculates in floats; its optimum is right to TOLERANCE, relative to the sum of all orders' worth.
+microcents. The simplex calculates in floats. Its optimum is right to TOLERANCE, relative to what all orders are worth.
 """
 
 import argparse
@@ -28,9 +28,9 @@ BUYS, SELLS = 0, 1
 
 
 class Program:
-    """Maximise sum of gains times variables, each from 0 to its upper bound, with rows at most their limits. A row whose
-    slack is fixed to zero is an equation. Solved by the simplex with bounded variables, from a feasible start at which
-    each variable is at one of its bounds and the slacks are the basis.
+    """Maximise the sum of gains times variables, each from 0 to its upper bound, with rows at most their limits. A row
+    whose slack is fixed to zero is an equation. Solved by the simplex with bounded variables, from a feasible start at
+    which each variable is at one of its bounds and the slacks are the basis.
     """
 
     def __init__(self, gains, upper, rows, limits, equations, at_upper):
@@ -119,7 +119,7 @@ class Program:
 
 
 class Market:
-    """Zones, branches (RAM, PTDFs in hundred-thousandths), links (from, to, capacity), orders (zone, side, quantity, price)."""
+    """Zones; branches: RAM, PTDFs; links: from, to, capacity; orders: zone, side, quantity, price. In 01's units."""
 
     def __init__(self, draw):
         self.zones = draw.randint(2, 8)
@@ -149,7 +149,8 @@ class Market:
     def ptdfs(self, draw):
         """To five decimals, as published, or in tenths, with zones that do not bear on the branch."""
         step = draw.choice([1, 10_000])
-        return [draw.choice([0, 1, 1]) * step * draw.randint(-60_000 // step, 60_000 // step) for _ in range(self.zones)]
+        most = 60_000 // step
+        return [draw.choice([0, 1, 1]) * step * draw.randint(-most, most) for _ in range(self.zones)]
 
     def cleared(self, spare):
         """The program whose margins are so much smaller, solved. Volumes, flows and the share are its variables."""
@@ -158,7 +159,8 @@ class Market:
         rows = [[*signs, *([0.0] * links), 0.0]]
         limits = [0.0]
         for n, (_, _, capacity) in enumerate(self.links):
-            rows.append([*([0.0] * orders), *(1.0 if other == n else 0.0 for other in range(links)), -float(capacity)])
+            flow = [1.0 if other == n else 0.0 for other in range(links)]
+            rows.append([*([0.0] * orders), *flow, -float(capacity)])
             limits.append(0.0)
         for ram, ptdfs in self.branches:
             factors = [ptdf / 100_000 for ptdf in ptdfs]
@@ -175,7 +177,8 @@ class Market:
         return program
 
     def case(self):
-        parts = [b"LTC", struct.pack("<HBBBHI", 1, self.zones, len(self.branches), len(self.links), len(self.orders), 10_000)]
+        counts = [self.zones, len(self.branches), len(self.links), len(self.orders)]
+        parts = [b"LTC", struct.pack("<HBBBHI", 1, *counts, 10_000)]
         parts += [struct.pack(f"<i{self.zones}i", ram, *ptdfs) for ram, ptdfs in self.branches]
         parts += [struct.pack("<BBI", *link) for link in self.links]
         parts += [struct.pack("<BBIi", *order) for order in self.orders]
@@ -203,7 +206,8 @@ def hours(count, seed):
     draw = random.Random(seed)
     while count:
         market = Market(draw)
-        prices, clearing = market.cleared(0), market.cleared(SPARE if all(b[0] >= SPARE for b in market.branches) else 0)
+        spare = SPARE if all(ram >= SPARE for ram, _ in market.branches) else 0
+        prices, clearing = market.cleared(0), market.cleared(spare)
         if abs(prices.duals()[0]) < 400_000:
             yield market.case(), market.proposal(prices, clearing), round(100_000 * prices.optimum())
             count -= 1

@@ -1,6 +1,6 @@
-//! A day's print, a hundred of P1's reports, by lta_desk_lines: against the second
-//! judge, against lta_judge and snprintf in plain C, and where LTA_BEFORE names a
-//! shared object of another version, as tools/link_shared makes them, against its.
+//! A day's print, a hundred of P1's reports, by lta_desk_lines: against the second judge, against lta_judge and
+//! snprintf in plain C, and where LTA_BEFORE names a shared object of another version, as tools/link_shared makes
+//! them, against its.
 
 use crate::{heading, heading_against, measure, print, Times};
 use comparison::library;
@@ -48,8 +48,8 @@ fn before() -> Option<Lines> {
     }
 }
 
-/// Both less the judgement, of which the share of the entry's time is given: a
-/// share, since the machine's speed is not the same from one row to the next.
+/// Both less the judgement, of which the share of the entry's time is given: a share, since the machine's speed is
+/// not the same from one row to the next.
 fn printing(times: &Times, share: f64) -> Times {
     Times {
         proved: times.proved * (1.0 - share),

@@ -1,6 +1,5 @@
-//! The judgement with a family list: against the judgement without one of the same
-//! hour, which S-11 asks to cost at least half as much, and against the second
-//! judge's. 512 orders in one chain, in one circle, in none.
+//! The judgement with a family list: against the judgement without one of the same hour, which S-11 asks to cost at
+//! least half as much, and against the second judge's. 512 orders in one chain, in one circle, in none.
 
 use crate::{heading, heading_against, measure, print, sized, Times, CLASSES};
 use comparison::library;

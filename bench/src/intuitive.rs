@@ -1,6 +1,5 @@
-//! S-3's entries against plain Rust on the same inputs: annex 5.1's two price
-//! sets, no pairs, random exchanges, the worst that a search finds, and hours.
-//! Then S-13's, with the smaller scratch, against them on the same.
+//! S-3's entries against plain Rust on the same inputs: annex 5.1's two price sets, no pairs, random exchanges, the
+//! worst that a search finds, and hours. Then S-13's, with the smaller scratch, against them on the same.
 
 use crate::plain_flow::{by_dinic, by_edmonds_karp};
 use crate::{accepted, heading_against, measure, print};

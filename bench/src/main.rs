@@ -1,6 +1,6 @@
-//! Measures the proved judge against the second one, the desk's lines, the margin
-//! sheet's and the dump's entry against plain C, S-3's and S-8's against plain Rust, S-14's
-//! against the judgement too, on the same inputs; prints only.
+//! Measures the proved judge against the second one, the desk's lines, the margin sheet's and the dump's entry
+//! against plain C, S-3's and S-8's against plain Rust, S-14's against the judgement too, on the same inputs; prints
+//! only.
 
 mod columns;
 mod desk;
@@ -21,11 +21,10 @@ use std::time::{Duration, Instant};
 
 /// Odd, so that the median is one of them.
 const REPETITIONS: usize = 401;
-/// A repetition lasts about so long: short, so that the two halves of a pair
-/// meet the same machine, and one that is disturbed falls out of the median.
+/// A repetition lasts about so long: short, so that the two halves of a pair meet the same machine, and one that is
+/// disturbed falls out of the median.
 const LENGTH: Duration = Duration::from_micros(60);
-/// In a case of sixteen zones and 64 branches: a branch, and what stands before
-/// the links.
+/// In a case of sixteen zones and 64 branches: a branch, and what stands before the links.
 const BRANCH_BYTES: u32 = 4 + 4 * 16;
 const LINKS_AT: u32 = 14 + 64 * BRANCH_BYTES;
 
@@ -107,8 +106,8 @@ fn measure_reported(hour: &Hour) -> Times {
     measure_judges(&case, &proposal, verdict.number, verdict.index)
 }
 
-/// An hour of these counts that comes through to its report, with no field left at
-/// zero. Its gap is above the widest tolerance that is judged (S-12).
+/// An hour of these counts that comes through to its report, with no field left at zero. Its gap is above the widest
+/// tolerance that is judged (S-12).
 fn sized(zones: usize, branches: usize, links: usize, orders: usize) -> Hour {
     Hour {
         version: Version::One,

@@ -1,6 +1,5 @@
-//! S-3's question as one would answer it in plain Rust, for the benchmark, with
-//! every cause honoured: Edmonds and Karp's shortest augmenting paths, and
-//! Dinic's layers, over a matrix of what is left on each edge.
+//! S-3's question as one would answer it in plain Rust, for the benchmark, with every cause honoured: Edmonds and
+//! Karp's shortest augmenting paths, and Dinic's layers, over a matrix of what is left on each edge.
 
 use second_judge::CarriedAnswer;
 

@@ -1,5 +1,5 @@
-//! The first difference of a run as files that `lta explain` opens: difference.case with difference.proposal next to it,
-//! or difference.joined, and whatever else the entry was lent; difference.about says what differs.
+//! The first difference of a run as files that `lta explain` opens: difference.case with difference.proposal next to
+//! it, or difference.joined, and whatever else the entry was lent; difference.about says what differs.
 
 use std::fs;
 use std::io;

@@ -1,5 +1,5 @@
-//! A room lent to an entry, with numbers on either side that nobody may touch: what the
-//! library leaves of it and what the second judge does.
+//! A room lent to an entry, with numbers on either side that nobody may touch: what the library leaves of it and what
+//! the second judge does.
 
 use std::fmt::{Debug, Display};
 use std::ops::Range;

@@ -1,4 +1,5 @@
-//! The proved judge's library against the second judge over made inputs: makers of inputs, checks, and what counts them.
+//! The proved judge's library against the second judge over made inputs: makers of inputs, checks, and what counts
+//! them.
 
 pub mod checks;
 pub mod difference;

@@ -1,7 +1,8 @@
 //! Compares the proved judge's library with the second judge over made inputs.
 //!
-//! The wrong builds here are the second judge's, from the crate wrong_builds: the inputs must tell each of them from the
-//! library. Wrong builds of the proved judge are the edits in crates/NAME/must-fail, and it is the prover that refuses them.
+//! The wrong builds here are the second judge's, from the crate wrong_builds: the inputs must tell each of them from
+//! the library. Wrong builds of the proved judge are the edits in crates/NAME/must-fail, and it is the prover that
+//! refuses them.
 
 use comparison::checks::*;
 use comparison::numbers::JUDGE;
@@ -57,6 +58,7 @@ fn main() -> ExitCode {
         let round_seed = seed.wrapping_add(progress.round() - 1);
         let mut run = Run::new(round_seed, progress, difference_folder);
         let whole = round(&mut run, round_seed, inputs);
+        first_entries(&mut run);
         run.progress.clear();
         add(&mut entries, &run.entries);
         // A further round is told by what failed in it.
@@ -152,6 +154,12 @@ fn judgement(run: &mut Run) {
         let note = format!("{} of the paper, {} of {} made", found.of_paper, found.made, run.second_wrong_tried);
         run.check(name.to_string(), found.made > 0, note);
     }
-    run.entry("lta_judge", run.inputs, &[(&JUDGE, &verdicts)], &found.map(|found| found.made));
-    run.entries.rotate_right(1);
+}
+
+/// The judgement's and the desk's rows of the table, first of all: each input of the one is one of the other.
+fn first_entries(run: &mut Run) {
+    let (verdicts, told) = (run.verdicts, run.second_wrong.map(|found| found.made));
+    run.entry("lta_judge", run.inputs, &[(&JUDGE, &verdicts)], &told);
+    desk::entry(run);
+    run.entries.rotate_right(2);
 }

@@ -380,7 +380,8 @@ impl Run {
         count_met(&mut self.met, &met);
     }
 
-    /// Each wrong build in place of the papers: told from the library, by what it answered and left in the buffer, or not.
+    /// Each wrong build in place of the papers: told from the library, by what it answered and left in the buffer, or
+    /// not.
     fn try_second_wrong(&mut self, case: &[u8], proposal: &[u8], lent: &Lent<u8>, library: &Left<Verdict, u8>) {
         self.second_wrong_tried += u64::from(!self.of_paper);
         for (found, (build, _)) in self.second_wrong.iter_mut().zip(BUILDS) {

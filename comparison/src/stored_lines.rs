@@ -3,8 +3,8 @@
 use second_judge::OutputAnswer;
 use std::io::{Error, Write};
 
-/// Reads the lines on standard input, each a name and some fields, and prints what the
-/// library says of them and what the second judge does: the name, the judge, the words.
+/// Reads the lines on standard input, each a name and some fields, and prints what the library says of them and what
+/// the second judge does: the name, the judge, the words.
 pub fn of_each<const FIELDS: usize>(
     what: &str,
     said: impl Fn([&str; FIELDS]) -> Option<[Vec<String>; 2]>,
@@ -38,8 +38,8 @@ pub fn hex(bytes: &[u8]) -> String {
     bytes.iter().map(|byte| format!("{byte:02x}")).collect()
 }
 
-/// What an entry answers, its output, and how much of it was written: up to the last
-/// number that was changed in one of two outputs that have none in common.
+/// What an entry answers, its output, and how much of it was written: up to the last number that was changed in one
+/// of two outputs that have none in common.
 pub fn written<T: Copy + PartialEq>(
     room: usize,
     fills: [T; 2],

@@ -161,8 +161,8 @@ pub fn contracted_hour() -> Hour {
     hour
 }
 
-/// S-6: no link, and a margin of -1,000 tenths that makes the second zone import
-/// so much: what A sells at 50 euros B buys at 40. The branch earns -1,000 euros.
+/// S-6: no link, and a margin of -1,000 tenths that makes the second zone import so much: what A sells at 50 euros B
+/// buys at 40. The branch earns -1,000 euros.
 pub fn forced_hour() -> Hour {
     let order = |zone, side, price| Row { zone, side, quantity: 1_000, price };
     Hour {

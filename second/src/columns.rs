@@ -56,7 +56,8 @@ pub trait Columns: Sized {
         Some(with_mark(self.mark(), &file))
     }
 
-    /// The case that a columned file restores to. None, which is 71, if the mark is not LTK or no readable case results.
+    /// The case that a columned file restores to. None, which is 71, if the mark is not LTK or no readable case
+    /// results.
     fn restored(&self, file: &[u8]) -> Option<Vec<u8>> {
         if !self.has_mark(file) || file.len() < CASE_HEADER {
             return None;

@@ -1,7 +1,7 @@
 //! Straight from the solver's dump, request S-5: its values as a proposal for a case.
 //!
-//! A binary64 is a whole number times a power of two, as its bits say. Products are taken and rounded in whole numbers,
-//! and no float is touched.
+//! A binary64 is a whole number times a power of two, as its bits say. Products are taken and rounded in whole
+//! numbers, and no float is touched.
 
 use crate::files::Case;
 use crate::judgement::readable;
@@ -201,8 +201,8 @@ impl Value {
         Value { whole: self.whole * u128::from(factor), ..*self }
     }
 
-    /// The binary64 nearest to it, ties to even; none where that is infinite. The power of what was read is never below
-    /// the least of a binary64, nor is its product's, so 53 digits are there however small it is.
+    /// The binary64 nearest to it, ties to even; none where that is infinite. The power of what was read is never
+    /// below the least of a binary64, nor is its product's, so 53 digits are there however small it is.
     pub fn rounded(&self) -> Option<Value> {
         let spare = digits(self.whole).saturating_sub(DIGITS);
         let kept = self.whole >> spare;

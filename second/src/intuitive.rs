@@ -1,5 +1,5 @@
-//! Intuitive hours, request S-3: whether an hour's exchanges can all go from lower or equal price to higher, by annex 5.1
-//! of document 001; and S-13, the same from a smaller scratch.
+//! Intuitive hours, request S-3: whether an hour's exchanges can all go from lower or equal price to higher, by annex
+//! 5.1 of document 001; and S-13, the same from a smaller scratch.
 //!
 //! The scratch is room for a host that has no other. It is not needed here, and only asked for and zeroed.
 
@@ -339,8 +339,8 @@ impl Graph {
         out - into
     }
 
-    /// What flows carry, if they go along counted pairs alone and no zone lets out more than its export or takes in more
-    /// than its import.
+    /// What flows carry, if they go along counted pairs alone and no zone lets out more than its export or takes in
+    /// more than its import.
     pub fn carried_by(&self, flows: &Flows) -> Option<i128> {
         let mut total = 0;
         for z in 0..self.zones() {

@@ -91,7 +91,8 @@ pub trait Judgement: Sized {
         ONE * hour.proposal.flow(l) <= hour.proposal.share() * hour.case.link(l).capacity
     }
 
-    /// Rule 5. Branch: the sum over zones of PTDF times flow-based part is at most (100,000 minus LTA share) times RAM.
+    /// Rule 5. Branch: the sum over zones of PTDF times flow-based part is at most (100,000 minus LTA share) times
+    /// RAM.
     fn branch_rule(&self, hour: &Hour, b: usize, flow_based_parts: &PerZone) -> bool {
         let ptdfs = hour.case.ptdfs(b).zip(flow_based_parts);
         let load: i128 = ptdfs.map(|(ptdf, part)| ptdf * part).sum();
@@ -136,8 +137,8 @@ pub trait Judgement: Sized {
         ONE * branches.map(|b| hour.case.ram(b) * hour.proposal.shadow_price(b)).sum::<i128>()
     }
 
-    /// Rule 9. Owed: the sum over links of volume times (price at "to" minus price at "from"), where positive. S-4: the
-    /// volume is what is contracted.
+    /// Rule 9. Owed: the sum over links of volume times (price at "to" minus price at "from"), where positive. S-4:
+    /// the volume is what is contracted.
     fn owed(&self, hour: &Hour, prices: &PerZone) -> i128 {
         let links = (0..hour.case.links).map(|l| hour.case.link(l));
         links.map(|link| link.contracted * (prices[link.to] - prices[link.from]).max(0)).sum()

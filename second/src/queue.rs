@@ -52,8 +52,8 @@ impl Queue {
 }
 
 pub trait DeskQueue {
-    /// Posts an area and hour number. 61 when the area is over 3, 62 when the hour is over 24, 63 when that area has it
-    /// waiting already, in that order, the queue unchanged.
+    /// Posts an area and hour number. 61 when the area is over 3, 62 when the hour is over 24, 63 when that area has
+    /// it waiting already, in that order, the queue unchanged.
     fn post(&self, queue: &mut Queue, area: u32, hour: u32) -> u32 {
         if area > 3 {
             return 61;

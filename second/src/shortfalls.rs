@@ -1,5 +1,5 @@
-//! Who may be off, and by how much, request S-14: the shortfalls of an accepted hour, in whole hundred-thousandths of a
-//! microcent.
+//! Who may be off, and by how much, request S-14: the shortfalls of an accepted hour, in whole hundred-thousandths of
+//! a microcent.
 
 use crate::files::Hour;
 use crate::judgement::{hour_in_order, judge, readable, Judgement, PerZone};
@@ -28,7 +28,8 @@ pub trait GapShortfalls: Sized {
         ONE * (order.surplus(price) - hour.proposal.volume(o) * order.unit_gain(price))
     }
 
-    /// A branch's shadow price times what the flow-based part leaves free of the margin scaled by the flow-based share.
+    /// A branch's shadow price times what the flow-based part leaves free of the margin scaled by the flow-based
+    /// share.
     fn branch_shortfall(&self, hour: &Hour, b: usize, flow_based_parts: &PerZone) -> i128 {
         let ptdfs = hour.case.ptdfs(b).zip(flow_based_parts);
         let load: i128 = ptdfs.map(|(ptdf, part)| ptdf * part).sum();
@@ -36,7 +37,8 @@ pub trait GapShortfalls: Sized {
         ONE * hour.proposal.shadow_price(b) * (margin - load)
     }
 
-    /// A link's capacity times the share as stored times the positive spread, less 100,000 times flow times the spread.
+    /// A link's capacity times the share as stored times the positive spread, less 100,000 times flow times the
+    /// spread.
     fn link_shortfall(&self, hour: &Hour, l: usize, prices: &PerZone) -> i128 {
         let link = hour.case.link(l);
         let spread = prices[link.to] - prices[link.from];

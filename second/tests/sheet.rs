@@ -5,8 +5,7 @@ use second_judge::*;
 const ROOM: usize = 64 * 68;
 const FILL: u8 = 0xA5;
 
-/// The answer of a build in this much room, and the numbers written. What
-/// lies past them must be as it was.
+/// The answer of a build in this much room, and the numbers written. What lies past them must be as it was.
 fn read_in(room: usize, build: impl MarginSheet, sheet: &[u8], zones: usize) -> (OutputAnswer, Vec<i32>) {
     let mut out = vec![FILL; room];
     let answer = build.sheet_branches(sheet, zones, &mut out);

@@ -7,8 +7,8 @@ use second_judge::*;
 /// A microcent in hundred-thousandths.
 const MICROCENT: i128 = ONE;
 
-/// P1 with every volume, margin, capacity, flow and quantity a 125th: its amounts are
-/// too, and so is a gap. A tolerance of 100 euros, which S-12 leaves.
+/// P1 with every volume, margin, capacity, flow and quantity a 125th: its amounts are too, and so is a gap. A
+/// tolerance of 100 euros, which S-12 leaves.
 pub fn small_hour() -> Hour {
     let mut hour = three_zone_hour();
     hour.tolerance = 10_000;
@@ -40,8 +40,7 @@ fn small_unused_link_hour() -> Hour {
     }
 }
 
-/// The gap that is reported, which must be accepted, and the shortfalls, each in
-/// hundred-thousandths of a microcent.
+/// The gap that is reported, which must be accepted, and the shortfalls, each in hundred-thousandths of a microcent.
 fn accepted(hour: &Hour) -> (i128, Shortfalls) {
     let (case, proposal) = (hour.case(), hour.proposal());
     let mut report = [0; LEAST_BUFFER];

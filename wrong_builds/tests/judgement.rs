@@ -6,8 +6,9 @@ use second_judge::{judge, judge_families, list_of, Judgement, Papers, Verdict};
 use wrong_builds::families::WideAfterList;
 use wrong_builds::judgement::*;
 
-// Offsets by hand: P1's branches begin at 14 and 30, its link at 46, its orders at 52, 62, 72, 82 and 92, its shadow prices
-// at 37 and 41. P1 of version 2 has its link at 46, the link's contracted volume at 52, and its orders from 56 on.
+// Offsets by hand: P1's branches begin at 14 and 30, its link at 46, its orders at 52, 62, 72, 82 and 92, its shadow
+// prices at 37 and 41. P1 of version 2 has its link at 46, the link's contracted volume at 52, and its orders from 56
+// on.
 
 fn field(report: &[u8], n: usize) -> i64 {
     let at = REPORT_HEADER + REPORT_FIELD * n;

@@ -1,5 +1,5 @@
-//! The stored output of the programs over queues, columns and shortfalls: the papers' is the same, and each wrong build's
-//! another.
+//! The stored output of the programs over queues, columns and shortfalls: the papers' is the same, and each wrong
+//! build's another.
 
 use paper_hours::{forced_hour, three_zone_hour, Branch, Hour, Link, Version};
 use second_judge::{
@@ -9,8 +9,8 @@ use wrong_builds::columns::Rearrange;
 use wrong_builds::shortfalls::Value;
 use wrong_builds::{columns, queue};
 
-/// The stored runs of the desk queue as this queue prints them: a run opens with
-/// its name, and from a line `byte` on it is followed by its bytes.
+/// The stored runs of the desk queue as this queue prints them: a run opens with its name, and from a line `byte` on
+/// it is followed by its bytes.
 fn queue_runs(new: &dyn Fn() -> Box<dyn DeskQueue>, events: &str) -> String {
     let mut build = new();
     let mut queue = Queue::default();
@@ -100,8 +100,8 @@ fn stored_columns() {
     }
 }
 
-/// P1 with every volume, margin, capacity, flow and quantity a 125th: its amounts are
-/// too, and so is a gap. A tolerance of 100 euros, which S-12 leaves.
+/// P1 with every volume, margin, capacity, flow and quantity a 125th: its amounts are too, and so is a gap. A
+/// tolerance of 100 euros, which S-12 leaves.
 fn small_hour() -> Hour {
     let mut hour = three_zone_hour();
     hour.tolerance = 10_000;

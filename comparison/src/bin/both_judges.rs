@@ -1,10 +1,8 @@
 //! What both judges say of the hours on standard input, for tests/stored_hours.
 //!
-//! An hour is a line: its name, its case and its proposal, both in hexadecimal
-//! digits. What is said of it is printed, a line for each thing: the name, the
-//! judge, the way and what the judge says. Handed over apart, the two files are
-//! judged, and the totals come from the report, in microcents. Joined, the lines
-//! are the desk's.
+//! An hour is a line: its name, its case and its proposal, both in hexadecimal digits. What is said of it is printed,
+//! a line for each thing: the name, the judge, the way and what the judge says. Handed over apart, the two files are
+//! judged, and the totals come from the report, in microcents. Joined, the lines are the desk's.
 
 use comparison::library;
 use comparison::stored_lines::{bytes, of_each};

@@ -1,11 +1,9 @@
-//! What both judges say of the shortfalls of the hours on standard input, for
-//! tests/stored_shortfalls.
+//! What both judges say of the shortfalls of the hours on standard input, for tests/stored_shortfalls.
 //!
-//! An hour is a line: its name, the numbers of its output, its case and its proposal,
-//! both in hexadecimal digits, a dash for one of no bytes. What is said of it is
-//! printed, two lines for each judge: the name, the judge and the line that
-//! crates/shortfall_runs prints; and the name, the judge, `written` and the output's
-//! numbers that were changed, from its first on.
+//! An hour is a line: its name, the numbers of its output, its case and its proposal, both in hexadecimal digits, a
+//! dash for one of no bytes. What is said of it is printed, two lines for each judge: the name, the judge and the
+//! line that crates/shortfall_runs prints; and the name, the judge, `written` and the output's numbers that were
+//! changed, from its first on.
 
 use comparison::library;
 use comparison::stored_lines::{bytes, of_each, written};

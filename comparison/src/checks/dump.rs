@@ -1,6 +1,6 @@
-//! The solver's dump's entry of both: dumps that give an hour's own proposal, values of every kind, each cause alone and
-//! with others, every limit and the values next to it, every exponent, and bits of any kind. What is written is judged by
-//! both judges.
+//! The solver's dump's entry of both: dumps that give an hour's own proposal, values of every kind, each cause alone
+//! and with others, every limit and the values next to it, every exponent, and bits of any kind. What is written is
+//! judged by both judges.
 
 use crate::lent::Lent;
 use crate::library;
@@ -101,8 +101,8 @@ impl Dumps<'_> {
         self.run.fault_in(&[("case", case), ("dump", dump)], || format!("{}\n  room {room}", text()));
     }
 
-    /// A proposal that was written is read by both judges: none of 9 to 14 has a
-    /// cause, nor has 21; 15 if the case's tolerance is wide (S-12), and then alone.
+    /// A proposal that was written is read by both judges: none of 9 to 14 has a cause, nor has 21; 15 if the case's
+    /// tolerance is wide (S-12), and then alone.
     fn judge(&mut self, case: &[u8], dump: &[u8], proposal: &[u8]) {
         let (mut report, mut their_report) = ([0; LEAST_BUFFER], [0; LEAST_BUFFER]);
         let verdict = judge(case, proposal, &mut report);

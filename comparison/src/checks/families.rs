@@ -1,6 +1,6 @@
-//! The judgement with a family list of both (S-11): lists that hold and that do not, circles of every size and what leads
-//! into them, parents at the last order and past it. Without the list the same files are judged too, and that answer is as
-//! it was.
+//! The judgement with a family list of both (S-11): lists that hold and that do not, circles of every size and what
+//! leads into them, parents at the last order and past it. Without the list the same files are judged too, and that
+//! answer is as it was.
 
 use super::families_causes::*;
 use crate::lent::{Left, Lent};
@@ -96,8 +96,8 @@ impl Lists<'_> {
         ours.answer
     }
 
-    /// The same files by the entry without a list: both judges as they were, and the
-    /// answer with the list is another for the list's own numbers alone.
+    /// The same files by the entry without a list: both judges as they were, and the answer with the list is another
+    /// for the list's own numbers alone.
     fn without_list(&mut self, files: &Files, lent: &Lent<u8>, with: &Left<Verdict, u8>) {
         let (case, proposal) = (&files.case, &files.proposal);
         let theirs = lent.to(|report| library::judge(case, proposal, report));
@@ -135,8 +135,7 @@ impl Lists<'_> {
         verdict
     }
 
-    /// An hour that breaks nothing up to 21, with parents: 17, 18 or 28 of them, or the
-    /// answer without a list.
+    /// An hour that breaks nothing up to 21, with parents: 17, 18 or 28 of them, or the answer without a list.
     pub fn expect_of(&mut self, hour: &Hour, parents: &[Option<u16>], lent: usize) -> Verdict {
         let files = Files::new(hour, list_of(parents));
         match due(hour, parents) {

@@ -1,5 +1,5 @@
-//! Lists of wrong mark, version and length, fractions that are equal or a tenth off, and families with whatever else is
-//! wrong with an hour.
+//! Lists of wrong mark, version and length, fractions that are equal or a tenth off, and families with whatever else
+//! is wrong with an hour.
 
 use super::families::{Files, Lists, MOST_LENT};
 use crate::makers::families::*;
@@ -247,8 +247,7 @@ pub fn other_causes(lists: &mut Lists, rng: &mut Rng) {
     lists.run.end();
 }
 
-/// Hours that break what they break, lists of any bytes, buffers of every length,
-/// null pointers.
+/// Hours that break what they break, lists of any bytes, buffers of every length, null pointers.
 pub fn whatever(lists: &mut Lists, rng: &mut Rng) {
     lists.run.begin("hours of any kind");
     for _ in 0..8_000 {

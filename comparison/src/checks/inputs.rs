@@ -343,8 +343,8 @@ fn price_by_one_grain(run: &mut Run, rng: &mut Rng, zones: u8) {
     }
 }
 
-/// One tenth, untraded, at a zone price one grain off a cent: the gap is a
-/// whole number of cents, less or more by one microcent.
+/// One tenth, untraded, at a zone price one grain off a cent: the gap is a whole number of cents, less or more by one
+/// microcent.
 fn gap_by_one_microcent(run: &mut Run, rng: &mut Rng, zones: u8) {
     let zone = rng.below(zones.into());
     let cents = rng.pick(&[0, 1, 2, 1_000, 9_999, 10_000, 44_999]);

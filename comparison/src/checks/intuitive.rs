@@ -1,5 +1,5 @@
-//! The entries of S-3 of both, over exchanges and over hours. Each input goes to S-13's entries too, whose answers must be
-//! the wide ones'.
+//! The entries of S-3 of both, over exchanges and over hours. Each input goes to S-13's entries too, whose answers
+//! must be the wide ones'.
 
 use super::intuitive_inputs::*;
 use crate::lent::Lent;
@@ -12,8 +12,8 @@ use crate::run::{count_met, Run};
 use second_judge::{CarriedAnswer, IntuitiveHours, Papers, ScratchSize};
 use wrong_builds::intuitive::{Entries, BUILDS, EQUAL_PRICES, NO_WAY_BACK, SMALL_BUILDS};
 
-/// Things a good stream of inputs must come across, counted; the first so many
-/// of lta_intuitive, the others of lta_hour_intuitive.
+/// Things a good stream of inputs must come across, counted; the first so many of lta_intuitive, the others of
+/// lta_hour_intuitive.
 const MET: [&str; 22] = [
     "yes",
     "no",
@@ -177,8 +177,7 @@ impl Exchanges<'_> {
         wide
     }
 
-    /// One entry against the second judge's: the right answer, and which
-    /// of the wrong builds were told from it.
+    /// One entry against the second judge's: the right answer, and which of the wrong builds were told from it.
     fn compare(
         &mut self,
         asked: Asked,

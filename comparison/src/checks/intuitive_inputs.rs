@@ -1,5 +1,5 @@
-//! The inputs of S-3's and S-13's entries: yes and no, each cause alone and with others, every limit, all small exchanges,
-//! and hours.
+//! The inputs of S-3's and S-13's entries: yes and no, each cause alone and with others, every limit, all small
+//! exchanges, and hours.
 
 use super::intuitive::{Asked, Exchanges};
 use crate::makers::exchanges::*;
@@ -50,8 +50,7 @@ pub fn answered(all: &mut Exchanges, rng: &mut Rng) {
     all.run.end();
 }
 
-/// Each exchange of three zones with every choice of pairs, prices from 0 to 2
-/// and positions from -2 to 2.
+/// Each exchange of three zones with every choice of pairs, prices from 0 to 2 and positions from -2 to 2.
 pub fn small_ones(all: &mut Exchanges) {
     all.run.begin("all of three zones, prices 0 to 2, positions -2 to 2");
     let every = [(0, 1), (0, 2), (1, 0), (1, 2), (2, 0), (2, 1)];

@@ -311,8 +311,8 @@ fn random_run(all: &mut Queues, rng: &mut Rng, bytes: [u8; QUEUE_BYTES]) {
     }
 }
 
-/// Each hour of the long day posted last, with every other waiting and posted
-/// again as soon as it is served; from each turn.
+/// Each hour of the long day posted last, with every other waiting and posted again as soon as it is served; from
+/// each turn.
 fn longest_waits(all: &mut Queues) {
     all.run.begin("every other hour waits and is posted again");
     for turn in 0..4 {

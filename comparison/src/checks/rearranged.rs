@@ -1,6 +1,6 @@
-//! The order of orders (S-9). Each hour is judged by the library before and after its orders, and likewise the proposal's
-//! volumes, are rearranged: number, index and every byte of the buffer are the same, but for the index of 21. Books are
-//! joined in both orders.
+//! The order of orders (S-9). Each hour is judged by the library before and after its orders, and likewise the
+//! proposal's volumes, are rearranged: number, index and every byte of the buffer are the same, but for the index of
+//! 21. Books are joined in both orders.
 
 use super::book;
 use super::offsets::at_least;

@@ -1,5 +1,5 @@
-//! The margin sheet's entry of both: good sheets, each cause alone and with others, every limit, damaged sheets, and all
-//! the short ones.
+//! The margin sheet's entry of both: good sheets, each cause alone and with others, every limit, damaged sheets, and
+//! all the short ones.
 
 use crate::lent::Lent;
 use crate::library;

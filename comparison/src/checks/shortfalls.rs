@@ -1,6 +1,6 @@
 //! The shortfalls' entry of both (S-14): hours with gap zero and solver-like ones with a gap, with links and without,
-//! contracted volumes moved alone, hours refused by every number, rooms at the length and about it, and the largest hours.
-//! Whatever is answered with 0 is held to `promises`.
+//! contracted volumes moved alone, hours refused by every number, rooms at the length and about it, and the largest
+//! hours. Whatever is answered with 0 is held to `promises`.
 
 use super::promises::{Answered, Files, MET};
 use crate::lent::Lent;
@@ -37,8 +37,8 @@ impl Hours<'_> {
         self.feed_as(case, proposal, room, false)
     }
 
-    /// Gives both this hour and so much room, and holds the answer to the library's
-    /// judgement and to what is promised.
+    /// Gives both this hour and so much room, and holds the answer to the library's judgement and to what is
+    /// promised.
     fn feed_as(&mut self, case: &[u8], proposal: &[u8], room: usize, null: bool) -> (OutputAnswer, Vec<i64>) {
         self.run.count();
         self.inputs += 1;

@@ -1,5 +1,5 @@
-//! The two case versions of S-4. A case of version 1 is one of version 2 with all of each capacity contracted, whatever
-//! is wrong with it; and what is contracted moves owed alone.
+//! The two case versions of S-4. A case of version 1 is one of version 2 with all of each capacity contracted,
+//! whatever is wrong with it; and what is contracted moves owed alone.
 
 use super::offsets::at_least;
 use crate::makers::fields::{fields, outside, Field};

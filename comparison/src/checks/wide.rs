@@ -1,5 +1,5 @@
-//! Wide tolerances retired (S-12): hours with tolerances about 10,000 cents and far
-//! above, alone and beside each other cause, and gaps about 10,000 cents.
+//! Wide tolerances retired (S-12): hours with tolerances about 10,000 cents and far above, alone and beside each
+//! other cause, and gaps about 10,000 cents.
 
 use super::inputs::hour_and_gap;
 use super::offsets::at_least;
@@ -77,8 +77,8 @@ fn about_the_widest(run: &mut Run, rng: &mut Rng, met: &mut [u64; MET.len()]) {
     }
 }
 
-/// A field out of range, or whatever a random hour breaks, at a wide tolerance: 15
-/// hides all that is asked after it and nothing before.
+/// A field out of range, or whatever a random hour breaks, at a wide tolerance: 15 hides all that is asked after it
+/// and nothing before.
 fn another_cause(run: &mut Run, rng: &mut Rng, met: &mut [u64; MET.len()]) {
     let shape = Shape::any(rng);
     let mut hour = match rng.one_in(3) {

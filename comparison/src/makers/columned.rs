@@ -15,8 +15,7 @@ pub fn columned(case: &[u8]) -> Vec<u8> {
     out
 }
 
-/// The same bytes moved, whatever they are: where the orders begin and how many
-/// they are is the hour's.
+/// The same bytes moved, whatever they are: where the orders begin and how many they are is the hour's.
 pub fn moved(hour: &Hour, case: &[u8]) -> Vec<u8> {
     let count = hour.orders.len();
     let start = case.len() - 10 * count;

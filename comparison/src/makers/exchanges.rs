@@ -1,5 +1,5 @@
-//! Makes exchanges for the entries of S-3 and S-13: net positions, prices and
-//! pairs. Of some it is known from their making whether all can be carried.
+//! Makes exchanges for the entries of S-3 and S-13: net positions, prices and pairs. Of some it is known from their
+//! making whether all can be carried.
 
 use super::hours::{self, pairs};
 use crate::rng::Rng;
@@ -31,8 +31,7 @@ pub fn bytes(pairs: &[(u8, u8)]) -> Vec<u8> {
     pairs.iter().flat_map(|pair| [pair.0, pair.1]).collect()
 }
 
-/// Annex 5.1's five zones, A to E, with its prices or with those of A and B
-/// exchanged: 800 of 1,400 MW, and all.
+/// Annex 5.1's five zones, A to E, with its prices or with those of A and B exchanged: 800 of 1,400 MW, and all.
 pub fn annex(second: bool) -> Exchange {
     let mut prices = [10, 20, 40, 50, 30].map(|euros| euros * 10_000_000);
     if second {
@@ -134,8 +133,7 @@ pub fn carried(rng: &mut Rng, zones: usize) -> Exchange {
     made
 }
 
-/// A set of zones that no counted pair leaves, with exports above its imports:
-/// a no.
+/// A set of zones that no counted pair leaves, with exports above its imports: a no.
 pub fn shut(rng: &mut Rng, zones: usize) -> Exchange {
     let mut made = random(rng, zones);
     let size = 1 + rng.below(zones - 1);
@@ -163,9 +161,8 @@ pub fn shut(rng: &mut Rng, zones: usize) -> Exchange {
     made.relabelled(rng)
 }
 
-/// Exports that each reach two imports, in a row, of which only one assignment
-/// carries all: what is sent to the wrong import has to be taken back, down to
-/// the first rung. Without its first rung it is a no.
+/// Exports that each reach two imports, in a row, of which only one assignment carries all: what is sent to the wrong
+/// import has to be taken back, down to the first rung. Without its first rung it is a no.
 pub fn ladder(rng: &mut Rng, rungs: usize) -> Exchange {
     let whole = !rng.one_in(4);
     let alike = rng.one_in(2);

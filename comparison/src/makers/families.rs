@@ -1,5 +1,5 @@
-//! Makes families: parents that hold, drawn ones and circles, and hours for them. What is due is found here once more, by
-//! the walk up and by products.
+//! Makes families: parents that hold, drawn ones and circles, and hours for them. What is due is found here once
+//! more, by the walk up and by products.
 
 use super::hours::{good, optimal, Shape};
 use crate::rng::Rng;
@@ -118,8 +118,8 @@ pub fn many_orders(rng: &mut Rng) -> Hour {
     }
 }
 
-/// The most orders there can be, each accepted in the same fraction and all at the
-/// zone's price: every family holds, and the gap is zero.
+/// The most orders there can be, each accepted in the same fraction and all at the zone's price: every family holds,
+/// and the gap is zero.
 pub fn even_orders(rng: &mut Rng) -> Hour {
     let quantity = rng.between_or_end(1, 100_000) as u32;
     let volume = rng.between_or_end(0, quantity.into()) as u32;
@@ -134,8 +134,8 @@ pub fn even_orders(rng: &mut Rng) -> Hour {
     }
 }
 
-/// An hour of one zone: a child and its parent on either side, what is left of the
-/// balance in a third order, all at the zone's price, so that the gap is zero.
+/// An hour of one zone: a child and its parent on either side, what is left of the balance in a third order, all at
+/// the zone's price, so that the gap is zero.
 pub fn two_and_a_third(rng: &mut Rng, child: (u32, u32), parent: (u32, u32)) -> Hour {
     let price = rng.between(-50_000, 400_000) as i32;
     let sides = rng.pick(&[(BUYS, BUYS), (BUYS, SELLS), (SELLS, BUYS), (SELLS, SELLS)]);

@@ -1,10 +1,10 @@
 //! Makes hours: optimal ones, feasible ones and random ones, half of them of either case version.
 //!
-//! An optimal hour is made from its prices. Take shadow prices and a system price, hence zone prices; let every link with
-//! a positive spread be full and call the sum of their capacities in and out of a zone its net position. Let each branch's
-//! RAM be just what these net positions use. Then branch total, owed and rent are equal, whatever the share, and with
-//! orders taken in the money only, the gap is zero. Without links (S-6) the share is 0 and the net positions are drawn:
-//! branch total and rent are equal, and often negative.
+//! An optimal hour is made from its prices. Take shadow prices and a system price, hence zone prices; let every link
+//! with a positive spread be full and call the sum of their capacities in and out of a zone its net position. Let
+//! each branch's RAM be just what these net positions use. Then branch total, owed and rent are equal, whatever the
+//! share, and with orders taken in the money only, the gap is zero. Without links (S-6) the share is 0 and the net
+//! positions are drawn: branch total and rent are equal, and often negative.
 
 use crate::rng::Rng;
 use paper_hours::{Branch, Hour, Link, Version};

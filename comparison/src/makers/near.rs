@@ -32,8 +32,8 @@ pub fn to_refuse(rng: &mut Rng, mut hour: Hour) -> Hour {
     hour
 }
 
-/// A solver-like hour: an optimal one, with a few numbers off by a little, and its margins
-/// widened where they no longer hold.
+/// A solver-like hour: an optimal one, with a few numbers off by a little, and its margins widened where they no
+/// longer hold.
 pub fn near(rng: &mut Rng, shape: Shape) -> Hour {
     loop {
         let mut hour = optimal(rng, shape);
@@ -98,8 +98,8 @@ pub fn nudge(rng: &mut Rng, hour: &mut Hour) {
     }
 }
 
-/// A little volume from one order to another, mostly of the same zone and side, or on both of
-/// two sides: the balance stays.
+/// A little volume from one order to another, mostly of the same zone and side, or on both of two sides: the balance
+/// stays.
 pub fn exchange(rng: &mut Rng, hour: &mut Hour) {
     let count = hour.orders.len();
     if count < 2 {
@@ -125,8 +125,8 @@ pub fn exchange(rng: &mut Rng, hour: &mut Hour) {
     }
 }
 
-/// A small hour with links whose numbers are round nowhere, so that shares and spreads leave parts
-/// of a microcent, and flows go either way.
+/// A small hour with links whose numbers are round nowhere, so that shares and spreads leave parts of a microcent,
+/// and flows go either way.
 pub fn odd(rng: &mut Rng) -> Hour {
     loop {
         let zones = 2 + rng.below(3);
@@ -207,8 +207,7 @@ pub fn lone_order(rng: &mut Rng) -> (Hour, usize, i64, i64) {
     (hour, 0, 100_000 * quantity * gain, 0)
 }
 
-/// One branch with a shadow price and some margin, and nothing on it; no link, and the margin
-/// is free in full.
+/// One branch with a shadow price and some margin, and nothing on it; no link, and the margin is free in full.
 pub fn lone_branch(rng: &mut Rng) -> (Hour, usize, i64, i64) {
     let margin = rng.between_or_end(0, 10_000);
     let shadow = rng.between_or_end(0, 100_000 / margin.max(1)).min(1_000_000);
@@ -244,8 +243,7 @@ pub fn lone_link(rng: &mut Rng) -> (Hour, usize, i64, i64) {
     (hour, 1, (amount / ONE) as i64, (amount % ONE) as i64)
 }
 
-/// The same with the spread turned and a flow against it, which an order in each zone makes up
-/// for at its own price.
+/// The same with the spread turned and a flow against it, which an order in each zone makes up for at its own price.
 pub fn link_against(rng: &mut Rng) -> (Hour, usize, i64, i64) {
     let flow = rng.between_or_end(0, 100);
     let cents = rng.between(0, 100_000 / flow.max(1)).min(40_000);

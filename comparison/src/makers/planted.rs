@@ -1,5 +1,4 @@
-//! Inputs of S-3's entry with causes planted in them: which of these must be
-//! named, and where, is known.
+//! Inputs of S-3's entry with causes planted in them: which of these must be named, and where, is known.
 
 use super::exchanges::*;
 use super::hours::pairs;

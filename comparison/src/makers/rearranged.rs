@@ -39,8 +39,8 @@ pub fn files(rng: &mut Rng) -> (Hour, Vec<u8>, Vec<u8>) {
     (hour, case, proposal)
 }
 
-/// For each place the one from which it takes: by chance, turned round, shifted by one, two exchanged, or sorted; and whether
-/// it is sorted.
+/// For each place the one from which it takes: by chance, turned round, shifted by one, two exchanged, or sorted; and
+/// whether it is sorted.
 pub fn rearrangement(rng: &mut Rng, hour: &Hour) -> (Vec<usize>, bool) {
     let count = hour.orders.len();
     let mut source: Vec<usize> = (0..count).collect();

@@ -29,8 +29,8 @@ pub enum Cause {
     Room,
 }
 
-/// In the order in which none of them undoes another: lines are added before
-/// fields are spoilt, and fields before their line.
+/// In the order in which none of them undoes another: lines are added before fields are spoilt, and fields before
+/// their line.
 pub const CAUSES: [(Cause, u32, &str); 9] = [
     (Cause::Lines, 54, "over 64 lines"),
     (Cause::Decimal, 52, "decimal past ours"),
@@ -230,8 +230,7 @@ pub fn with_decimal_past(rng: &mut Rng, field: usize) -> String {
     text
 }
 
-/// A number past its range, by one and by far. Some would be in range, were
-/// they kept in 32 bits or in 64.
+/// A number past its range, by one and by far. Some would be in range, were they kept in 32 bits or in 64.
 pub fn out_of_range(rng: &mut Rng, field: usize) -> String {
     let most = column(field).1;
     let wraps = in_range(rng, field).abs();
