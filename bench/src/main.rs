@@ -176,7 +176,7 @@ fn main() {
         println!("built without --release: the times of the second judge say nothing");
     }
     println!("proved / Rust, median of {REPETITIONS} pairs of repetitions by turns");
-    println!("the Rust judge sums in 128 bits throughout, which 64-bit sums would undercut");
+    println!("the Rust judge is written to be read: it sums in 128 bits, and takes some sums more than once");
     println!("report buffers: cleared once before the first call, not between calls");
 
     heading("judgement");
