@@ -1,5 +1,5 @@
 """What the tests of stored hours and dumps share: what is said of them, by both judges and in a program's stored output,
-and what is counted. It is imported first, since it puts tools/ on the path. The archive is there before.
+and what is counted. It is imported first, since it puts tools/ on the path. The library is there before.
 """
 
 import pathlib
@@ -9,8 +9,8 @@ import sys
 ROOT = pathlib.Path(__file__).resolve().parent.parent
 sys.path.insert(0, str(ROOT / "tools"))
 
-PROGRAM = "cargo run --release --offline --quiet -j2 --manifest-path comparison/Cargo.toml --features {} --bin {}"
-ARCHIVE, SECOND = "archive", "second"
+PROGRAM = "cargo run --release --offline --quiet -j2 -p comparison --bin {}"
+LIBRARY, SECOND = "library", "second"
 WRITTEN = "written"
 
 
@@ -19,18 +19,18 @@ def word(field):
     return str(field) if isinstance(field, int) else field.hex() or "-"
 
 
-def lines_of_both_judges(feature, program, records):
+def lines_of_both_judges(program, records):
     """Name, judge and words of each line that the program of comparison/ prints for records: numbers and files, by name."""
     lines = "".join(f"{name} {' '.join(map(word, record))}\n" for name, record in records.items())
-    command = PROGRAM.format(feature, program).split()
+    command = PROGRAM.format(program).split()
     run = subprocess.run(command, cwd=ROOT, input=lines, stdout=subprocess.PIPE, text=True, check=True)
     return [line.split(" ", 2) for line in run.stdout.split("\n")[:-1]]
 
 
-def said_by_both_judges(feature, program, records):
+def said_by_both_judges(program, records):
     """What each judge says of each record: its line by name and judge, and under WRITTEN too what it wrote."""
     said = {}
-    for name, judge, words in lines_of_both_judges(feature, program, records):
+    for name, judge, words in lines_of_both_judges(program, records):
         if words.startswith(WRITTEN):
             said[name, judge, WRITTEN] = words.removeprefix(WRITTEN)
         else:

@@ -1,6 +1,7 @@
-//! The archive's entries, columning and the way back, against the second judge's.
+//! The library's entries, columning and the way back, against the second judge's.
 
-use crate::{archive, heading, measure, print, sized, Times, CLASSES};
+use crate::{heading, measure, print, sized, Times, CLASSES};
+use comparison::library;
 use second_judge::{case_columned, case_restored, OutputAnswer};
 use std::hint::black_box;
 
@@ -23,20 +24,12 @@ fn of(file: &[u8], proved: Entry, other: Entry) -> (Times, Vec<u8>) {
 }
 
 pub fn files() {
-    heading("archive");
+    heading("columns");
     for (name, [zones, branches, links, orders]) in CLASSES {
         let case = sized(zones, branches, links, orders).case();
-        let (there, made) = of(
-            &case,
-            |file, out| archive::case_columned(file, out, false),
-            case_columned,
-        );
+        let (there, made) = of(&case, |file, out| library::case_columned(file, out, false), case_columned);
         print(&format!("{name}, columning"), &there);
-        let (back, _) = of(
-            &made,
-            |file, out| archive::case_restored(file, out, false),
-            case_restored,
-        );
+        let (back, _) = of(&made, |file, out| library::case_restored(file, out, false), case_restored);
         print(&format!("{name}, way back"), &back);
     }
 }

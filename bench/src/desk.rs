@@ -1,9 +1,10 @@
-//! A day's print, a hundred of P1's reports, by lta_desk_lines: against the second
-//! judge, against lta_judge and snprintf in plain C, and where LTA_BEFORE names a
-//! shared object of another version, as tools/link_shared makes them, against its.
+//! A day's print, a hundred of P1's reports, by lta_desk_lines: against the second judge, against lta_judge and
+//! snprintf in plain C, and where LTA_BEFORE names a shared object of another version, as tools/link_shared makes
+//! them, against its.
 
-use crate::{archive, heading, heading_against, measure, print, Times};
-use second_judge::hours::three_zone_hour;
+use crate::{heading, heading_against, measure, print, Times};
+use comparison::library;
+use paper_hours::three_zone_hour;
 use second_judge::limits::{LEAST_BUFFER, LEAST_OUTPUT};
 use std::ffi::{c_char, c_int, c_void, CString};
 use std::hint::black_box;
@@ -12,7 +13,7 @@ use std::os::unix::ffi::OsStringExt;
 const REPORTS: usize = 100;
 const NOW: c_int = 2;
 
-type Lines = unsafe extern "C" fn(*const u8, usize, *mut u8, usize) -> archive::Written;
+type Lines = unsafe extern "C" fn(*const u8, usize, *mut u8, usize) -> lta_sys::Written;
 
 extern "C" {
     fn plain_desk_lines(
@@ -30,14 +31,7 @@ extern "C" {
 fn plain(case: &[u8], proposal: &[u8], out: &mut [u8]) -> usize {
     // Safe: each pointer comes with the length of its own slice.
     unsafe {
-        plain_desk_lines(
-            case.as_ptr(),
-            case.len(),
-            proposal.as_ptr(),
-            proposal.len(),
-            out.as_mut_ptr(),
-            out.len(),
-        )
+        plain_desk_lines(case.as_ptr(), case.len(), proposal.as_ptr(), proposal.len(), out.as_mut_ptr(), out.len())
     }
 }
 
@@ -54,8 +48,8 @@ fn before() -> Option<Lines> {
     }
 }
 
-/// Both less the judgement, of which the share of the entry's time is given: a
-/// share, since the machine's speed is not the same from one row to the next.
+/// Both less the judgement, of which the share of the entry's time is given: a share, since the machine's speed is
+/// not the same from one row to the next.
 fn printing(times: &Times, share: f64) -> Times {
     Times {
         proved: times.proved * (1.0 - share),
@@ -70,25 +64,21 @@ pub fn lines() {
     let input = [case.clone(), proposal.clone()].concat();
     let (mut one, mut other) = ([0; LEAST_OUTPUT], [0; LEAST_OUTPUT]);
     let due = second_judge::desk_lines(&input);
-    let length = archive::desk_lines(&input, &mut one).length as usize;
-    assert_eq!(one[..length], due, "the archive");
+    let length = library::desk_lines(&input, &mut one).length as usize;
+    assert_eq!(one[..length], due, "the library");
     let in_c = plain(&case, &proposal, &mut other);
     assert_eq!(other[..in_c], due, "plain C");
 
     let mut proved = || {
         for _ in 0..REPORTS {
-            black_box(archive::desk_lines(black_box(&input), black_box(&mut one)));
+            black_box(library::desk_lines(black_box(&input), black_box(&mut one)));
         }
     };
     let mut report = [0; LEAST_BUFFER];
     let judging = 1.0
         / measure(&mut proved, || {
             for _ in 0..REPORTS {
-                black_box(archive::judge(
-                    black_box(&case),
-                    black_box(&proposal),
-                    black_box(&mut report),
-                ));
+                black_box(library::judge(black_box(&case), black_box(&proposal), black_box(&mut report)));
             }
         })
         .ratio;
@@ -108,11 +98,7 @@ pub fn lines() {
     heading_against("desk lines, against snprintf", "C ns");
     row(&measure(&mut proved, || {
         for _ in 0..REPORTS {
-            black_box(plain(
-                black_box(&case),
-                black_box(&proposal),
-                black_box(&mut other),
-            ));
+            black_box(plain(black_box(&case), black_box(&proposal), black_box(&mut other)));
         }
     }));
 

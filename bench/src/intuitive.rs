@@ -1,17 +1,11 @@
-//! S-3's entries against plain Rust on the same inputs: annex 5.1's two price
-//! sets, no pairs, random exchanges, the worst that a search finds, and hours.
-//! Then S-13's, with the smaller scratch, against them on the same.
+//! S-3's entries against plain Rust on the same inputs: annex 5.1's two price sets, no pairs, random exchanges, the
+//! worst that a search finds, and hours. Then S-13's, with the smaller scratch, against them on the same.
 
-#[path = "plain_flow.rs"]
-mod plain;
-#[path = "../../comparison/src/rng.rs"]
-#[allow(dead_code)] // some of its draws are not made here
-mod rng;
-
-use crate::{accepted, archive, heading_against, measure, print};
-use plain::{by_dinic, by_edmonds_karp};
-use rng::Rng;
-use second_judge::hours::{three_zone_hour, Hour};
+use crate::plain_flow::{by_dinic, by_edmonds_karp};
+use crate::{accepted, heading_against, measure, print};
+use comparison::library;
+use comparison::rng::Rng;
+use paper_hours::{three_zone_hour, Hour};
 use second_judge::limits::{LEAST_BUFFER, SELLS};
 use second_judge::{hour_intuitive, intuitive, judge, CarriedAnswer};
 use std::hint::black_box;
@@ -39,11 +33,11 @@ const PLAIN: [(&str, Plain); 2] = [("Edmonds-Karp", by_edmonds_karp), ("Dinic", 
 
 impl Exchange {
     fn proved(&self, scratch: &mut [i64]) -> CarriedAnswer {
-        archive::intuitive(&self.net, &self.prices, &self.pairs, scratch, false)
+        library::intuitive(&self.net, &self.prices, &self.pairs, scratch, false)
     }
 
     fn small(&self, scratch: &mut [i64]) -> CarriedAnswer {
-        archive::intuitive_small(&self.net, &self.prices, &self.pairs, scratch, false)
+        library::intuitive_small(&self.net, &self.prices, &self.pairs, scratch, false)
     }
 
     fn plain(&self, by: Plain, scratch: &mut [i64]) -> (CarriedAnswer, usize) {
@@ -55,7 +49,7 @@ impl Exchange {
         self.plain(by_edmonds_karp, &mut [0; SCRATCH]).1
     }
 
-    /// Nanoseconds of the archive's call, the least of some tries.
+    /// Nanoseconds of the library's call, the least of some tries.
     fn time(&self) -> f64 {
         let mut scratch = [0; SCRATCH];
         let mut one = || {
@@ -75,7 +69,7 @@ fn of(name: &str, exchanges: &[Exchange]) {
         let (mut one, mut two, mut due) = ([1; SCRATCH], [2; SCRATCH], [3; SCRATCH]);
         for given in exchanges {
             let answer = intuitive(&given.net, &given.prices, &given.pairs, &mut due);
-            assert_eq!(given.proved(&mut one), answer, "the archive");
+            assert_eq!(given.proved(&mut one), answer, "the library");
             assert_eq!(given.plain(by, &mut two).0, answer, "{other}");
         }
         let times = measure(
@@ -121,22 +115,18 @@ fn hour_of_sizes(name: &str, hour: &Hour) {
     let pairs = links(hour);
     let (mut small, mut wide) = ([1; SMALL_SCRATCH], [2; SCRATCH]);
     assert_eq!(
-        archive::hour_intuitive_small(&case, &proposal, &pairs, &mut small, false),
-        archive::hour_intuitive(&case, &proposal, &pairs, &mut wide, false),
+        library::hour_intuitive_small(&case, &proposal, &pairs, &mut small, false),
+        library::hour_intuitive(&case, &proposal, &pairs, &mut wide, false),
         "{name}"
     );
     let times = measure(
         || {
             let (case, scratch) = (black_box(&case), black_box(&mut small));
-            black_box(archive::hour_intuitive_small(
-                case, &proposal, &pairs, scratch, false,
-            ));
+            black_box(library::hour_intuitive_small(case, &proposal, &pairs, scratch, false));
         },
         || {
             let (case, scratch) = (black_box(&case), black_box(&mut wide));
-            black_box(archive::hour_intuitive(
-                case, &proposal, &pairs, scratch, false,
-            ));
+            black_box(library::hour_intuitive(case, &proposal, &pairs, scratch, false));
         },
     );
     print(name, &times);
@@ -144,10 +134,7 @@ fn hour_of_sizes(name: &str, hour: &Hour) {
 
 /// An hour's links as pairs.
 fn links(hour: &Hour) -> Vec<u8> {
-    hour.links
-        .iter()
-        .flat_map(|link| [link.from, link.to])
-        .collect()
+    hour.links.iter().flat_map(|link| [link.from, link.to]).collect()
 }
 
 fn annex(euros: [i64; 5]) -> Exchange {
@@ -155,10 +142,7 @@ fn annex(euros: [i64; 5]) -> Exchange {
     Exchange {
         net: vec![1_000, 13_000, -7_000, -3_000, -4_000],
         prices: euros.map(|price| price * 10_000_000).to_vec(),
-        pairs: lines
-            .into_iter()
-            .flat_map(|(one, other)| [one, other, other, one])
-            .collect(),
+        pairs: lines.into_iter().flat_map(|(one, other)| [one, other, other, one]).collect(),
     }
 }
 
@@ -217,12 +201,7 @@ fn changed(rng: &mut Rng, given: &Exchange) -> Exchange {
 }
 
 /// Climbs from an exchange, by steps that do not make it lower.
-fn worst(
-    rng: &mut Rng,
-    start: Exchange,
-    steps: usize,
-    of: impl Fn(&Exchange) -> f64,
-) -> (Exchange, f64) {
+fn worst(rng: &mut Rng, start: Exchange, steps: usize, of: impl Fn(&Exchange) -> f64) -> (Exchange, f64) {
     let mut found = start;
     let mut height = of(&found);
     for _ in 0..steps {
@@ -252,9 +231,7 @@ fn plain_hour(hour: &Hour, case: &[u8], proposal: &[u8], pairs: &[u8], scratch: 
     for (price, field) in prices[..zones].iter_mut().zip(report[48..].chunks_exact(8)) {
         *price = i64::from_le_bytes(field.try_into().expect("eight bytes"));
     }
-    by_edmonds_karp(&net[..zones], &prices[..zones], pairs, scratch)
-        .0
-        .total
+    by_edmonds_karp(&net[..zones], &prices[..zones], pairs, scratch).0.total
 }
 
 fn of_hour(name: &str, hour: &Hour) {
@@ -263,16 +240,14 @@ fn of_hour(name: &str, hour: &Hour) {
     let (mut one, mut two) = ([0; SCRATCH], [0; SCRATCH]);
     let due = hour_intuitive(&case, &proposal, &pairs, &mut two);
     assert_eq!(due.number, 0, "{name} is accepted");
-    let answer = archive::hour_intuitive(&case, &proposal, &pairs, &mut one, false);
-    assert_eq!(answer, due, "the archive");
+    let answer = library::hour_intuitive(&case, &proposal, &pairs, &mut one, false);
+    assert_eq!(answer, due, "the library");
     let total = plain_hour(hour, &case, &proposal, &pairs, &mut two);
     assert_eq!(total, due.total, "plain Rust");
     let times = measure(
         || {
             let (case, scratch) = (black_box(&case), black_box(&mut one));
-            black_box(archive::hour_intuitive(
-                case, &proposal, &pairs, scratch, false,
-            ));
+            black_box(library::hour_intuitive(case, &proposal, &pairs, scratch, false));
         },
         || {
             let (case, scratch) = (black_box(&case), black_box(&mut two));
@@ -285,19 +260,10 @@ fn of_hour(name: &str, hour: &Hour) {
 pub fn exchanges() {
     let mut rng = Rng::new(SEED);
     let mut asked: Vec<(String, Vec<Exchange>)> = vec![
-        (
-            "001, first prices".into(),
-            vec![annex([10, 20, 40, 50, 30])],
-        ),
-        (
-            "001, second prices".into(),
-            vec![annex([20, 10, 40, 50, 30])],
-        ),
+        ("001, first prices".into(), vec![annex([10, 20, 40, 50, 30])]),
+        ("001, second prices".into(), vec![annex([20, 10, 40, 50, 30])]),
     ];
-    let none = Exchange {
-        pairs: vec![],
-        ..random(&mut rng, ZONES, PAIRS)
-    };
+    let none = Exchange { pairs: vec![], ..random(&mut rng, ZONES, PAIRS) };
     asked.push(("16 zones, no pairs".into(), vec![none]));
     for (zones, pairs) in [(5, 10), (16, 64)] {
         let some = (0..32).map(|_| random(&mut rng, zones, pairs)).collect();
@@ -329,7 +295,5 @@ pub fn exchanges() {
     hours.iter().for_each(|(name, hour)| of_hour(name, hour));
     heading_against("the smaller scratch, against the wide one", "wide ns");
     asked.iter().for_each(|(name, some)| of_sizes(name, some));
-    hours
-        .iter()
-        .for_each(|(name, hour)| hour_of_sizes(name, hour));
+    hours.iter().for_each(|(name, hour)| hour_of_sizes(name, hour));
 }

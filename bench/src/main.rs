@@ -1,27 +1,19 @@
-//! Measures the proved judge against the second one, the desk's lines, the margin
-//! sheet's and the dump's entry against plain C, S-3's and S-8's against plain Rust, S-14's
-//! against the judgement too, on the same inputs; prints only.
+//! Measures the proved judge against the second one, the desk's lines, the margin sheet's and the dump's entry
+//! against plain C, S-3's and S-8's against plain Rust, S-14's against the judgement too, on the same inputs; prints
+//! only.
 
-#[path = "../../comparison/src/archive.rs"]
-mod archive;
-#[cfg(feature = "columns")]
 mod columns;
-#[cfg(feature = "desk")]
 mod desk;
-#[cfg(feature = "dump")]
 mod dump;
-#[cfg(feature = "families")]
 mod families;
-#[cfg(feature = "intuitive")]
 mod intuitive;
-#[cfg(feature = "queue")]
+mod plain_flow;
 mod queue;
-#[cfg(feature = "sheet")]
 mod sheet;
-#[cfg(feature = "shortfalls")]
 mod shortfalls;
 
-use second_judge::hours::{contracted_hour, three_zone_hour, Branch, Hour, Link, Version};
+use comparison::library;
+use paper_hours::{contracted_hour, three_zone_hour, Branch, Hour, Link, Version};
 use second_judge::limits::{BUYS, LEAST_BUFFER, SELLS};
 use second_judge::{judge, Row};
 use std::hint::black_box;
@@ -29,11 +21,10 @@ use std::time::{Duration, Instant};
 
 /// Odd, so that the median is one of them.
 const REPETITIONS: usize = 401;
-/// A repetition lasts about so long: short, so that the two halves of a pair
-/// meet the same machine, and one that is disturbed falls out of the median.
+/// A repetition lasts about so long: short, so that the two halves of a pair meet the same machine, and one that is
+/// disturbed falls out of the median.
 const LENGTH: Duration = Duration::from_micros(60);
-/// In a case of sixteen zones and 64 branches: a branch, and what stands before
-/// the links.
+/// In a case of sixteen zones and 64 branches: a branch, and what stands before the links.
 const BRANCH_BYTES: u32 = 4 + 4 * 16;
 const LINKS_AT: u32 = 14 + 64 * BRANCH_BYTES;
 
@@ -70,8 +61,7 @@ fn median(mut list: Vec<f64>) -> f64 {
 /// Both by turns, each of them first in every other pair.
 fn measure(mut proved: impl FnMut(), mut other: impl FnMut()) -> Times {
     let calls_for = |one: f64| (LENGTH.as_nanos() as f64 / one).clamp(1.0, 1e5) as u32;
-    let warm =
-        |call: &mut dyn FnMut()| median((0..9).map(|_| nanoseconds(9, &mut || call())).collect());
+    let warm = |call: &mut dyn FnMut()| median((0..9).map(|_| nanoseconds(9, &mut || call())).collect());
     let proved_calls = calls_for(warm(&mut proved));
     let other_calls = calls_for(warm(&mut other));
     let (mut of_proved, mut of_other, mut ratios) = (Vec::new(), Vec::new(), Vec::new());
@@ -88,42 +78,22 @@ fn measure(mut proved: impl FnMut(), mut other: impl FnMut()) -> Times {
         of_other.push(two);
         ratios.push(one / two);
     }
-    Times {
-        proved: median(of_proved),
-        other: median(of_other),
-        ratio: median(ratios),
-    }
+    Times { proved: median(of_proved), other: median(of_other), ratio: median(ratios) }
 }
 
 /// Measures the judgement of two files, which must have this verdict.
 fn measure_judges(case: &[u8], proposal: &[u8], number: u32, index: u32) -> Times {
     let (mut one, mut other) = ([0; LEAST_BUFFER], [0; LEAST_BUFFER]);
     let verdict = judge(case, proposal, &mut other);
-    assert_eq!(
-        (verdict.number, verdict.index),
-        (number, index),
-        "the second judge"
-    );
-    let answer = archive::judge(case, proposal, &mut one);
-    assert_eq!(
-        answer,
-        u64::from(number) + 256 * u64::from(index),
-        "the archive"
-    );
+    assert_eq!((verdict.number, verdict.index), (number, index), "the second judge");
+    let answer = library::judge(case, proposal, &mut one);
+    assert_eq!((answer.number, answer.index), (number, index), "the library");
     measure(
         || {
-            black_box(archive::judge(
-                black_box(case),
-                black_box(proposal),
-                black_box(&mut one),
-            ));
+            black_box(library::judge(black_box(case), black_box(proposal), black_box(&mut one)));
         },
         || {
-            black_box(judge(
-                black_box(case),
-                black_box(proposal),
-                black_box(&mut other),
-            ));
+            black_box(judge(black_box(case), black_box(proposal), black_box(&mut other)));
         },
     )
 }
@@ -136,8 +106,8 @@ fn measure_reported(hour: &Hour) -> Times {
     measure_judges(&case, &proposal, verdict.number, verdict.index)
 }
 
-/// An hour of these counts that comes through to its report, with no field left at
-/// zero. Its gap is above the widest tolerance that is judged (S-12).
+/// An hour of these counts that comes through to its report, with no field left at zero. Its gap is above the widest
+/// tolerance that is judged (S-12).
 fn sized(zones: usize, branches: usize, links: usize, orders: usize) -> Hour {
     Hour {
         version: Version::One,
@@ -146,19 +116,12 @@ fn sized(zones: usize, branches: usize, links: usize, orders: usize) -> Hour {
         branches: (0..branches)
             .map(|b| Branch {
                 ram: 50_000,
-                ptdfs: (0..zones)
-                    .map(|z| ((b * 7 + z * 13) % 41) as i32 * 1_000 - 20_500)
-                    .collect(),
+                ptdfs: (0..zones).map(|z| ((b * 7 + z * 13) % 41) as i32 * 1_000 - 20_500).collect(),
             })
             .collect(),
         links: (0..links)
             .map(|l| (l % zones, (l % zones + 1 + l / zones) % zones))
-            .map(|(from, to)| Link {
-                from: from as u8,
-                to: to as u8,
-                capacity: 1_000,
-                contracted: 600,
-            })
+            .map(|(from, to)| Link { from: from as u8, to: to as u8, capacity: 1_000, contracted: 600 })
             .collect(),
         orders: (0..orders)
             .map(|o| Row {
@@ -171,16 +134,13 @@ fn sized(zones: usize, branches: usize, links: usize, orders: usize) -> Hour {
         // without links there is no LTA domain to lean on (S-6)
         share: if links > 0 { 50_000 } else { 0 },
         system_price: 20_000,
-        volumes: (0..orders)
-            .map(|o| if o == orders - orders % 2 { 0 } else { 50 })
-            .collect(),
+        volumes: (0..orders).map(|o| if o == orders - orders % 2 { 0 } else { 50 }).collect(),
         flows: vec![100; links],
         shadow_prices: (0..branches).map(|b| (b % 4) as u32 * 100 + 1).collect(),
     }
 }
 
 /// The same with volumes and spreads so small that it is accepted.
-#[cfg(feature = "intuitive")]
 fn accepted(zones: usize, branches: usize, links: usize, orders: usize) -> Hour {
     let mut hour = sized(zones, branches, links, orders);
     hour.branches.iter_mut().for_each(|branch| branch.ram = 200);
@@ -199,11 +159,7 @@ fn accepted(zones: usize, branches: usize, links: usize, orders: usize) -> Hour 
 }
 
 fn print(name: &str, times: &Times) {
-    let Times {
-        proved,
-        other,
-        ratio,
-    } = times;
+    let Times { proved, other, ratio } = times;
     println!("  {name:<42} {proved:>10.0} {other:>10.0} {ratio:>8.2}");
 }
 
@@ -220,12 +176,11 @@ fn main() {
         println!("built without --release: the times of the second judge say nothing");
     }
     println!("proved / Rust, median of {REPETITIONS} pairs of repetitions by turns");
-    println!("the Rust judge sums in 128 bits throughout, which 64-bit sums would undercut");
+    println!("the Rust judge is written to be read: it sums in 128 bits, and takes some sums more than once");
     println!("report buffers: cleared once before the first call, not between calls");
 
     heading("judgement");
-    let of =
-        |hour: &Hour, number, index| measure_judges(&hour.case(), &hour.proposal(), number, index);
+    let of = |hour: &Hour, number, index| measure_judges(&hour.case(), &hour.proposal(), number, index);
     print("P1", &of(&three_zone_hour(), 0, 0));
     for (name, [zones, branches, links, orders]) in CLASSES {
         print(
@@ -237,101 +192,53 @@ fn main() {
     heading("judgement, case version 2");
     let [zones, branches, links, orders] = CLASSES[5].1;
     let largest = sized(zones, branches, links, orders);
-    let two = |hour: Hour| Hour {
-        version: Version::Two,
-        ..hour
-    };
-    print(
-        "P1, 2,500 of 4,000 contracted",
-        &of(&contracted_hour(), 0, 0),
-    );
+    let two = |hour: Hour| Hour { version: Version::Two, ..hour };
+    print("P1, 2,500 of 4,000 contracted", &of(&contracted_hour(), 0, 0));
     print("the largest", &measure_reported(&two(largest.clone())));
     let mut contracted = two(largest.clone());
     contracted.links[63].contracted = 1_001;
-    print(
-        "at the last link's contracted (7)",
-        &of(&contracted, 7, LINKS_AT + 63 * 10 + 6),
-    );
+    print("at the last link's contracted (7)", &of(&contracted, 7, LINKS_AT + 63 * 10 + 6));
 
     heading("refusals of the largest");
-    let header = Hour {
-        tolerance: 1_000_000_001,
-        ..largest.clone()
-    };
+    let header = Hour { tolerance: 1_000_000_001, ..largest.clone() };
     print("at the header (4)", &of(&header, 4, 10));
     let mut field = largest.clone();
     field.branches[63].ram = 500_001;
-    print(
-        "at the last branch (6)",
-        &of(&field, 6, 14 + 63 * BRANCH_BYTES),
-    );
+    print("at the last branch (6)", &of(&field, 6, 14 + 63 * BRANCH_BYTES));
     let mut link = largest.clone();
     link.links[63].capacity = 100_001;
     print("at the last link (7)", &of(&link, 7, LINKS_AT + 63 * 6 + 2));
     let mut order = largest.clone();
     order.orders[511].price = 400_001;
-    print(
-        "at the last order (8)",
-        &of(&order, 8, LINKS_AT + 64 * 6 + 511 * 10 + 6),
-    );
+    print("at the last order (8)", &of(&order, 8, LINKS_AT + 64 * 6 + 511 * 10 + 6));
     let mut shadow = largest.clone();
     shadow.shadow_prices[63] = 1_000_001;
-    print(
-        "at the last price (14)",
-        &of(&shadow, 14, 13 + 4 * (512 + 64 + 63)),
-    );
+    print("at the last price (14)", &of(&shadow, 14, 13 + 4 * (512 + 64 + 63)));
     let mut rule = largest.clone();
     rule.branches[63].ram = -500_000;
     print("at the last branch (24)", &of(&rule, 24, 63));
-    let wide = Hour {
-        tolerance: 10_001,
-        ..largest.clone()
-    };
+    let wide = Hour { tolerance: 10_001, ..largest.clone() };
     print("at the tolerance (15)", &of(&wide, 15, 0));
 
     heading("growth, sixteen zones");
     for count in [0, 64, 128, 256, 512] {
-        print(
-            &format!("{count} orders"),
-            &measure_reported(&sized(16, 0, 0, count)),
-        );
+        print(&format!("{count} orders"), &measure_reported(&sized(16, 0, 0, count)));
     }
     for count in [0, 8, 16, 32, 64] {
-        print(
-            &format!("{count} branches"),
-            &measure_reported(&sized(16, count, 0, 0)),
-        );
+        print(&format!("{count} branches"), &measure_reported(&sized(16, count, 0, 0)));
     }
     for count in [0, 8, 16, 32, 64] {
-        print(
-            &format!("{count} links"),
-            &measure_reported(&sized(16, 0, count, 0)),
-        );
+        print(&format!("{count} links"), &measure_reported(&sized(16, 0, count, 0)));
     }
     for count in [8, 16, 32, 64] {
-        print(
-            &format!("{count} links of version 2"),
-            &measure_reported(&two(sized(16, 0, count, 0))),
-        );
+        print(&format!("{count} links of version 2"), &measure_reported(&two(sized(16, 0, count, 0))));
     }
-
-    #[cfg(feature = "desk")]
     desk::lines();
-
-    #[cfg(feature = "sheet")]
     sheet::sheets();
-
-    #[cfg(feature = "intuitive")]
     intuitive::exchanges();
-
-    #[cfg(feature = "dump")]
     dump::dumps();
-    #[cfg(feature = "columns")]
     columns::files();
-    #[cfg(feature = "families")]
     families::lists();
-    #[cfg(feature = "shortfalls")]
     shortfalls::hours();
-    #[cfg(feature = "queue")]
     queue::queues();
 }

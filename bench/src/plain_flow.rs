@@ -1,6 +1,5 @@
-//! S-3's question as one would answer it in plain Rust, for the benchmark, with
-//! every cause honoured: Edmonds and Karp's shortest augmenting paths, and
-//! Dinic's layers, over a matrix of what is left on each edge.
+//! S-3's question as one would answer it in plain Rust, for the benchmark, with every cause honoured: Edmonds and
+//! Karp's shortest augmenting paths, and Dinic's layers, over a matrix of what is left on each edge.
 
 use second_judge::CarriedAnswer;
 
@@ -50,37 +49,23 @@ fn answer(
     if zones == 0 || zones > MOST_ZONES || prices.len() != zones {
         return Err((81, 0));
     }
-    if let Some(z) = net
-        .iter()
-        .position(|one| !(-MOST_EXPORT..=MOST_EXPORT).contains(one))
-    {
+    if let Some(z) = net.iter().position(|one| !(-MOST_EXPORT..=MOST_EXPORT).contains(one)) {
         return Err((82, z));
     }
     if net.iter().sum::<i64>() != 0 {
         return Err((82, 0));
     }
-    if let Some(z) = prices
-        .iter()
-        .position(|price| !(LOWEST..=HIGHEST).contains(price))
-    {
+    if let Some(z) = prices.iter().position(|price| !(LOWEST..=HIGHEST).contains(price)) {
         return Err((83, z));
     }
-    let mut network = Network {
-        left: [[0; NODES]; NODES],
-        zones,
-    };
+    let mut network = Network { left: [[0; NODES]; NODES], zones };
     let mut seen = [0u16; MOST_ZONES];
     for (n, pair) in pairs.chunks(2).enumerate() {
         let &[from, to] = pair else {
             return Err((84, n));
         };
         let (from, to) = (usize::from(from), usize::from(to));
-        if from >= zones
-            || to >= zones
-            || from == to
-            || n >= MOST_PAIRS
-            || seen[from] >> to & 1 == 1
-        {
+        if from >= zones || to >= zones || from == to || n >= MOST_PAIRS || seen[from] >> to & 1 == 1 {
             return Err((84, n));
         }
         seen[from] |= 1 << to;
@@ -103,12 +88,7 @@ fn answer(
     }
     let (total, paths) = max_flow(&mut network);
     scratch[..SCRATCH].fill(0);
-    let answer = CarriedAnswer {
-        number: 0,
-        index: 0,
-        intuitive: (total == exports).into(),
-        total,
-    };
+    let answer = CarriedAnswer { number: 0, index: 0, intuitive: (total == exports).into(), total };
     Ok((answer, paths))
 }
 
@@ -186,13 +166,7 @@ fn dinic(network: &mut Network) -> (i64, usize) {
     }
 }
 
-fn push(
-    network: &mut Network,
-    layer: &[usize; NODES],
-    first: &mut [usize; NODES],
-    node: usize,
-    most: i64,
-) -> i64 {
+fn push(network: &mut Network, layer: &[usize; NODES], first: &mut [usize; NODES], node: usize, most: i64) -> i64 {
     if node == network.sink() {
         return most;
     }
@@ -214,32 +188,17 @@ fn push(
 
 fn answered(answer: Result<(CarriedAnswer, usize), (u32, usize)>) -> (CarriedAnswer, usize) {
     answer.unwrap_or_else(|(number, index)| {
-        let refusal = CarriedAnswer {
-            number,
-            index: index as u32,
-            intuitive: 0,
-            total: 0,
-        };
+        let refusal = CarriedAnswer { number, index: index as u32, intuitive: 0, total: 0 };
         (refusal, 0)
     })
 }
 
 /// By Edmonds and Karp; with the answer the paths that it took.
-pub fn by_edmonds_karp(
-    net: &[i64],
-    prices: &[i64],
-    pairs: &[u8],
-    scratch: &mut [i64],
-) -> (CarriedAnswer, usize) {
+pub fn by_edmonds_karp(net: &[i64], prices: &[i64], pairs: &[u8], scratch: &mut [i64]) -> (CarriedAnswer, usize) {
     answered(answer(net, prices, pairs, scratch, edmonds_karp))
 }
 
 /// By Dinic.
-pub fn by_dinic(
-    net: &[i64],
-    prices: &[i64],
-    pairs: &[u8],
-    scratch: &mut [i64],
-) -> (CarriedAnswer, usize) {
+pub fn by_dinic(net: &[i64], prices: &[i64], pairs: &[u8], scratch: &mut [i64]) -> (CarriedAnswer, usize) {
     answered(answer(net, prices, pairs, scratch, dinic))
 }

@@ -1,7 +1,7 @@
-//! The desk queue's entries against plain Rust over the same bytes, which any
-//! bytes are a queue for too.
+//! The desk queue's entries against plain Rust over the same bytes, which any bytes are a queue for too.
 
-use crate::{archive, heading_against, measure, print, Times};
+use crate::{heading_against, measure, print, Times};
+use comparison::library;
 use second_judge::{ServedAnswer, QUEUE_BYTES};
 use std::hint::black_box;
 
@@ -49,24 +49,13 @@ fn plain_serve(bytes: &mut Bytes) -> ServedAnswer {
             left[..HOURS - 1].copy_from_slice(&cells[1..]);
             left[HOURS - 1] = 0;
             bytes[TURN_AT] = (area as u8 + 1) % 4;
-            return ServedAnswer {
-                number: 0,
-                index: 0,
-                area: area as u32,
-                hour: u32::from(cells[0]) - 1,
-            };
+            return ServedAnswer { number: 0, index: 0, area: area as u32, hour: u32::from(cells[0]) - 1 };
         }
     }
-    ServedAnswer {
-        number: 64,
-        index: 0,
-        area: 0,
-        hour: 0,
-    }
+    ServedAnswer { number: 64, index: 0, area: 0, hour: 0 }
 }
 
-/// So many hours posted, one of each area in turn, then all served and one
-/// serve more; what was answered, added up.
+/// So many hours posted, one of each area in turn, then all served and one serve more; what was answered, added up.
 fn day(
     hours: u32,
     post: impl Fn(&mut Bytes, u32, u32) -> u32,
@@ -85,7 +74,7 @@ fn day(
 }
 
 fn of(hours: u32) -> Times {
-    let proved = || day(hours, archive::queue_post, archive::queue_serve);
+    let proved = || day(hours, library::queue_post, library::queue_serve);
     let plain = || day(hours, plain_post, plain_serve);
     assert_eq!(proved(), plain(), "both queues");
     measure(

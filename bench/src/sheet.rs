@@ -1,6 +1,7 @@
 //! The margin sheet's entry against a plain C parser of the same grammar.
 
-use crate::{archive, heading_against, measure, print, Times};
+use crate::{heading_against, measure, print, Times};
+use comparison::library;
 use second_judge::{sheet_branches, OutputAnswer};
 use std::fmt::Write;
 use std::hint::black_box;
@@ -12,7 +13,7 @@ extern "C" {
         zones: usize,
         out: *mut u8,
         out_len: usize,
-    ) -> archive::Written;
+    ) -> lta_sys::Written;
 }
 
 const MOST_ZONES: usize = 16;
@@ -21,16 +22,8 @@ const ROOM: usize = 4 * (MOST_ZONES + 1) * MOST_LINES;
 
 fn plain(sheet: &[u8], zones: usize, out: &mut [u8]) -> OutputAnswer {
     // Safe: each pointer comes with the length of its own slice.
-    unsafe {
-        plain_sheet_branches(
-            sheet.as_ptr(),
-            sheet.len(),
-            zones,
-            out.as_mut_ptr(),
-            out.len(),
-        )
-    }
-    .into()
+    let written = unsafe { plain_sheet_branches(sheet.as_ptr(), sheet.len(), zones, out.as_mut_ptr(), out.len()) };
+    OutputAnswer { number: written.number, index: written.index, length: written.length }
 }
 
 /// A sheet as operators publish it, every number with all its decimals.
@@ -42,8 +35,7 @@ fn published(zones: usize, lines: usize) -> String {
         for z in 0..zones {
             let sign = if (l + z) % 3 == 0 { "-" } else { "" };
             let ptdf = (l * 7_717 + z * 31_337) % 120_000;
-            write!(sheet, ",{sign}{}.{:05}", ptdf / 100_000, ptdf % 100_000)
-                .expect("a string takes every write");
+            write!(sheet, ",{sign}{}.{:05}", ptdf / 100_000, ptdf % 100_000).expect("a string takes every write");
         }
         sheet.push('\n');
     }
@@ -56,14 +48,14 @@ fn of(sheet: &str, zones: usize, number: u32) -> Times {
     let (mut one, mut other, mut due) = ([0; ROOM], [0; ROOM], [0; ROOM]);
     let answer = sheet_branches(sheet, zones, &mut due);
     assert_eq!(answer.number, number, "the second judge");
-    let proved = archive::sheet_branches(sheet, zones, &mut one, false);
-    assert_eq!((proved, one), (answer, due), "the archive");
+    let proved = library::sheet_branches(sheet, zones, &mut one, false);
+    assert_eq!((proved, one), (answer, due), "the library");
     let in_c = plain(sheet, zones, &mut other);
     assert_eq!((in_c, other), (answer, due), "plain C");
     measure(
         || {
             let out = black_box(&mut one);
-            black_box(archive::sheet_branches(black_box(sheet), zones, out, false));
+            black_box(library::sheet_branches(black_box(sheet), zones, out, false));
         },
         || {
             black_box(plain(black_box(sheet), zones, black_box(&mut other)));

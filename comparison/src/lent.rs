@@ -1,5 +1,5 @@
-//! A room lent to an entry, with numbers on either side that nobody may touch: what the
-//! archive leaves of it and what the second judge does.
+//! A room lent to an entry, with numbers on either side that nobody may touch: what the library leaves of it and what
+//! the second judge does.
 
 use std::fmt::{Debug, Display};
 use std::ops::Range;
@@ -32,10 +32,7 @@ impl Lent<u8> {
 impl<T: Clone> Lent<T> {
     pub fn filled(room: usize, pattern: impl Fn(u64) -> T) -> Lent<T> {
         let space = 0..(GUARD + room + GUARD) as u64;
-        Lent {
-            filled: space.map(pattern).collect(),
-            room: GUARD..GUARD + room,
-        }
+        Lent { filled: space.map(pattern).collect(), room: GUARD..GUARD + room }
     }
 
     /// Lends only so much of the room: the rest is a side too.
@@ -48,18 +45,13 @@ impl<T: Clone> Lent<T> {
     pub fn to<A>(&self, entry: impl FnOnce(&mut [T]) -> A) -> Left<A, T> {
         let (mut space, room) = (self.filled.clone(), self.room.clone());
         let answer = entry(&mut space[room.clone()]);
-        Left {
-            answer,
-            space,
-            room,
-        }
+        Left { answer, space, room }
     }
 
-    /// Counts each wrong build of the second judge that is told from the archive.
-    #[allow(dead_code)] // by entries beside the judgement, where one is built
+    /// Counts each wrong build that is told from the library.
     pub fn tell<A: PartialEq, B: Copy>(
         &self,
-        archive: &Left<A, T>,
+        library: &Left<A, T>,
         builds: &[(B, &str)],
         times: &mut [u64],
         entry: impl Fn(B, &mut [T]) -> A,
@@ -68,7 +60,7 @@ impl<T: Clone> Lent<T> {
     {
         for ((build, _), times) in builds.iter().zip(times) {
             let wrong = self.to(|room| entry(*build, room));
-            *times += u64::from(wrong != *archive);
+            *times += u64::from(wrong != *library);
         }
     }
 }
@@ -78,20 +70,18 @@ impl<A: PartialEq + Debug, T: PartialEq + Display> Left<A, T> {
         &self.space[self.room.clone()]
     }
 
-    /// In what the second judge differs from the archive.
+    /// In what the second judge differs from the library.
     pub fn unlike(&self, second: &Left<A, T>) -> Option<String> {
         if self == second {
             return None;
         }
         let (one, other) = (&self.answer, &second.answer);
         if one != other {
-            return Some(format!("archive {one:?}, second judge {other:?}"));
+            return Some(format!("library {one:?}, second judge {other:?}"));
         }
         let mut both = self.space.iter().zip(&second.space).zip(0..);
         let ((one, other), at) = both.find(|((one, other), _)| one != other)?;
         let at: i64 = at - GUARD as i64;
-        Some(format!(
-            "place {at} of the room: archive {one}, second judge {other}"
-        ))
+        Some(format!("place {at} of the room: library {one}, second judge {other}"))
     }
 }

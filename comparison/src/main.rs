@@ -1,187 +1,165 @@
-//! Compares the proved judge's archive with the second judge over made inputs.
+//! Compares the proved judge's library with the second judge over made inputs.
 //!
-//! The wrong builds here are the second judge's: the inputs must tell each of
-//! them from the archive. Wrong builds of the proved judge are the edits in
-//! crates/NAME/must-fail, and it is the prover that refuses them.
-//!
-//! Arguments, both optional: the seed, the number of inputs for the judgement.
+//! The wrong builds here are the second judge's, from the crate wrong_builds: the inputs must tell each of them from
+//! the library. Wrong builds of the proved judge are the edits in crates/NAME/must-fail, and it is the prover that
+//! refuses them.
 
-mod archive;
-#[cfg(feature = "book")]
-mod book;
-#[cfg(feature = "columns")]
-mod columns;
-#[cfg(feature = "desk")]
-mod desk;
-#[cfg(feature = "dump")]
-mod dump;
-#[cfg(feature = "intuitive")]
-mod exchange;
-mod families;
-mod fields;
-#[cfg(feature = "intuitive")]
-mod intuitive;
-mod lent;
-mod make;
-mod no_links;
-mod offsets;
-#[cfg(feature = "families")]
-mod parents;
-mod places;
-#[cfg(feature = "intuitive")]
-mod planted;
-#[cfg(feature = "queue")]
-mod queue;
-mod rearranged;
-mod rng;
-mod run;
-#[cfg(feature = "sheet")]
-mod sheet;
-#[cfg(feature = "shortfalls")]
-mod shortfalls;
-mod versions;
-mod wide;
-
-use rng::Rng;
-use run::{Check, Run, MET};
-use second_judge::Build;
+use comparison::checks::*;
+use comparison::numbers::JUDGE;
+use comparison::progress::Progress;
+use comparison::rng::Rng;
+use comparison::run::{Run, MET};
+use comparison::table::{add, print_checks, print_entries};
+use std::path::PathBuf;
 use std::process::ExitCode;
-use std::time::Instant;
+use wrong_builds::judgement::BUILDS;
 
-const SEED: u64 = 1;
-const INPUTS: u64 = 260_000;
-/// Every number of the verdict table.
-const NUMBERS: [u32; 24] = [
-    0, 1, 2, 3, 4, 5, 6, 7, 8, 9, 10, 11, 12, 13, 14, 15, 21, 22, 23, 24, 25, 26, 27, 30,
-];
+const USAGE: &str = "usage: comparison [--seed S] [--inputs N] [--seconds N] [--files FOLDER]
+
+  --seed S        the first seed, 1
+  --inputs N      made inputs for the judgement, 260000
+  --seconds N     a long run: further rounds, each with the next seed, until so many seconds are over
+  --files FOLDER  where the first difference is written, target/comparison: lta explain opens it";
+
+struct Options {
+    seed: u64,
+    inputs: u64,
+    seconds: Option<u64>,
+    files: PathBuf,
+}
+
+fn options() -> Option<Options> {
+    let mut options = Options { seed: 1, inputs: 260_000, seconds: None, files: PathBuf::from("target/comparison") };
+    let mut arguments = std::env::args_os().skip(1);
+    while let Some(name) = arguments.next() {
+        let value = arguments.next()?;
+        let number = || value.to_str()?.parse().ok();
+        match name.to_str()? {
+            "--seed" => options.seed = number()?,
+            "--inputs" => options.inputs = number()?,
+            "--seconds" => options.seconds = Some(number()?),
+            "--files" => options.files = value.into(),
+            _ => return None,
+        }
+    }
+    Some(options)
+}
 
 fn main() -> ExitCode {
-    let mut arguments = std::env::args().skip(1).map(|text| text.parse::<u64>());
-    let (seed, inputs) = match (arguments.next(), arguments.next(), arguments.next()) {
-        (None, None, None) => (SEED, INPUTS),
-        (Some(Ok(seed)), None, None) => (seed, INPUTS),
-        (Some(Ok(seed)), Some(Ok(inputs)), None) => (seed, inputs),
-        _ => {
-            eprintln!("usage: comparison [seed [inputs]]");
-            return ExitCode::from(2);
-        }
+    let Some(Options { seed, inputs, seconds, files }) = options() else {
+        eprintln!("{USAGE}");
+        return ExitCode::from(2);
     };
     println!("seed {seed}");
-    let start = Instant::now();
-    let mut run = Run::new(seed);
-
-    run.section("the paper's hours");
-    families::paper_hours(&mut run);
-    run.section("made inputs");
-    for (n, (name, hundredths, feed)) in families::FAMILIES.iter().enumerate() {
-        // A source of its own for each family: none depends on the one before.
-        let mut rng = Rng::new(seed.wrapping_mul(1_000).wrapping_add(n as u64));
-        run.begin(name);
-        while run.family_inputs() < inputs * hundredths / 100 {
-            feed(&mut run, &mut rng);
+    let (mut entries, mut checks, mut faults) = (Vec::new(), Vec::new(), 0);
+    let mut progress = Progress::new(seconds);
+    let mut difference_folder = Some(files);
+    loop {
+        let round_seed = seed.wrapping_add(progress.round() - 1);
+        let mut run = Run::new(round_seed, progress, difference_folder);
+        let whole = round(&mut run, round_seed, inputs);
+        first_entries(&mut run);
+        run.progress.clear();
+        add(&mut entries, &run.entries);
+        // A further round is told by what failed in it.
+        faults += run.checks.iter().filter(|check| !check.passed).count();
+        if run.progress.round() > 1 {
+            let failed = run.checks.iter().filter(|check| !check.passed);
+            failed.for_each(|check| println!("seed {round_seed}: {}, {}: FAILED", check.section, check.name));
+        } else {
+            print_checks(&run.checks);
         }
-        run.end();
-    }
-    families::widest_totals(&mut run);
-    families::buffer_lengths(&mut run, &mut Rng::new(seed));
-    families::null_pointers(&mut run);
-    places::made(&mut run, &mut Rng::new(seed));
-    offsets::offsets(&mut run, &mut Rng::new(seed));
-    versions::halves(&mut run);
-    versions::laws(&mut run, &mut Rng::new(seed));
-    no_links::hours(&mut run, &mut Rng::new(seed));
-    wide::hours(&mut run, &mut Rng::new(seed));
-    rearranged::hours(&mut run, &mut Rng::new(seed));
-    #[cfg(feature = "desk")]
-    {
-        desk::end(&mut run);
-        desk::three_zone_lines(&mut run);
-    }
-    #[cfg(feature = "book")]
-    book::books(&mut run, &mut Rng::new(seed));
-    #[cfg(feature = "sheet")]
-    sheet::sheets(&mut run, &mut Rng::new(seed));
-    #[cfg(feature = "intuitive")]
-    intuitive::exchanges(&mut run, &mut Rng::new(seed));
-    #[cfg(feature = "dump")]
-    dump::dumps(&mut run, &mut Rng::new(seed));
-    #[cfg(feature = "columns")]
-    columns::files(&mut run, &mut Rng::new(seed));
-    #[cfg(feature = "families")]
-    parents::lists(&mut run, &mut Rng::new(seed));
-    #[cfg(feature = "shortfalls")]
-    shortfalls::hours(&mut run, &mut Rng::new(seed));
-    #[cfg(feature = "queue")]
-    queue::queues(&mut run, &mut Rng::new(seed));
-
-    run.section("verdicts, times met");
-    let verdicts = run.verdicts;
-    run.check_numbers(&NUMBERS, &verdicts, 1);
-    places::named(&mut run);
-    versions::counted(&mut run);
-    run.section("met, times");
-    let met = run.met;
-    run.check_met(&MET, &met);
-    run.section("the second judge's wrong builds, times told from the archive");
-    for ((_, name), found) in Build::WRONG.iter().zip(run.second_wrong) {
-        let tried = run.second_wrong_tried;
-        let note = format!(
-            "{} of the paper, {} of {tried} made",
-            found.of_paper, found.made
-        );
-        run.check(name.to_string(), found.made > 0, note);
-    }
-
-    print_table(&run.checks);
-    // Fewer checks must not look like a whole run.
-    for (name, built) in [
-        ("book", cfg!(feature = "book")),
-        ("desk", cfg!(feature = "desk")),
-        ("sheet", cfg!(feature = "sheet")),
-        ("intuitive", cfg!(feature = "intuitive")),
-        ("dump", cfg!(feature = "dump")),
-        ("columns", cfg!(feature = "columns")),
-        ("families", cfg!(feature = "families")),
-        ("shortfalls", cfg!(feature = "shortfalls")),
-        ("queue", cfg!(feature = "queue")),
-    ] {
-        if !built {
-            println!("NOT COMPARED: the {name} entry (built without the feature {name})");
+        checks.append(&mut run.checks);
+        let over = seconds.is_none() || !whole || run.progress.time_is_over();
+        progress = std::mem::replace(&mut run.progress, Progress::new(None));
+        difference_folder = run.into_difference_folder();
+        if over {
+            break;
         }
+        progress = progress.next_round();
     }
-    println!(
-        "{} inputs in {:.1} s",
-        run.inputs,
-        start.elapsed().as_secs_f64()
-    );
-    let passed = run.checks.iter().filter(|check| check.passed).count();
-    let failed = run.checks.len() - passed;
-    println!("{passed} passed, {failed} failed");
-    if failed == 0 {
-        ExitCode::SUCCESS
-    } else {
-        ExitCode::FAILURE
+    print_entries(&entries);
+    let rounds = progress.round();
+    let rounds = if rounds > 1 { format!(", {rounds} rounds") } else { String::new() };
+    println!("{:.1} s{rounds}", progress.elapsed().as_secs_f64());
+    println!("{} passed, {faults} failed", checks.len() - faults);
+    match faults {
+        0 => ExitCode::SUCCESS,
+        _ => ExitCode::FAILURE,
     }
 }
 
-/// A part for each section, with short entries side by side.
-fn print_table(checks: &[Check]) {
-    for section in checks.chunk_by(|one, other| one.section == other.section) {
-        println!("{}", section[0].section);
-        let entries: Vec<String> = section
-            .iter()
-            .map(|check| {
-                let state = if check.passed { "" } else { "  FAILED" };
-                format!("{}: {}{state}", check.name, check.note)
-            })
-            .collect();
-        let width = 2 + entries.iter().map(String::len).max().unwrap_or(0);
-        for line in entries.chunks((96 / width).max(1)) {
-            let line: String = line
-                .iter()
-                .map(|entry| format!("{entry:<width$}"))
-                .collect();
-            println!("  {}", line.trim_end());
+/// Every part with a source of chance of its own, so that none depends on the one before.
+const PARTS: [fn(&mut Run, &mut Rng); 19] = [
+    |run, _| inputs::widest_totals(run),
+    inputs::buffer_lengths,
+    |run, _| inputs::null_pointers(run),
+    places::made,
+    offsets::offsets,
+    |run, _| versions::halves(run),
+    versions::laws,
+    no_links::hours,
+    wide::hours,
+    rearranged::hours,
+    |run, _| desk::end(run),
+    book::books,
+    sheet::sheets,
+    intuitive::exchanges,
+    dump::dumps,
+    columns::files,
+    families::lists,
+    shortfalls::hours,
+    queue::queues,
+];
+
+/// One round; whether it came to its end before the time was over.
+fn round(run: &mut Run, seed: u64, inputs: u64) -> bool {
+    run.section("the paper's hours");
+    inputs::paper_hours(run);
+    run.section("made inputs");
+    for (n, (name, hundredths, feed)) in inputs::KINDS.iter().enumerate() {
+        let mut rng = Rng::new(seed.wrapping_mul(1_000).wrapping_add(n as u64));
+        run.begin(name);
+        while run.fed() < inputs * hundredths / 100 {
+            feed(run, &mut rng);
+        }
+        run.end();
+        if run.progress.time_is_over() {
+            return false;
         }
     }
+    for part in PARTS {
+        part(run, &mut Rng::new(seed));
+        if run.progress.time_is_over() {
+            return false;
+        }
+    }
+    judgement(run);
+    true
+}
+
+/// What all inputs of the judgement met.
+fn judgement(run: &mut Run) {
+    run.section("verdicts, times met");
+    let verdicts = run.verdicts;
+    run.check_numbers(&JUDGE, &verdicts);
+    places::named(run);
+    versions::counted(run);
+    run.section("met, times");
+    let met = run.met;
+    run.check_met(&MET, &met);
+    run.section("wrong builds, times told from the library");
+    let found = run.second_wrong;
+    for ((_, name), found) in BUILDS.iter().zip(found) {
+        let note = format!("{} of the paper, {} of {} made", found.of_paper, found.made, run.second_wrong_tried);
+        run.check(name.to_string(), found.made > 0, note);
+    }
+}
+
+/// The judgement's and the desk's rows of the table, first of all: each input of the one is one of the other.
+fn first_entries(run: &mut Run) {
+    let (verdicts, told) = (run.verdicts, run.second_wrong.map(|found| found.made));
+    run.entry("lta_judge", run.inputs, &[(&JUDGE, &verdicts)], &told);
+    desk::entry(run);
+    run.entries.rotate_right(2);
 }

@@ -1,20 +1,20 @@
 //! Feeds both judges the same input, compares all they leave behind, and counts.
 
-use crate::archive;
+use crate::checks::desk::Desk;
+use crate::checks::places::PLACES;
+use crate::difference::{self, hex, Files};
 use crate::lent::{Left, Lent};
-use crate::places::PLACES;
-use second_judge::{judge, judge_as, Build, Verdict};
+use crate::library;
+use crate::numbers::{Reach, COUNTED};
+use crate::progress::Progress;
+use crate::table::Entry;
+use second_judge::{judge, Verdict};
+use std::path::PathBuf;
+use wrong_builds::judgement::BUILDS;
 
 /// The longest buffer that is lent.
 const MOST_LENT: usize = 256;
-
-/// Each entry beside the judgement gets so many inputs at least.
-#[allow(dead_code)] // where one is built
-pub const LEAST_INPUTS: u64 = 50_000;
-/// What must be met often is met so many times at least.
-pub const LEAST_TIMES: u64 = 100;
-
-/// The second judge's wrong builds run along on one input out of so many.
+/// The wrong builds run along on one input out of so many.
 const WRONG_EVERY: u64 = 6;
 /// Disagreements shown in full for each check.
 const SHOWN: u64 = 3;
@@ -27,8 +27,7 @@ pub struct Check {
     pub note: String,
 }
 
-/// How often a wrong build of the second judge was told from the archive, by the
-/// paper's hours and by made ones.
+/// How often a wrong build was told from the library, by the paper's hours and by made ones.
 #[derive(Clone, Copy, Default)]
 pub struct Found {
     pub of_paper: u64,
@@ -71,53 +70,59 @@ pub const MET: [&str; 25] = [
 
 pub struct Run {
     pub checks: Vec<Check>,
-    pub verdicts: [u64; 31],
+    pub verdicts: [u64; COUNTED],
     /// Those on cases of version 2.
-    pub verdicts_on_two: [u64; 31],
+    pub verdicts_on_two: [u64; COUNTED],
     /// Cases of version 1, of version 2, and of none.
     pub versions: [u64; 3],
-    pub second_wrong: [Found; Build::WRONG.len()],
+    pub second_wrong: [Found; BUILDS.len()],
     pub second_wrong_tried: u64,
     pub met: [u64; MET.len()],
     pub places: [u64; PLACES.len()],
     pub inputs: u64,
     /// Inputs of the paper's hours, not of the generator.
     pub of_paper: bool,
-    #[cfg(feature = "desk")]
-    pub desk: crate::desk::Desk,
+    pub desk: Desk,
+    /// Answers of the order book's entry, by number.
+    pub books: [u64; COUNTED],
+    /// The rows of the closing table.
+    pub entries: Vec<Entry>,
+    pub progress: Progress,
+    /// Where the first difference is written, until it is.
+    difference_folder: Option<PathBuf>,
 
     section: &'static str,
-    family: String,
-    family_inputs: u64,
-    family_faults: u64,
+    kind: String,
+    kind_inputs: u64,
+    kind_faults: u64,
     verdict: Verdict,
     buffer: Vec<u8>,
     copies: (Vec<u8>, Vec<u8>),
 }
 
 impl Run {
-    pub fn new(_seed: u64) -> Run {
+    pub fn new(seed: u64, progress: Progress, difference_folder: Option<PathBuf>) -> Run {
         Run {
             checks: Vec::new(),
-            verdicts: [0; 31],
-            verdicts_on_two: [0; 31],
+            verdicts: [0; COUNTED],
+            verdicts_on_two: [0; COUNTED],
             versions: [0; 3],
-            second_wrong: [Found::default(); Build::WRONG.len()],
+            second_wrong: [Found::default(); BUILDS.len()],
             second_wrong_tried: 0,
             met: [0; MET.len()],
             places: [0; PLACES.len()],
             inputs: 0,
             of_paper: false,
-            #[cfg(feature = "desk")]
-            desk: crate::desk::Desk::new(_seed),
+            desk: Desk::new(seed),
+            books: [0; COUNTED],
+            entries: Vec::new(),
+            progress,
+            difference_folder,
             section: "",
-            family: String::new(),
-            family_inputs: 0,
-            family_faults: 0,
-            verdict: Verdict {
-                number: 0,
-                index: 0,
-            },
+            kind: String::new(),
+            kind_inputs: 0,
+            kind_faults: 0,
+            verdict: Verdict { number: 0, index: 0 },
             buffer: Vec::new(),
             copies: Default::default(),
         }
@@ -130,19 +135,20 @@ impl Run {
 
     /// Opens a check; what is fed until `end` belongs to it.
     pub fn begin(&mut self, name: &str) {
-        self.family = name.to_string();
-        self.family_inputs = 0;
-        self.family_faults = 0;
+        self.kind = name.to_string();
+        self.kind_inputs = 0;
+        self.kind_faults = 0;
     }
 
-    pub fn family_inputs(&self) -> u64 {
-        self.family_inputs
+    /// Inputs of the check that is open.
+    pub fn fed(&self) -> u64 {
+        self.kind_inputs
     }
 
     /// Closes the check.
     pub fn end(&mut self) {
-        let name = std::mem::take(&mut self.family);
-        self.check_inputs(name, self.family_inputs, self.family_faults);
+        let name = std::mem::take(&mut self.kind);
+        self.check_inputs(name, self.kind_inputs, self.kind_faults);
     }
 
     /// A check that passes when something was fed and nothing was amiss.
@@ -155,12 +161,7 @@ impl Run {
     }
 
     pub fn check(&mut self, name: String, passed: bool, note: String) {
-        self.checks.push(Check {
-            section: self.section,
-            name,
-            passed,
-            note,
-        });
+        self.checks.push(Check { section: self.section, name, passed, note });
     }
 
     /// A check that something was met so many times at least.
@@ -168,11 +169,16 @@ impl Run {
         self.check(name, times >= least, format!("{times}"));
     }
 
-    /// A check for each number, by how often it was answered.
-    pub fn check_numbers(&mut self, numbers: &[u32], times: &[u64], least: u64) {
-        for number in numbers {
-            self.check_times(format!("{number}"), times[*number as usize], least);
+    /// A check for each number that an entry must reach, by how often it was answered.
+    pub fn check_numbers(&mut self, reach: &Reach, times: &[u64]) {
+        for number in reach.numbers {
+            self.check_times(format!("{number}"), times[*number as usize], reach.times);
         }
+    }
+
+    /// A row of the closing table.
+    pub fn entry(&mut self, name: &'static str, inputs: u64, reached: &[(&Reach, &[u64])], told: &[u64]) {
+        self.entries.push(Entry::new(name, inputs, reached, told));
     }
 
     /// A check for each name that it was met.
@@ -182,31 +188,48 @@ impl Run {
         }
     }
 
-    /// A check for each wrong build of the second judge that some of the inputs told it
-    /// from the archive.
-    #[allow(dead_code)] // by entries beside the judgement, where one is built
+    /// A check for each wrong build that some of the inputs told it from the library.
     pub fn check_told<B>(&mut self, builds: &[(B, &str)], times: &[u64], inputs: u64) {
         for ((_, name), times) in builds.iter().zip(times) {
             self.check(name.to_string(), *times > 0, format!("{times} of {inputs}"));
         }
     }
 
-    /// Counts an input that was compared elsewhere.
-    #[allow(dead_code)] // by entries beside the judgement, where one is built
+    /// Counts an input that is compared elsewhere.
     pub fn count(&mut self) {
-        self.family_inputs += 1;
+        self.kind_inputs += 1;
+        self.progress.tick(&self.kind);
     }
 
+    /// Something is amiss that no file shows.
     pub fn fault(&mut self, text: impl FnOnce() -> String) {
-        self.family_faults += 1;
-        if self.family_faults <= SHOWN {
-            println!(
-                "amiss in {}, input {}: {}",
-                self.family,
-                self.family_inputs,
-                text()
-            );
+        self.fault_in(&[], text);
+    }
+
+    /// Something is amiss with an input of these files.
+    pub fn fault_in(&mut self, files: &Files, text: impl FnOnce() -> String) {
+        self.kind_faults += 1;
+        if self.kind_faults > SHOWN && self.difference_folder.is_none() {
+            return;
         }
+        let text = format!("amiss in {}, input {}: {}", self.kind, self.kind_inputs, text());
+        self.progress.clear();
+        println!("{text}{}", hex(files));
+        self.write_difference(files, &text);
+    }
+
+    /// The first difference of a run is written as files; later ones are only shown.
+    pub fn write_difference(&mut self, files: &Files, text: &str) {
+        let Some(folder) = self.difference_folder.take() else { return };
+        match difference::write(&folder, files, text) {
+            Ok(path) => println!("written: lta explain {}", path.display()),
+            Err(fault) => println!("{} is not written: {fault}", folder.display()),
+        }
+    }
+
+    /// The folder for the first difference, if none was met yet.
+    pub fn into_difference_folder(self) -> Option<PathBuf> {
+        self.difference_folder
     }
 
     /// Gives both judges this input and a buffer of this length.
@@ -221,7 +244,7 @@ impl Run {
 
     fn feed_as(&mut self, case: &[u8], proposal: &[u8], lent: usize, null: bool) -> Verdict {
         self.inputs += 1;
-        self.family_inputs += 1;
+        self.count();
         // Files are never written: what they held is kept to be compared.
         self.copies.0.clear();
         self.copies.0.extend(case);
@@ -229,15 +252,12 @@ impl Run {
         self.copies.1.extend(proposal);
 
         let lent = Lent::bytes(MOST_LENT, self.inputs).only(lent);
-        let theirs = lent.to(|report| {
-            let returned = archive::judge_as(case, proposal, report, null);
-            archive::verdict(returned)
-        });
+        let theirs = lent.to(|report| library::judge_as(case, proposal, report, null));
         let ours = lent.to(|report| judge(case, proposal, report));
         self.verdict = ours.answer;
         self.buffer = ours.room().to_vec();
         if let Some(text) = theirs.unlike(&ours) {
-            self.fault(|| text + &hex(&[("case", case), ("proposal", proposal)]));
+            self.fault_in(&[("case", case), ("proposal", proposal)], || text);
         }
         if self.copies.0 != case || self.copies.1 != proposal {
             self.fault(|| "a file was written".into());
@@ -259,8 +279,11 @@ impl Run {
         if self.of_paper || self.inputs.is_multiple_of(WRONG_EVERY) {
             self.try_second_wrong(case, proposal, &lent, &theirs);
         }
-        #[cfg(feature = "desk")]
-        self.desk.feed(case, proposal);
+        if let Some((input, text)) = self.desk.feed(case, proposal) {
+            self.progress.clear();
+            println!("{text}");
+            self.write_difference(&[("joined", &input)], &text);
+        }
         self.verdict
     }
 
@@ -268,7 +291,7 @@ impl Run {
     pub fn expect(&mut self, number: u32, index: u32) {
         let verdict = self.verdict;
         if verdict != (Verdict { number, index }) {
-            self.fault(|| format!("{verdict:?} where {number} {index} is due"));
+            self.fault_in_last(|| format!("{verdict:?} where {number} {index} is due"));
         }
     }
 
@@ -276,8 +299,14 @@ impl Run {
     pub fn expect_total(&mut self, n: usize, value: i64) {
         let reported = self.total(n);
         if reported != value {
-            self.fault(|| format!("total {n} is {reported} where {value} is due"));
+            self.fault_in_last(|| format!("total {n} is {reported} where {value} is due"));
         }
+    }
+
+    /// Something is amiss with the input that the judgement was fed last.
+    pub fn fault_in_last(&mut self, text: impl FnOnce() -> String) {
+        let (case, proposal) = self.copies.clone();
+        self.fault_in(&[("case", &case), ("proposal", &proposal)], text);
     }
 
     /// A number of the last report: five totals, then the zone prices.
@@ -291,8 +320,7 @@ impl Run {
         if number != 0 && number != 26 {
             return;
         }
-        let u32_at =
-            |file: &[u8], at| u32::from_le_bytes(file[at..at + 4].try_into().expect("four"));
+        let u32_at = |file: &[u8], at| u32::from_le_bytes(file[at..at + 4].try_into().expect("four"));
         let zones = usize::from(case[5]);
         let (branches, links) = (usize::from(case[6]), usize::from(case[7]));
         let orders = usize::from(case[8]) + 256 * usize::from(case[9]);
@@ -316,10 +344,10 @@ impl Run {
         // The coverage rule, which holds by capacities too, speaks of hours with a link (S-6).
         let uncovered = rent < owed - gap || rent < link_total - gap;
         if links > 0 && uncovered {
-            self.fault(|| format!("rent {rent} does not cover {owed} or {link_total} less {gap}"));
+            self.fault_in_last(|| format!("rent {rent} does not cover {owed} or {link_total} less {gap}"));
         }
         if gap < 0 {
-            self.fault(|| format!("a gap of {gap}"));
+            self.fault_in_last(|| format!("a gap of {gap}"));
         }
         let alone = links == 0;
         let met = [
@@ -352,24 +380,14 @@ impl Run {
         count_met(&mut self.met, &met);
     }
 
-    /// Each wrong build of the second judge in place of the right one: told from
-    /// the archive, by what it answered and left in the buffer, or not.
-    fn try_second_wrong(
-        &mut self,
-        case: &[u8],
-        proposal: &[u8],
-        lent: &Lent<u8>,
-        archive: &Left<Verdict, u8>,
-    ) {
+    /// Each wrong build in place of the papers: told from the library, by what it answered and left in the buffer, or
+    /// not.
+    fn try_second_wrong(&mut self, case: &[u8], proposal: &[u8], lent: &Lent<u8>, library: &Left<Verdict, u8>) {
         self.second_wrong_tried += u64::from(!self.of_paper);
-        for (found, (build, _)) in self.second_wrong.iter_mut().zip(Build::WRONG) {
-            let wrong = lent.to(|report| judge_as(build, case, proposal, report));
-            if wrong != *archive {
-                *(if self.of_paper {
-                    &mut found.of_paper
-                } else {
-                    &mut found.made
-                }) += 1;
+        for (found, (build, _)) in self.second_wrong.iter_mut().zip(BUILDS) {
+            let wrong = lent.to(|report| build(case, proposal, report));
+            if wrong != *library {
+                *(if self.of_paper { &mut found.of_paper } else { &mut found.made }) += 1;
             }
         }
     }
@@ -380,17 +398,4 @@ pub fn count_met(counts: &mut [u64], met: &[bool]) {
     for (count, met) in counts.iter_mut().zip(met) {
         *count += u64::from(*met);
     }
-}
-
-/// A line for each file: its name and its bytes in hexadecimal digits, unless they are
-/// too many to be read.
-pub fn hex(files: &[(&str, &[u8])]) -> String {
-    let line = |(name, file): &(&str, &[u8])| match file.len() {
-        0..=400 => {
-            let digits: String = file.iter().map(|byte| format!("{byte:02x}")).collect();
-            format!("\n  {name} {digits}")
-        }
-        length => format!("\n  {name} of {length} bytes"),
-    };
-    files.iter().map(line).collect()
 }

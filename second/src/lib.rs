@@ -1,44 +1,50 @@
-//! The second judge: gives the paper's verdict on a case and a proposal, and
-//! what the paper says of the other entries.
+//! The second judge: documents 01 and 02 in Rust, written apart from the proved judge.
 //!
-//! Rule numbers in the comments are those of the paper's list of sums,
-//! verdict numbers those of its table. Every sum is taken in 128 bits, so no
-//! argument about widths is needed before the totals go into the report.
-//! The paper is document 01 as the requests after it amend it.
+//! Each entry is a file. `judgement` has rules 1 to 11, the verdict table and its causes; the other entries follow
+//! their requests. An entry that is more than a few lines is a trait whose default methods are the paper's rules, and
+//! [`Papers`] takes all of them as they stand. Numbers are those of the papers. Every sum is taken in 128 bits, so
+//! that no argument about widths is needed before the totals go into the report.
+//!
+//! "The paper" is document 01 as the requests of document 02 amend it.
 
-mod book;
-mod columns;
-mod desk;
-mod dump;
-mod families;
-pub mod hours;
-mod intuitive;
-mod judge;
+pub mod book;
+pub mod columns;
+pub mod desk;
+pub mod dump;
+pub mod families;
+pub mod files;
+pub mod intuitive;
+pub mod judgement;
 pub mod limits;
-mod misnamed;
-mod queue;
-mod read;
-mod sheet;
-mod shortfalls;
+pub mod queue;
+pub mod sheet;
+pub mod shortfalls;
 
 pub use book::{book_surplus, BookAnswer, Row};
-pub use columns::{case_columned, case_columned_as, case_restored, case_restored_as, ColumnBuild};
+pub use columns::{case_columned, case_restored, Columns};
 pub use desk::{desk_lines, desk_output};
-pub use dump::{dump_proposal, dump_proposal_as, DumpBuild};
-pub use families::{list_of, FamilyBuild, LIST_HEADER, NO_PARENT};
+pub use dump::{dump_proposal, DumpReading};
+pub use families::{list_of, LIST_HEADER, NO_PARENT};
 pub use intuitive::{
-    hour_intuitive, hour_intuitive_as, hour_intuitive_small, intuitive, intuitive_as,
-    intuitive_small, CarriedAnswer, IntuitiveBuild, ScratchSize,
+    hour_intuitive, hour_intuitive_small, intuitive, intuitive_small, CarriedAnswer, IntuitiveHours, ScratchSize,
 };
-pub use judge::{judge, judge_as, judge_families, judge_families_as, Build};
-pub use queue::{
-    queue_post, queue_post_as, queue_serve, queue_serve_as, Queue, QueueBuild, ServedAnswer,
-    QUEUE_BYTES,
-};
-pub use sheet::{sheet_branches, sheet_branches_as, SheetBuild};
-pub use shortfalls::{hour_shortfalls, shortfalls, shortfalls_as, ShortfallBuild, Shortfalls};
+pub use judgement::{judge, judge_families, Judgement};
+pub use queue::{queue_post, queue_serve, DeskQueue, Queue, ServedAnswer, QUEUE_BYTES};
+pub use sheet::{sheet_branches, MarginSheet};
+pub use shortfalls::{hour_shortfalls, shortfalls, GapShortfalls, Shortfalls};
 
-/// Number and index as the paper's table returns them.
+/// The judge that follows the papers in everything.
+#[derive(Clone, Copy, Debug)]
+pub struct Papers;
+
+impl Judgement for Papers {}
+impl MarginSheet for Papers {}
+impl DumpReading for Papers {}
+impl DeskQueue for Papers {}
+impl Columns for Papers {}
+impl GapShortfalls for Papers {}
+
+/// Number and index as the verdict table returns them.
 #[derive(Clone, Copy, Debug, PartialEq, Eq)]
 pub struct Verdict {
     pub number: u32,
@@ -46,17 +52,14 @@ pub struct Verdict {
 }
 
 impl Verdict {
-    pub(crate) fn new(number: u32, index: usize) -> Verdict {
-        // A row's number or an offset in a case of at most 10,126 bytes.
-        Verdict {
-            number,
-            index: index as u32,
-        }
+    /// An index is a row's number, or an offset in a case of at most 10,126 bytes.
+    pub fn new(number: u32, index: usize) -> Verdict {
+        Verdict { number, index: index as u32 }
     }
 }
 
-/// What an entry answers that writes into an output; a refusal has length 0. It is in
-/// bytes, and of the shortfalls in numbers.
+/// What an entry answers that writes into an output. A refusal has length 0. The length is in bytes, and in numbers
+/// where the output is a list of numbers.
 #[derive(Clone, Copy, Debug, PartialEq, Eq)]
 pub struct OutputAnswer {
     pub number: u32,
@@ -64,5 +67,12 @@ pub struct OutputAnswer {
     pub length: u64,
 }
 
-#[cfg(test)]
-mod tests;
+impl OutputAnswer {
+    pub fn written(length: usize) -> OutputAnswer {
+        OutputAnswer { number: 0, index: 0, length: length as u64 }
+    }
+
+    pub fn refused(number: u32, index: usize) -> OutputAnswer {
+        OutputAnswer { number, index: index as u64, length: 0 }
+    }
+}

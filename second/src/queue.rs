@@ -1,15 +1,13 @@
-//! S-8's desk queue, from the request's words: one list of all that was posted
-//! and not yet served, in the order posted, and the area last served.
-//!
-//! The bytes in which a host holds the queue are read and written here apart
-//! from it, so that a run can be followed without them.
+//! A day for four areas, request S-8: one list of all that was posted and not yet served, in the order posted, and the
+//! area last served. The bytes in which a host holds the queue are read and written apart from it.
+
+use crate::Papers;
 
 /// Bytes that a host holds.
 pub const QUEUE_BYTES: usize = 101;
-
-const AREAS: u32 = 4;
-/// Hours of the long day, and cells of an area.
-const HOURS: usize = 25;
+/// Cells of an area: the hours of the long day.
+pub const HOURS: usize = 25;
+pub const AREAS: u32 = 4;
 const TURN_AT: usize = 100;
 
 /// What a serve answers; a refusal has zeros but for the number.
@@ -21,233 +19,152 @@ pub struct ServedAnswer {
     pub hour: u32,
 }
 
-/// The right queue and the wrong ones that a comparison must tell from it.
-#[derive(Clone, Copy, Debug, PartialEq, Eq)]
-pub enum QueueBuild {
-    Right,
-    // Turns.
-    AreaZeroFirst,
-    TurnStays,
-    TurnOfAnEmptyArea,
-    LastInFirstOut,
-    OneLine,
-    // Posts.
-    RefusedPostWaits,
-    Hour24Refused,
-    Area3Refused,
-    NoRepost,
-    HourBeforeArea,
-    WaitsInAnyArea,
-    // Bytes.
-    RepeatedCellCounts,
-    CellOver25Counts,
-    AllAreasWritten,
-}
-
-impl QueueBuild {
-    /// Every wrong build, with the name a table gives it; the last three read or
-    /// write bytes wrongly, and are the right queue where there are none.
-    pub const WRONG: [(QueueBuild, &'static str); 14] = [
-        (QueueBuild::AreaZeroFirst, "area 0 always first"),
-        (QueueBuild::TurnStays, "turn not moved on"),
-        (QueueBuild::TurnOfAnEmptyArea, "turn moved on by a 64"),
-        (QueueBuild::LastInFirstOut, "last in first out"),
-        (QueueBuild::OneLine, "earliest posted of all areas"),
-        (QueueBuild::RefusedPostWaits, "a post refused by 63 waits"),
-        (QueueBuild::Hour24Refused, "hour 24 refused"),
-        (QueueBuild::Area3Refused, "area 3 refused"),
-        (QueueBuild::NoRepost, "repost refused after serving"),
-        (QueueBuild::HourBeforeArea, "62 asked before 61"),
-        (QueueBuild::WaitsInAnyArea, "63 by another area's hour"),
-        (QueueBuild::RepeatedCellCounts, "repeated cell counts"),
-        (QueueBuild::CellOver25Counts, "cell over 25 counts"),
-        (QueueBuild::AllAreasWritten, "all areas written anew"),
-    ];
-}
-
-/// What was posted and not yet served.
-#[derive(Clone, Debug)]
+/// What was posted and not yet served. The default is the empty queue.
+#[derive(Clone, Debug, Default)]
 pub struct Queue {
-    build: QueueBuild,
-    posted: Vec<(u32, u32)>,
-    last: Option<u32>,
-    /// Pairs served, for the build that takes none of them twice.
-    served: Vec<(u32, u32)>,
+    /// Area and hour, the earliest posted first.
+    pub posted: Vec<(u32, u32)>,
+    pub last_served: Option<u32>,
 }
 
 impl Queue {
-    /// Nothing is waiting, and nothing was served.
-    pub fn empty(build: QueueBuild) -> Queue {
-        Queue {
-            build,
-            posted: Vec::new(),
-            last: None,
-            served: Vec::new(),
-        }
-    }
-
-    pub fn post(&mut self, area: u32, hour: u32) -> u32 {
-        let most_area = match self.build {
-            QueueBuild::Area3Refused => 2,
-            _ => 3,
-        };
-        let most_hour = match self.build {
-            QueueBuild::Hour24Refused => 23,
-            _ => 24,
-        };
-        let mut causes = [(61, area > most_area), (62, hour > most_hour)];
-        if self.build == QueueBuild::HourBeforeArea {
-            causes.reverse();
-        }
-        for (number, holds) in causes {
-            if holds {
-                return number;
-            }
-        }
-        let waits = self.posted.iter().any(|&(other, waiting)| {
-            waiting == hour && (other == area || self.build == QueueBuild::WaitsInAnyArea)
-        });
-        let was_served = self.build == QueueBuild::NoRepost && self.served.contains(&(area, hour));
-        if waits || was_served {
-            if self.build == QueueBuild::RefusedPostWaits {
-                self.posted.push((area, hour));
-            }
-            return 63;
-        }
-        self.posted.push((area, hour));
-        0
-    }
-
-    pub fn serve(&mut self) -> ServedAnswer {
-        let after = match (self.build, self.last) {
-            (QueueBuild::AreaZeroFirst, _) | (_, None) => 0,
-            (QueueBuild::TurnStays, Some(area)) => area,
-            (_, Some(area)) => area + 1,
-        };
-        let of_area = |area| {
-            let mut places = (0..self.posted.len()).filter(|&n| self.posted[n].0 == area);
-            match self.build {
-                QueueBuild::LastInFirstOut => places.last(),
-                _ => places.next(),
-            }
-        };
-        let found = match self.build {
-            QueueBuild::OneLine => (!self.posted.is_empty()).then_some(0),
-            _ => (after..after + AREAS).find_map(|turn| of_area(turn % AREAS)),
-        };
-        let Some(place) = found else {
-            if self.build == QueueBuild::TurnOfAnEmptyArea {
-                self.last = Some(after % AREAS);
-            }
-            return ServedAnswer {
-                number: 64,
-                index: 0,
-                area: 0,
-                hour: 0,
-            };
-        };
-        let (area, hour) = self.posted.remove(place);
-        self.last = Some(area);
-        self.served.push((area, hour));
-        ServedAnswer {
-            number: 0,
-            index: 0,
-            area,
-            hour,
-        }
-    }
-
     /// What waits in an area, the earliest posted first.
     pub fn waiting(&self, area: u32) -> Vec<u32> {
         self.of(area).collect()
     }
 
     fn of(&self, area: u32) -> impl Iterator<Item = u32> + '_ {
-        let of_it = self.posted.iter().filter(move |pair| pair.0 == area);
-        of_it.map(|pair| pair.1)
+        let of_it = self.posted.iter().filter(move |(other, _)| *other == area);
+        of_it.map(|(_, hour)| *hour)
     }
 
-    /// Whether the same hours wait in each area, in the same order, and the same
-    /// area has its turn.
+    /// The area after the one last served, area 0 first of all.
+    pub fn turn(&self) -> u32 {
+        self.last_served.map_or(0, |area| (area + 1) % AREAS)
+    }
+
+    /// Whether the same hours wait in each area, in the same order, and the same area has its turn.
     pub fn waits_as(&self, other: &Queue) -> bool {
         self.turn() == other.turn()
             && self.posted.len() == other.posted.len()
             && (0..AREAS).all(|area| self.of(area).eq(other.of(area)))
     }
+}
 
-    /// The area whose turn it is.
-    pub fn turn(&self) -> u32 {
-        self.last.map_or(0, |area| (area + 1) % AREAS)
+pub trait DeskQueue {
+    /// Posts an area and hour number. 61 when the area is over 3, 62 when the hour is over 24, 63 when that area has
+    /// it waiting already, in that order, the queue unchanged.
+    fn post(&self, queue: &mut Queue, area: u32, hour: u32) -> u32 {
+        if area > 3 {
+            return 61;
+        }
+        if hour > 24 {
+            return 62;
+        }
+        if self.waits_already(queue, area, hour) {
+            return 63;
+        }
+        queue.posted.push((area, hour));
+        0
     }
 
-    /// The queue that any bytes are.
-    pub fn read(build: QueueBuild, bytes: &[u8; QUEUE_BYTES]) -> Queue {
-        let mut queue = Queue::empty(build);
-        let most = match build {
-            QueueBuild::CellOver25Counts => 26,
-            _ => 25,
+    fn waits_already(&self, queue: &Queue, area: u32, hour: u32) -> bool {
+        queue.posted.contains(&(area, hour))
+    }
+
+    /// Serves the next area in turn that has an hour waiting, and its earliest posted. 64 when nothing is found.
+    fn serve(&self, queue: &mut Queue) -> ServedAnswer {
+        let Some(place) = self.next(queue) else {
+            return ServedAnswer { number: 64, index: 0, area: 0, hour: 0 };
         };
+        let (area, hour) = queue.posted.remove(place);
+        queue.last_served = Some(area);
+        ServedAnswer { number: 0, index: 0, area, hour }
+    }
+
+    /// The place in the list of what is served next.
+    fn next(&self, queue: &Queue) -> Option<usize> {
+        let first = self.first_asked(queue);
+        (first..first + AREAS).find_map(|area| self.next_of(queue, area % AREAS))
+    }
+
+    /// The area that a serve asks first.
+    fn first_asked(&self, queue: &Queue) -> u32 {
+        queue.turn()
+    }
+
+    /// The earliest posted of an area.
+    fn next_of(&self, queue: &Queue, area: u32) -> Option<usize> {
+        queue.posted.iter().position(|(other, _)| *other == area)
+    }
+
+    /// The queue that any bytes are: in each area a cell from 1 to 25 is hour 0 to 24, others and repeated ones are
+    /// free; the last byte, of which the rest by four counts, is the turn.
+    fn read(&self, bytes: &[u8; QUEUE_BYTES]) -> Queue {
+        let mut queue = Queue::default();
         for (area, cells) in (0..).zip(bytes[..TURN_AT].chunks(HOURS)) {
-            let mut seen = [false; 256];
-            for &cell in cells.iter().filter(|cell| (1..=most).contains(*cell)) {
-                let repeated = std::mem::replace(&mut seen[usize::from(cell)], true);
-                if !repeated || build == QueueBuild::RepeatedCellCounts {
-                    queue.posted.push((area, u32::from(cell) - 1));
+            for &cell in cells {
+                let pair = (area, u32::from(cell).wrapping_sub(1));
+                if self.cell_counts(cell) && !self.is_repeated(&queue, pair) {
+                    queue.posted.push(pair);
                 }
             }
         }
-        queue.last = Some((u32::from(bytes[TURN_AT]) + AREAS - 1) % AREAS);
+        queue.last_served = Some((u32::from(bytes[TURN_AT]) + AREAS - 1) % AREAS);
         queue
     }
 
-    /// An area's cells as a call leaves them; no other area's are written.
-    fn write(&self, area: u32, bytes: &mut [u8; QUEUE_BYTES]) {
-        let written = match self.build {
-            QueueBuild::AllAreasWritten => 0..AREAS,
-            _ => area..area + 1,
-        };
-        for area in written {
+    fn cell_counts(&self, cell: u8) -> bool {
+        (1..=25).contains(&cell)
+    }
+
+    fn is_repeated(&self, queue: &Queue, pair: (u32, u32)) -> bool {
+        queue.posted.contains(&pair)
+    }
+
+    /// The areas whose cells a call writes anew: the one posted to or served.
+    fn areas_written(&self, area: u32) -> std::ops::Range<u32> {
+        area..area + 1
+    }
+
+    fn write(&self, queue: &Queue, area: u32, bytes: &mut [u8; QUEUE_BYTES]) {
+        for area in self.areas_written(area) {
             let cells = &mut bytes[area as usize * HOURS..][..HOURS];
             cells.fill(0);
-            for (cell, hour) in cells.iter_mut().zip(self.waiting(area)) {
+            for (cell, hour) in cells.iter_mut().zip(queue.waiting(area)) {
                 *cell = hour as u8 + 1;
             }
         }
     }
+
+    /// The post entry, over the bytes that a host holds.
+    fn queue_post(&self, bytes: &mut [u8; QUEUE_BYTES], area: u32, hour: u32) -> u32 {
+        let mut queue = self.read(bytes);
+        let number = self.post(&mut queue, area, hour);
+        if number == 0 {
+            self.write(&queue, area, bytes);
+        }
+        number
+    }
+
+    /// The serve entry.
+    fn queue_serve(&self, bytes: &mut [u8; QUEUE_BYTES]) -> ServedAnswer {
+        let mut queue = self.read(bytes);
+        let answer = self.serve(&mut queue);
+        if answer.number == 0 {
+            self.write(&queue, answer.area, bytes);
+            bytes[TURN_AT] = queue.turn() as u8;
+        }
+        answer
+    }
 }
 
-/// The post entry, over the bytes that a host holds.
+/// Posts an area and hour number to the queue that these bytes are.
 pub fn queue_post(bytes: &mut [u8; QUEUE_BYTES], area: u32, hour: u32) -> u32 {
-    queue_post_as(QueueBuild::Right, bytes, area, hour)
+    Papers.queue_post(bytes, area, hour)
 }
 
-/// The same as one of the builds answers.
-pub fn queue_post_as(
-    build: QueueBuild,
-    bytes: &mut [u8; QUEUE_BYTES],
-    area: u32,
-    hour: u32,
-) -> u32 {
-    let mut queue = Queue::read(build, bytes);
-    let number = queue.post(area, hour);
-    if number == 0 {
-        queue.write(area, bytes);
-    }
-    number
-}
-
-/// The serve entry, over the bytes that a host holds.
+/// Serves from it.
 pub fn queue_serve(bytes: &mut [u8; QUEUE_BYTES]) -> ServedAnswer {
-    queue_serve_as(QueueBuild::Right, bytes)
-}
-
-/// The same as one of the builds answers.
-pub fn queue_serve_as(build: QueueBuild, bytes: &mut [u8; QUEUE_BYTES]) -> ServedAnswer {
-    let mut queue = Queue::read(build, bytes);
-    let answer = queue.serve();
-    if answer.number == 0 {
-        queue.write(answer.area, bytes);
-        bytes[TURN_AT] = queue.turn() as u8;
-    }
-    answer
+    Papers.queue_serve(bytes)
 }

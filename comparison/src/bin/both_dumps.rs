@@ -1,35 +1,26 @@
 //! What both judges say of the dumps on standard input, for tests/stored_dumps.
 //!
-//! A dump is a line: its name, the bytes of its output, its case and itself, both
-//! in hexadecimal digits. What is said of it is printed, two lines for each judge:
-//! the name, the judge and the line that crates/dump_runs prints; and the name, the
-//! judge, `written` and the output's bytes that were changed, from its first on.
+//! A dump is a line: its name, the bytes of its output, its case and itself, both in hexadecimal digits. What is said
+//! of it is printed, two lines for each judge: the name, the judge and the line that crates/dump_runs prints; and the
+//! name, the judge, `written` and the output's bytes that were changed, from its first on.
 
-#[path = "../archive.rs"]
-#[allow(dead_code)] // two of its entries are asked
-mod archive;
-#[path = "../said.rs"]
-mod said;
-
-use said::{bytes, hex, of_each, written};
+use comparison::library;
+use comparison::stored_lines::{bytes, hex, of_each, written};
 use second_judge::limits::LEAST_BUFFER;
 use second_judge::{OutputAnswer, Verdict};
 
 fn main() -> std::io::Result<()> {
     of_each("dump", |[room, case, dump]| {
         let (room, case, dump) = (room.parse().ok()?, bytes(case)?, bytes(dump)?);
-        Some([
-            archive_says(&case, &dump, room),
-            second_says(&case, &dump, room),
-        ])
+        Some([library_says(&case, &dump, room), second_says(&case, &dump, room)])
     })
 }
 
-fn archive_says(case: &[u8], dump: &[u8], room: usize) -> Vec<String> {
+fn library_says(case: &[u8], dump: &[u8], room: usize) -> Vec<String> {
     said_of(
         room,
-        |out| archive::dump_proposal(case, dump, out, false),
-        |proposal| archive::verdict(archive::judge(case, proposal, &mut [0; LEAST_BUFFER])),
+        |out| library::dump_proposal(case, dump, out, false),
+        |proposal| library::judge(case, proposal, &mut [0; LEAST_BUFFER]),
     )
 }
 
@@ -41,23 +32,12 @@ fn second_says(case: &[u8], dump: &[u8], room: usize) -> Vec<String> {
     )
 }
 
-fn said_of(
-    room: usize,
-    convert: impl Fn(&mut [u8]) -> OutputAnswer,
-    judge: impl Fn(&[u8]) -> Verdict,
-) -> Vec<String> {
+fn said_of(room: usize, convert: impl Fn(&mut [u8]) -> OutputAnswer, judge: impl Fn(&[u8]) -> Verdict) -> Vec<String> {
     let (answer, out, count) = written(room, [0, 0xFF], convert);
-    let OutputAnswer {
-        number,
-        index,
-        length,
-    } = answer;
+    let OutputAnswer { number, index, length } = answer;
     let judged = match number {
         0 => format!(" judged {}", judge(&out[..length as usize]).number),
         _ => String::new(),
     };
-    vec![
-        format!("{number} {index} {length}{judged}"),
-        format!("written {}", hex(&out[..count])),
-    ]
+    vec![format!("{number} {index} {length}{judged}"), format!("written {}", hex(&out[..count]))]
 }

@@ -1,38 +1,24 @@
-//! What both judges say of the hours with families on standard input, for
-//! tests/stored_families.
+//! What both judges say of the hours with families on standard input, for tests/stored_families.
 //!
-//! An hour is a line: its name, its case, its proposal and its family list, all in
-//! hexadecimal digits. What is said of it is printed, a line for each judge: the
-//! name, the judge and the line that crates/family_runs prints.
+//! An hour is a line: its name, its case, its proposal and its family list, all in hexadecimal digits. What is said
+//! of it is printed, a line for each judge: the name, the judge and the line that crates/family_runs prints.
 
-#[path = "../archive.rs"]
-#[allow(dead_code)] // two of its entries are asked
-mod archive;
-#[path = "../said.rs"]
-#[allow(dead_code)] // no output is lent
-mod said;
-
-use said::{bytes, hex, of_each};
+use comparison::library;
+use comparison::stored_lines::{bytes, hex, of_each};
 use second_judge::limits::LEAST_BUFFER;
 use second_judge::Verdict;
 
 fn main() -> std::io::Result<()> {
     of_each("hour with families", |[case, proposal, list]| {
         let (case, proposal, list) = (bytes(case)?, bytes(proposal)?, bytes(list)?);
-        Some([
-            archive_says(&case, &proposal, &list),
-            second_says(&case, &proposal, &list),
-        ])
+        Some([library_says(&case, &proposal, &list), second_says(&case, &proposal, &list)])
     })
 }
 
-fn archive_says(case: &[u8], proposal: &[u8], list: &[u8]) -> Vec<String> {
+fn library_says(case: &[u8], proposal: &[u8], list: &[u8]) -> Vec<String> {
     said_of(
-        |report| {
-            let returned = archive::judge_families(case, proposal, list, report, false);
-            archive::verdict(returned)
-        },
-        |report| archive::verdict(archive::judge(case, proposal, report)),
+        |report| library::judge_families(case, proposal, list, report, false),
+        |report| library::judge(case, proposal, report),
     )
 }
 
@@ -44,10 +30,7 @@ fn second_says(case: &[u8], proposal: &[u8], list: &[u8]) -> Vec<String> {
 }
 
 /// A report that is written with the list is the one without it.
-fn said_of(
-    with: impl Fn(&mut [u8]) -> Verdict,
-    without: impl Fn(&mut [u8]) -> Verdict,
-) -> Vec<String> {
+fn said_of(with: impl Fn(&mut [u8]) -> Verdict, without: impl Fn(&mut [u8]) -> Verdict) -> Vec<String> {
     let (mut report, mut free_report) = ([0; LEAST_BUFFER], [0; LEAST_BUFFER]);
     let Verdict { number, index } = with(&mut report);
     let free = without(&mut free_report);
@@ -55,10 +38,5 @@ fn said_of(
         true => "",
         false => ", with another report",
     };
-    vec![format!(
-        "{number} {index} {} without {} {}{other}",
-        hex(&report),
-        free.number,
-        free.index
-    )]
+    vec![format!("{number} {index} {} without {} {}{other}", hex(&report), free.number, free.index)]
 }

@@ -1,19 +1,11 @@
 //! What both judges say of the hours on standard input, for tests/stored_hours.
 //!
-//! An hour is a line: its name, its case and its proposal, both in hexadecimal
-//! digits. What is said of it is printed, a line for each thing: the name, the
-//! judge, the way and what the judge says. Handed over apart, the two files are
-//! judged, and the totals come from the report, in microcents. Joined, the lines
-//! are the desk's.
+//! An hour is a line: its name, its case and its proposal, both in hexadecimal digits. What is said of it is printed,
+//! a line for each thing: the name, the judge, the way and what the judge says. Handed over apart, the two files are
+//! judged, and the totals come from the report, in microcents. Joined, the lines are the desk's.
 
-#[path = "../archive.rs"]
-#[allow(dead_code)] // two of its entries are asked
-mod archive;
-#[path = "../said.rs"]
-#[allow(dead_code)] // no output is lent
-mod said;
-
-use said::{bytes, of_each};
+use comparison::library;
+use comparison::stored_lines::{bytes, of_each};
 use second_judge::limits::{LEAST_BUFFER, LEAST_OUTPUT, REPORT_FIELD, REPORT_HEADER};
 use second_judge::Verdict;
 
@@ -24,11 +16,8 @@ fn main() -> std::io::Result<()> {
         let (case, proposal) = (bytes(case)?, bytes(proposal)?);
         let joined = [&case[..], &proposal].concat();
         Some([
-            both_ways(archive_apart(&case, &proposal), &archive_lines(&joined)),
-            both_ways(
-                second_apart(&case, &proposal),
-                &second_judge::desk_lines(&joined),
-            ),
+            both_ways(library_apart(&case, &proposal), &library_lines(&joined)),
+            both_ways(second_apart(&case, &proposal), &second_judge::desk_lines(&joined)),
         ])
     })
 }
@@ -40,9 +29,9 @@ fn both_ways(apart: Vec<String>, lines: &[u8]) -> Vec<String> {
     apart.chain(joined).collect()
 }
 
-fn archive_apart(case: &[u8], proposal: &[u8]) -> Vec<String> {
+fn library_apart(case: &[u8], proposal: &[u8]) -> Vec<String> {
     let mut report = [0; LEAST_BUFFER];
-    let verdict = archive::verdict(archive::judge(case, proposal, &mut report));
+    let verdict = library::judge(case, proposal, &mut report);
     verdict_and_totals(verdict, &report)
 }
 
@@ -56,10 +45,7 @@ fn second_apart(case: &[u8], proposal: &[u8]) -> Vec<String> {
 fn verdict_and_totals(verdict: Verdict, report: &[u8]) -> Vec<String> {
     let mut said = vec![format!("verdict {} {}", verdict.number, verdict.index)];
     if report.iter().any(|byte| *byte != 0) {
-        for (name, field) in TOTALS
-            .iter()
-            .zip(report[REPORT_HEADER..].chunks_exact(REPORT_FIELD))
-        {
+        for (name, field) in TOTALS.iter().zip(report[REPORT_HEADER..].chunks_exact(REPORT_FIELD)) {
             let total = i64::from_le_bytes(field.try_into().expect("eight bytes"));
             said.push(format!("{name} {total}"));
         }
@@ -67,8 +53,8 @@ fn verdict_and_totals(verdict: Verdict, report: &[u8]) -> Vec<String> {
     said
 }
 
-fn archive_lines(input: &[u8]) -> Vec<u8> {
+fn library_lines(input: &[u8]) -> Vec<u8> {
     let mut out = [0; LEAST_OUTPUT];
-    let length = archive::desk_lines(input, &mut out).length as usize;
+    let length = library::desk_lines(input, &mut out).length as usize;
     out[..length].to_vec()
 }

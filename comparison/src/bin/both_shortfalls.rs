@@ -1,29 +1,19 @@
-//! What both judges say of the shortfalls of the hours on standard input, for
-//! tests/stored_shortfalls.
+//! What both judges say of the shortfalls of the hours on standard input, for tests/stored_shortfalls.
 //!
-//! An hour is a line: its name, the numbers of its output, its case and its proposal,
-//! both in hexadecimal digits, a dash for one of no bytes. What is said of it is
-//! printed, two lines for each judge: the name, the judge and the line that
-//! crates/shortfall_runs prints; and the name, the judge, `written` and the output's
-//! numbers that were changed, from its first on.
+//! An hour is a line: its name, the numbers of its output, its case and its proposal, both in hexadecimal digits, a
+//! dash for one of no bytes. What is said of it is printed, two lines for each judge: the name, the judge and the
+//! line that crates/shortfall_runs prints; and the name, the judge, `written` and the output's numbers that were
+//! changed, from its first on.
 
-#[path = "../archive.rs"]
-#[allow(dead_code)] // one of its entries is asked
-mod archive;
-#[path = "../said.rs"]
-#[allow(dead_code)] // what is written is no bytes
-mod said;
-
-use said::{bytes, of_each, written};
+use comparison::library;
+use comparison::stored_lines::{bytes, of_each, written};
 use second_judge::OutputAnswer;
 
 fn main() -> std::io::Result<()> {
     of_each("hour", |[room, case, proposal]| {
         let (room, case, proposal) = (room.parse().ok()?, bytes(case)?, bytes(proposal)?);
         Some([
-            said_of(room, |out| {
-                archive::shortfalls(&case, &proposal, out, false)
-            }),
+            said_of(room, |out| library::shortfalls(&case, &proposal, out, false)),
             said_of(room, |out| second_judge::shortfalls(&case, &proposal, out)),
         ])
     })
@@ -35,14 +25,7 @@ fn joined(numbers: &[i64]) -> String {
 
 fn said_of(room: usize, entry: impl Fn(&mut [i64]) -> OutputAnswer) -> Vec<String> {
     let (answer, out, count) = written(room, [0, -1], entry);
-    let OutputAnswer {
-        number,
-        index,
-        length,
-    } = answer;
+    let OutputAnswer { number, index, length } = answer;
     let numbers = joined(&out[..(length as usize).min(room)]);
-    vec![
-        format!("{number} {index} {length}{numbers}"),
-        format!("written{}", joined(&out[..count])),
-    ]
+    vec![format!("{number} {index} {length}{numbers}"), format!("written{}", joined(&out[..count]))]
 }
