@@ -4,3 +4,4 @@ pub mod Contracted
 pub mod Answer
 pub mod Causes
 pub mod Annex
+pub mod PlainShortfalls

@@ -1,5 +1,6 @@
 -- S-10 IN PLAIN NUMBERS, both ways: when columning and the way back answer 0, 71 and 72, and where each byte of a case
--- stands in its columned file. A byte is `getD s k 0`, the number at place k of the file, counted from 0. Assumes nothing.
+-- stands in its columned file. A byte is `getD s k 0`, the number at place k of the file, counted from 0.
+-- Assumes nothing.
 use mathlib.Core.Path.{_≡_, refl, sym, ap, subst, _∙_}
 use mathlib.Core.Logic.{_↔_, inl, inr}
 use mathlib.Core.Bool.{Bool, true, false, not, _||_}
@@ -13,7 +14,7 @@ use Rattle.integers.specs.Ranges.{is-false, not-is, nor-both}
 use Rattle.rows.specs.declared.Outcome.{Outcome}
 use Rattle.rows.specs.Meaning.Rows.{verdict, refusal, answer}
 use Rattle.rules.specs.Meaning.Layout.{u8At, u16At, caseVersion, ordersIn, orderAt}
-use Rattle.rules.specs.Meaning.Verdict.{notMark, Readable}
+use Rattle.rules.specs.Meaning.Verdict.{notMark}
 use Rattle.rules.specs.Promised.PlainLayout.{LinkBytes, case-length-is}
 use Rattle.rules.specs.Promised.PlainFacts.{CaseFacts, case-facts, facts-readable, mark-passes}
 use Rattle.columns.specs.Meaning.Columns.{columnedOf, restoredOf, unreadable, notRestored, columnedRows, restoredRows, columnedOutcome, restoredOutcome, Columned}
@@ -29,7 +30,7 @@ abbrev pub orders : List ℕ → ℕ
 orders s = getD s 8 0 + 256 * getD s 9 0
 
 -- THE COLUMNED FILE u of a case s, byte by byte: byte k of order i stands at place i of column k. Byte 0 of an order is
--- its zone, 1 its side, 2 to 5 its quantity, 6 to 9 its price. `LinkBytes`: 6 bytes to a link in version 1, 10 in version 2
+-- its zone, 1 its side, 2 to 5 its quantity, 6 to 9 its price. A link has 6 bytes in version 1, 10 in version 2
 pub record InColumns (s u : List ℕ) : Type 0 where
   pub width : ℕ
   pub width-is : LinkBytes s width

@@ -1,5 +1,6 @@
--- MONEY IN TWO NUMBERS (S-14), in plain numbers: what whole microcents and parts of one are together, that each amount
--- has one such pair, which loads and prices can be stated so, and that the whole microcents fit 64 bits. Assumes nothing.
+-- MONEY IN TWO NUMBERS (S-14), in plain numbers: what whole microcents and parts of one are together, that an amount
+-- has one such pair, which loads and prices can be stated so, and that the whole microcents fit 64 bits.
+-- Assumes nothing.
 use mathlib.Core.Path.{_≡_, refl}
 use mathlib.Core.Logic.{_↔_}
 use Prim.Native.Nat.{ℕ, _+_, _*_, _/_, _%_, _≤_, _<_}
