@@ -93,19 +93,19 @@ of-fails b f t p = T-not b (f p) t
 
 module _ (rows : List BookRow) (prices : List ℤ) where
   -- EACH TEST passes if and only if what it asks for holds
-  abbrev wrongCount : Bool
+  abbrev pub wrongCount : Bool
   wrongCount = outside zoneCounts (pos (length prices))
 
   abbrev wrongRows : Bool
   wrongRows = outside orderCounts (pos (length rows))
 
-  abbrev wrongPrice : ℕ → Bool
+  abbrev pub wrongPrice : ℕ → Bool
   wrongPrice z = outside limits.zonePrice (priceAt prices z)
 
-  count-passes : PricesCounted prices → T (not wrongCount)
+  pub count-passes : PricesCounted prices → T (not wrongCount)
   count-passes c = nat-inside 1 16 (length prices) (c .0) (c .1)
 
-  passes-count : T (not wrongCount) → PricesCounted prices
+  pub passes-count : T (not wrongCount) → PricesCounted prices
   passes-count t = nat-within 1 16 (length prices) t
 
   rows-pass : length rows ≤ 512 → T (not wrongRows)
@@ -124,11 +124,11 @@ module _ (rows : List BookRow) (prices : List ℤ) where
   good-fields i g (suc (suc zero)) k = nat-inside 1 100000 ((rowAt rows i) .quantity) (g .quantity-in .0) (g .quantity-in .1)
   good-fields i g (suc (suc (suc n))) k = inside limits.orderPrice ((rowAt rows i) .price) (record { least-le = g .price-in .0; le-greatest = g .price-in .1 })
 
-  good-passes : (i : ℕ) → GoodRow rows prices i → T (not (badBookRow rows prices i))
+  pub good-passes : (i : ℕ) → GoodRow rows prices i → T (not (badBookRow rows prices i))
   unfolding badBookRow badRow
   good-passes i g = is-false (any-none orderFields (fault i) (good-fields i g))
 
-  passes-good : (i : ℕ) → T (not (badBookRow rows prices i)) → GoodRow rows prices i
+  pub passes-good : (i : ℕ) → T (not (badBookRow rows prices i)) → GoodRow rows prices i
   unfolding badBookRow badRow rowFault
   passes-good i t =
       let ok : (n : ℕ) → n < orderFields → T (not (fault i n)) = no-place orderFields (fault i) t in
@@ -140,10 +140,10 @@ module _ (rows : List BookRow) (prices : List ℤ) where
         price-in = (w .least-le, w .le-greatest);
       }
 
-  price-passes : (z : ℕ) → GoodPrice prices z → T (not (wrongPrice z))
+  pub price-passes : (z : ℕ) → GoodPrice prices z → T (not (wrongPrice z))
   price-passes z g = inside limits.zonePrice (priceAt prices z) (record { least-le = g .0; le-greatest = g .1 })
 
-  passes-price : (z : ℕ) → T (not (wrongPrice z)) → GoodPrice prices z
+  pub passes-price : (z : ℕ) → T (not (wrongPrice z)) → GoodPrice prices z
   passes-price z t = let w = within limits.zonePrice (priceAt prices z) t in (w .least-le, w .le-greatest)
 
   -- THE ROWS OF THE TABLE, from the first: each passes where what it asks for holds
