@@ -17,7 +17,7 @@ use Rattle.rules.specs.Meaning.Layout.{u8At, u16At, caseVersion, ordersIn, orde
 use Rattle.rules.specs.Meaning.Verdict.{notMark}
 use Rattle.rules.specs.Promised.PlainLayout.{LinkBytes, case-length-is}
 use Rattle.rules.specs.Promised.PlainFacts.{CaseFacts, case-facts, facts-readable, mark-passes}
-use Rattle.columns.specs.Meaning.Columns.{columnedOf, restoredOf, unreadable, notRestored, columnedRows, restoredRows, columnedOutcome, restoredOutcome, Columned}
+use Rattle.columns.specs.Meaning.Columns.{columnedOf, restoredOf, unreadable, notRestored, columnedRows, restoredRows, columnedOutcome, restoredOutcome, Columned, Restored}
 use Rattle.columns.specs.Steps.Answers.{rowsOf, refused-71, refused-72, taken}
 use Rattle.columns.specs.Steps.Counts.{readable-of, unreadable-of, mark-is, full-length}
 use Rattle.columns.specs.Promised.RoundTrip.{is-columned, only-columned, restored-columned, columned-taken, restored-takes, restored-file}
@@ -50,6 +50,13 @@ pub record Answers (P : Type 0) (size room : ℕ) (o : Outcome) : Type 0 where
   pub is-72 : (o .number ≡ 72) ↔ (P × (room < size))
   pub is-0 : (o .number ≡ 0) ↔ (P × (size ≤ room))
   pub index-0 : o .index ≡ 0
+
+-- of columning: taken is a readable case; and of the way back
+abbrev pub ColumnedNumbers : List ℕ → ℕ → Outcome → Type 0
+ColumnedNumbers s room o = Answers (CaseFacts s) (length s) room o
+
+abbrev pub RestoredNumbers : List ℕ → ℕ → Outcome → Type 0
+RestoredNumbers t room o = Answers (Restorable t) (length t) room o
 
 -- THE NUMBERS, of both tables
 module _ {P : Type 0} (size room : ℕ) where
@@ -92,7 +99,7 @@ module _ {P : Type 0} (size room : ℕ) where
       by false e (no n) = given (at-0 (g e) (omega (arith, n))) (ap answer (taken size room e (omega (arith, n))))
 
 -- COLUMNING: 71 if and only if the case is not readable, else 72 if and only if the output is shorter than the file
-pub columned-numbers : (s : List ℕ) (room : ℕ) → Answers (CaseFacts s) (length s) room (columnedOutcome s room)
+pub columned-numbers : (s : List ℕ) (room : ℕ) → ColumnedNumbers s room (columnedOutcome s room)
 unfolding columnedOutcome columnedRows
 columned-numbers s room = of-table (length s) room (unreadable s) (λ f. unreadable-of s (facts-readable s f)) (λ e. case-facts s (readable-of s e))
 
@@ -106,7 +113,7 @@ module _ (t : List ℕ) where
   restorable-taken r = not-is (notMark 76 84 75 t || unreadable (restoredOf t))
       (nor-both (notMark 76 84 75 t) (unreadable (restoredOf t)) (mark-passes 76 84 75 t (r .mark)) (is-false (unreadable-of (restoredOf t) (facts-readable (restoredOf t) (r .results)))))
 
-  pub restored-numbers : (room : ℕ) → Answers (Restorable t) (length t) room (restoredOutcome t room)
+  pub restored-numbers : (room : ℕ) → RestoredNumbers t room (restoredOutcome t room)
   unfolding restoredOutcome restoredRows
   restored-numbers room = of-table (length t) room (notRestored t) restorable-taken taken-restorable
 
@@ -162,19 +169,36 @@ of-plain s u c = record {
     three (suc (suc zero)) h = c .mark .1 .1
     three (suc (suc (suc k))) h = absurd (omega (arith, h))
 
+pub plain-columned : (s u : List ℕ) → CaseFacts s → Columned s u → InColumns s u
+plain-columned s u f c = let v = version-width s f in to-plain s u (v .0) (v .1) c
+
 -- what columning writes for a readable case has these bytes, and no other file has them
 pub in-columns : (s : List ℕ) → CaseFacts s → InColumns s (columnedOf s)
-in-columns s f = let v = version-width s f in to-plain s (columnedOf s) (v .0) (v .1) (is-columned s (facts-readable s f))
+in-columns s f = plain-columned s (columnedOf s) f (is-columned s (facts-readable s f))
 
 pub only-in-columns : (s u : List ℕ) → CaseFacts s → InColumns s u → u ≡ columnedOf s
 only-in-columns s u f c = let r = facts-readable s f in only-columned s u (columnedOf s) r (of-plain s u c) (is-columned s r)
 
 -- the way back takes a file if and only if it has these bytes of a readable case, and that case results
 pub restored-in-columns : (t : List ℕ) → Restorable t → InColumns (restoredOf t) t
-restored-in-columns t r = let v = version-width (restoredOf t) (r .results) in to-plain (restoredOf t) t (v .0) (v .1) (restored-file t (restorable-taken t r) .bytes)
+restored-in-columns t r = plain-columned (restoredOf t) t (r .results) (restored-file t (restorable-taken t r) .bytes)
 
 pub in-columns-restored : (s t : List ℕ) → CaseFacts s → InColumns s t → Restorable t × (restoredOf t ≡ s)
 in-columns-restored s t f c =
     let r = facts-readable s f in
     let e = only-in-columns s t f c in
     (taken-restorable t (ap notRestored e ∙ columned-taken s r), ap restoredOf e ∙ restored-columned s r)
+
+-- WHAT A HOST CONCLUDES from the outcome and the bytes u that an entry answers with
+pub columned-told : (s u : List ℕ) (room number index : ℕ) → verdict number index ≡ columnedOutcome s room → (number ≡ 0 → Columned s u)
+    → ColumnedNumbers s room (verdict number index) × (number ≡ 0 → InColumns s u)
+columned-told s u room number index e c =
+    let w = columned-numbers s room in
+    (subst (λ (o : Outcome). ColumnedNumbers s room o) (sym e) w, λ z. plain-columned s u ((w .is-0 .0 (sym (ap (λ (o : Outcome). o .number) e) ∙ z)) .0) (c z))
+
+pub restored-told : (t u : List ℕ) (room number index : ℕ) → verdict number index ≡ restoredOutcome t room → (number ≡ 0 → Restored t u)
+    → RestoredNumbers t room (verdict number index) × (number ≡ 0 → InColumns u t)
+restored-told t u room number index e c = (
+  subst (λ (o : Outcome). RestoredNumbers t room o) (sym e) (restored-numbers t room),
+  λ z. plain-columned u t (case-facts u (c z .readable)) (c z .bytes),
+)
