@@ -3,3 +3,5 @@ pub mod ReadBack
 pub mod Cells
 pub mod Walks
 pub mod Answers
+pub mod Said
+pub mod Tidied

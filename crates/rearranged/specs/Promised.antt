@@ -2,3 +2,4 @@
 pub mod Places
 pub mod OrderOfOrders
 pub mod Sorted
+pub mod PlainPlaces

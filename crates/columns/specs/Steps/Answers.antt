@@ -21,13 +21,13 @@ abbrev pub rowsOf : Bool → ℕ → ℕ → List Row
 rowsOf bad size room = once 71 bad ∷ shortOutput size room ∷ []
 
 module _ {bad : Bool} (size room : ℕ) where
-  refused-71 : bad ≡ true → refusal (rowsOf bad size room) ≡ some (verdict 71 0)
+  pub refused-71 : bad ≡ true → refusal (rowsOf bad size room) ≡ some (verdict 71 0)
   refused-71 e = field-fails 71 0 (shortOutput size room ∷ []) e
 
-  refused-72 : bad ≡ false → room < size → refusal (rowsOf bad size room) ≡ some (verdict 72 0)
+  pub refused-72 : bad ≡ false → room < size → refusal (rowsOf bad size room) ≡ some (verdict 72 0)
   refused-72 e h = field-passes 71 0 (shortOutput size room ∷ []) e ∙ field-fails 72 0 [] (lt-ltb room size h)
 
-  taken : bad ≡ false → size ≤ room → refusal (rowsOf bad size room) ≡ none
+  pub taken : bad ≡ false → size ≤ room → refusal (rowsOf bad size room) ≡ none
   unfolding refusal
   taken e h = field-passes 71 0 (shortOutput size room ∷ []) e ∙ field-passes 72 0 [] (le-ltb room size h)
 

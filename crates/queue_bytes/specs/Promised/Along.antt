@@ -1,6 +1,6 @@
--- WHAT THE CALLS ANSWER, one after the other: 101 bytes that are all zero are posted to and served, and of what the serves answer it is said, in numbers alone:
--- an area of which more hours were taken than served is answered by one of the next four serves, and an hour that was taken by one of the next hundred, whatever
--- else is posted. Assumes nothing.
+-- WHAT THE CALLS ANSWER along any run of posts and serves on 101 zero bytes. An area with more hours taken than served
+-- is answered by one of the next four serves, and an hour that was taken by one of the next hundred, whatever else is
+-- posted. `fair` at the end is the theorem. Assumes nothing.
 use mathlib.Core.Path.{_≡_, refl, sym, ap, _∙_, subst}
 use mathlib.Core.Bool.{Bool, true, false, cond, _&&_}
 use mathlib.Core.List.{List, [], _∷_, _++_, map}
@@ -21,7 +21,8 @@ use Rattle.queue_bytes.specs.Meaning.Bytes.{hoursIn, cellsAt, hoursAt, q
 use Rattle.queue_bytes.specs.Promised.Calls.{from-zeros}
 use Rattle.queue_bytes.specs.Steps.ReadBack.{post-means, serve-means, length-post, length-serve, zeros-empty}
 
--- THE ANSWERS of the serves among some calls on the bytes, each as the contract of `serve` says, the bytes changed as the clauses [bytes] say
+-- THE ANSWERS of the serves among some calls: each as the clause [answer] of `lta_queue_serve` says, with the bytes
+-- changed as the clauses [bytes] of both entries say
 unfoldable pub answers : List Event → List ℕ → List Served
 answers [] bytes = []
 answers (post a h ∷ run) bytes = answers run (bytesAfterPost a h bytes)
@@ -103,13 +104,13 @@ served-is a (none ∷ l) = omega (arith, served-is a l)
 served-is a (some p ∷ l) = ap (λ (n : ℕ). one (eqb (p .area) a) + n) (served-is a l) ∙ counted (eqb (p .area) a) (p .hour) (hoursOf a l)
 
 -- ---- from zeros on
-module _ (earlier later : List Event) where
-  length-after : (run : List Event) (bytes : List ℕ) → length bytes ≡ 101 → length (bytesAfter run bytes) ≡ 101
-  unfolding bytesAfter
-  length-after [] bytes len = len
-  length-after (post a h ∷ run) bytes len = length-after run (bytesAfterPost a h bytes) (length-post a h bytes len)
-  length-after (serve ∷ run) bytes len = length-after run (bytesAfterServe bytes) (length-serve bytes len)
+length-after : (run : List Event) (bytes : List ℕ) → length bytes ≡ 101 → length (bytesAfter run bytes) ≡ 101
+unfolding bytesAfter
+length-after [] bytes len = len
+length-after (post a h ∷ run) bytes len = length-after run (bytesAfterPost a h bytes) (length-post a h bytes len)
+length-after (serve ∷ run) bytes len = length-after run (bytesAfterServe bytes) (length-serve bytes len)
 
+module _ (earlier later : List Event) where
   abbrev bytes : List ℕ
   bytes = bytesAfter earlier zeros
 

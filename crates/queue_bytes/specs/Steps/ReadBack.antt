@@ -157,7 +157,7 @@ pub getD-cells : (bytes : List ℕ) (a i : ℕ) → i < 25 → getD (cellsAt byt
 getD-cells bytes a i l = getD-take 25 (drop (25 * a) bytes) i 0 l ∙ getD-drop (25 * a) bytes i 0
 
 -- two buffers that agree on an area's bytes have the same cells there
-cells-agree : (x y : List ℕ) (a : ℕ) → length x ≡ 101 → length y ≡ 101 → a < 4 → ((i : ℕ) → i < 25 → getD x (25 * a + i) 0 ≡ getD y (25 * a + i) 0)
+pub cells-agree : (x y : List ℕ) (a : ℕ) → length x ≡ 101 → length y ≡ 101 → a < 4 → ((i : ℕ) → i < 25 → getD x (25 * a + i) 0 ≡ getD y (25 * a + i) 0)
     → cellsAt x a ≡ cellsAt y a
 cells-agree x y a lx ly l same =
     let nx = length-cells-at x a lx l in
@@ -179,7 +179,7 @@ module _ (b : List ℕ) (a : ℕ) (l : List ℕ) (len : length b ≡ 101) (area-
       le-of-eq′ : length (cellsOf l) ≡ 25 → 25 ≤ length (cellsOf l)
       le-of-eq′ e = omega arith
 
-  cells-own : cellsAt (withHours b a l) a ≡ cellsOf l
+  pub cells-own : cellsAt (withHours b a l) a ≡ cellsOf l
   unfolding withHours
   cells-own =
       let full = length-cells l (at-most-25 g) in
@@ -192,7 +192,7 @@ module _ (b : List ℕ) (a : ℕ) (l : List ℕ) (len : length b ≡ 101) (area-
   outside i (inl p) = paste-before b (25 * a) (cellsOf l) 25 room-there (length-cells l (at-most-25 g)) i p
   outside i (inr p) = paste-after b (25 * a) (cellsOf l) 25 room-there (length-cells l (at-most-25 g)) i p
 
-  cells-other : (c : ℕ) → c < 4 → (c ≡ a → ⊥) → cellsAt (withHours b a l) c ≡ cellsAt b c
+  pub cells-other : (c : ℕ) → c < 4 → (c ≡ a → ⊥) → cellsAt (withHours b a l) c ≡ cellsAt b c
   cells-other c m other = cells-agree (withHours b a l) b c length-with len m (λ i k. outside (25 * c + i) (side i k (decLt c a)))
     where
       side : (i : ℕ) → i < 25 → Dec (c < a) → (25 * c + i < 25 * a) ⊎ (25 * a + 25 ≤ 25 * c + i)
@@ -203,7 +203,7 @@ module _ (b : List ℕ) (a : ℕ) (l : List ℕ) (len : length b ≡ 101) (area-
           beyond (yes q) = omega arith
           beyond (no q) = absurd (other (omega arith))
 
-  hours-at-with : (c : ℕ) → hoursAt (withHours b a l) c ≡ put a l (hoursAt b) c
+  pub hours-at-with : (c : ℕ) → hoursAt (withHours b a l) c ≡ put a l (hoursAt b) c
   unfolding hoursAt
   hours-at-with c = by (ℕ-discrete c a)
     where
@@ -223,7 +223,7 @@ module _ (b : List ℕ) (a : ℕ) (l : List ℕ) (len : length b ≡ 101) (area-
               let past : ltb c 4 ≡ false = le-ltb c 4 (omega arith) in
               ap (λ (x : Bool). cond x (hoursIn (cellsAt (withHours b a l) c)) []) past ∙ sym (ap (λ (x : Bool). cond x (hoursIn (cellsAt b c)) []) past)
 
-  turn-with : getD (withHours b a l) 100 0 ≡ getD b 100 0
+  pub turn-with : getD (withHours b a l) 100 0 ≡ getD b 100 0
   turn-with = outside 100 (inr (omega arith))
 
   -- an area's cells replaced by those of good hours: the queue with these hours there
@@ -233,7 +233,7 @@ module _ (b : List ℕ) (a : ℕ) (l : List ℕ) (len : length b ≡ 101) (area-
 
 -- the last byte replaced: the queue with another turn
 module _ (b : List ℕ) (t : ℕ) (len : length b ≡ 101) (turn-in : t < 4) where
-  hours-turned : (c : ℕ) → hoursAt (set b 100 t) c ≡ hoursAt b c
+  pub hours-turned : (c : ℕ) → hoursAt (set b 100 t) c ≡ hoursAt b c
   unfolding hoursAt
   hours-turned c = by (decLt c 4)
     where

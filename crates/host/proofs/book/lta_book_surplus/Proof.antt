@@ -1,7 +1,7 @@
 -- `host::book::lta_book_surplus` meets its contract: a walk of its MIR, by hand, since its rows are structs. It passes both slices on, and what is known of the
 -- callee is that it meets its contract. A slice is Copy: a copy of what it owns goes to the callee, beside its lifetime's token, which comes back.
 -- Assumes nothing.
-use mathlib.Core.Path.{_≡_, refl}
+use mathlib.Core.Path.{_≡_, refl, sym, subst}
 use Prim.Native.Nat.{ℕ}
 use mathlib.Core.List.{List, [], _∷_}
 use lib.IntN.{ℤ}
@@ -40,6 +40,7 @@ use denote.Triple.Table.{entered, cited}
 use denote.Triple.Walked.{says, Stays, stay-none-slice, walkOf, Walks, ends-at, walked, goes-none-slice, walk-meets}
 use denote.Exit.{yes}
 use Rattle.order_book.specs.Meaning.Lent.{lentAnswer}
+use Rattle.order_book.specs.Promised.PlainLent.{PlainAnswer, lent-plain}
 use Rattle.order_book.specs.declared.OrderRow.{OrderRow}
 use Rattle.order_book.specs.declared.Surplus.{Surplus}
 use Rattle.order_book.proofs.OrderRow as T
@@ -116,10 +117,14 @@ module _ {M : Type 1} (𝓤 : URA M) (H : Heap 𝓤) (A : Atoms 𝓤) (W : Given
   abbrev is-answer : Surplus → Type 0
   is-answer r = r ≡ lentAnswer (x .now) (p .now)
 
+  -- and what follows in plain numbers
+  told : (r : Surplus) → is-answer r → is-answer r × PlainAnswer (x .now) (p .now) r
+  told r e = (e, subst (λ (y : Surplus). PlainAnswer (x .now) (p .now) y) (sym e) (lent-plain (x .now) (p .now)))
+
   exits : (r : Surplus) (u : Val) → is-answer r → ent 𝓤 (⋆ 𝓤 H A (‵ (S.the-row .own r (u ∷ [])) ∷ ‵ (flft κ q) ∷ ‵ (flft κ′ q′) ∷ ‵ Own ∷ ‵ Own₂ ∷ [])) (Post u)
   exits r u e =
       qed W (‵ (S.the-row .own r (u ∷ [])) ∷ ‵ (flft κ q) ∷ ‵ (flft κ′ q′) ∷ ‵ Own ∷ ‵ Own₂ ∷ []) ∵
-      suffices ! _ (ends-at 𝓤 H A f.ended stayed (f.clauses 𝓤 H A mem run) W bound u r (tt, (tt, tt)) (tt, (tt, tt))) $ says ! e $
+      suffices ! _ (ends-at 𝓤 H A f.ended stayed (f.clauses 𝓤 H A mem run) W bound u r (tt, (tt, tt)) (tt, (tt, tt))) $ says ! (told r e) $
       nothing ! $ move ! (3 ∷ 0 ∷ []) $ join ! $ move ! (2 ∷ 0 ∷ []) $ join ! $ frame ! $ nothing ! $ move ! (3 ∷ 0 ∷ []) $ fjoin ! $ move ! (2 ∷ 0 ∷ []) $ fjoin ! $ frame ! $ done !
 
   -- what the callee is passed
