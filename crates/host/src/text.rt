@@ -15,6 +15,7 @@ pub extern "C" fn lta_desk_lines(input: &[u8], out: &mut [u8]) -> Written
     ensures outcome { λ r. ⌜ verdict (r .number) (r .index) ≡ deskOutcome (length (now (out .entry))) ⌝ }
     ensures length { λ r. ⌜ r .length ≡ length (deskWritten (length (now (out .entry))) (now (input .entry))) ⌝ }
     ensures output { λ r. ⌜ now (out .exit) ≡ deskOutput (now (input .entry)) (now (out .entry)) ⌝ }
+    ensures within { λ r. ⌜ (r .length ≤ length (now (out .exit))) × (r .length ≡ length (take (r .length) (now (out .exit)))) ⌝ }
     ensures text { λ r. ⌜ (1024 ≤ length (now (out .entry)) → PlainText (now (input .entry)) (take (r .length) (now (out .exit)))) ⌝ }
 {
     lines(input, out)

@@ -1,5 +1,5 @@
--- COUNTS AND AMOUNTS READ BACK, in plain bytes: a digit is 48 to 57, the point 46, the minus sign 45. The facts of `ReadsCount` and of `ReadsAmount` fix every
--- byte of a text. Assumes nothing.
+-- COUNTS AND AMOUNTS READ BACK, in plain bytes: a digit is 48 to 57, the point 46, the minus sign 45. The facts of
+-- `ReadsCount` and of `ReadsAmount` fix every byte of a text. Assumes nothing.
 use mathlib.Core.Path.{_≡_, refl, sym, ap, _∙_}
 use mathlib.Core.List.{List, [], _∷_, _++_}
 use Prim.Native.Nat.{ℕ, suc, _+_, _-_, _*_, _/_, _^_, _<_, _≤_}
@@ -30,8 +30,9 @@ pub record ReadsCount (n : ℕ) (text : List ℕ) : Type 0 where
   pub no-zero-in-front : 2 ≤ length text → 49 ≤ getD text 0 0
   pub count-is : said text ≡ n
 
--- AN AMOUNT of x units with k decimals: a minus sign if and only if x is below zero; the whole part, the point, the decimals. Read as one number without the
--- point, the digits say how many units: with eight decimals x is 100,000,000 times the amount
+-- AN AMOUNT of x units with k decimals: a minus sign if and only if x is below zero; the whole part, the point, the
+-- decimals. Read as one number without the point, the digits say how many units: with eight decimals x is 100,000,000
+-- times the amount
 pub record ReadsAmount (k : ℕ) (x : ℤ) (text : List ℕ) : Type 0 where
   pub whole : List ℕ
   pub decimals : List ℕ

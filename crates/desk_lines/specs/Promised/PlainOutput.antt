@@ -1,4 +1,5 @@
--- THE DESK'S TEXT IN A LENT OUTPUT, in plain numbers and byte by byte: 31 exactly where the output has less than 1,024 bytes. Assumes nothing.
+-- THE DESK'S TEXT IN A LENT OUTPUT, in plain numbers and byte by byte: 31 exactly where the output has less than 1,024
+-- bytes. Assumes nothing.
 use mathlib.Core.Path.{_≡_, sym, ap, subst, _∙_}
 use mathlib.Core.List.{List}
 use mathlib.Core.Option.{Option}

@@ -1,5 +1,5 @@
--- ALL THAT THE DESK PRINTS for an input, in plain bytes: where the input is cut, and which lines its two parts have. The clause `text` of the entry cites it.
--- Assumes nothing.
+-- ALL THAT THE DESK PRINTS for an input, in plain bytes: where the input is cut, and which lines its two parts have.
+-- The clause `text` of `lines` cites it. Assumes nothing.
 use mathlib.Core.Path.{_≡_, ap, _∙_}
 use mathlib.Core.Logic.{_⊎_, _≢_}
 use mathlib.Core.List.{List, [], _++_}
@@ -16,7 +16,8 @@ pub record PlainText (input text : List ℕ) : Type 0 where
   pub case-bytes : List ℕ
   pub proposal-bytes : List ℕ
   pub input-is : case-bytes ++ proposal-bytes ≡ input
-  -- once the header is good and enough bytes are there, the case has the length that its header demands; else all is the case
+  -- once the header is good and enough bytes are there, the case has the length that its header demands; else all is
+  -- the case
   pub cut-there : HeaderFacts input → (n : ℕ) → Demands input n → n ≤ length input → length case-bytes ≡ n
   pub too-few : HeaderFacts input → (n : ℕ) → Demands input n → length input < n → proposal-bytes ≡ []
   pub bad-header : (HeaderFacts input → ⊥) → proposal-bytes ≡ []

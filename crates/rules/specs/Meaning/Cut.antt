@@ -14,7 +14,8 @@ abbrev pub good : Option Outcome → Bool
 good (some o) = false
 good none = true
 
--- once the header is good and enough bytes are there, the case is cut at its demanded length and the rest is the proposal; else all is the case
+-- once the header is good and enough bytes are there, the case is cut at its demanded length and the rest is the
+-- proposal; else all is the case
 unfoldable pub caseEnd : List ℕ → ℕ
 caseEnd input = cond (good (headerRefusal input) && leb (caseLength input) (length input)) (caseLength input) (length input)
 

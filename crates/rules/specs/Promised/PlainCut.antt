@@ -1,5 +1,5 @@
--- WHERE THE DESK'S INPUT IS CUT, in plain bytes and both ways: a byte is `getD s k 0`, the number at place k, counted from 0. The numbers are the paper's own.
--- Assumes nothing.
+-- WHERE THE DESK'S INPUT IS CUT, in plain bytes and both ways: a byte is `getD s k 0`, the number at place k, counted
+-- from 0. The numbers are the paper's own. Assumes nothing.
 use mathlib.Core.Path.{_≡_, refl, sym, ap, subst, _∙_}
 use mathlib.Core.List.{List, [], _++_}
 use mathlib.Core.Option.{Option, none, some}

@@ -1,5 +1,5 @@
--- THE DESK'S LINES IN PLAIN BYTES: their names and order, which of them for which number, and what each says when it is read back (`ReadsCount` and `ReadsAmount`
--- of `decimal`). A line ends with byte 10. Assumes nothing.
+-- THE DESK'S LINES IN PLAIN BYTES: their names and order, which lines a number has, and what each line says when it is
+-- read back (`ReadsCount` and `ReadsAmount` of `decimal`). A line ends with byte 10. Assumes nothing.
 use mathlib.Core.Path.{_≡_, refl, sym, ap, subst, _∙_}
 use mathlib.Core.Logic.{_⊎_, inl, inr, _≢_}
 use mathlib.Core.Bool.{Bool, true, false, cond}

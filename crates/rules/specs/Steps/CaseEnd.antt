@@ -1,4 +1,5 @@
--- Where the case of the desk's input ends, by what is known of its header and its length; and two files with the same header. Assumes nothing.
+-- Where the case of the desk's input ends, by what is known of its header and its length; and two files with the same
+-- header. Assumes nothing.
 use mathlib.Core.Path.{_≡_, refl, sym, ap, _∙_}
 use mathlib.Core.Bool.{Bool, true, false, cond, not, _&&_}
 use mathlib.Core.List.{List, [], _∷_}

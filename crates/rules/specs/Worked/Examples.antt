@@ -1,5 +1,5 @@
--- P1 to P12: the worked hours, each a case and a proposal as bytes with the verdict and the values that the paper names; P1 and P3 with the text that the desk
--- prints. Assumes nothing.
+-- P1 to P12: the worked hours, each a case and a proposal as bytes with the verdict and the values that the paper
+-- names; P1 and P3 with the text that the desk prints. Assumes nothing.
 use mathlib.Core.Path.{_≡_, refl}
 use mathlib.Core.List.{List, [], _∷_, _++_, map}
 use Prim.Native.Nat.{ℕ, _*_}
