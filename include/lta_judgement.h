@@ -539,11 +539,10 @@ enum lta_column_number {
  * were. In a refusal every byte is as it was.
  *
  * What holds of an answer:
- *   [columns]     The columned file is as said here; where each byte stands, by the header's own bytes: [places].
+ *   [columns]     The columned file is as said here.
  *   [back]        With room for it lta_case_restored takes it, and gives the case again, byte for byte.
  *   [not_judged]  lta_judge refuses it by LTA_CASE_MARK, whatever the proposal, if there is room for a report.
- * Which case gives which number, both ways, in plain numbers: [numbers]. That no other file is as said here is proved in
- * crates/columns.
+ * That no other file is as said here, and which case gives which number, both ways, is proved in crates/columns.
  */
 struct lta_written lta_case_columned(const uint8_t *case_bytes, size_t case_len, uint8_t *out, size_t out_len);
 
@@ -557,8 +556,7 @@ struct lta_written lta_case_columned(const uint8_t *case_bytes, size_t case_len,
  * a refusal every byte is as it was.
  *
  * What holds of an answer [restored]: none of LTA_CASE_SHORT to LTA_CASE_ORDER has a cause in the case; the file is this case's columns as
- * said above, and lta_case_columned of the case, with room for it, gives the file again, byte for byte. Which file gives which
- * number, and where each byte comes from, in plain numbers: [numbers] [places].
+ * said above, and lta_case_columned of the case, with room for it, gives the file again, byte for byte.
  */
 struct lta_written lta_case_restored(const uint8_t *columned, size_t columned_len, uint8_t *out, size_t out_len);
 

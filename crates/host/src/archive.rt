@@ -2,15 +2,13 @@
 ghost use mathlib.Core.Path.{_≡_};
 ghost use lib.ListN.{length, take};
 ghost use Rattle.rows.specs.Meaning.Rows.{verdict};
-ghost use Rattle.columns.specs.Promised.PlainColumns.{ColumnedNumbers, RestoredNumbers, InColumns};
 ghost use Rattle.columns.specs.Meaning.Columns.{columnedOutcome, columnedWritten, columnedOutput, restoredOutcome, restoredWritten, restoredOutput, Columned, ComesBack, NotJudged, Restored};
 use columns::columned;
 use columns::restored;
 use output::Written;
 
 // The columned file at the start of `out`, and how many bytes it is; or a refusal, 71 and then 72, with length 0 and `out` as it was. An answer's bytes are
-// those of the case in columns, the way back gives the case again, and the judgement refuses them by 2. [numbers] and [places] say in plain numbers when
-// each number is answered and where each byte stands.
+// those of the case in columns, the way back gives the case again, and the judgement refuses them by 2.
 #[no_mangle]
 pub extern "C" fn lta_case_columned(case: &[u8], out: &mut [u8]) -> Written
     ensures outcome { λ r. ⌜ verdict (r .number) (r .index) ≡ columnedOutcome (now («case» .entry)) (length (now (out .entry))) ⌝ }
@@ -19,8 +17,6 @@ pub extern "C" fn lta_case_columned(case: &[u8], out: &mut [u8]) -> Written
     ensures columns { λ r. ⌜ (r .number ≡ 0 → Columned (now («case» .entry)) (take (r .length) (now (out .exit)))) ⌝ }
     ensures back { λ r. ⌜ (r .number ≡ 0 → ComesBack (now («case» .entry)) (take (r .length) (now (out .exit)))) ⌝ }
     ensures not_judged { λ r. ⌜ (r .number ≡ 0 → NotJudged (take (r .length) (now (out .exit)))) ⌝ }
-    ensures numbers { λ r. ⌜ ColumnedNumbers (now («case» .entry)) (length (now (out .entry))) (verdict (r .number) (r .index)) ⌝ }
-    ensures places { λ r. ⌜ (r .number ≡ 0 → InColumns (now («case» .entry)) (take (r .length) (now (out .exit)))) ⌝ }
 {
     columned(case, out)
 }
@@ -33,8 +29,6 @@ pub extern "C" fn lta_case_restored(file: &[u8], out: &mut [u8]) -> Written
     ensures length { λ r. ⌜ r .length ≡ length (restoredWritten (now (file .entry)) (length (now (out .entry)))) ⌝ }
     ensures output { λ r. ⌜ now (out .exit) ≡ restoredOutput (now (file .entry)) (now (out .entry)) ⌝ }
     ensures restored { λ r. ⌜ (r .number ≡ 0 → Restored (now (file .entry)) (take (r .length) (now (out .exit)))) ⌝ }
-    ensures numbers { λ r. ⌜ RestoredNumbers (now (file .entry)) (length (now (out .entry))) (verdict (r .number) (r .index)) ⌝ }
-    ensures places { λ r. ⌜ (r .number ≡ 0 → InColumns (take (r .length) (now (out .exit))) (now (file .entry))) ⌝ }
 {
     restored(file, out)
 }
