@@ -16,9 +16,10 @@ fn packed(number: u32, index: u32) -> u64
     number as u64 + 256 * index as u64
 }
 
-// THE ENTRY: number + 256 * index of the verdict table; the buffer afterwards, every byte of it, in plain numbers too (`bytes`); and demand 3 of an hour that is answered with 0, in the
-// numbers that the report's bytes then hold, by document 01's rules and in the Annex's terms. S-6: coverage is promised of an hour with a link, and of an
-// hour without one accuracy compares with clearings of LTA share 0 alone (`Clearing`).
+// THE ENTRY: number + 256 * index of the verdict table, and every byte of the buffer afterwards, in plain numbers too
+// (`bytes`). Of an hour that is answered with 0 demand 3 holds of the numbers in the report's bytes, by document 01's
+// rules and in the Annex's terms. S-6: coverage is promised of an hour with a link; of an hour without one accuracy
+// compares with clearings of LTA share 0 alone (`Clearing`).
 #[no_mangle]
 pub extern "C" fn lta_judge(case: &[u8], proposal: &[u8], report: &mut [u8]) -> u64
     ensures outcome { λ r. ⌜ r ≡ (outcome (now («case» .entry)) (now (proposal .entry)) (length (now (report .entry)))) .number + 256 * (outcome (now («case» .entry)) (now (proposal .entry)) (length (now (report .entry)))) .index ⌝ }

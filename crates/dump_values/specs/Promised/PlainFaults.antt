@@ -1,8 +1,10 @@
--- WHICH VALUES 59 REFUSES, both ways and in plain numbers, over the 64 bits b of the value: a share below zero or
--- above one, and no other; a flow below zero, or whose product with 10, rounded once, is infinite or 2 ^ 32 or more; a
--- shadow price below zero, or whose product with 100 is infinite or 1,000,000.5 or more; a system price whose product
--- with 100 is infinite, 2,147,483,647.5 or more, or -2,147,483,648.5 or less. The rounded product is the fraction num
--- / den. Minus zero is taken as zero. Assumes nothing.
+-- WHICH VALUES 59 REFUSES, both ways and in plain numbers, over the 64 bits b of the value. The rounded product is the
+-- fraction num / den. Minus zero is taken as zero.
+-- A share is refused below zero and above one, and nowhere else.
+-- A flow is refused below zero, and where its product with 10, rounded once, is infinite or 2 ^ 32 or more.
+-- A shadow price is refused below zero, and where its product with 100 is infinite or 1,000,000.5 or more.
+-- A system price is refused where that product is infinite, 2,147,483,647.5 or more, or -2,147,483,648.5 or less.
+-- Assumes nothing.
 use mathlib.Core.Path.{_≡_, refl, sym, ap, _∙_, subst}
 use mathlib.Core.Logic.{_⊎_, inl, inr, _↔_}
 use mathlib.Core.Bool.{Bool, true, false, not, cond, _&&_, _||_, true≢false}

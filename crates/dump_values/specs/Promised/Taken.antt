@@ -1,7 +1,8 @@
--- WHAT EACH VALUE BECAME, by its kind and in plain numbers, over the exact fraction that its 64 bits are: a share of q
--- is its product with q, rounded once and cut, within one of the exact one and never above q; a flow is ten times the
--- MW, rounded once and cut; a price is a hundred times the euros, rounded once and taken to the nearest cent, halves
--- away from zero. Another factor, a cut for the nearest, or a sign lost would make it false. Assumes nothing.
+-- WHAT EACH VALUE BECAME, by its kind and in plain numbers, over the exact fraction that its 64 bits are.
+-- A share of q is its product with q, rounded once and cut: within one of the exact product and never above q.
+-- A flow is ten times the MW, rounded once and cut.
+-- A price is a hundred times the euros, rounded once and taken to the nearest cent, halves away from zero.
+-- Another factor, a cut for the nearest, or a lost sign would make it false. Assumes nothing.
 use mathlib.Core.Path.{_≡_, refl, ap}
 use mathlib.Core.Bool.{Bool, true, false, not, cond}
 use Prim.Native.Nat.{ℕ, _^_, _≤_, _<_}

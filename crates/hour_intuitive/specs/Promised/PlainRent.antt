@@ -1,7 +1,7 @@
--- THE REPORTED RENT OF AN HOUR THAT IS ANSWERED YES, in the bytes of its report: with any buffer of 176 bytes or
--- more, what `lta_judge` writes at 32 is the sum, over the pairs, of a flow times the difference of the reported
--- prices of its two zones; no flow goes to a lower price, so the rent is not negative. Of net positions with the sign
--- turned, or of pairs counted from higher price to lower, it would be false. Assumes nothing.
+-- THE REPORTED RENT OF AN HOUR THAT IS ANSWERED YES, in the bytes of its report, with any buffer of 176 bytes or more.
+-- What `lta_judge` writes at 32 is the sum, over the pairs, of a flow times the difference of the reported prices of
+-- its two zones. No flow goes to a lower price, so the rent is not negative. With net positions of the other sign, or
+-- pairs counted from higher price to lower, it would be false. Assumes nothing.
 use mathlib.Core.Path.{_≡_, refl, sym, ap, _∙_}
 use mathlib.Core.Bool.{Bool, cond}
 use mathlib.Core.Logic.{inl}

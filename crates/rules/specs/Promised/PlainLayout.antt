@@ -1,5 +1,6 @@
--- EVERY FIELD OF CASE AND PROPOSAL IN PLAIN BYTES, of any bytes: a byte is `getD s k 0`, the number at place k of the file, counted from 0; a field of 16 or 32
--- bits is the sum of its bytes with their powers of 256, a signed one that sum or, from 2 ^ 31 on, 2 ^ 32 less. Offsets are the paper's own numbers. Assumes nothing.
+-- EVERY FIELD OF CASE AND PROPOSAL IN PLAIN BYTES, of any bytes. A byte is `getD s k 0`, the number at place k of the
+-- file, counted from 0. A field of 16 or 32 bits is the sum of its bytes with their powers of 256; a signed one is that
+-- sum or, from 2 ^ 31 on, 2 ^ 32 less. Offsets are the paper's own numbers. Assumes nothing.
 use mathlib.Core.Path.{_≡_, refl, sym, ap, subst, _∙_}
 use mathlib.Core.Logic.{_⊎_, inl, inr}
 use mathlib.Core.Bool.{Bool, true, false, cond}

@@ -1,5 +1,6 @@
--- THE UNITS OF THE HOUR, in the paper's numbers: a bought MWh, which is ten tenths, is worth its price, in cents per MWh, times the million microcents that a
--- cent has; one that is sold costs as much; and the gap of an accepted hour is at most so many such cents as the tolerance has. Assumes nothing.
+-- THE UNITS OF THE HOUR, in the paper's numbers. A bought MWh is ten tenths; it is worth its price in cents per MWh times
+-- the million microcents that a cent has. A sold one costs as much. The gap of an accepted hour is at most as many such
+-- cents as the tolerance has. Assumes nothing.
 use mathlib.Core.Path.{_≡_, ap, _∙_}
 use mathlib.Core.Bool.{Bool, true, false}
 use mathlib.Core.List.{List}
