@@ -1,4 +1,6 @@
 -- THE PROOFS' MEANS
+pub mod Numbers
+pub mod Read
 pub mod Header
 pub mod Judged
 pub mod Refused

@@ -11,7 +11,7 @@ use Rattle.rules.specs.Meaning.Layout.{reportRoom, reportZonesAt, zonePriceAt}
 use Rattle.rules.specs.Meaning.Verdict.{outcome}
 use Rattle.rules.specs.Meaning.Report.{reports, bufferAfter}
 use Rattle.rules.specs.Meaning.Lines.{verdictLine, hourText}
-use Rattle.hour_lines.specs.Steps.Read.{linesIn}
+use Rattle.desk_lines.specs.Steps.Read.{linesIn}
 use Rattle.desk_lines.specs.Steps.Judged.{one-line, all-lines, zones-within}
 use Rattle.desk_lines.specs.Promised.Room.{first-room, hour-room}
 use borrow.Author.Needs.{needs}

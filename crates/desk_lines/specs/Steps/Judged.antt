@@ -14,7 +14,7 @@ use Rattle.rules.specs.Steps.Passed.{sound, case-sound}
 use Rattle.rules.specs.Meaning.Report.{Reported, Totals, totalsOf, reportedPrice, reports, bufferAfter}
 use Rattle.rules.specs.Promised.Reported.{reported, same-length}
 use Rattle.rules.specs.Meaning.Lines.{verdictLine, priceLines, totalLines, hourLines, linesOf, hourText}
-use Rattle.hour_lines.specs.Steps.Read.{totalsIn, linesIn, prices-same}
+use Rattle.desk_lines.specs.Steps.Read.{totalsIn, linesIn, prices-same}
 
 module _ (s t : List ℕ) where
   abbrev zones : ℕ

@@ -1,10 +1,10 @@
--- `hour_lines::put_named` meets its contract: name, count and space stand one after another, each where the one before ends. Assumes nothing.
+-- `desk_lines::put_named` meets its contract: name, count and space stand one after another, each where the one before ends. Assumes nothing.
 use native.Mathlib.Omega.{arith}
 use lib.ListN.{length-append}
 use Rattle.decimal.specs.Steps.Put.{put-length, put-then}
 use borrow.Author.Needs.{needs}
-use Rattle.hour_lines.proofs.put_named.Statement.{statement}
-use Rattle.hour_lines.proofs.put_named.Tie as tie
+use Rattle.desk_lines.proofs.put_named.Statement.{statement}
+use Rattle.desk_lines.proofs.put_named.Tie as tie
 
 put-text-requires : tie.Need-put-text-requires
 put-text-requires c κs = omega (arith, simp length-append at (c .before .before .before .pre))

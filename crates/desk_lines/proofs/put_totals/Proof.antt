@@ -1,11 +1,11 @@
--- `hour_lines::put_totals` meets its contract: the five lines stand one after another, each where the one before ends. Assumes nothing.
+-- `desk_lines::put_totals` meets its contract: the five lines stand one after another, each where the one before ends. Assumes nothing.
 use native.Mathlib.Omega.{arith}
 use lib.ListN.{length-append}
 use Rattle.decimal.specs.Steps.Put.{put-length, put-then}
 use Rattle.rules.specs.Meaning.Lines.{totalLines}
 use borrow.Author.Needs.{needs}
-use Rattle.hour_lines.proofs.put_totals.Statement.{statement}
-use Rattle.hour_lines.proofs.put_totals.Tie as tie
+use Rattle.desk_lines.proofs.put_totals.Statement.{statement}
+use Rattle.desk_lines.proofs.put_totals.Tie as tie
 
 slice-aggregate-put-total : tie.Need-slice-aggregate-put-total
 slice-aggregate-put-total c = search needs

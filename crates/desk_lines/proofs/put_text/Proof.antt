@@ -1,4 +1,4 @@
--- `hour_lines::put_text` meets its contract. The loop's invariant: the first i bytes of the text stand at `at`, and all else is as it was.
+-- `desk_lines::put_text` meets its contract. The loop's invariant: the first i bytes of the text stand at `at`, and all else is as it was.
 -- The measure is what is left of the text. Assumes nothing.
 use mathlib.Core.Path.{_≡_, refl, sym, ap, _∙_}
 use mathlib.Core.List.{[], _∷_, _++_}
@@ -8,8 +8,8 @@ use native.Mathlib.Omega.{arith}
 use lib.ListN.{length, take, getD}
 use lib.Seq.{take-suc, take-length}
 use Rattle.decimal.specs.Steps.Put.{Put, put-as, put-length, put-then, put-byte}
-use Rattle.hour_lines.proofs.put_text.Statement.{statement}
-use Rattle.hour_lines.proofs.put_text.Tie as tie
+use Rattle.desk_lines.proofs.put_text.Statement.{statement}
+use Rattle.desk_lines.proofs.put_text.Tie as tie
 
 abbrev Inv-loop : tie.InvT-loop
 Inv-loop out₀ at text i₀ out i = (i ≤ length text) × Put out₀ at (take i text) out (at + i)

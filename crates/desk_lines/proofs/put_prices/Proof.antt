@@ -1,4 +1,4 @@
--- `hour_lines::put_prices` meets its contract. The loop's invariant: the lines of the zones below z stand at `at`. The measure is the zones left.
+-- `desk_lines::put_prices` meets its contract. The loop's invariant: the lines of the zones below z stand at `at`. The measure is the zones left.
 -- Assumes nothing.
 use mathlib.Core.Path.{_≡_, refl, ap}
 use Prim.Native.Nat.{ℕ, _-_, _≤_}
@@ -6,9 +6,9 @@ use native.Mathlib.Omega.{arith}
 use Rattle.decimal.specs.Steps.Put.{Put, put-as, put-length, put-then}
 use Rattle.rules.specs.Meaning.Report.{reportedPrice}
 use Rattle.rules.specs.Meaning.Lines.{priceLines}
-use Rattle.hour_lines.specs.Steps.Read.{prices-more, prices-within}
-use Rattle.hour_lines.proofs.put_prices.Statement.{statement}
-use Rattle.hour_lines.proofs.put_prices.Tie as tie
+use Rattle.desk_lines.specs.Steps.Read.{prices-more, prices-within}
+use Rattle.desk_lines.proofs.put_prices.Statement.{statement}
+use Rattle.desk_lines.proofs.put_prices.Tie as tie
 
 abbrev Inv-loop : tie.InvT-loop
 Inv-loop out₀ at report zones next₀ z₀ out next z = (z ≤ zones) × Put out₀ at (priceLines z (reportedPrice report)) out next

@@ -1,9 +1,9 @@
--- `hour_lines::number_at` meets its contract: the two words are the bits. Assumes nothing.
+-- `desk_lines::number_at` meets its contract: the two words are the bits. Assumes nothing.
 use Prim.Native.Nat.{_+_, _*_}
-use Rattle.hour_lines.specs.Steps.Numbers.{number-is}
+use Rattle.desk_lines.specs.Steps.Numbers.{number-is}
 use borrow.Author.Needs.{needs}
-use Rattle.hour_lines.proofs.number_at.Statement.{statement}
-use Rattle.hour_lines.proofs.number_at.Tie as tie
+use Rattle.desk_lines.proofs.number_at.Statement.{statement}
+use Rattle.desk_lines.proofs.number_at.Tie as tie
 
 word-at-requires : tie.Need-word-at-requires
 word-at-requires c κs = search needs

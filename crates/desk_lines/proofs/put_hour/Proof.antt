@@ -1,4 +1,4 @@
--- `hour_lines::put_hour` meets its contract: the totals' lines and then the prices' lines, for as many zones as the report says. Assumes nothing.
+-- `desk_lines::put_hour` meets its contract: the totals' lines and then the prices' lines, for as many zones as the report says. Assumes nothing.
 use mathlib.Core.Path.{ap}
 use Prim.Native.Nat.{ℕ}
 use native.Mathlib.Omega.{arith}
@@ -7,8 +7,8 @@ use Rattle.decimal.specs.Steps.Put.{put-as, put-length, put-then}
 use Rattle.rules.specs.Meaning.Report.{reportedPrice}
 use Rattle.rules.specs.Meaning.Lines.{priceLines, hourLines}
 use borrow.Author.Needs.{needs}
-use Rattle.hour_lines.proofs.put_hour.Statement.{statement}
-use Rattle.hour_lines.proofs.put_hour.Tie as tie
+use Rattle.desk_lines.proofs.put_hour.Statement.{statement}
+use Rattle.desk_lines.proofs.put_hour.Tie as tie
 
 put-totals-requires : tie.Need-put-totals-requires
 unfolding hourLines

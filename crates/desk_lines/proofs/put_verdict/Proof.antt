@@ -1,12 +1,12 @@
--- `hour_lines::put_verdict` meets its contract: name and number, index and newline stand one after another, each where the one before ends.
+-- `desk_lines::put_verdict` meets its contract: name and number, index and newline stand one after another, each where the one before ends.
 -- Assumes nothing.
 use native.Mathlib.Omega.{arith}
 use lib.ListN.{length-append}
 use Rattle.decimal.specs.Steps.Put.{put-length, put-then}
 use Rattle.rules.specs.Meaning.Lines.{verdictLine}
 use borrow.Author.Needs.{needs}
-use Rattle.hour_lines.proofs.put_verdict.Statement.{statement}
-use Rattle.hour_lines.proofs.put_verdict.Tie as tie
+use Rattle.desk_lines.proofs.put_verdict.Statement.{statement}
+use Rattle.desk_lines.proofs.put_verdict.Tie as tie
 
 slice-aggregate-put-named : tie.Need-slice-aggregate-put-named
 slice-aggregate-put-named c = search needs

@@ -1,4 +1,4 @@
--- `hour_lines::put_total` meets its contract: name, amount and newline stand one after another, each where the one before ends. Assumes nothing.
+-- `desk_lines::put_total` meets its contract: name, amount and newline stand one after another, each where the one before ends. Assumes nothing.
 use mathlib.Core.Path.{ap}
 use native.Mathlib.Omega.{arith}
 use lib.ListN.{length, length-append}
@@ -8,8 +8,8 @@ use Rattle.decimal.specs.Steps.Put.{Put, put-as, put-length, put-then}
 use Rattle.integers.specs.Bytes.{i64At}
 use Rattle.rules.specs.Meaning.Lines.{totalLine}
 use borrow.Author.Needs.{needs}
-use Rattle.hour_lines.proofs.put_total.Statement.{statement}
-use Rattle.hour_lines.proofs.put_total.Tie as tie
+use Rattle.desk_lines.proofs.put_total.Statement.{statement}
+use Rattle.desk_lines.proofs.put_total.Tie as tie
 
 module _ (c : tie.After-put-money) where
   abbrev named : tie.After-put-text

@@ -1,2 +1,0 @@
--- The proofs' means: what the lines mean stands in `rules`
-pub mod Steps

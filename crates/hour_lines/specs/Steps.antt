@@ -1,3 +1,0 @@
--- THE PROOFS' MEANS
-pub mod Numbers
-pub mod Read
