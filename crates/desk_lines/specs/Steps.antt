@@ -1,6 +1,5 @@
 -- THE PROOFS' MEANS
-pub mod Numbers
-pub mod Read
+pub mod Texts
 pub mod Header
 pub mod Judged
 pub mod Refused

@@ -6,8 +6,10 @@ use Prim.Native.Nat.{ℕ, _-_, _≤_}
 use native.Mathlib.Omega.{arith}
 use lib.ListN.{length, take, drop, length-drop}
 use lib.Seq.{length-take-le, take-all}
+use Rattle.case_header.specs.Meaning.Answer.{headerAnswer}
 use Rattle.decimal.specs.Steps.Put.{Put, put-as}
 use Rattle.desk_lines.specs.Steps.Answers.{met-refusal, met-answer}
+use Rattle.desk_lines.specs.Steps.Header.{case-header-is}
 use Rattle.rules.specs.Meaning.Cut.{casePart, proposalPart}
 use Rattle.rules.specs.Steps.CaseEnd.{end-within}
 use Rattle.rules.specs.Meaning.Lines.{hourText, deskText}
@@ -15,29 +17,30 @@ use borrow.Author.Needs.{needs}
 use Rattle.desk_lines.proofs.lines.Statement.{statement}
 use Rattle.desk_lines.proofs.lines.Tie as tie
 
-cut-within : (c : tie.After-cut) → c .cut .result ≤ length (c .before .before .before .before .args .input .now)
-cut-within c = omega (arith, c .cut .ensures, end-within (c .before .before .before .before .args .input .now))
-
 -- the part of a slice from a place to its end
 rest : (input : List ℕ) (at : ℕ) → take (length input - at) (drop at input) ≡ drop at input
 rest input at = take-all (length input - at) (drop at input) (omega (arith, length-drop at input))
 
--- all lines stand at the start of the output
-module _ (c : tie.After-put-lines) where
+module _ (c : tie.After-cut) where
   abbrev start : tie.Start
-  start = c .before .before .before .before .before .before .before .before
+  start = c .before .before .before .before .before
+
+  abbrev input : List ℕ
+  input = start .args .input .now
 
   abbrev end : ℕ
-  end = c .before .before .before .before .cut .result
+  end = c .cut .result
 
-  text : hourText (take end (start .args .input .now)) (take (length (start .args .input .now) - end) (drop end (start .args .input .now))) ≡ deskText (start .args .input .now)
+  cut-within : end ≤ length input
+  cut-within = omega (arith, c .cut .ensures, end-within input)
+
+  header-is : c .before .read-header .result ≡ headerAnswer (take end input)
+  unfolding casePart
+  header-is = c .before .read-header .ensures ∙ sym (ap (λ (k : ℕ). headerAnswer (take k input)) (c .cut .ensures) ∙ case-header-is input)
+
+  text : hourText (take end input) (take (length input - end) (drop end input)) ≡ deskText input
   unfolding deskText casePart proposalPart
-  text =
-      ap (λ (t : List ℕ). hourText (take end (start .args .input .now)) t) (rest (start .args .input .now) end)
-      ∙ ap (λ (k : ℕ). hourText (take k (start .args .input .now)) (drop k (start .args .input .now))) (c .before .before .before .before .cut .ensures)
-
-  all-put : Put (start .args .out .now) 0 (deskText (start .args .input .now)) (c .put-lines .last .1 .1 .0) (c .put-lines .result)
-  all-put = put-as text (c .put-lines .ensures)
+  text = ap (λ (t : List ℕ). hourText (take end input) t) (rest input end) ∙ ap (λ (k : ℕ). hourText (take k input) (drop k input)) (c .cut .ensures)
 
 refused-requires : tie.Need-refused-requires
 refused-requires c κs = search needs
@@ -48,8 +51,11 @@ returns c =
     let a = i .before .before .before .args in
     met-refusal (a .input .now) (a .out .now) (i .if1 .taken) (c .refused .ensures)
 
+read-header-requires : tie.Need-read-header-requires
+read-header-requires c κs = search needs
+
 cut-requires : tie.Need-cut-requires
-cut-requires c κs = search needs
+cut-requires c κs = c .read-header .ensures
 
 slice-aggregate-put-lines : tie.Need-slice-aggregate-put-lines
 slice-aggregate-put-lines c = sym (length-take-le _ _ (cut-within (c .before)))
@@ -64,7 +70,7 @@ part-put-lines-end : tie.Need-part-put-lines-end
 part-put-lines-end c = search needs
 
 put-lines-requires : tie.Need-put-lines-requires
-put-lines-requires c κs = search needs
+put-lines-requires c κs = (header-is (c .before .before .before), omega arith)
 
 same-length : tie.Need-same-length
 same-length c = search needs
@@ -72,8 +78,9 @@ same-length c = search needs
 returns-2 : tie.Need-returns-2
 returns-2 c =
     let put = c .before .before in
-    let a = (start put) .args in
-    met-answer (a .input .now) (a .out .now) (put .before .before .before .before .before .if1 .left) (all-put put)
+    let cut = put .before .before .before .before in
+    let a = (start cut) .args in
+    met-answer (a .input .now) (a .out .now) (cut .before .before .if1 .left) (put-as (text cut) (put .put-lines .ensures))
 
 pub lines-spec : {M : Type 1} → statement M
 lines-spec =
@@ -81,6 +88,7 @@ lines-spec =
     (tie.spec
     refused-requires
     returns
+    read-header-requires
     cut-requires
     slice-aggregate-put-lines
     sub-put-lines

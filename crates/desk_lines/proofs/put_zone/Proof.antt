@@ -1,47 +1,48 @@
 -- `desk_lines::put_zone` meets its contract: name and zone, price and newline stand one after another, each where the one before ends. Assumes nothing.
-use mathlib.Core.Path.{ap}
+use mathlib.Core.Path.{_≡_, ap}
+use mathlib.Core.List.{_++_}
 use native.Mathlib.Omega.{arith}
 use lib.ListN.{length, length-append}
-use lib.IntN.{ℤ}
-use Rattle.decimal.specs.Meaning.Text.{amountText}
+use mir.Syntax.{w64}
+use mir.Val.{toZ}
+use Rattle.decimal.specs.Meaning.Ascii.{ascii}
+use Rattle.decimal.specs.Meaning.Text.{countText, amountText}
 use Rattle.decimal.specs.Steps.Put.{Put, put-as, put-length, put-then}
-use Rattle.rules.specs.Meaning.Report.{reportedPrice}
 use Rattle.rules.specs.Meaning.Lines.{priceLine}
+use Rattle.desk_lines.specs.Steps.Texts.{bits-text}
 use borrow.Author.Needs.{needs}
 use Rattle.desk_lines.proofs.put_zone.Statement.{statement}
 use Rattle.desk_lines.proofs.put_zone.Tie as tie
 
-module _ (c : tie.After-put-price) where
-  abbrev named : tie.After-put-named
-  named = c .before .before .before .before
+abbrev named : tie.After-bits → tie.After-put-named
+named c = c .before .before .before .before
 
-  abbrev start : tie.Start
-  start = named .before .before .before .before .before .before
+abbrev start : tie.After-put-named → tie.Start
+start c = c .before .before .before .before
 
-  price-put : Put (named .put-named .last .0) (named .put-named .result) (amountText 7 (reportedPrice (start .args .report .now) (start .args .zone))) (c .put-price .last .0) (c .put-price .result)
-  price-put = put-as (ap (λ (z : ℤ). amountText 7 z) (named .before .before .before .number-at .ensures)) (c .put-price .ensures)
-
-mul-number-at : tie.Need-mul-number-at
-mul-number-at c = search needs
-
-add-number-at : tie.Need-add-number-at
-add-number-at c = search needs
-
-number-at-requires : tie.Need-number-at-requires
-number-at-requires c κs = search needs
+amount-is : (c : tie.After-bits) → amountText 7 (toZ w64 (c .bits .result .0)) ≡ amountText 7 ((start (named c)) .args .price .0)
+amount-is c = bits-text 7 (record { sfits = omega arith }) (c .bits .ensures)
 
 slice-aggregate-put-named : tie.Need-slice-aggregate-put-named
 slice-aggregate-put-named c = search needs
 
 put-named-requires : tie.Need-put-named-requires
 unfolding priceLine
-put-named-requires c κs = simp length-append (omega (arith, simp length-append at (c .before .before .before .before .before .pre .1)))
+put-named-requires c κs = simp length-append (omega (arith, simp length-append at (c .before .before .before .pre)))
+
+bits-requires : tie.Need-bits-requires
+bits-requires c κs = search needs
 
 put-price-requires : tie.Need-put-price-requires
 unfolding priceLine
 put-price-requires c κs =
-    let zone = c .before .before .before .put-named .ensures in
-    omega (arith, simp length-append at (c .before .before .before .before .before .before .before .before .before .pre .1), simp length-append at (zone .position), put-length zone, ap (λ (z : ℤ). length (amountText 7 z)) (c .before .before .before .before .before .before .number-at .ensures))
+    let zone = named c .put-named .ensures in
+    omega (arith, simp length-append at ((start (named c)) .pre), simp length-append at (zone .position), put-length zone, ap length (amount-is c))
+
+-- the zone and its price
+both : (c : tie.After-put-price) → let n = named (c .before) in let a = (start n) .args in
+    Put (a .out .now) (a .at) (ascii "price " ++ countText (a .zone) ++ ascii " " ++ amountText 7 (a .price .0)) (c .put-price .last .0) (c .put-price .result)
+both c = put-then (named (c .before) .put-named .ensures) (put-as (amount-is (c .before)) (c .put-price .ensures))
 
 slice-aggregate-put-text : tie.Need-slice-aggregate-put-text
 slice-aggregate-put-text c = search needs
@@ -49,26 +50,26 @@ slice-aggregate-put-text c = search needs
 put-text-requires : tie.Need-put-text-requires
 unfolding priceLine
 put-text-requires c κs =
-    let zone = c .before .before .before .before .before .before .before .before .put-named .ensures in
-    let price = price-put (c .before .before .before .before) in
-    omega (arith, simp length-append at (c .before .before .before .before .before .before .before .before .before .before .before .before .before .before .pre .1), simp length-append at (zone .position), put-length zone, price .position, put-length price)
+    let m = c .before .before .before .before in
+    let p = both m in
+    omega (arith, simp length-append at ((start (named (m .before))) .pre), simp length-append at (p .position), put-length p)
 
 same-length : tie.Need-same-length
 same-length c = search needs
 
 returns : tie.Need-returns
 unfolding priceLine
-returns c = put-then (put-then (c .before .before .before .before .before .before .before .before .before .before .before .put-named .ensures) (price-put (c .before .before .before .before .before .before .before))) (c .before .before .put-text .ensures)
+returns c =
+    let n = c .before .before in
+    put-then (both (n .before .before .before .before .before)) (n .put-text .ensures)
 
 pub put-zone-spec : {M : Type 1} → statement M
 put-zone-spec =
     tie.close
     (tie.spec
-    mul-number-at
-    add-number-at
-    number-at-requires
     slice-aggregate-put-named
     put-named-requires
+    bits-requires
     put-price-requires
     slice-aggregate-put-text
     put-text-requires

@@ -1,20 +1,22 @@
--- The lines of an hour from what its judgement leaves: the verdict, and a report in a buffer of 176 bytes. Assumes nothing.
-use mathlib.Core.Path.{_≡_, sym, ap, subst, _∙_}
+-- The lines of an hour from what the driver finds in it: the verdict, and for 0 and 26 its totals and prices. Assumes nothing.
+use mathlib.Core.Path.{_≡_, refl, sym, ap, _∙_}
 use mathlib.Core.Bool.{Bool, true, false, cond}
 use mathlib.Core.List.{List, [], _++_, append-nil}
-use Prim.Native.Nat.{ℕ, _≤_}
-use native.Mathlib.Omega.{arith}
-use lib.ListN.{length, getD, replicate}
-use lib.Dec.{T}
+use mathlib.Core.Option.{Option, none}
+use Prim.Native.Nat.{ℕ}
 use lib.IntN.{ℤ}
-use Rattle.rules.specs.Meaning.Layout.{reportRoom, reportZonesAt, zonePriceAt}
+use Rattle.rules.specs.Meaning.Layout.{reportRoom}
 use Rattle.rules.specs.Meaning.Hour.{caseOf, planOf, pricesOf, zonePrice}
-use Rattle.rules.specs.Meaning.Verdict.{outcome}
-use Rattle.rules.specs.Steps.Passed.{sound, case-sound}
-use Rattle.rules.specs.Meaning.Report.{Reported, Totals, totalsOf, reportedPrice, reports, bufferAfter}
-use Rattle.rules.specs.Promised.Reported.{reported, same-length}
+use Rattle.rows.specs.declared.Outcome.{Outcome}
+use Rattle.rows.specs.Meaning.Rows.{answer}
+use Rattle.rows.specs.Promised.RowLaws.{field-passes}
+use Rattle.rules.specs.Meaning.Verdict.{roomRows, table, outcome}
+use Rattle.rules.specs.Meaning.Report.{Totals, totalsOf, reports}
 use Rattle.rules.specs.Meaning.Lines.{verdictLine, priceLines, totalLines, hourLines, linesOf, hourText}
-use Rattle.desk_lines.specs.Steps.Read.{totalsIn, linesIn, prices-same}
+use Rattle.report.specs.Written.{totalsIn, priceIn}
+use Rattle.findings.specs.declared.Found.{Found}
+use Rattle.findings.specs.Found.{Finds, hourRows}
+use Rattle.desk_lines.specs.Steps.Texts.{prices-same}
 
 module _ (s t : List ℕ) where
   abbrev zones : ℕ
@@ -32,41 +34,25 @@ module _ (s t : List ℕ) where
   one-line e = ap (λ (b : Bool). verdictLine (outcome s t reportRoom) ++ cond b (hourLines zones totals price) []) e ∙ append-nil (verdictLine (outcome s t reportRoom))
 
   -- for 0 and 26
-  module _ (e : reports ((outcome s t reportRoom) .number) ≡ true) where
-    abbrev buffer : List ℕ
-    buffer = bufferAfter s t (replicate reportRoom 0)
+  all-lines : reports ((outcome s t reportRoom) .number) ≡ true → hourText s t ≡ verdictLine (outcome s t reportRoom) ++ hourLines zones totals price
+  unfolding hourText linesOf
+  all-lines e = ap (λ (b : Bool). verdictLine (outcome s t reportRoom) ++ cond b (hourLines zones totals price) []) e
 
-    stands : Reported ((outcome s t reportRoom) .number) (caseOf s) (planOf s t) (pricesOf s t) buffer
-    stands = reported s t (replicate reportRoom 0) (subst T (sym e) tt)
+-- WHAT THE DRIVER FINDS, as the lines have it
+module _ {s t : List ℕ} {f : Found} (h : Finds (hourRows none s t) s t f) where
+  pub verdict-found : f .verdict ≡ outcome s t reportRoom
+  unfolding outcome table roomRows
+  verdict-found = h .verdict-is ∙ ap (λ (o : Option Outcome). answer o) (sym (field-passes 30 0 (hourRows none s t) refl))
 
-    totals-stand : totalsIn buffer ≡ totals
-    unfolding totalsOf
-    totals-stand = λ i. record {
-      welfare = stands .welfare-at i;
-      bound = stands .bound-at i;
-      gap = stands .gap-at i;
-      rent = stands .rent-at i;
-      owed = stands .owed-at i;
-    }
+  reports-found : {b : Bool} → f .valued ≡ b → reports ((outcome s t reportRoom) .number) ≡ b
+  reports-found v = ap (λ (o : Outcome). reports (o .number)) (sym verdict-found) ∙ sym (h .valued-is) ∙ v
 
-    prices-stand : priceLines zones (reportedPrice buffer) ≡ priceLines zones price
-    prices-stand = prices-same zones (reportedPrice buffer) price (stands .price-at)
+  pub line-found : f .valued ≡ false → verdictLine (f .verdict) ≡ hourText s t
+  line-found v = ap verdictLine verdict-found ∙ sym (one-line s t (reports-found v))
 
-    hour-stands : linesIn buffer ≡ hourLines zones totals price
-    unfolding hourLines
-    hour-stands = (λ i. totalLines (totals-stand i) ++ priceLines (stands .zones-at i) (reportedPrice buffer)) ∙ ap (λ (l : List ℕ). totalLines totals ++ l) prices-stand
-
-    pub all-lines : hourText s t ≡ verdictLine (outcome s t reportRoom) ++ linesIn buffer
-    unfolding hourText linesOf
-    all-lines =
-        ap (λ (b : Bool). verdictLine (outcome s t reportRoom) ++ cond b (hourLines zones totals price) []) e
-        ∙ ap (λ (l : List ℕ). verdictLine (outcome s t reportRoom) ++ l) (sym hour-stands)
-
-    -- the report has its zones within the buffer
-    pub zones-within : zonePriceAt (getD buffer reportZonesAt 0) ≤ length buffer
-    zones-within = omega (
-      arith,
-      stands .zones-at,
-      same-length s t (replicate reportRoom 0),
-      (case-sound s ((sound s t reportRoom (subst T (sym e) tt)) .readable)) .zones-in .1,
-    )
+  pub lines-found : f .valued ≡ true → verdictLine (f .verdict) ++ hourLines (f .counts .zones) (totalsIn (f .totals)) (priceIn (f .prices)) ≡ hourText s t
+  unfolding hourLines
+  lines-found v =
+      (λ i. verdictLine (verdict-found i) ++ (totalLines (h .totals-are v i) ++ priceLines (h .zones-are v i) (priceIn (f .prices))))
+      ∙ ap (λ (l : List ℕ). verdictLine (outcome s t reportRoom) ++ (totalLines (totals s t) ++ l)) (prices-same (zones s t) (priceIn (f .prices)) (price s t) ((h .prices-are v) .each))
+      ∙ sym (all-lines s t (reports-found v))

@@ -1,22 +1,21 @@
--- What stands in a report buffer, as the lines take it, and the price lines zone by zone. Assumes nothing.
-use mathlib.Core.Path.{_≡_, refl, sym, ap}
+-- An amount's text from its bits, and the price lines zone by zone. Assumes nothing.
+use mathlib.Core.Path.{_≡_, refl, sym, ap, _∙_}
 use mathlib.Core.List.{List, _++_}
 use Prim.Native.Nat.{ℕ, zero, suc, _+_, _≤_, _<_}
 use native.Mathlib.Numerals.{add-one}
 use native.Mathlib.Decide.{decLt}
 use native.Mathlib.Omega.{arith}
-use lib.ListN.{length, getD, length-append}
+use lib.ListN.{length, length-append}
 use lib.IntN.{ℤ}
-use Rattle.rules.specs.Meaning.Layout.{reportZonesAt}
-use Rattle.rules.specs.Meaning.Report.{Totals, reportedWelfare, reportedBound, reportedGap, reportedRent, reportedOwed, reportedPrice}
-use Rattle.rules.specs.Meaning.Lines.{priceLine, priceLines, hourLines}
+use mir.Syntax.{w64}
+use mir.Val.{SFits, toZ, ofZ}
+use mir.Facts.{toZ-ofZ}
+use Rattle.decimal.specs.Meaning.Text.{amountText}
+use Rattle.rules.specs.Meaning.Lines.{priceLine, priceLines}
 
-abbrev pub totalsIn : List ℕ → Totals
-totalsIn b = record { welfare = reportedWelfare b; bound = reportedBound b; gap = reportedGap b; rent = reportedRent b; owed = reportedOwed b }
-
--- the lines after the first
-abbrev pub linesIn : List ℕ → List ℕ
-linesIn b = hourLines (getD b reportZonesAt 0) (totalsIn b) (reportedPrice b)
+-- an amount's text, from the bits that the amount is printed by
+pub bits-text : (decimals : ℕ) {b : ℕ} {z : ℤ} → SFits w64 z → b ≡ ofZ w64 z → amountText decimals (toZ w64 b) ≡ amountText decimals z
+bits-text decimals {b} {z} f e = ap (λ (n : ℕ). amountText decimals (toZ w64 n)) e ∙ ap (λ (x : ℤ). amountText decimals x) (toZ-ofZ {w = w64} {z = z} f)
 
 -- one zone more
 pub prices-more : (z : ℕ) (price : ℕ → ℤ) → priceLines z price ++ priceLine z (price z) ≡ priceLines (z + 1) price
