@@ -3,13 +3,14 @@
 ghost use mathlib.Core.Path.{_≡_};
 ghost use mathlib.Core.List.{List, [], _∷_, _++_};
 ghost use Prim.Native.Nat.{ℕ, _+_, _*_, _-_, _<_};
-ghost use lib.ListN.{length, drop};
+ghost use lib.ListN.{drop};
 ghost use lib.Seq.{paste};
 ghost use Rattle.desk_queue.specs.Meaning.Queue.{among, postNumber, afterPost, next, afterServe, serveAnswer};
 ghost use Rattle.desk_queue.specs.Steps.Invariant.{Hours};
 ghost use Rattle.queue_bytes.specs.Meaning.Bytes.{hoursAt, queueOf, bytesAfterPost, bytesAfterServe};
 ghost use Rattle.queue_bytes.specs.Steps.Cells.{waitingOf, Addable, countsBehind};
 ghost use Rattle.queue_bytes.specs.Meaning.Answer.{given};
+ghost use Rattle.queue_bytes.specs.Steps.Answers.{PostStep, ServeStep};
 ghost use Rattle.queue_bytes.specs.Steps.Walks.{areaOf};
 
 // The hours that wait in one area: its cells, those that hold an hour first, and how many these are.
@@ -28,13 +29,13 @@ pub struct Served {
 }
 
 // What a post leaves, and its number.
-pub struct Posted {
+pub struct AfterPost {
     pub number: u32,
     pub bytes: [u8; 101],
 }
 
 // What a serve leaves, and its answer.
-pub struct Taken {
+pub struct AfterServe {
     pub answer: Served,
     pub bytes: [u8; 101],
 }
@@ -126,27 +127,25 @@ fn moved_up(cells: [u8; 25]) -> [u8; 25]
 }
 
 // A post on the bytes by value.
-fn post_bytes(bytes: [u8; 101], area: u32, hour: u32) -> Posted
-    ensures number { λ r. ⌜ r .number ≡ postNumber area hour (queueOf bytes) ⌝ }
-    ensures bytes { λ r. ⌜ r .bytes ≡ bytesAfterPost area hour bytes ⌝ }
-    ensures length { λ r. ⌜ length bytes ≡ 101 ⌝ }
+fn post_bytes(bytes: [u8; 101], area: u32, hour: u32) -> AfterPost
+    ensures { λ r. ⌜ PostStep area hour bytes r ⌝ }
 {
     if 3 < area {
-        return Posted { number: 61, bytes };
+        return AfterPost { number: 61, bytes };
     }
     if 24 < hour {
-        return Posted { number: 62, bytes };
+        return AfterPost { number: 62, bytes };
     }
     let at = area as usize;
     let c = (hour + 1) as u8;
     let w = waiting_in(bytes, at);
     let cells = w.cells;
     if is_among(cells, c) {
-        return Posted { number: 63, bytes };
+        return AfterPost { number: 63, bytes };
     }
     let longer = added(w, c);
     let more = longer.cells;
-    Posted {
+    AfterPost {
         number: 0,
         bytes: store(bytes, at, more),
     }
@@ -170,14 +169,12 @@ fn next_area(bytes: [u8; 101]) -> usize
 }
 
 // A serve on the bytes by value.
-fn serve_bytes(bytes: [u8; 101]) -> Taken
-    ensures answer { λ r. ⌜ r .answer ≡ given (serveAnswer (queueOf bytes)) ⌝ }
-    ensures bytes { λ r. ⌜ r .bytes ≡ bytesAfterServe bytes ⌝ }
-    ensures length { λ r. ⌜ length bytes ≡ 101 ⌝ }
+fn serve_bytes(bytes: [u8; 101]) -> AfterServe
+    ensures { λ r. ⌜ ServeStep bytes r ⌝ }
 {
     let area = next_area(bytes);
     if area > 3 {
-        return Taken {
+        return AfterServe {
             answer: Served {
                 number: 64,
                 index: 0,
@@ -192,7 +189,7 @@ fn serve_bytes(bytes: [u8; 101]) -> Taken
     let hour = cells[0] - 1;
     let mut next = store(bytes, area, moved_up(cells));
     next[100] = ((area + 1) % 4) as u8;
-    Taken {
+    AfterServe {
         answer: Served {
             number: 0,
             index: 0,

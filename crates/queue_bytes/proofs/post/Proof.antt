@@ -16,15 +16,15 @@ returns : tie.Need-returns
 returns c =
     let a = c .before .before .before .args in
     let r = c .before .post-bytes .ensures in
-    let same = post-leaves (a .area) (a .hour) (now (a .queue)) (subst (λ (n : ℕ). 0 < n) (r .0) (c .if1 .taken)) in
-    (r .0, (ap queueOf same ∙ post-means (a .area) (a .hour) (now (a .queue)) (r .1 .1), same))
+    let same = post-leaves (a .area) (a .hour) (now (a .queue)) (subst (λ (n : ℕ). 0 < n) (r .number-is) (c .if1 .taken)) in
+    (r .number-is, (ap queueOf same ∙ post-means (a .area) (a .hour) (now (a .queue)) (r .size), same))
 
 returns-2 : tie.Need-returns-2
 returns-2 c =
     let d = c .before .before in
     let a = d .before .before .args in
     let r = d .post-bytes .ensures in
-    (r .0, (ap queueOf (r .1 .0) ∙ post-means (a .area) (a .hour) (now (a .queue)) (r .1 .1), r .1 .0))
+    (r .number-is, (ap queueOf (r .bytes-are) ∙ post-means (a .area) (a .hour) (now (a .queue)) (r .size), r .bytes-are))
 
 pub post-spec : {M : Type 1} → statement M
 post-spec = tie.close (tie.spec post-bytes-requires returns returns-2)

@@ -18,14 +18,14 @@ returns c =
     let d = c .before .before .before in
     let b = now (d .before .before .args .queue) in
     let r = d .serve-bytes .ensures in
-    let same = serve-leaves b (subst (λ (s : Served). 0 < s .number) (r .0) (c .if1 .taken)) in
-    (r .0, (ap queueOf same ∙ serve-means b (r .1 .1), same))
+    let same = serve-leaves b (subst (λ (s : Served). 0 < s .number) (r .answer-is) (c .if1 .taken)) in
+    (r .answer-is, (ap queueOf same ∙ serve-means b (r .size), same))
 
 returns-2 : tie.Need-returns-2
 returns-2 c =
     let d = c .before .before .before .before in
     let r = d .serve-bytes .ensures in
-    (r .0, (ap queueOf (r .1 .0) ∙ serve-means (now (d .before .before .args .queue)) (r .1 .1), r .1 .0))
+    (r .answer-is, (ap queueOf (r .bytes-are) ∙ serve-means (now (d .before .before .args .queue)) (r .size), r .bytes-are))
 
 pub serve-spec : {M : Type 1} → statement M
 serve-spec = tie.close (tie.spec serve-bytes-requires returns returns-2)

@@ -16,8 +16,7 @@ returns : tie.Need-returns
 returns c =
     let n = c .before in
     let b = n .before .args .bytes in
-    let r = serve-64 b (n .next-area .result) (n .next-area .ensures) (c .if1 .taken) in
-    (r .0, (r .1, good-length (eInt w8) 101 b _ (n .before .good .0)))
+    serve-64 b (good-length (eInt w8) 101 b _ (n .before .good .0)) (n .next-area .result) (n .next-area .ensures) (c .if1 .taken)
 
 waiting-in-requires : tie.Need-waiting-in-requires
 waiting-in-requires c κs = search needs
@@ -66,11 +65,10 @@ returns-2 c =
     let a = n .next-area .result in
     let b = n .before .args .bytes in
     let t = taking b a (n .next-area .ensures) (w .before .if1 .left) in
-    let r = serve-taken b a t (getD (w .waiting-in .result .cells) 0 0) (c .before .moved-up .result) (c .store .result)
+    serve-taken b (good-length (eInt w8) 101 b _ (n .before .good .0)) a t (getD (w .waiting-in .result .cells) 0 0) (c .before .moved-up .result) (c .store .result)
     (first-cell b a t (w .waiting-in .result) (w .waiting-in .ensures))
     (c .before .moved-up .ensures ∙ cells-left b a t (w .waiting-in .result) (w .waiting-in .ensures))
-    (c .store .ensures) in
-    (r .0, (r .1, good-length (eInt w8) 101 b _ (n .before .good .0)))
+    (c .store .ensures)
 
 pub serve-bytes-spec : {M : Type 1} → statement M
 serve-bytes-spec =

@@ -10,9 +10,10 @@ use native.Mathlib.Omega.{arith}
 use lib.ListN.{length, getD, drop, set}
 use lib.Seq.{paste}
 use Rattle.rows.specs.declared.Outcome.{Outcome}
-use Rattle.rows.specs.Meaning.Rows.{verdict, refusal}
+use Rattle.rows.specs.Meaning.Rows.{verdict, refusal, answer}
 use Rattle.queue_bytes.specs.declared.Waiting.{Waiting}
-use Rattle.queue_bytes.specs.declared.Served.{Served}
+use Rattle.queue_bytes.specs.declared.AfterPost.{AfterPost}
+use Rattle.queue_bytes.specs.declared.AfterServe.{AfterServe}
 use Rattle.desk_queue.specs.Meaning.Queue.{Pair, pair, among, postRows, postNumber, next, ServeAnswer, serveAnswer}
 use Rattle.desk_queue.specs.Steps.Invariant.{Hours, also, Taken, Refused, posting, at-most-25, Heads, next-heads, refused-61, refused-62, refused-63, not-refused, number-by, answerBy, answer-by}
 use Rattle.queue_bytes.specs.Meaning.Bytes.{cellsOf, hoursAt, queueOf, withHours, bytesUnless, bytesAfterPost, bytesWithout, bytesAfterServe}
@@ -28,25 +29,30 @@ module _ (a h : ℕ) (b : List ℕ) where
   unfolding bytesAfterPost
   bytes-by o e = sym (ap (λ (x : Option Outcome). bytesUnless x a h b) e)
 
-  pub post-refused : (n : ℕ) → refusal (postRows a h (queueOf b)) ≡ some (verdict n 0) → (n ≡ postNumber a h (queueOf b)) × (b ≡ bytesAfterPost a h b)
-  post-refused n e = (sym (number-by a h (queueOf b) (some (verdict n 0)) e), bytes-by (some (verdict n 0)) e)
+  -- WHAT A POST LEAVES of 101 bytes, and its number
+  pub record PostStep (r : AfterPost) : Type 0 where
+    pub number-is : r .number ≡ postNumber a h (queueOf b)
+    pub bytes-are : r .bytes ≡ bytesAfterPost a h b
+    pub size : length b ≡ 101
 
-  pub post-61 : 3 < a → (61 ≡ postNumber a h (queueOf b)) × (b ≡ bytesAfterPost a h b)
-  post-61 p = post-refused 61 (refused-61 a h (queueOf b) p)
+  module _ (size : length b ≡ 101) where
+    post-by : (n : ℕ) (o : Option Outcome) {after : List ℕ} → refusal (postRows a h (queueOf b)) ≡ o → (answer o) .number ≡ n → after ≡ bytesUnless o a h b → PostStep (record { number = n; bytes = after })
+    post-by n o e f g = record { number-is = sym f ∙ sym (number-by a h (queueOf b) o e); bytes-are = g ∙ bytes-by o e; size = size }
 
-  pub post-62 : a ≤ 3 → 24 < h → (62 ≡ postNumber a h (queueOf b)) × (b ≡ bytesAfterPost a h b)
-  post-62 p q = post-refused 62 (refused-62 a h (queueOf b) p q)
+    pub post-61 : 3 < a → PostStep (record { number = 61; bytes = b })
+    post-61 p = post-by 61 (some (verdict 61 0)) (refused-61 a h (queueOf b) p) refl refl
 
-  pub post-63 : a ≤ 3 → h ≤ 24 → among h (hoursAt b a) ≡ true → (63 ≡ postNumber a h (queueOf b)) × (b ≡ bytesAfterPost a h b)
-  unfolding queueOf
-  post-63 p q r = post-refused 63 (refused-63 a h (queueOf b) p q r)
+    pub post-62 : a ≤ 3 → 24 < h → PostStep (record { number = 62; bytes = b })
+    post-62 p q = post-by 62 (some (verdict 62 0)) (refused-62 a h (queueOf b) p q) refl refl
 
-  pub post-taken : a ≤ 3 → h ≤ 24 → among h (hoursAt b a) ≡ false
-      → (0 ≡ postNumber a h (queueOf b)) × (paste b (25 * a) (cellsOf (hoursAt b a ++ (h ∷ []))) 25 ≡ bytesAfterPost a h b)
-  unfolding queueOf withHours
-  post-taken p q r =
-      let e = not-refused a h (queueOf b) p q r in
-      (sym (number-by a h (queueOf b) none e), bytes-by none e)
+    pub post-63 : a ≤ 3 → h ≤ 24 → among h (hoursAt b a) ≡ true → PostStep (record { number = 63; bytes = b })
+    unfolding queueOf
+    post-63 p q r = post-by 63 (some (verdict 63 0)) (refused-63 a h (queueOf b) p q r) refl refl
+
+    pub post-taken : a ≤ 3 → h ≤ 24 → among h (hoursAt b a) ≡ false → {after : List ℕ} → after ≡ paste b (25 * a) (cellsOf (hoursAt b a ++ (h ∷ []))) 25
+        → PostStep (record { number = 0; bytes = after })
+    unfolding queueOf withHours
+    post-taken p q r g = post-by 0 none (not-refused a h (queueOf b) p q r) refl g
 
 -- ---- serves
 
@@ -62,13 +68,17 @@ module _ (b : List ℕ) where
   unfolding queueOf
   first-of p e = next-heads (queueOf b) p e
 
-  pub serve-64 : (a : ℕ) → a ≡ areaOf (next (queueOf b)) → 3 < a
-      → (_≡_ {A = Served} (record { number = 64; index = 0; area = 0; hour = 0 }) (given (serveAnswer (queueOf b)))) × (b ≡ bytesAfterServe b)
-  serve-64 a f l = by (next (queueOf b)) refl
+  -- WHAT A SERVE LEAVES of 101 bytes, and its answer
+  pub record ServeStep (r : AfterServe) : Type 0 where
+    pub answer-is : r .answer ≡ given (serveAnswer (queueOf b))
+    pub bytes-are : r .bytes ≡ bytesAfterServe b
+    pub size : length b ≡ 101
+
+  pub serve-64 : length b ≡ 101 → (a : ℕ) → a ≡ areaOf (next (queueOf b)) → 3 < a → ServeStep (record { answer = record { number = 64; index = 0; area = 0; hour = 0 }; bytes = b })
+  serve-64 size a f l = by (next (queueOf b)) refl
     where
-      by : (o : Option Pair) → next (queueOf b) ≡ o
-          → (_≡_ {A = Served} (record { number = 64; index = 0; area = 0; hour = 0 }) (given (serveAnswer (queueOf b)))) × (b ≡ bytesAfterServe b)
-      by none e = serving-by none e
+      by : (o : Option Pair) → next (queueOf b) ≡ o → ServeStep (record { answer = record { number = 64; index = 0; area = 0; hour = 0 }; bytes = b })
+      by none e = let r = serving-by none e in record { answer-is = r .0; bytes-are = r .1; size = size }
       by (some p) e = absurd (area-none (next (queueOf b)) (subst (λ (x : ℕ). 3 < x) f l) p (first-of p e .area-in) e)
 
   -- what the area found has waiting, and what it then leaves
@@ -119,15 +129,16 @@ module _ (b : List ℕ) where
       ∙ sym (ap (λ (hours : List ℕ). cellsOf (tail hours)) (t .line))
 
   -- with c the first cell, and the cells that were stored
-  pub serve-taken : (a : ℕ) (t : Taking a) (c : ℕ) (cells stored : List ℕ) → c ≡ t .hour + 1 → cells ≡ cellsOf (tail (hoursAt b a)) → stored ≡ paste b (25 * a) cells 25
-      → (_≡_ {A = Served} (record { number = 0; index = 0; area = a; hour = c - 1 }) (given (serveAnswer (queueOf b))))
-      × (set stored 100 ((a + 1) % 4) ≡ bytesAfterServe b)
+  pub serve-taken : length b ≡ 101 → (a : ℕ) (t : Taking a) (c : ℕ) (cells stored : List ℕ) → c ≡ t .hour + 1 → cells ≡ cellsOf (tail (hoursAt b a)) → stored ≡ paste b (25 * a) cells 25
+      → ServeStep (record { answer = record { number = 0; index = 0; area = a; hour = c - 1 }; bytes = set stored 100 ((a + 1) % 4) })
   unfolding withHours
-  serve-taken a t c cells stored e f g =
-      let r = serving-by (some (pair a (t .hour))) (t .is) in (
-        ap (λ (h : ℕ). record { number = 0; index = 0; area = a; hour = h }) (back c (t .hour) e) ∙ r .0,
-        ap (λ (x : List ℕ). set x 100 ((a + 1) % 4)) (g ∙ ap (λ (x : List ℕ). paste b (25 * a) x 25) f) ∙ r .1,
-      )
+  serve-taken size a t c cells stored e f g =
+      let r = serving-by (some (pair a (t .hour))) (t .is) in
+      record {
+        answer-is = ap (λ (h : ℕ). record { number = 0; index = 0; area = a; hour = h }) (back c (t .hour) e) ∙ r .0;
+        bytes-are = ap (λ (x : List ℕ). set x 100 ((a + 1) % 4)) (g ∙ ap (λ (x : List ℕ). paste b (25 * a) x 25) f) ∙ r .1;
+        size = size;
+      }
     where
       back : (x h : ℕ) → x ≡ h + 1 → x - 1 ≡ h
       back x h u = omega arith
