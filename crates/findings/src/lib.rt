@@ -1,4 +1,4 @@
-// THE DRIVER: what the verdict table from row 1 to row 26 finds in an hour. `find_after_header`, near the end, asks the stages in the table's order. The verdict of a
+// THE DRIVER: what the verdict table from row 1 to row 26 finds in an hour. `find_listed_after`, near the end, asks the stages in the table's order. The verdict of a
 // stage is 0 where its rows pass, and a stage may rest on what those before it passed.
 ghost use mathlib.Core.Path.{_≡_};
 ghost use mathlib.Core.Bool.{true, not, cond, _&&_};
@@ -329,7 +329,7 @@ fn value_hour(
 }
 
 // The hour, after its header was read: the table's rows top to bottom, stage by stage.
-pub fn find_after_header(
+pub fn find_listed_after(
     case: &[u8],
     header: HeaderAnswer,
     proposal: &[u8],
@@ -372,7 +372,7 @@ pub fn find_after_header(
 pub fn find_listed(case: &[u8], proposal: &[u8], families: &[u8], listed: bool) -> Found
     ensures { λ r. ⌜ Finds (hourRows (listOf listed (now (families .entry))) (now («case» .entry)) (now (proposal .entry))) (now («case» .entry)) (now (proposal .entry)) r ⌝ }
 {
-    find_after_header(case, read_header(case), proposal, families, listed)
+    find_listed_after(case, read_header(case), proposal, families, listed)
 }
 
 // The same without a family list.
@@ -380,4 +380,12 @@ pub fn find(case: &[u8], proposal: &[u8]) -> Found
     ensures { λ r. ⌜ Finds (hourRows none (now («case» .entry)) (now (proposal .entry))) (now («case» .entry)) (now (proposal .entry)) r ⌝ }
 {
     find_listed(case, proposal, &case[..0], false)
+}
+
+// The same, after the header was read.
+pub fn find_after_header(case: &[u8], header: HeaderAnswer, proposal: &[u8]) -> Found
+    requires { ⌜ header ≡ headerAnswer (now «case») ⌝ }
+    ensures { λ r. ⌜ Finds (hourRows none (now («case» .entry)) (now (proposal .entry))) (now («case» .entry)) (now (proposal .entry)) r ⌝ }
+{
+    find_listed_after(case, header, proposal, &case[..0], false)
 }

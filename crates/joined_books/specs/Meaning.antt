@@ -1,2 +1,2 @@
 -- THE MEANING: good rows and good prices
-pub mod Good
+pub mod GoodBook

@@ -10,11 +10,11 @@ use order_book::open_book;
 pub fn book_surplus(orders: &[OrderRow], zone_prices: &[i64]) -> Surplus
     ensures { λ r. ⌜ r ≡ lentAnswer (now (orders .entry)) (now («zone_prices» .entry)) ⌝ }
 {
-    let mut account = open_book(orders.len(), zone_prices);
+    let mut state = open_book(orders.len(), zone_prices);
     let mut i = 0;
-    while account.asks_row(i, orders.len()) {
-        account = add_row(account, orders[i], zone_prices);
+    while state.asks_row(i, orders.len()) {
+        state = add_row(state, orders[i], zone_prices);
         i += 1;
     }
-    close_book(account)
+    close_book(state)
 }

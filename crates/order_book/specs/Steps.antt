@@ -1,4 +1,4 @@
--- THE PROOFS' MEANS: the account by which the answer is reached, row by row
-pub mod Account
-pub mod AccountLaws
+-- THE PROOFS' MEANS: the state by which the answer is reached, row by row
+pub mod BookState
+pub mod StateLaws
 pub mod Closing

@@ -1,4 +1,5 @@
-// An order book lent in memory: rows beside zone prices in grains. Its rows go one by one into an account, which in the end gives the sum of rule 8 or a refusal.
+// An order book lent in memory, with its zone prices in grains. The rows go one by one into the book's state, which in the end gives the sum of rule 8 or a
+// refusal.
 ghost use mathlib.Core.Path.{_≡_};
 ghost use Prim.Native.Nat.{_+_, _<_};
 ghost use lib.ListN.{length};
@@ -11,7 +12,7 @@ ghost use Rattle.measures.specs.Meaning.Held.{grainsIn};
 ghost use Rattle.orders.specs.Meaning.Answer.{admitted};
 ghost use Rattle.rows.specs.Meaning.Place.{placeOf};
 ghost use Rattle.rules.specs.Meaning.Book.{priceAt};
-ghost use Rattle.order_book.specs.Steps.Account.{newAccount, isOpen, asksRow, refusedRow, withRow, firstPriceOutside, openOf, addOf, answered, closeOf, counted, OrderIn, Ready};
+ghost use Rattle.order_book.specs.Steps.BookState.{newState, isOpen, asksRow, refusedRow, withRow, firstPriceOutside, openOf, addOf, answered, closeOf, counted, OrderIn, Ready};
 use measures::Grains;
 use measures::GrainsAnswer;
 use measures::Microcents;
@@ -41,18 +42,18 @@ pub struct Surplus {
 }
 
 // What stands after some rows: the refusal so far, or the number 0; how many rows were taken; and their sum. The number 25 stands until a row is refused.
-pub struct Account {
+pub struct BookState {
     number: u32,
     index: u32,
     taken: u32,
     sum: Microcents,
 }
 
-impl Account {
-    fn new(number: u32, index: u32) -> Account
-        ensures { λ r. ⌜ r ≡ newAccount number index ⌝ }
+impl BookState {
+    fn new(number: u32, index: u32) -> BookState
+        ensures { λ r. ⌜ r ≡ newState number index ⌝ }
     {
-        Account {
+        BookState {
             number,
             index,
             taken: 0,
@@ -81,11 +82,11 @@ impl Account {
     }
 
     // Refused at the row that follows those taken.
-    fn refuse_row(self) -> Account
+    fn refuse_row(self) -> BookState
         ensures { λ r. ⌜ r ≡ refusedRow self ⌝ }
     {
         let sum = self.sum;
-        Account {
+        BookState {
             number: 8,
             index: self.taken,
             taken: self.taken,
@@ -93,13 +94,13 @@ impl Account {
         }
     }
 
-    fn take_row(self, surplus: Microcents) -> Account
+    fn take_row(self, surplus: Microcents) -> BookState
         requires { ⌜ self .taken < 512 ⌝ }
         requires { ⌜ SFits w64 (self .sum .0 +ℤ surplus .0) ⌝ }
         ensures { λ r. ⌜ r ≡ withRow self (surplus .0) ⌝ }
     {
         let sum = self.sum.plus(surplus);
-        Account {
+        BookState {
             number: self.number,
             index: self.index,
             taken: self.taken + 1,
@@ -149,20 +150,20 @@ pub fn first_price_outside(prices: &[i64]) -> Place
     Place::Nowhere
 }
 
-// The account before the first row of `count`.
-pub fn open_book(count: usize, prices: &[i64]) -> Account
+// The state of the book before the first row of `count`.
+pub fn open_book(count: usize, prices: &[i64]) -> BookState
     ensures { λ r. ⌜ r ≡ openOf count (now (prices .entry)) ⌝ }
 {
     if count_outside(PRICES_LEAST, PRICES_GREATEST, prices.len()) {
-        return Account::new(4, 5);
+        return BookState::new(4, 5);
     }
     if count_outside(ROWS_LEAST, ROWS_GREATEST, count) {
-        return Account::new(4, 8);
+        return BookState::new(4, 8);
     }
     let Place::At(zone) = first_price_outside(prices) else {
-        return Account::new(0, 0);
+        return BookState::new(0, 0);
     };
-    Account::new(25, zone as u32)
+    BookState::new(25, zone as u32)
 }
 
 fn wide(x: u8) -> usize
@@ -200,15 +201,15 @@ fn order_surplus(order: Order, prices: &[i64]) -> Microcents
     surplus(order, price)
 }
 
-// The account with the row that it asks for.
-pub fn add_row(account: Account, row: OrderRow, prices: &[i64]) -> Account
-    requires { ⌜ Ready account ⌝ }
-    ensures { λ r. ⌜ r ≡ addOf account row (now (prices .entry)) ⌝ }
+// The state with the row that it asks for.
+pub fn add_row(state: BookState, row: OrderRow, prices: &[i64]) -> BookState
+    requires { ⌜ Ready state ⌝ }
+    ensures { λ r. ⌜ r ≡ addOf state row (now (prices .entry)) ⌝ }
 {
     let OrderAnswer::Held(order) = admit_row(prices.len(), row) else {
-        return account.refuse_row();
+        return state.refuse_row();
     };
-    account.take_row(order_surplus(order, prices))
+    state.take_row(order_surplus(order, prices))
 }
 
 fn answer(number: u32, index: u32, sum: Microcents) -> Surplus
@@ -218,12 +219,12 @@ fn answer(number: u32, index: u32, sum: Microcents) -> Surplus
 }
 
 // The answer after the last row.
-pub fn close_book(account: Account) -> Surplus
-    ensures { λ r. ⌜ r ≡ closeOf account ⌝ }
+pub fn close_book(state: BookState) -> Surplus
+    ensures { λ r. ⌜ r ≡ closeOf state ⌝ }
 {
-    if account.number == 0 {
-        let sum = account.sum;
-        return answer(account.number, account.index, sum);
+    if state.number == 0 {
+        let sum = state.sum;
+        return answer(state.number, state.index, sum);
     }
-    answer(account.number, account.index, Microcents::ZERO)
+    answer(state.number, state.index, Microcents::ZERO)
 }

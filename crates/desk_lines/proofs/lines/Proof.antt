@@ -4,6 +4,7 @@ use mathlib.Core.Path.{_≡_, sym, ap, _∙_}
 use mathlib.Core.List.{List}
 use Prim.Native.Nat.{ℕ, _-_, _≤_}
 use native.Mathlib.Omega.{arith}
+use borrow.Author.Tests.{ltb-true, ltb-false}
 use lib.ListN.{length, take, drop, length-drop}
 use lib.Seq.{length-take-le, take-all}
 use Rattle.case_header.specs.Meaning.Answer.{headerAnswer}
@@ -23,7 +24,7 @@ rest input at = take-all (length input - at) (drop at input) (omega (arith, leng
 
 module _ (c : tie.After-cut) where
   abbrev start : tie.Start
-  start = c .before .before .before .before .before
+  start = c .before .before .before .before .before .before
 
   abbrev input : List ℕ
   input = start .args .input .now
@@ -42,14 +43,21 @@ module _ (c : tie.After-cut) where
   unfolding deskText casePart proposalPart
   text = ap (λ (t : List ℕ). hourText (take end input) t) (rest input end) ∙ ap (λ (k : ℕ). hourText (take k input) (drop k input)) (c .cut .ensures)
 
+too-short-requires : tie.Need-too-short-requires
+too-short-requires c κs = search needs
+
 refused-requires : tie.Need-refused-requires
 refused-requires c κs = search needs
 
 returns : tie.Need-returns
 returns c =
     let i = c .before in
-    let a = i .before .before .before .args in
-    met-refusal (a .input .now) (a .out .now) (i .if1 .taken) (c .refused .ensures)
+    let a = i .before .before .before .before .args in
+    met-refusal (a .input .now) (a .out .now) (ltb-true _ _ (sym (i .before .too-short .ensures) ∙ i .if1 .taken)) (c .refused .ensures)
+
+-- past the refusal there is room
+room : (c : tie.Else1) → 1024 ≤ length (c .before .before .before .before .args .out .now)
+room c = ltb-false _ _ (sym (c .before .too-short .ensures) ∙ c .if1 .left)
 
 read-header-requires : tie.Need-read-header-requires
 read-header-requires c κs = search needs
@@ -70,7 +78,7 @@ part-put-lines-end : tie.Need-part-put-lines-end
 part-put-lines-end c = search needs
 
 put-lines-requires : tie.Need-put-lines-requires
-put-lines-requires c κs = (header-is (c .before .before .before), omega arith)
+put-lines-requires c κs = let cut = c .before .before .before in (header-is cut, room (cut .before .before))
 
 same-length : tie.Need-same-length
 same-length c = search needs
@@ -80,12 +88,13 @@ returns-2 c =
     let put = c .before .before in
     let cut = put .before .before .before .before in
     let a = (start cut) .args in
-    met-answer (a .input .now) (a .out .now) (cut .before .before .if1 .left) (put-as (text cut) (put .put-lines .ensures))
+    met-answer (a .input .now) (a .out .now) (room (cut .before .before)) (put-as (text cut) (put .put-lines .ensures))
 
 pub lines-spec : {M : Type 1} → statement M
 lines-spec =
     tie.close
     (tie.spec
+    too-short-requires
     refused-requires
     returns
     read-header-requires

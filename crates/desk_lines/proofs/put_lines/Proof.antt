@@ -16,7 +16,7 @@ use Rattle.desk_lines.proofs.put_lines.Statement.{statement}
 use Rattle.desk_lines.proofs.put_lines.Tie as tie
 
 abbrev start : tie.After-find-after-header → tie.Start
-start c = c .before .before .before .before .before
+start c = c .before .before .before .before
 
 abbrev file : tie.After-find-after-header → List ℕ
 file c = start c .args .«case» .now
@@ -27,11 +27,8 @@ plan c = start c .args .proposal .now
 found : (c : tie.After-find-after-header) → Finds (hourRows none (file c) (plan c)) (file c) (plan c) (c .find-after-header .result)
 found c = c .find-after-header .ensures
 
-slice-aggregate-find-after-header : tie.Need-slice-aggregate-find-after-header
-slice-aggregate-find-after-header c = search needs
-
 find-after-header-requires : tie.Need-find-after-header-requires
-find-after-header-requires c κs = c .before .before .before .before .pre .0
+find-after-header-requires c κs = c .before .before .before .pre .0
 
 put-verdict-requires : tie.Need-put-verdict-requires
 put-verdict-requires c κs =
@@ -73,7 +70,6 @@ pub put-lines-spec : {M : Type 1} → statement M
 put-lines-spec =
     tie.close
     (tie.spec
-    slice-aggregate-find-after-header
     find-after-header-requires
     put-verdict-requires
     put-hour-requires

@@ -12,7 +12,7 @@ use Rattle.rows.specs.Meaning.Rows.{firstBelow}
 use Rattle.rows.specs.Meaning.Place.{placeOf}
 use Rattle.rows.specs.Promised.RowLaws.{place-below, not-below}
 use Rattle.rules.specs.Meaning.Layout.{zoneCounts}
-use Rattle.order_book.specs.Steps.Account.{firstPriceOutside}
+use Rattle.order_book.specs.Steps.BookState.{firstPriceOutside}
 use Rattle.net_positions.specs.Meaning.Positions.{positionOutside}
 use Rattle.intuitive.specs.Meaning.Intuitive.{priceOutside}
 use Rattle.intuitive.specs.Steps.Answers.{From, refused-count, refused-lengths, past-81, refused-82, past-82, refused-sum, past-sum, refused-83, past-83, by-rest, outcome-by}

@@ -14,10 +14,10 @@ use Rattle.rows.specs.Promised.RowLaws.{isRow, rowOf, lacks, zero-none, rowNumb
 use Rattle.rules.specs.Promised.Causes.{book-outcome}
 use Rattle.rules.specs.Meaning.Book.{BookRow, bookRows, bookRefusal, bookSurplus, bookAnswerBy, bookAnswer}
 use Rattle.order_book.specs.Meaning.Lent.{bookRow, given, lentAnswer}
-use Rattle.order_book.specs.Steps.Account.{answered}
+use Rattle.order_book.specs.Steps.BookState.{answered}
 use Rattle.order_book.specs.declared.OrderRow.{OrderRow}
 use Rattle.order_book.specs.declared.Surplus.{Surplus}
-use Rattle.joined_books.specs.Meaning.Good.{GoodRows, GoodPrices}
+use Rattle.joined_books.specs.Meaning.GoodBook.{GoodRows, GoodPrices}
 use Rattle.joined_books.specs.Steps.JoinedRows.{AllGood, joined-surplus, joined-good, priceRefusal, by-prices, good-prices}
 
 map-joined : (a b : List OrderRow) → map bookRow (a ++ b) ≡ map bookRow a ++ map bookRow b

@@ -22,7 +22,7 @@ use Rattle.rows.specs.Meaning.Rows.{Row, failing, rowElse, refusal, field, each
 use Rattle.rows.specs.Promised.RowLaws.{field-passes, row-passes}
 use Rattle.rules.specs.Meaning.Verdict.{badRow}
 use Rattle.rules.specs.Meaning.Book.{BookRow, rowAt, priceAt, badBookRow, bookRows, bookRefusal, rowSurplus, bookSurplus, noRow}
-use Rattle.joined_books.specs.Meaning.Good.{GoodPrices}
+use Rattle.joined_books.specs.Meaning.GoodBook.{GoodPrices}
 
 abbrev pub AllGood : List BookRow → List ℤ → Type 0
 AllGood rows prices = (i : ℕ) → i < length rows → T (not (badBookRow rows prices i))

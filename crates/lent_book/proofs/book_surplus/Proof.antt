@@ -1,9 +1,9 @@
 -- `lent_book::book_surplus` meets its contract: a walk of its MIR, by hand, with a loop and four calls, over a slice of structs and a slice of numbers.
--- In each turn the account is asked whether a row is read. If so, the slice of rows is looked into, one row is copied out, the slice is shut again, and
--- `add_row` is called. All that the walk knows of the four callees is that they meet their contracts; that the account closed where it asks for no more rows
+-- In each turn the state is asked whether a row is read. If so, the slice of rows is looked into, one row is copied out, the slice is shut again, and
+-- `add_row` is called. All that the walk knows of the four callees is that they meet their contracts; that the state closed where it asks for no more rows
 -- is the answer, and that it has room for each row that is read and counts it, are laws of `order_book` (`closing`, `ready`, `reading`).
---     acc i        the account after i rows.      At i    what is had at the loop's head after i turns
---     asks         the start of a turn, with the account's answer
+--     acc i        the state after i rows.      At i    what is had at the loop's head after i turns
+--     asks         the start of a turn, with the state's answer
 --     more, ends   a turn that takes a row, and the turn that leaves the loop, with the rest of the body
 -- The slice of prices is Copy: a copy of what it owns goes to each callee, beside its lifetime's token, which comes back. Assumes nothing.
 use mathlib.Core.Path.{_≡_, refl, sym, _∙_, ap, subst}
@@ -55,26 +55,26 @@ use denote.Exit.{yes}
 use lib.IntN.{ℤ}
 use contract.Lifetimes.{Lfts}
 use Rattle.order_book.specs.Meaning.Lent.{lentAnswer}
-use Rattle.order_book.specs.Steps.Account.{asksRow, addOf, closeOf, noOrder, accountAt}
-use Rattle.order_book.specs.Steps.AccountLaws.{asked}
+use Rattle.order_book.specs.Steps.BookState.{asksRow, addOf, closeOf, noOrder, stateAt}
+use Rattle.order_book.specs.Steps.StateLaws.{asked}
 use Rattle.order_book.specs.Steps.Closing.{closing, ready, reading}
 use Rattle.order_book.specs.declared.OrderRow.{OrderRow}
-use Rattle.order_book.specs.declared.Account.{Account}
+use Rattle.order_book.specs.declared.BookState.{BookState}
 use Rattle.order_book.specs.declared.Surplus.{Surplus}
 use Rattle.order_book.proofs.OrderRow as T
 use Rattle.order_book.proofs.OrderRow.Laws as T′
-use Rattle.order_book.proofs.Account as N
-use Rattle.order_book.proofs.Account.Laws as N′
+use Rattle.order_book.proofs.BookState as N
+use Rattle.order_book.proofs.BookState.Laws as N′
 use Rattle.order_book.proofs.Surplus as S
 use Rattle.order_book.proofs.Surplus.Laws as S′
 use Rattle.order_book.proofs.open_book as opens
 use Rattle.order_book.proofs.open_book.Symbol as opens-def
 use Rattle.order_book.proofs.open_book.Symbol.{name as #order-book·open-book}
 use Rattle.order_book.proofs.open_book.Met as opens-thm
-use Rattle.order_book.proofs.Account.asks_row as asking
-use Rattle.order_book.proofs.Account.asks_row.Symbol as asking-def
-use Rattle.order_book.proofs.Account.asks_row.Symbol.{name as #order-book·asks-row}
-use Rattle.order_book.proofs.Account.asks_row.Met as asking-thm
+use Rattle.order_book.proofs.BookState.asks_row as asking
+use Rattle.order_book.proofs.BookState.asks_row.Symbol as asking-def
+use Rattle.order_book.proofs.BookState.asks_row.Symbol.{name as #order-book·asks-row}
+use Rattle.order_book.proofs.BookState.asks_row.Met as asking-thm
 use Rattle.order_book.proofs.add_row as adds
 use Rattle.order_book.proofs.add_row.Symbol as adds-def
 use Rattle.order_book.proofs.add_row.Symbol.{name as #order-book·add-row}
@@ -99,15 +99,15 @@ scaled i n h k = omega arith
 none-left : (i n : ℕ) → i + 0 ≡ n → i < n → ⊥
 none-left i n e h = omega (arith, e)
 
--- the machine value of an account, and what is known where a callee gave one
-abbrev low : Account → Val
+-- the machine value of an state, and what is known where a callee gave one
+abbrev low : BookState → Val
 low a = LL.tuple-val N.the-type N′.the-laws (N.the-type .to a)
 
-low-is : (r : Account) (u : Val) → Is N.the-row r (u ∷ []) → u ≡ low r
+low-is : (r : BookState) (u : Val) → Is N.the-row r (u ∷ []) → u ≡ low r
 low-is r u is = ap only (LL.tells N.the-type N′.the-laws r (u ∷ []) is)
 
-kept : (r a : Account) (u : Val) → r ≡ a → Is N.the-row r (u ∷ []) → Is N.the-row a (low a ∷ [])
-kept r a u e is = subst (λ (b : Account). Is N.the-row b (low b ∷ [])) e (subst (λ (v : Val). Is N.the-row r (v ∷ [])) (low-is r u is) is)
+kept : (r a : BookState) (u : Val) → r ≡ a → Is N.the-row r (u ∷ []) → Is N.the-row a (low a ∷ [])
+kept r a u e is = subst (λ (b : BookState). Is N.the-row b (low b ∷ [])) e (subst (λ (v : Val). Is N.the-row r (v ∷ [])) (low-is r u is) is)
 
 abbrev stayed : Stays (f.ended .signature .params) (f.ended .kept)
 stayed = (stay-none-slice (0 ∷ []) tt (plain (λ _. T.the-row)) yes, (stay-none-slice (1 ∷ []) tt (plain (λ _. i64)) yes, tt))
@@ -137,7 +137,7 @@ fn-is = refl
 abbrev turn : Body
 turn = code-mir.turn-1
 
--- what follows a first statement; and so what follows in a turn once the account was asked
+-- what follows a first statement; and so what follows in a turn once the state was asked
 abbrev second : Body → Body
 second (seq s t) = t
 second skip = skip
@@ -204,8 +204,8 @@ module _ {M : Type 1} (𝓤 : URA M) (H : Heap 𝓤) (A : Atoms 𝓤) (W : Given
   abbrev Own₂ : Fml
   Own₂ = ShrSlice (named 1) κ′ i64 .own p (pv ∷ [])
 
-  abbrev acc : ℕ → Account
-  acc i = accountAt ys ps i
+  abbrev acc : ℕ → BookState
+  acc i = stateAt ys ps i
 
   abbrev elem : ℕ → OrderRow
   elem i = getD ys i noOrder
@@ -226,8 +226,8 @@ module _ {M : Type 1} (𝓤 : URA M) (H : Heap 𝓤) (A : Atoms 𝓤) (W : Given
   asks-open : ent 𝓤 (onEntry 𝓤 H A opens.signature (κ′, tt) (q′, tt) (n, (p, tt)) (vint w64 n ∷ [], (pv ∷ [], tt))) (Opens 𝓤 H A mem run .pre to-open)
   asks-open = qed W ((‵ (flft κ′ q′) ⊛ ‵ ftrue) ∷ ‵ (owns (usize ∷ ShrSlice (named 0) κ′ i64 ∷ []) (n, (p, tt)) (vint w64 n ∷ [], (pv ∷ [], tt))) ∷ []) ∵ join ! $ frame ! $ done !
 
-  says-open : (r : Account) → ent 𝓤 (ensured 𝓤 H A opens.ended (opens.clauses 𝓤 H A mem run) (κ′, tt) (n, (p, tt)) tt r) (fact 𝓤 (r ≡ acc 0))
-  unfolding accountAt
+  says-open : (r : BookState) → ent 𝓤 (ensured 𝓤 H A opens.ended (opens.clauses 𝓤 H A mem run) (κ′, tt) (n, (p, tt)) tt r) (fact 𝓤 (r ≡ acc 0))
+  unfolding stateAt
   says-open r = exE 𝓤 _ (λ ws. snd∗ 𝓤 (sem 𝓤 H A (lasts opens.ended (κ′, tt) (n, (p, tt)) ws)) (fact 𝓤 (r ≡ acc 0)))
 
   abbrev ask-vals : ℕ → Vals asking.signature tt
@@ -251,7 +251,7 @@ module _ {M : Type 1} (𝓤 : URA M) (H : Heap 𝓤) (A : Atoms 𝓤) (W : Given
   asks-add : (i : ℕ) → asksRow (acc i) i n ≡ true → ent 𝓤 (onEntry 𝓤 H A adds.signature (κ′, tt) (q′, tt) (acc i, (elem i, (p, tt))) (row-vals i)) (Adds 𝓤 H A mem run .pre (to-add i))
   asks-add i e = qed W ((‵ (flft κ′ q′) ⊛ ‵ ftrue) ∷ ‵ (owns (N.the-row ∷ T.the-row ∷ ShrSlice (named 0) κ′ i64 ∷ []) (acc i, (elem i, (p, tt))) (row-vals i)) ∷ []) ∵ says ! (ready ys ps i e) $ done !
 
-  says-add : (i : ℕ) (r : Account) → ent 𝓤 (ensured 𝓤 H A adds.ended (adds.clauses 𝓤 H A mem run) (κ′, tt) (acc i, (elem i, (p, tt))) tt r) (fact 𝓤 (r ≡ addOf (acc i) (elem i) ps))
+  says-add : (i : ℕ) (r : BookState) → ent 𝓤 (ensured 𝓤 H A adds.ended (adds.clauses 𝓤 H A mem run) (κ′, tt) (acc i, (elem i, (p, tt))) tt r) (fact 𝓤 (r ≡ addOf (acc i) (elem i) ps))
   says-add i r = exE 𝓤 _ (λ ws. snd∗ 𝓤 (sem 𝓤 H A (lasts adds.ended (κ′, tt) (acc i, (elem i, (p, tt))) ws)) (fact 𝓤 (r ≡ addOf (acc i) (elem i) ps)))
 
   abbrev to-close : ℕ → Closes 𝓤 H A mem run .Ghost
@@ -303,7 +303,7 @@ module _ {M : Type 1} (𝓤 : URA M) (H : Heap 𝓤) (A : Atoms 𝓤) (W : Given
       abbrev Left : Out → SProp 𝓤
       Left = afterBlock 𝓤 H (afterSeq 𝓤 H (Wp 𝓤 H C Λ En rest (atReturn 𝓤 H En Post)) (atReturn 𝓤 H En Post))
 
-      -- the start of a turn: the account's answer is in its local
+      -- the start of a turn: the state's answer is in its local
       abbrev Asked : ℕ → Bool → List (Item 𝓤)
       Asked i t = Turned i (fat fullShare tyBool l₆ 0 (vbool t)) (fat fullShare word l₇ 0 (vint w64 n))
 
@@ -341,7 +341,7 @@ module _ {M : Type 1} (𝓤 : URA M) (H : Heap 𝓤) (A : Atoms 𝓤) (W : Given
           move ! (14 ∷ []) $ nothing ! $ move ! (1 ∷ 0 ∷ []) $ join ! $ use2 W (raw (Adds 𝓤 H A mem run .pre (to-add i))) (asks-add i wanted) $
           -- [what is asked; what prices owns; the token; the fractured borrow; acc; i; _6; _7; _8; _9; _1; room for _0; res; the slice's fact; _2; _5; …]
           calls-at ! (fmOf 𝓤 H (W .laws) 𝓣) (Adds 𝓤 H A mem run) known-add (to-add i) (and-then ! (load ! (from ! (stop !)) (look ! 4 refl)) (and-then ! (load ! (from ! (stop !)) (look ! 9 refl)) (and-then ! (load ! (from ! (stop !)) (look ! 14 refl)) (no-more !)))) (λ u.
-          use1 W (later (some (λ (r : Account). ((‵ (flft κ′ q′) ⊛ ‵ ftrue) ⊛ ‵ (N.the-row .own r (u ∷ []))) ⊛ raw (ensured 𝓤 H A adds.ended (adds.clauses 𝓤 H A mem run) (κ′, tt) (acc i, (elem i, (p, tt))) tt r)))) (id⊢ 𝓤 _) $ await ! tt $ pick ! (λ r.
+          use1 W (later (some (λ (r : BookState). ((‵ (flft κ′ q′) ⊛ ‵ ftrue) ⊛ ‵ (N.the-row .own r (u ∷ []))) ⊛ raw (ensured 𝓤 H A adds.ended (adds.clauses 𝓤 H A mem run) (κ′, tt) (acc i, (elem i, (p, tt))) tt r)))) (id⊢ 𝓤 _) $ await ! tt $ pick ! (λ r.
           split ! $ move ! (1 ∷ []) $ use1 W (raw (fact 𝓤 (r ≡ addOf (acc i) (elem i) ps))) (says-add i r) $ heard ! (r ≡ addOf (acc i) (elem i) ps) (λ e₀. let e₁ : r ≡ acc (suc i) = e₀ ∙ reading ys ps i wanted in split ! $ move ! (1 ∷ []) $
           peeks ! N.the-row (Is N.the-row) (shows 𝓤 H A N.the-row) r (u ∷ []) (λ is.
           land ! (from ! (stop !)) (store ! 5 refl (LL.lawful N.the-type N′.the-laws 𝓤 H A W .typed r _ is .0)) $ drop-item ! $ split ! $
@@ -407,7 +407,7 @@ module _ {M : Type 1} (𝓤 : URA M) (H : Heap 𝓤) (A : Atoms 𝓤) (W : Given
       abbrev Opened : Val → List (Item 𝓤)
       Opened u = (‵ (flft κ′ q′) ⊛ ‵ ftrue) ∷ ‵ (flft κ q) ∷ ‵ Own₂ ∷ ‵ Own ∷ Locals (fat fullShare N′.mir l₃ 0 u)
 
-      opened : (r : Account) (u : Val) → r ≡ acc 0 → Is N.the-row r (u ∷ []) → ent 𝓤 (⋆ 𝓤 H A (Opened u)) (Wp 𝓤 H C Λ En code-mir.t-3 (atReturn 𝓤 H En Post))
+      opened : (r : BookState) (u : Val) → r ≡ acc 0 → Is N.the-row r (u ∷ []) → ent 𝓤 (⋆ 𝓤 H A (Opened u)) (Wp 𝓤 H C Λ En code-mir.t-3 (atReturn 𝓤 H En Post))
       opened r u e is =
           qed W (Opened u) ∵ exec ! C Λ En code-mir.t-3 (atRet En Post) $
           assigns ! (of-opd ! (lit ! tt)) (from ! (stop !)) (init ! 14 refl (tt, record { fits = lit< tt })) $
@@ -424,7 +424,7 @@ module _ {M : Type 1} (𝓤 : URA M) (H : Heap 𝓤) (A : Atoms 𝓤) (W : Given
       called =
           qed W Asking ∵ exec ! C Λ En code-mir.t-2 (atRet En Post) $
           calls-at ! (fmOf 𝓤 H (W .laws) 𝓣) (Opens 𝓤 H A mem run) known-open to-open (and-then ! (load ! (from ! (stop !)) (look ! 12 refl)) (and-then ! (load ! (from ! (stop !)) (look ! 18 refl)) (no-more !))) (λ u.
-          use1 W (later (some (λ (r : Account). ((‵ (flft κ′ q′) ⊛ ‵ ftrue) ⊛ ‵ (N.the-row .own r (u ∷ []))) ⊛ raw (ensured 𝓤 H A opens.ended (opens.clauses 𝓤 H A mem run) (κ′, tt) (n, (p, tt)) tt r)))) (id⊢ 𝓤 _) $ await ! tt $ pick ! (λ r.
+          use1 W (later (some (λ (r : BookState). ((‵ (flft κ′ q′) ⊛ ‵ ftrue) ⊛ ‵ (N.the-row .own r (u ∷ []))) ⊛ raw (ensured 𝓤 H A opens.ended (opens.clauses 𝓤 H A mem run) (κ′, tt) (n, (p, tt)) tt r)))) (id⊢ 𝓤 _) $ await ! tt $ pick ! (λ r.
           split ! $ move ! (1 ∷ []) $ use1 W (raw (fact 𝓤 (r ≡ acc 0))) (says-open r) $ heard ! (r ≡ acc 0) (λ e. split ! $ move ! (1 ∷ []) $
           peeks ! N.the-row (Is N.the-row) (shows 𝓤 H A N.the-row) r (u ∷ []) (λ is.
           land ! (from ! (stop !)) (init ! 17 refl (LL.lawful N.the-type N′.the-laws 𝓤 H A W .typed r _ is .0)) $ drop-item ! $ by ! (opened r u e is)))))
@@ -475,6 +475,6 @@ book-surplus-spec 𝓤 H 𝓜 𝓖 𝓡 =
     (tables 𝓤 H 𝓜 𝓡 code.env .C) (tables 𝓤 H 𝓜 𝓡 code.env .Λ) #lent-book·book-surplus code.function (code.unfolded 𝓤 H 𝓜 𝓡)
     (surplus-meets 𝓤 H (𝓖 .A) (givenOf 𝓤 H 𝓜 𝓖) (𝓜 .mem) (𝓡 .run) (tablesOf 𝓤 H 𝓜 (tables 𝓤 H 𝓜 𝓡 code.env))
     (cited 𝓤 H (Opens 𝓤 H (𝓖 .A) (𝓜 .mem) (𝓡 .run)) 𝓜 𝓡 code.env #order-book·open-book opens-def.routine code.calls-order-book·open-book (opens-thm.met 𝓤 H 𝓜 𝓖 𝓡))
-    (cited 𝓤 H (Asks 𝓤 H (𝓖 .A) (𝓜 .mem) (𝓡 .run)) 𝓜 𝓡 code.env #order-book·asks-row asking-def.routine code.calls-order-book·Account·asks-row (asking-thm.met 𝓤 H 𝓜 𝓖 𝓡))
+    (cited 𝓤 H (Asks 𝓤 H (𝓖 .A) (𝓜 .mem) (𝓡 .run)) 𝓜 𝓡 code.env #order-book·asks-row asking-def.routine code.calls-order-book·BookState·asks-row (asking-thm.met 𝓤 H 𝓜 𝓖 𝓡))
     (cited 𝓤 H (Adds 𝓤 H (𝓖 .A) (𝓜 .mem) (𝓡 .run)) 𝓜 𝓡 code.env #order-book·add-row adds-def.routine code.calls-order-book·add-row (adds-thm.met 𝓤 H 𝓜 𝓖 𝓡))
     (cited 𝓤 H (Closes 𝓤 H (𝓖 .A) (𝓜 .mem) (𝓡 .run)) 𝓜 𝓡 code.env #order-book·close-book closes-def.routine code.calls-order-book·close-book (closes-thm.met 𝓤 H 𝓜 𝓖 𝓡)))

@@ -5,10 +5,10 @@ use lib.ListN.{length}
 use lib.IntN.{ℤ}
 use Rattle.integers.specs.Size.{Near}
 use Rattle.orders.specs.declared.Order.{Order}
-use Rattle.order_book.specs.Steps.Account.{badIn, rowOrder, counted, withRow, OrderIn}
+use Rattle.order_book.specs.Steps.BookState.{badIn, rowOrder, counted, withRow, OrderIn}
 use Rattle.integers.specs.Ranges.{is-false}
 use Rattle.orders.specs.Admitted.{order-outside, order-held}
-use Rattle.order_book.specs.Steps.AccountLaws.{added-by, order-in, counted-near, next-fits}
+use Rattle.order_book.specs.Steps.StateLaws.{added-by, order-in, counted-near, next-fits}
 use borrow.Author.Needs.{needs}
 use Rattle.order_book.proofs.add_row.Statement.{statement}
 use Rattle.order_book.proofs.add_row.Tie as tie
@@ -30,7 +30,7 @@ returns c =
     let r = c .before .before .before in
     let a = r .before .args in
     c .refuse-row .ensures
-    ∙ added-by (a .account) (a .row) (a .prices .now) (order-outside (rowOrder (a .row)) _ (sym (r .admit-row .ensures) ∙ c .before .enum-told .given .1))
+    ∙ added-by (a .state) (a .row) (a .prices .now) (order-outside (rowOrder (a .row)) _ (sym (r .admit-row .ensures) ∙ c .before .enum-told .given .1))
 
 -- the order that is held is the row's, and the row is in range
 held : (c : tie.After-known-told)
@@ -52,14 +52,14 @@ row-surplus c = c .order-surplus .ensures ∙ ap (λ (o : Order). counted o (c .
 take-row-requires : tie.Need-take-row-requires
 take-row-requires c κs =
     let s = c .before .before .before .before .before in
-    (s .pre .taken-in, next-fits (s .args .account) _ (s .pre) (subst (λ (x : ℤ). Near 4500000000000000 x) (sym (row-surplus c)) (counted-near (s .args .prices .now) (s .args .row) (is-false ((held (c .before)) .0)))))
+    (s .pre .taken-in, next-fits (s .args .state) _ (s .pre) (subst (λ (x : ℤ). Near 4500000000000000 x) (sym (row-surplus c)) (counted-near (s .args .prices .now) (s .args .row) (is-false ((held (c .before)) .0)))))
 
 returns-2 : tie.Need-returns-2
 returns-2 c =
     let a = c .before .before .before .before .before .before .args in
     c .take-row .ensures
-    ∙ ap (withRow (a .account)) (row-surplus (c .before))
-    ∙ added-by (a .account) (a .row) (a .prices .now) ((held (c .before .before)) .0)
+    ∙ ap (withRow (a .state)) (row-surplus (c .before))
+    ∙ added-by (a .state) (a .row) (a .prices .now) ((held (c .before .before)) .0)
 
 pub add-row-spec : {M : Type 1} → statement M
 add-row-spec =

@@ -9,7 +9,7 @@ use Rattle.measures.specs.Meaning.Limits as limits
 use Rattle.rules.specs.Meaning.Book.{priceAt}
 use Rattle.rows.specs.Meaning.Rows.{firstBelow}
 use Rattle.rows.specs.Promised.RowLaws.{first-here, first-later, first-nowhere}
-use Rattle.order_book.specs.Steps.Account.{firstPriceOutside}
+use Rattle.order_book.specs.Steps.BookState.{firstPriceOutside}
 use Rattle.order_book.proofs.first_price_outside.Statement.{statement}
 use Rattle.order_book.proofs.first_price_outside.Tie as tie
 

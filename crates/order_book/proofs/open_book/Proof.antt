@@ -8,8 +8,8 @@ use Rattle.integers.specs.Ranges.{outside, nat-within}
 use Rattle.rules.specs.Meaning.Layout.{zoneCounts, orderCounts}
 use Rattle.integers.specs.Ranges.{is-false}
 use Rattle.rows.specs.Promised.RowLaws.{at-place, at-none, place-below}
-use Rattle.order_book.specs.Steps.Account.{firstPriceOutside}
-use Rattle.order_book.specs.Steps.AccountLaws.{opened-by}
+use Rattle.order_book.specs.Steps.BookState.{firstPriceOutside}
+use Rattle.order_book.specs.Steps.StateLaws.{opened-by}
 use borrow.Author.Needs.{needs}
 use Rattle.order_book.proofs.open_book.Statement.{statement}
 use Rattle.order_book.proofs.open_book.Tie as tie

@@ -8,7 +8,7 @@ use Rattle.orders.specs.Admitted.{surplusAt}
 use Rattle.rules.specs.Meaning.Book.{priceAt}
 use borrow.Author.Needs.{needs}
 use Rattle.integers.specs.Ranges.{is-false}
-use Rattle.order_book.specs.Steps.AccountLaws.{counted-by}
+use Rattle.order_book.specs.Steps.StateLaws.{counted-by}
 use Rattle.order_book.proofs.order_surplus.Statement.{statement}
 use Rattle.order_book.proofs.order_surplus.Tie as tie
 

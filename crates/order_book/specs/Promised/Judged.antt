@@ -21,7 +21,7 @@ use Rattle.rules.specs.Meaning.Verdict.{badRow, orderFault, caseRows, caseRefus
 use Rattle.rules.specs.Steps.Passed.{case-sound}
 use Rattle.rules.specs.Meaning.Book.{BookRow, noRow, rowAt, priceAt, badBookRow, bookRows, bookRefusal, rowSurplus, bookSurplus, bookAnswerBy, bookAnswer}
 use Rattle.order_book.specs.declared.OrderRow.{OrderRow}
-use Rattle.order_book.specs.Steps.Account.{answered}
+use Rattle.order_book.specs.Steps.BookState.{answered}
 use Rattle.order_book.specs.Meaning.Lent.{bookRow, given, lentAnswer}
 use Rattle.order_book.specs.Steps.Closing.{no-cause}
 

@@ -1,4 +1,4 @@
--- The account closed where no more rows are read is document 01's answer, and before each row it has room for that row. After i rows with no refusal it has
+-- The state closed where no more rows are read is document 01's answer, and before each row it has room for that row. After i rows with no refusal it has
 -- taken i rows and their sum; at the first row that is out of range, k, it stops with 8 and k. Assumes nothing.
 use mathlib.Core.Path.{_≡_, refl, sym, ap, subst, _∙_}
 use mathlib.Core.Bool.{Bool, true, false, not, cond, _&&_}
@@ -22,15 +22,15 @@ use Rattle.rows.specs.Meaning.Rows.{Row, firstBelow, refusal, field, each}
 use Rattle.rows.specs.Promised.RowLaws.{field-fails, field-passes, row-found, row-clear, first-is, not-below}
 use Rattle.rules.specs.Meaning.Verdict.{badRow}
 use Rattle.rules.specs.Meaning.Book.{BookRow, priceAt, badBookRow, bookRows, bookRefusal, rowSurplus, bookSurplus, bookAnswerBy, bookAnswer}
-use Rattle.order_book.specs.declared.Account.{Account}
+use Rattle.order_book.specs.declared.BookState.{BookState}
 use Rattle.order_book.specs.declared.OrderRow.{OrderRow}
 use Rattle.order_book.specs.Meaning.Lent.{bookRow, given, lentAnswer}
-use Rattle.order_book.specs.Steps.Account.{newAccount, firstPriceOutside, openBy, openOf, counted, badIn, rowOrder, isOpen, asksRow, addBy, addOf, nextOf, closeOf, noOrder, accountAt, Ready}
+use Rattle.order_book.specs.Steps.BookState.{newState, firstPriceOutside, openBy, openOf, counted, badIn, rowOrder, isOpen, asksRow, addBy, addOf, nextOf, closeOf, noOrder, stateAt, Ready}
 use Rattle.integers.specs.Ranges.{is-false, not-is}
-use Rattle.order_book.specs.Steps.AccountLaws.{opened-by, next-by, asked, counted-by, order-in, counted-near}
+use Rattle.order_book.specs.Steps.StateLaws.{opened-by, next-by, asked, counted-by, order-in, counted-near}
 
 -- after i rows whose surpluses are f, by the first row that is out of range
-abbrev reached : Account → ℕ → (ℕ → ℤ) → Option ℕ → Account
+abbrev reached : BookState → ℕ → (ℕ → ℤ) → Option ℕ → BookState
 reached o i f (some k) = record { number = 8; index = k; taken = k; sum = record { 0 = sumTo k f } }
 reached o i f none = record { number = o .number; index = o .index; taken = i; sum = record { 0 = sumTo i f } }
 
@@ -38,7 +38,7 @@ pub no-cause : refusal [] ≡ none
 unfolding refusal
 no-cause = refl
 
-ready-first : (number index : ℕ) → Ready (newAccount number index)
+ready-first : (number index : ℕ) → Ready (newState number index)
 ready-first number index = record { taken-in = omega arith; sum-near = omega arith }
 
 module _ (orders : List OrderRow) (prices : List ℤ) where
@@ -55,23 +55,23 @@ module _ (orders : List OrderRow) (prices : List ℤ) where
   priceOutside z = outside limits.zonePrice (priceAt prices z)
 
   -- REFUSED BY 4 OR 8: no row changes it
-  stays : (k i : ℕ) → k ≤ i → isOpen (accountAt orders prices k) ≡ false → accountAt orders prices i ≡ accountAt orders prices k
-  unfolding accountAt
-  stays k zero h s = let e : zero ≡ k = omega (arith, h) in ap (accountAt orders prices) e
+  stays : (k i : ℕ) → k ≤ i → isOpen (stateAt orders prices k) ≡ false → stateAt orders prices i ≡ stateAt orders prices k
+  unfolding stateAt
+  stays k zero h s = let e : zero ≡ k = omega (arith, h) in ap (stateAt orders prices) e
   stays k (suc i) h s =
       elim (decLt i k) [
-        | yes l ↦ let e : suc i ≡ k = omega (arith, h, l) in ap (accountAt orders prices) e
-        | no g ↦ ap (λ (a : Account). nextOf a (at i) prices) (stays k i (omega (arith, g)) s) ∙ next-by (accountAt orders prices k) (at i) prices s
+        | yes l ↦ let e : suc i ≡ k = omega (arith, h, l) in ap (stateAt orders prices) e
+        | no g ↦ ap (λ (a : BookState). nextOf a (at i) prices) (stays k i (omega (arith, g)) s) ∙ next-by (stateAt orders prices k) (at i) prices s
       ]
 
   -- refused by 4 at once
-  never-read : (k : ℕ) → openOf (length orders) prices ≡ newAccount 4 k → (i : ℕ) → accountAt orders prices i ≡ newAccount 4 k
-  unfolding accountAt
+  never-read : (k : ℕ) → openOf (length orders) prices ≡ newState 4 k → (i : ℕ) → stateAt orders prices i ≡ newState 4 k
+  unfolding stateAt
   never-read k e i = stays 0 i (omega arith) (ap isOpen e) ∙ e
 
   -- ROW BY ROW
   module _ (z : Option ℕ) where
-    abbrev opened : Account
+    abbrev opened : BookState
     opened = openBy false false z
 
     starts : (y : Option ℕ) → openBy false false y ≡ reached (openBy false false y) 0 term none
@@ -92,10 +92,10 @@ module _ (orders : List OrderRow) (prices : List ℤ) where
     next i (some k) = refl
     next i none = next-by (reached opened i term none) (at i) prices (still-open z i) ∙ by-row i (bad i)
 
-    taken : openOf (length orders) prices ≡ opened → (i : ℕ) → accountAt orders prices i ≡ reached opened i term (firstBelow i bad)
-    unfolding accountAt firstBelow
+    taken : openOf (length orders) prices ≡ opened → (i : ℕ) → stateAt orders prices i ≡ reached opened i term (firstBelow i bad)
+    unfolding stateAt firstBelow
     taken e zero = e ∙ starts z
-    taken e (suc i) = ap (λ (a : Account). nextOf a (at i) prices) (taken e i) ∙ next i (firstBelow i bad)
+    taken e (suc i) = ap (λ (a : BookState). nextOf a (at i) prices) (taken e i) ∙ next i (firstBelow i bad)
 
   -- what the answer goes by, over the lent rows themselves
   abbrev rows : List BookRow
@@ -132,13 +132,13 @@ module _ (orders : List OrderRow) (prices : List ℤ) where
   term-is er ez i h =
       sym (counted-by (rowOrder (at i)) prices (not-is _ (not-below (length prices) priceOutside ez ((at i) .zone) ((order-in prices (at i) (not-below (length orders) bad er i h)) .zone-in))))
 
-  closed-by : {a : Account} {x : Option Outcome} → accountAt orders prices (length orders) ≡ a → refusal tests ≡ x → closeOf a ≡ given (bookAnswerBy (bookSurplus rows prices) x)
-      → closeOf (accountAt orders prices (length orders)) ≡ lentAnswer orders prices
+  closed-by : {a : BookState} {x : Option Outcome} → stateAt orders prices (length orders) ≡ a → refusal tests ≡ x → closeOf a ≡ given (bookAnswerBy (bookSurplus rows prices) x)
+      → closeOf (stateAt orders prices (length orders)) ≡ lentAnswer orders prices
   closed-by ea ex e = ap closeOf ea ∙ e ∙ answer-by ex
 
   -- by the tests of the counts, the first price out of range and the first row out of range
   by-tests : (a b : Bool) → outside zoneCounts (pos (length prices)) ≡ a → outside orderCounts (pos (length orders)) ≡ b → (z : Option ℕ) → firstPriceOutside prices ≡ z
-      → (k : Option ℕ) → firstBelow (length orders) bad ≡ k → closeOf (accountAt orders prices (length orders)) ≡ lentAnswer orders prices
+      → (k : Option ℕ) → firstBelow (length orders) bad ≡ k → closeOf (stateAt orders prices (length orders)) ≡ lentAnswer orders prices
   unfolding firstPriceOutside
   by-tests true b ea eb z ez k ek = closed-by (never-read 5 (sym (opened-by (length orders) prices ea refl refl)) (length orders)) (field-fails 4 5 _ ea) refl
   by-tests false true ea eb z ez k ek =
@@ -147,44 +147,44 @@ module _ (orders : List OrderRow) (prices : List ℤ) where
       closed-by (taken z (sym (opened-by (length orders) prices ea eb ez)) (length orders) ∙ ap (reached (openBy false false z) (length orders) term) ek)
       (field-passes 4 5 _ ea ∙ field-passes 4 8 _ eb ∙ row-found (each 8 (length orders) bad) _ k ek) refl
   by-tests false false ea eb (some z) ez none ek =
-      closed-by (taken (some z) (sym (opened-by (length orders) prices ea eb ez)) (length orders) ∙ ap (reached (newAccount 25 z) (length orders) term) ek)
+      closed-by (taken (some z) (sym (opened-by (length orders) prices ea eb ez)) (length orders) ∙ ap (reached (newState 25 z) (length orders) term) ek)
       (field-passes 4 5 _ ea ∙ field-passes 4 8 _ eb ∙ row-clear (each 8 (length orders) bad) _ ek ∙ row-found (each 25 (length prices) priceOutside) _ z ez) refl
   by-tests false false ea eb none ez none ek =
-      closed-by (taken none (sym (opened-by (length orders) prices ea eb ez)) (length orders) ∙ ap (reached (newAccount 0 0) (length orders) term) ek)
+      closed-by (taken none (sym (opened-by (length orders) prices ea eb ez)) (length orders) ∙ ap (reached (newState 0 0) (length orders) term) ek)
       (field-passes 4 5 _ ea ∙ field-passes 4 8 _ eb ∙ row-clear (each 8 (length orders) bad) _ ek ∙ row-clear (each 25 (length prices) priceOutside) [] ez ∙ no-cause)
       (ap (λ (x : ℤ). given (bookAnswerBy x none)) (sum-ext (length orders) _ _ (term-is ek ez) ∙ sym sum-is))
 
   -- closed after the last row: the answer
-  after-last : closeOf (accountAt orders prices (length orders)) ≡ lentAnswer orders prices
+  after-last : closeOf (stateAt orders prices (length orders)) ≡ lentAnswer orders prices
   after-last = by-tests (outside zoneCounts (pos (length prices))) (outside orderCounts (pos (length orders))) refl refl (firstPriceOutside prices) refl (firstBelow (length orders) bad) refl
 
   -- CLOSED WHERE NO MORE ROWS ARE READ: the same, since a refusal stays, or all were read
-  last-is : (i : ℕ) → i ≤ length orders → (s : Bool) → isOpen (accountAt orders prices i) ≡ s → T (not (s && ltb i (length orders))) → accountAt orders prices (length orders) ≡ accountAt orders prices i
-  last-is i h true s t = ap (accountAt orders prices) (omega (arith, h, nltb→le i (length orders) t))
+  last-is : (i : ℕ) → i ≤ length orders → (s : Bool) → isOpen (stateAt orders prices i) ≡ s → T (not (s && ltb i (length orders))) → stateAt orders prices (length orders) ≡ stateAt orders prices i
+  last-is i h true s t = ap (stateAt orders prices) (omega (arith, h, nltb→le i (length orders) t))
   last-is i h false s t = stays i (length orders) h s
 
-  pub closing : (i : ℕ) → i ≤ length orders → asksRow (accountAt orders prices i) i (length orders) ≡ false → closeOf (accountAt orders prices i) ≡ lentAnswer orders prices
-  closing i h e = ap closeOf (sym (last-is i h (isOpen (accountAt orders prices i)) refl (is-false e))) ∙ after-last
+  pub closing : (i : ℕ) → i ≤ length orders → asksRow (stateAt orders prices i) i (length orders) ≡ false → closeOf (stateAt orders prices i) ≡ lentAnswer orders prices
+  closing i h e = ap closeOf (sym (last-is i h (isOpen (stateAt orders prices i)) refl (is-false e))) ∙ after-last
 
   -- ROOM FOR EACH ROW
   sum-near : (i : ℕ) → ((j : ℕ) → j < i → T (not (bad j))) → Near (i * 4500000000000000) (sumTo i term)
   sum-near i ok = near-sum i 4500000000000000 term (λ j h. counted-near prices (at j) (ok j h))
 
-  ready-at : (o : Account) (i : ℕ) (k : Option ℕ) → firstBelow i bad ≡ k → i < 512 → Ready (reached o i term k)
+  ready-at : (o : BookState) (i : ℕ) (k : Option ℕ) → firstBelow i bad ≡ k → i < 512 → Ready (reached o i term k)
   ready-at o i (some k) e h = let w = first-is i bad k e in record { taken-in = omega (arith, w .place-in); sum-near = sum-near k (w .none-before) }
   ready-at o i none e h = record { taken-in = h; sum-near = sum-near i (not-below i bad e) }
 
-  ready-before : (a b : Bool) → outside zoneCounts (pos (length prices)) ≡ a → outside orderCounts (pos (length orders)) ≡ b → (i : ℕ) → i < length orders → Ready (accountAt orders prices i)
+  ready-before : (a b : Bool) → outside zoneCounts (pos (length prices)) ≡ a → outside orderCounts (pos (length orders)) ≡ b → (i : ℕ) → i < length orders → Ready (stateAt orders prices i)
   ready-before true b ea eb i h = subst Ready (sym (never-read 5 (sym (opened-by (length orders) prices ea refl refl)) i)) (ready-first 4 5)
   ready-before false true ea eb i h = subst Ready (sym (never-read 8 (sym (opened-by (length orders) prices ea eb refl)) i)) (ready-first 4 8)
   ready-before false false ea eb i h =
       subst Ready (sym (taken (firstPriceOutside prices) (sym (opened-by (length orders) prices ea eb refl)) i))
       (ready-at (openBy false false (firstPriceOutside prices)) i (firstBelow i bad) refl (omega (arith, h, (nat-within 0 512 (length orders) (is-false eb)) .1)))
 
-  pub ready : (i : ℕ) → asksRow (accountAt orders prices i) i (length orders) ≡ true → Ready (accountAt orders prices i)
-  ready i e = ready-before (outside zoneCounts (pos (length prices))) (outside orderCounts (pos (length orders))) refl refl i ((asked (accountAt orders prices i) i (length orders) e) .1)
+  pub ready : (i : ℕ) → asksRow (stateAt orders prices i) i (length orders) ≡ true → Ready (stateAt orders prices i)
+  ready i e = ready-before (outside zoneCounts (pos (length prices))) (outside orderCounts (pos (length orders))) refl refl i ((asked (stateAt orders prices i) i (length orders) e) .1)
 
   -- EACH ROW THAT IS READ is added
-  pub reading : (i : ℕ) → asksRow (accountAt orders prices i) i (length orders) ≡ true → addOf (accountAt orders prices i) (at i) prices ≡ accountAt orders prices (suc i)
-  unfolding accountAt
-  reading i e = sym (next-by (accountAt orders prices i) (at i) prices ((asked (accountAt orders prices i) i (length orders) e) .0))
+  pub reading : (i : ℕ) → asksRow (stateAt orders prices i) i (length orders) ≡ true → addOf (stateAt orders prices i) (at i) prices ≡ stateAt orders prices (suc i)
+  unfolding stateAt
+  reading i e = sym (next-by (stateAt orders prices i) (at i) prices ((asked (stateAt orders prices i) i (length orders) e) .0))

@@ -1,4 +1,4 @@
--- What each step on an account gives, by the tests passed on the way; what a row that is in range leaves; and that its surplus keeps the sum small.
+-- What each step on the state gives, by the tests passed on the way; what a row that is in range leaves; and that its surplus keeps the sum small.
 -- Assumes nothing.
 use mathlib.Core.Path.{_≡_, refl, ap, sym, _∙_}
 use mathlib.Core.Bool.{Bool, true, false, not, cond, _&&_}
@@ -24,18 +24,18 @@ use Rattle.rules.specs.Meaning.Verdict.{rowFault, badRow}
 use Rattle.rules.specs.Steps.Passed.{nor-4}
 use Rattle.rules.specs.Promised.Fits.{surplus-near}
 use Rattle.rules.specs.Meaning.Book.{priceAt}
-use Rattle.order_book.specs.declared.Account.{Account}
+use Rattle.order_book.specs.declared.BookState.{BookState}
 use Rattle.order_book.specs.declared.OrderRow.{OrderRow}
-use Rattle.order_book.specs.Steps.Account.{openBy, openOf, firstPriceOutside, counted, badIn, rowOrder, isOpen, asksRow, addBy, addOf, nextOf, answered, closeOf, OrderIn, Ready}
+use Rattle.order_book.specs.Steps.BookState.{openBy, openOf, firstPriceOutside, counted, badIn, rowOrder, isOpen, asksRow, addBy, addOf, nextOf, answered, closeOf, OrderIn, Ready}
 
 pub opened-by : (count : ℕ) (prices : List ℤ) {a b : Bool} {z : Option ℕ} → outside zoneCounts (pos (length prices)) ≡ a → outside orderCounts (pos count) ≡ b → firstPriceOutside prices ≡ z
     → openBy a b z ≡ openOf count prices
 opened-by count prices ha hb hz = sym (λ j. openBy (ha j) (hb j) (hz j))
 
-pub added-by : (a : Account) (o : OrderRow) (prices : List ℤ) {b : Bool} → badIn prices o ≡ b → addBy a b (counted (rowOrder o) prices) ≡ addOf a o prices
+pub added-by : (a : BookState) (o : OrderRow) (prices : List ℤ) {b : Bool} → badIn prices o ≡ b → addBy a b (counted (rowOrder o) prices) ≡ addOf a o prices
 added-by a o prices hb = sym (ap (λ (b : Bool). addBy a b (counted (rowOrder o) prices)) hb)
 
-pub next-by : (a : Account) (o : OrderRow) (prices : List ℤ) {s : Bool} → isOpen a ≡ s → nextOf a o prices ≡ cond s (addOf a o prices) a
+pub next-by : (a : BookState) (o : OrderRow) (prices : List ℤ) {s : Bool} → isOpen a ≡ s → nextOf a o prices ≡ cond s (addOf a o prices) a
 next-by a o prices hs = ap (λ (s : Bool). cond s (addOf a o prices) a) hs
 
 -- a row that is asked for is there, and no refusal by 4 or 8 stands before it
@@ -43,10 +43,10 @@ asked-by : (s : Bool) (i count : ℕ) → T (s && ltb i count) → (s ≡ true) 
 asked-by true i count t = (refl, ltb→lt i count t)
 asked-by false i count t = absurd t
 
-pub asked : (a : Account) (i count : ℕ) → asksRow a i count ≡ true → (isOpen a ≡ true) × (i < count)
+pub asked : (a : BookState) (i count : ℕ) → asksRow a i count ≡ true → (isOpen a ≡ true) × (i < count)
 asked a i count e = asked-by (isOpen a) i count (is-true e)
 
-pub closed-by : (a : Account) {b : Bool} {x : ℤ} → eqb (a .number) 0 ≡ b → x ≡ only b (a .sum .0) → answered (a .number) (a .index) x ≡ closeOf a
+pub closed-by : (a : BookState) {b : Bool} {x : ℤ} → eqb (a .number) 0 ≡ b → x ≡ only b (a .sum .0) → answered (a .number) (a .index) x ≡ closeOf a
 closed-by a hb hx = ap (answered (a .number) (a .index)) (hx ∙ ap (λ (b : Bool). only b (a .sum .0)) (sym hb))
 
 pub counted-by : (o : Order) (prices : List ℤ) {b : Bool} → outside limits.zonePrice (priceAt prices (o .zone)) ≡ b → only (not b) (surplusAt o (priceAt prices (o .zone))) ≡ counted o prices
@@ -75,5 +75,5 @@ module _ (prices : List ℤ) (o : OrderRow) (ok : T (not (badIn prices o))) wher
   counted-near = at-price (outside limits.zonePrice (priceAt prices (o .zone))) refl
 
 -- with one row more the sum fits
-pub next-fits : (a : Account) (x : ℤ) → Ready a → Near 4500000000000000 x → SFits w64 (a .sum .0 +ℤ x)
+pub next-fits : (a : BookState) (x : ℤ) → Ready a → Near 4500000000000000 x → SFits w64 (a .sum .0 +ℤ x)
 next-fits a x r n = near-fits w64 (omega (arith, r .taken-in)) (near-add (r .sum-near) n)

@@ -1,8 +1,8 @@
--- `order_book::Account::take_row` meets its contract: one row more of at most 512, and a sum that fits. Assumes nothing.
+-- `order_book::BookState::take_row` meets its contract: one row more of at most 512, and a sum that fits. Assumes nothing.
 use Prim.Native.Nat.{_+_}
 use borrow.Author.Needs.{needs}
-use Rattle.order_book.proofs.Account.take_row.Statement.{statement}
-use Rattle.order_book.proofs.Account.take_row.Tie as tie
+use Rattle.order_book.proofs.BookState.take_row.Statement.{statement}
+use Rattle.order_book.proofs.BookState.take_row.Tie as tie
 
 plus-requires : tie.Need-plus-requires
 plus-requires c κs = search needs

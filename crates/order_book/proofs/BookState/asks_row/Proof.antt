@@ -1,8 +1,8 @@
--- `order_book::Account::asks_row` meets its contract: by whether the account is open. Assumes nothing.
+-- `order_book::BookState::asks_row` meets its contract: by whether the state is open. Assumes nothing.
 use mathlib.Core.Path.{refl, sym, _∙_}
 use borrow.Author.Needs.{needs}
-use Rattle.order_book.proofs.Account.asks_row.Statement.{statement}
-use Rattle.order_book.proofs.Account.asks_row.Tie as tie
+use Rattle.order_book.proofs.BookState.asks_row.Statement.{statement}
+use Rattle.order_book.proofs.BookState.asks_row.Tie as tie
 
 is-open-requires : tie.Need-is-open-requires
 is-open-requires c κs = search needs

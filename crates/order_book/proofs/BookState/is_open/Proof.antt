@@ -1,8 +1,8 @@
--- `order_book::Account::is_open` meets its contract: by its two tests of the number. Assumes nothing.
+-- `order_book::BookState::is_open` meets its contract: by its two tests of the number. Assumes nothing.
 use mathlib.Core.Path.{refl}
 use borrow.Author.Tests.{eq-eqb, ne-eqb}
-use Rattle.order_book.proofs.Account.is_open.Statement.{statement}
-use Rattle.order_book.proofs.Account.is_open.Tie as tie
+use Rattle.order_book.proofs.BookState.is_open.Statement.{statement}
+use Rattle.order_book.proofs.BookState.is_open.Tie as tie
 
 returns : tie.Need-returns
 returns c = rw (eq-eqb (c .before .before .args .self .number) 0 (c .if1 .taken)) refl
