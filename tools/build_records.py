@@ -12,7 +12,7 @@ import pathlib
 import sys
 
 import records
-from records import columns, dumps, exchanges, families, hours, sheets, shortfalls
+from records import columns, dumps, exchanges, families, hours, queues, sheets, shortfalls
 
 KINDS = {
     "hours": hours,
@@ -22,6 +22,7 @@ KINDS = {
     "shortfalls": shortfalls,
     "sheets": sheets,
     "exchanges": exchanges,
+    "queues": queues,
 }
 
 

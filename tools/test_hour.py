@@ -1,6 +1,6 @@
 #!/usr/bin/env python3
 """Tests of the formats, that is lta.hour and lta.dump and the commands over them, of the records and build_records.py,
-and of the stored hours, dumps, sheets and exchanges. The last line counts what passed and failed.
+and of the stored hours, dumps, sheets, exchanges and queues. The last line counts what passed and failed.
 """
 
 import contextlib
@@ -19,7 +19,7 @@ import largest_hour
 import records
 from lta import cli, columns, dump, exchanges, gap, hour, rules
 from records import columns as column_records
-from records import dumps, families, hours, sheets, shortfalls
+from records import dumps, families, hours, queues, sheets, shortfalls
 from records import exchanges as exchange_records
 
 ROOT = pathlib.Path(__file__).resolve().parent.parent
@@ -1135,6 +1135,22 @@ class StoredExchanges(unittest.TestCase):
     def test_a_number_by_its_size_and_sign(self):
         by_hand = bytes.fromhex("0100000000000000 0201000000000080")
         self.assertEqual(exchange_records.numbers((1, -258)), by_hand)
+
+
+class StoredQueues(unittest.TestCase):
+    """The stored runs of the desk queue are taken whole, and an event is the bytes that the program reads."""
+
+    def test_every_event_has_its_answer(self):
+        lines = []
+        for name, (events, answers) in queues.stored_runs().items():
+            lines += [name, *events]
+            for event, answer in zip(events, answers, strict=True):
+                self.assertEqual(answer.split(":")[0], event)
+        self.assertEqual(lines, (queues.QUEUE / "events.txt").read_text().splitlines())
+
+    def test_events_by_hand(self):
+        for event, by_hand in (("post 2 258", "70 02000000 02010000"), ("serve", "73 00000000 00000000")):
+            self.assertEqual(queues.event_bytes(event), bytes.fromhex(by_hand))
 
 
 class Records(unittest.TestCase):

@@ -1,4 +1,4 @@
-//! The stored output of the programs over queues, columns and shortfalls: the papers' is the same, and each wrong
+//! The stored output of crates/record_runs for queues, columns and shortfalls: the papers' is the same, and each wrong
 //! build's another.
 
 use paper_hours::{forced_hour, three_zone_hour, Branch, Hour, Link, Version};
@@ -8,6 +8,41 @@ use second_judge::{
 use wrong_builds::columns::Rearrange;
 use wrong_builds::shortfalls::Value;
 use wrong_builds::{columns, queue};
+
+const RECORDS: &[u8] = include_bytes!("../../crates/record_runs/stdin");
+const RECORDS_PRINTED: &str = include_str!("../../crates/record_runs/stdout");
+
+/// A stored record: the room that is lent, and its three parts.
+struct Record {
+    room: usize,
+    parts: [&'static [u8]; 3],
+}
+
+/// The stored records of a letter, of which there are some.
+fn records(letter: u8) -> Vec<Record> {
+    let mut found = Vec::new();
+    let mut rest = RECORDS;
+    while let Some((opening, mut next)) = rest.split_first_chunk::<21>() {
+        let word = |at: usize| u32::from_le_bytes(opening[at..at + 4].try_into().unwrap()) as usize;
+        let parts = [9, 13, 17].map(|at| {
+            let (part, past) = next.split_at(word(at));
+            next = past;
+            part
+        });
+        if opening[0] == letter {
+            found.push(Record { room: word(5), parts });
+        }
+        rest = next;
+    }
+    assert!(rest.is_empty() && !found.is_empty());
+    found
+}
+
+/// What stands under a heading in the stored output of crates/record_runs.
+fn printed_of(heading: &str) -> String {
+    let lines = RECORDS_PRINTED.lines().skip_while(|line| *line != heading).skip(1);
+    lines.take_while(|line| !line.starts_with("== ")).map(|line| format!("{line}\n")).collect()
+}
 
 /// The stored runs of the desk queue as this queue prints them: a run opens with its name, and from a line `byte` on
 /// it is followed by its bytes.
@@ -53,52 +88,18 @@ fn queue_runs(new: &dyn Fn() -> Box<dyn DeskQueue>, events: &str) -> String {
     printed
 }
 
-const QUEUE_EVENTS: &str = include_str!("../../crates/queue_runs/stdin");
-const QUEUE_PRINTED: &str = include_str!("../../crates/queue_runs/stdout");
+const QUEUE_EVENTS: &str = include_str!("../../queue/events.txt");
+const QUEUE_PRINTED: &str = include_str!("../../queue/answers.txt");
 
 #[test]
 fn stored_queue_runs() {
     assert_eq!(queue_runs(&|| Box::new(Papers), QUEUE_EVENTS), QUEUE_PRINTED);
+    assert_eq!(printed_of("== queues"), QUEUE_PRINTED);
     // What is written into cells is no answer: that build shows in the bytes alone.
     for (build, name) in queue::BUILDS {
         let told = queue_runs(&build, QUEUE_EVENTS) != QUEUE_PRINTED;
         assert_eq!(told, name != "all areas written anew", "{name}");
     }
-}
-
-const RECORDS: &[u8] = include_bytes!("../../crates/record_runs/stdin");
-const RECORDS_PRINTED: &str = include_str!("../../crates/record_runs/stdout");
-
-/// A stored record: the room that is lent, and its three parts.
-struct Record {
-    room: usize,
-    parts: [&'static [u8]; 3],
-}
-
-/// The stored records of a letter, of which there are some.
-fn records(letter: u8) -> Vec<Record> {
-    let mut found = Vec::new();
-    let mut rest = RECORDS;
-    while let Some((opening, mut next)) = rest.split_first_chunk::<21>() {
-        let word = |at: usize| u32::from_le_bytes(opening[at..at + 4].try_into().unwrap()) as usize;
-        let parts = [9, 13, 17].map(|at| {
-            let (part, past) = next.split_at(word(at));
-            next = past;
-            part
-        });
-        if opening[0] == letter {
-            found.push(Record { room: word(5), parts });
-        }
-        rest = next;
-    }
-    assert!(rest.is_empty() && !found.is_empty());
-    found
-}
-
-/// What stands under a heading in the stored output of crates/record_runs.
-fn printed_of(heading: &str) -> String {
-    let lines = RECORDS_PRINTED.lines().skip_while(|line| *line != heading).skip(1);
-    lines.take_while(|line| !line.starts_with("== ")).map(|line| format!("{line}\n")).collect()
 }
 
 /// The stored files as this judge columns and restores them, two lines for each.

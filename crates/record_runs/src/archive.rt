@@ -1,13 +1,13 @@
-// A file through both entries of the archive (S-10). A record has the room that is lent and the file. Printed are two lines, of columning it and of restoring
-// it: number, index and length, and what was written, in hex.
+// A file through both entries of the archive (S-10). A record has the room that is lent and the file. Printed are two
+// lines, of columning it and of restoring it: number, index and length, and what was written, in hex.
 use output::Written;
 use runs::print;
 
 fn print_answer(v: Written, out: &[u8]) {
     runs::print_written(v.number, v.index, v.length);
-    print(b" ");
+    runs::print_space();
     runs::print_hex(runs::first(out, v.length));
-    print(b"\n");
+    runs::end_line();
 }
 
 fn column(file: &[u8], out: &mut [u8]) {

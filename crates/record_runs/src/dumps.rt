@@ -1,5 +1,5 @@
-// A dump through its entry (S-5). A record has a case and the dump. Printed is a line: number, index and length, and of an answer the number by which the
-// judgement of the case with that proposal is known.
+// A dump through its entry (S-5). A record has a case and the dump. Printed is a line: number, index and length, and
+// of an answer the number by which the judgement of the case with that proposal is known.
 use runs::print;
 
 // One byte less than the largest proposal, so that one dump finds the output short.
@@ -20,7 +20,7 @@ fn convert(case: &[u8], dump: &[u8], out: &mut [u8]) {
     if v.number == 0 {
         print_verdict(case, runs::first(out, v.length));
     }
-    print(b"\n");
+    runs::end_line();
 }
 
 pub fn run(case: &[u8], dump: &[u8]) {

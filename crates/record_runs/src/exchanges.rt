@@ -1,6 +1,8 @@
-// Net positions, zone prices and pairs through the entries of requests S-3 and S-13. A record has how many numbers of scratch are lent, to the wide entry and to
-// the smaller; net positions and prices, 64 bits each, of which the highest is the sign; and the pairs. Printed is a line, with the wide scratch and after it with
-// the smaller: number, index, 1 for a yes or 0, the total in tenths, and how many numbers at the scratch's start are zero; all are 7 before.
+// Net positions, zone prices and pairs through the entries of requests S-3 and S-13. A record has how many numbers of
+// scratch are lent, to the wide entry and to the smaller; net positions and prices, 64 bits each, of which the
+// highest is the sign; and the pairs. Printed is a line, with the wide scratch and after it with the smaller: number,
+// index, 1 for a yes or 0, the total in tenths, and how many numbers at the scratch's start are zero; all are 7
+// before.
 use fields::Cursor;
 use fields::LongField;
 use intuitive::Carried;
@@ -63,26 +65,26 @@ fn small(net: &[i64], prices: &[i64], pairs: &[u8], scratch: &mut [i64]) {
     told(r, zeros(scratch));
 }
 
-fn ask(number: usize, room: usize, net: &[i64], prices: &[i64], pairs: &[u8]) {
+fn ask(room: usize, small_room: usize, net: &[i64], prices: &[i64], pairs: &[u8]) {
     let mut scratch = [7i64; ROOM];
-    wide(net, prices, pairs, runs::lent_numbers(&mut scratch, number));
+    wide(net, prices, pairs, runs::lent_numbers(&mut scratch, room));
     print(b"; ");
     let mut small_scratch = [7i64; SMALL_ROOM];
     small(
         net,
         prices,
         pairs,
-        runs::lent_numbers(&mut small_scratch, room),
+        runs::lent_numbers(&mut small_scratch, small_room),
     );
-    print(b"\n");
+    runs::end_line();
 }
 
-pub fn run(number: usize, room: usize, net: &[u8], prices: &[u8], pairs: &[u8]) {
+pub fn run(room: usize, small_room: usize, net: &[u8], prices: &[u8], pairs: &[u8]) {
     let net_list = numbers(net);
     let price_list = numbers(prices);
     ask(
-        number,
         room,
+        small_room,
         runs::first_numbers(&net_list, net.len() / 8),
         runs::first_numbers(&price_list, prices.len() / 8),
         pairs,

@@ -1,5 +1,5 @@
-// An hour with families through the judgement (S-11). A record has a case, a proposal and a family list. Printed is a line: number and index with the list,
-// the report buffer in hex, and number and index without the list.
+// An hour with families through the judgement (S-11). A record has a case, a proposal and a family list. Printed is a
+// line: number and index with the list, the report buffer in hex, and number and index without the list.
 use rows::Outcome;
 use runs::print;
 
@@ -13,7 +13,7 @@ fn print_verdict(v: Outcome) {
 fn run_listed(case: &[u8], proposal: &[u8], families: &[u8]) {
     let mut report = [0u8; REPORT_ROOM];
     print_verdict(judgement::judge_families(case, proposal, families, &mut report));
-    print(b" ");
+    runs::print_space();
     runs::print_hex(&report);
 }
 
@@ -22,7 +22,7 @@ fn run_alone(case: &[u8], proposal: &[u8]) {
     let alone = judgement::judge(case, proposal, &mut report);
     print(b" without ");
     print_verdict(alone);
-    print(b"\n");
+    runs::end_line();
 }
 
 pub fn run(case: &[u8], proposal: &[u8], families: &[u8]) {

@@ -1,18 +1,30 @@
-// Stored inputs through the entries, one record after another from standard input. A record is a letter, two numbers and the lengths of three parts, each 32 bits
-// little-endian, and then the parts. `run` says which entry a letter is for, and each module which numbers and parts its entry takes and what is printed.
+// Stored inputs through the entries, one record after another from standard input. A record is a letter, two numbers
+// and the lengths of three parts, each 32 bits little-endian, and then the parts. `run` says which entry a letter is
+// for, and each module which numbers and parts its entry takes and what is printed.
 pub mod archive;
 pub mod dumps;
 pub mod exchanges;
 pub mod families;
 pub mod hours;
+pub mod queues;
 pub mod sheets;
 pub mod shortages;
 
 use libc::STDIN_FILENO;
 use runs::number_at;
 
-// The bytes of a record before its parts.
+// The bytes of a record before its parts, and where its numbers and the parts' lengths stand there.
 const OPENING: usize = 21;
+
+const NUMBER: usize = 1;
+
+const ROOM: usize = 5;
+
+const FIRST: usize = 9;
+
+const SECOND: usize = 13;
+
+const THIRD: usize = 17;
 
 // A proved loop has to end, and nothing says that an input does: so many records are more than any input has.
 const RECORDS: usize = 4294967296;
@@ -26,6 +38,7 @@ fn run(letter: u8, number: usize, room: usize, first: &[u8], second: &[u8], thir
         b'f' => families::run(first, second, third),
         b's' => shortages::run(room, first, second),
         b'h' => hours::run(first),
+        b'q' => queues::run(first),
         b'm' => sheets::run(number, room, first),
         b'i' => exchanges::run(number, room, first, second, third),
         _ => runs::print(b"no entry\n"),
@@ -34,19 +47,29 @@ fn run(letter: u8, number: usize, room: usize, first: &[u8], second: &[u8], thir
 
 // The parts are cut by their lengths. Where the input ends before they do, nothing is run.
 fn run_parts(letter: u8, opening: &[u8], parts: &[u8]) {
-    let second_at = number_at(opening, 9);
-    let third_at = second_at + number_at(opening, 13);
-    let end = third_at + number_at(opening, 17);
+    let second_at = number_at(opening, FIRST);
+    let third_at = second_at + number_at(opening, SECOND);
+    let end = third_at + number_at(opening, THIRD);
     if end <= parts.len() {
         run(
             letter,
-            number_at(opening, 1),
-            number_at(opening, 5),
+            number_at(opening, NUMBER),
+            number_at(opening, ROOM),
             runs::first(parts, second_at),
             &parts[second_at..third_at],
             &parts[third_at..end],
         );
     }
+}
+
+fn parts_length(opening: &[u8]) -> usize {
+    number_at(opening, FIRST) + number_at(opening, SECOND) + number_at(opening, THIRD)
+}
+
+fn read_parts(letter: u8, opening: &[u8]) {
+    let mut buffer = io::large_buffer();
+    let kept = io::read_full(STDIN_FILENO, runs::lent(&mut buffer, parts_length(opening)));
+    run_parts(letter, opening, runs::first(&buffer, kept));
 }
 
 // Reads a record and runs it, or answers that the input has ended.
@@ -55,10 +78,7 @@ fn run_record() -> bool {
     if io::read_full(STDIN_FILENO, &mut opening) < OPENING {
         return false;
     }
-    let length = number_at(&opening, 9) + number_at(&opening, 13) + number_at(&opening, 17);
-    let mut buffer = io::large_buffer();
-    let kept = io::read_full(STDIN_FILENO, runs::lent(&mut buffer, length));
-    run_parts(opening[0], &opening, runs::first(&buffer, kept));
+    read_parts(opening[0], &opening);
     true
 }
 

@@ -1,5 +1,6 @@
-// A margin sheet through its entry (S-1). A record has the zone count, the room of the output and the sheet. Printed is number, index and length, then a line
-// for each branch with its margin in tenths and its PTDFs in hundred-thousandths.
+// A margin sheet through its entry (S-1). A record has the zone count, the room of the output and the sheet. Printed
+// is number, index and length, then a line for each branch with its margin in tenths and its PTDFs in
+// hundred-thousandths.
 use runs::print;
 
 // Room for every sheet.
@@ -23,10 +24,10 @@ fn print_numbers(out: &[u8], n: usize) {
         at += 4;
         if left <= 1 {
             left = n;
-            print(b"\n");
+            runs::end_line();
         } else {
             left -= 1;
-            print(b" ");
+            runs::print_space();
         }
     }
 }
@@ -34,7 +35,7 @@ fn print_numbers(out: &[u8], n: usize) {
 fn convert(sheet: &[u8], zones: usize, out: &mut [u8]) {
     let v = margin_sheet::sheet_branches(sheet, zones, out);
     runs::print_written(v.number, v.index, v.length);
-    print(b"\n");
+    runs::end_line();
     if zones <= 16 {
         print_numbers(runs::first(out, v.length), zones + 1);
     }

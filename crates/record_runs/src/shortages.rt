@@ -1,5 +1,5 @@
-// An hour through the entry of request S-14. A record has how many numbers are lent, a case and a proposal. Printed is a line: number, index and length, and
-// of an answer its numbers.
+// An hour through the entry of request S-14. A record has how many numbers are lent, a case and a proposal. Printed
+// is a line: number, index and length, and of an answer its numbers.
 use runs::print;
 
 // Room for every hour.
@@ -24,7 +24,7 @@ fn ask(case: &[u8], proposal: &[u8], out: &mut [i64]) {
     let v = hour_shortfalls::hour_shortfalls(case, proposal, out);
     runs::print_written(v.number, v.index, v.length);
     print_numbers(runs::first_numbers(out, v.length));
-    print(b"\n");
+    runs::end_line();
 }
 
 pub fn run(room: usize, case: &[u8], proposal: &[u8]) {

@@ -1,4 +1,5 @@
-// What the programs over stored inputs share: how they read them, the start of a buffer that is lent or was written, and how they print.
+// What the program over stored inputs reads and prints: the numbers of a record, the start of a buffer that is lent or
+// was written, and its lines.
 ghost use mathlib.Core.Path.{_≡_};
 ghost use Prim.Native.Nat.{_+_, _≤_, _<_};
 ghost use lib.ListN.{length, take};
@@ -49,20 +50,20 @@ pub fn lent(buffer: &mut [u8], room: usize) -> &mut [u8]
 }
 
 // THE SAME OF NUMBERS.
-fn numbers_there(numbers: &[i64], n: usize) -> usize
+fn numbers_there(numbers: &[i64], count: usize) -> usize
     ensures { λ r. ⌜ (r ≤ length (now (numbers .entry))) × (r ≡ length (take r (now (numbers .entry)))) ⌝ }
-    ensures { λ r. ⌜ take r (now (numbers .entry)) ≡ take n (now (numbers .entry)) ⌝ }
+    ensures { λ r. ⌜ take r (now (numbers .entry)) ≡ take count (now (numbers .entry)) ⌝ }
 {
-    if n <= numbers.len() {
-        return n;
+    if count <= numbers.len() {
+        return count;
     }
     numbers.len()
 }
 
-pub fn first_numbers(numbers: &[i64], n: usize) -> &[i64]
-    ensures { λ r. ⌜ now r ≡ take n (now (numbers .entry)) ⌝ }
+pub fn first_numbers(numbers: &[i64], count: usize) -> &[i64]
+    ensures { λ r. ⌜ now r ≡ take count (now (numbers .entry)) ⌝ }
 {
-    let k = numbers_there(numbers, n);
+    let k = numbers_there(numbers, count);
     &numbers[..k]
 }
 
@@ -77,13 +78,21 @@ pub fn print(text: &[u8]) {
     io::write_all(STDOUT_FILENO, text);
 }
 
+pub fn end_line() {
+    print(b"\n");
+}
+
+pub fn print_space() {
+    print(b" ");
+}
+
 pub fn print_count(n: u64) {
     io::print_decimal(STDOUT_FILENO, n);
 }
 
 // A count behind another.
 pub fn print_next(n: u64) {
-    print(b" ");
+    print_space();
     print_count(n);
 }
 

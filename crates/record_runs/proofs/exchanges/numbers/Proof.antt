@@ -1,4 +1,5 @@
--- `record_runs::exchanges::numbers` is safe and ends: the place stays in the list. The measure is the places left. Assumes nothing.
+-- `record_runs::exchanges::numbers` is safe and ends: the place stays in the list.
+-- The measure is the places left. Assumes nothing.
 use Prim.Native.Nat.{_-_, _≤_}
 use borrow.Author.Needs.{needs}
 use Rattle.record_runs.proofs.exchanges.numbers.Statement.{statement}

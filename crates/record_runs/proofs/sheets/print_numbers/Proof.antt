@@ -1,4 +1,5 @@
--- `record_runs::sheets::print_numbers` is safe and ends: the place stays in the output, and each turn takes four bytes. Assumes nothing.
+-- `record_runs::sheets::print_numbers` is safe and ends: the place stays in the output, and each turn
+-- takes four bytes. Assumes nothing.
 use borrow.Author.Needs.{needs}
 use lib.ListN.{length}
 use Prim.Native.Nat.{_-_, _≤_}
@@ -6,10 +7,10 @@ use Rattle.record_runs.proofs.sheets.print_numbers.Statement.{statement
 use Rattle.record_runs.proofs.sheets.print_numbers.Tie as tie
 
 abbrev Inv-loop : tie.InvT-loop
-Inv-loop out n at₀ left₀ t5 t6 at left = at ≤ length out
+Inv-loop out n at₀ left₀ at left = at ≤ length out
 
 abbrev μ-loop : tie.MeasureT-loop
-μ-loop out n at₀ left₀ t5 t6 at left = length out - at
+μ-loop out n at₀ left₀ at left = length out - at
 
 loop-holds : tie.Need-loop-holds Inv-loop μ-loop
 loop-holds c = search needs
@@ -26,11 +27,8 @@ print-signed-requires c κs = search needs
 add-at : tie.Need-add-at Inv-loop μ-loop
 add-at c = search needs
 
-slice-aggregate-print : tie.Need-slice-aggregate-print Inv-loop μ-loop
-slice-aggregate-print c = search needs
-
-print-requires : tie.Need-print-requires Inv-loop μ-loop
-print-requires c κs = search needs
+end-line-requires : tie.Need-end-line-requires Inv-loop μ-loop
+end-line-requires c κs = search needs
 
 loop-less : tie.Need-loop-less Inv-loop μ-loop
 loop-less c = search needs
@@ -41,11 +39,8 @@ loop-again c = search needs
 sub-left : tie.Need-sub-left Inv-loop μ-loop
 sub-left c = search needs
 
-slice-aggregate-print-2 : tie.Need-slice-aggregate-print-2 Inv-loop μ-loop
-slice-aggregate-print-2 c = search needs
-
-print-requires-2 : tie.Need-print-requires-2 Inv-loop μ-loop
-print-requires-2 c κs = search needs
+print-space-requires : tie.Need-print-space-requires Inv-loop μ-loop
+print-space-requires c κs = search needs
 
 loop-less-2 : tie.Need-loop-less-2 Inv-loop μ-loop
 loop-less-2 c = search needs
@@ -67,13 +62,11 @@ print-numbers-spec =
     word-at-requires
     print-signed-requires
     add-at
-    slice-aggregate-print
-    print-requires
+    end-line-requires
     loop-less
     loop-again
     sub-left
-    slice-aggregate-print-2
-    print-requires-2
+    print-space-requires
     loop-less-2
     loop-again-2
     returns)

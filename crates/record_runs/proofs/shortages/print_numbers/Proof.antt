@@ -1,4 +1,5 @@
--- `record_runs::shortages::print_numbers` is safe and ends: the place stays in the numbers. The measure is the numbers left. Assumes nothing.
+-- `record_runs::shortages::print_numbers` is safe and ends: the place stays in the numbers.
+-- The measure is the numbers left. Assumes nothing.
 use Prim.Native.Nat.{_-_, _≤_}
 use lib.ListN.{length}
 use borrow.Author.Needs.{needs}
