@@ -1,5 +1,6 @@
-"""What the tests of stored hours and dumps share: what is said of them, by both judges and in a program's stored output,
-and what is counted. It is imported first, since it puts tools/ on the path. The library is there before.
+"""What the tests of stored hours and dumps share: what is said of them, by both judges and in the stored output of
+crates/record_runs, and what is counted. It is imported first, since it puts tools/ on the path. The library is there
+before.
 """
 
 import pathlib
@@ -9,8 +10,10 @@ import sys
 ROOT = pathlib.Path(__file__).resolve().parent.parent
 sys.path.insert(0, str(ROOT / "tools"))
 
+import build_records
+
 PROGRAM = "cargo run --release --offline --quiet -j2 -p comparison --bin {}"
-LIBRARY, SECOND = "library", "second"
+LIBRARY, SECOND, STORED = "library", "second", "record_runs"
 WRITTEN = "written"
 
 
@@ -38,10 +41,15 @@ def said_by_both_judges(program, records):
     return said
 
 
-def stored_output(crate, names):
-    """What stands in the stored output of a crate, in the same way, a line for each name in order; and how many lines."""
-    lines = (ROOT / "crates" / crate / "stdout").read_text().splitlines()
-    return {(name, crate): line for name, line in zip(names, lines)}, len(lines)
+def stored_lines(kind):
+    """The lines of a kind in the stored output."""
+    return build_records.lines_of(kind, (ROOT / "crates" / STORED / "stdout").read_text())
+
+
+def stored_output(kind, names):
+    """What stands there in the same way, a line for each name in order; and how many lines."""
+    lines = stored_lines(kind)
+    return {(name, STORED): line for name, line in zip(names, lines)}, len(lines)
 
 
 class Count:

@@ -1,7 +1,6 @@
 #!/usr/bin/env python3
-"""Tests of the formats, that is lta.hour and lta.dump and the commands over them, of build_hours.py, build_dumps.py,
-build_columns.py, build_families.py, build_shortfalls.py and of the stored hours and dumps. The last line counts what passed
-and failed.
+"""Tests of the formats, that is lta.hour and lta.dump and the commands over them, of the records and build_records.py,
+and of the stored hours, dumps, sheets, exchanges and queues. The last line counts what passed and failed.
 """
 
 import contextlib
@@ -15,14 +14,13 @@ import sys
 import tempfile
 import unittest
 
-import build_columns
-import build_dumps
-import build_families
-import build_hours
-import build_shortfalls
+import build_records
 import largest_hour
-import stored_files
-from lta import cli, columns, dump, gap, hour, rules
+import records
+from lta import cli, columns, dump, exchanges, gap, hour, rules
+from records import columns as column_records
+from records import dumps, families, hours, queues, sheets, shortfalls
+from records import exchanges as exchange_records
 
 ROOT = pathlib.Path(__file__).resolve().parent.parent
 SAMPLES = ROOT / "samples"
@@ -53,8 +51,7 @@ P1_TEXT = hour.read_text(SAMPLES / "three-zone.txt")
 CONTRACTED_TEXT = hour.read_text(SAMPLES / "three-zone-contracted.txt")
 
 
-def stored_hours():
-    return stored_files.texts(build_hours.HOURS)
+stored_hours = hours.stored_hours
 
 
 def run_tool(main, *arguments):
@@ -66,26 +63,6 @@ def run_tool(main, *arguments):
         except SystemExit as stop:
             status = stop.code
     return status, out.getvalue(), err.getvalue()
-
-
-class Written(unittest.TestCase):
-    """What the tests share of tools that write the standard input and output of a program."""
-
-    def assert_checked(self, tool, folder, source):
-        """In a folder that the tool wrote, each file cut and each missing is found."""
-        name_of_tool = f"{tool.__name__}.py"
-        self.assertEqual(run_tool(tool.main, "--check", folder), (0, "", ""))
-        for name in ("stdin", "stdout"):
-            path = pathlib.Path(folder) / name
-            data = path.read_bytes()
-            path.write_bytes(data[:-1])
-            said = run_tool(tool.main, "--check", folder)
-            self.assertEqual(said, (1, "", f"{name_of_tool}: {name} differs from {source}\n"))
-            path.unlink()
-            said = run_tool(tool.main, "--check", folder)
-            self.assertEqual(said, (1, "", f"{name_of_tool}: {name} is missing\n"))
-            path.write_bytes(data)
-        self.assertEqual(run_tool(tool.main)[0], 2)
 
 
 class ThreeZoneHour(unittest.TestCase):
@@ -183,7 +160,7 @@ class RoundTrip(unittest.TestCase):
     def test_stored_hours(self):
         for name, text in stored_hours().items():
             with self.subTest(name):
-                self.assert_round_trip(*hour.build(text, build_hours.HOURS))
+                self.assert_round_trip(*hour.build(text, hours.HOURS))
 
     def test_empty_files(self):
         for case in (b"", P1_CASE):
@@ -678,25 +655,8 @@ class CommandLine(unittest.TestCase):
         self.assertEqual(run_tool(cli.main, "help"), (0, cli.HELP, ""))
         self.assertEqual(run_tool(cli.main, "help", "text"), (0, f"{hour.TEXT_HELP}\n{dump.TEXT_HELP}", ""))
         self.assertEqual(run_tool(cli.main)[0], 2)
-        self.assertEqual(run_tool(build_hours.main)[0], 2)
+        self.assertEqual(run_tool(build_records.main)[0], 2)
         self.assertEqual(run_tool(largest_hour.main, "smallest")[0], 2)
-
-    def test_build_hours_and_its_check(self):
-        out = self.folder / "out"
-        names = [f"{name}.bin" for name in stored_hours()]
-        self.assertEqual(run_tool(build_hours.main, out), (0, "".join(f"{name}\n" for name in sorted(names)), ""))
-        self.assertEqual(sorted(path.name for path in out.iterdir()), sorted(names))
-        self.assertEqual((out / "p01-three-zone-hour.bin").read_bytes(), P1_CASE + P1_PROPOSAL)
-        self.assertEqual(run_tool(build_hours.main, "--check", out), (0, "", ""))
-        (out / "p00-none.bin").write_bytes(b"")
-        (out / "p01-three-zone-hour.bin").write_bytes(P1_CASE)
-        (out / "run-empty-input.bin").unlink()
-        complaints = (
-            "build_hours.py: p00-none.bin has no stored hour\n"
-            "build_hours.py: p01-three-zone-hour.bin differs from its stored hour\n"
-            "build_hours.py: run-empty-input.bin is missing\n"
-        )
-        self.assertEqual(run_tool(build_hours.main, "--check", out), (1, "", complaints))
 
 
 class ExpectationLines(unittest.TestCase):
@@ -778,7 +738,7 @@ class DumpText(unittest.TestCase):
 
     def test_the_sample_is_the_bytes_by_hand(self):
         self.assertEqual((SAMPLES / "three-zone.dump").read_bytes(), P1_DUMP)
-        stored = build_dumps.stored_dumps()
+        stored = dumps.stored_dumps()
         self.assertEqual(dump.build(stored["three-zone-hour"]), (P1_CASE, P1_DUMP))
         self.assertEqual(dump.build(stored["three-zone-contracted"]), (CONTRACTED_CASE, P1_DUMP))
 
@@ -869,7 +829,7 @@ class Families(unittest.TestCase):
         self.assertEqual(hour.build_families(P1_TEXT + FAMILY_LINES), files)
         self.assertEqual(hour.build(P1_TEXT + FAMILY_LINES), files[:2])
         self.assertEqual((SAMPLES / "three-zone.families").read_bytes(), P1_FAMILIES)
-        self.assertEqual(hour.build_families(build_families.stored_families()["accepted-sample"]), files)
+        self.assertEqual(hour.build_families(families.stored_families()["accepted-sample"]), files)
 
     def test_no_list_is_none_and_an_empty_one_is_empty(self):
         self.assertEqual(hour.build_families(P1_TEXT)[2], None)
@@ -949,11 +909,11 @@ class Families(unittest.TestCase):
                 hour.expected(text, other)
 
 
-class StoredFamilies(Written):
-    """Every number of the list is expected somewhere, each by its name, and what crates/family_runs reads is as made."""
+class StoredFamilies(unittest.TestCase):
+    """Every number of the list is expected somewhere, each by its name, and what the program reads is as made."""
 
     def test_every_number_is_expected_somewhere(self):
-        texts = build_families.stored_families()
+        texts = families.stored_families()
         due = {name: hour.expected(text, "expect-without")[0] for name, text in texts.items()}
         self.assertLess({0, 16, 17, 18, 26, 28}, {number for number, _ in due.values()})
         for name, (number, _) in due.items():
@@ -965,27 +925,16 @@ class StoredFamilies(Written):
     def test_largest_families_are_as_made(self):
         for name, make in largest_hour.FAMILIES.items():
             with self.subTest(name):
-                self.assertEqual(build_families.stored_families()[name], make())
+                self.assertEqual(families.stored_families()[name], make())
 
-    def test_written_and_checked(self):
-        with tempfile.TemporaryDirectory() as folder:
-            status, out, _ = run_tool(build_families.main, folder)
-            self.assertEqual((status, out.count("\n")), (0, 2))
-            given = (pathlib.Path(folder) / "stdin").read_bytes()
-            lines = (pathlib.Path(folder) / "stdout").read_text().splitlines()
-            for text, line in zip(build_families.stored_families().values(), lines, strict=True):
-                sizes, given = struct.unpack_from("<III", given), given[12:]
-                files = []
-                for size in sizes:
-                    files.append(given[:size])
-                    given = given[size:]
-                self.assertEqual((tuple(files), line), (build_families.files_of(text), build_families.line(text)))
-            self.assertEqual(given, b"")
-            self.assert_checked(build_families, folder, "the stored hours with families")
+    def test_records(self):
+        stored = families.stored_families().values()
+        for text, ((record,), lines) in zip(stored, families.runs(), strict=True):
+            self.assertEqual((record.parts, lines), (families.files_of(text), [families.line(text)]))
 
     def test_a_text_without_a_list(self):
         with self.assertRaisesRegex(ValueError, "it has no family list"):
-            build_families.files_of(P1_TEXT)
+            families.files_of(P1_TEXT)
 
 
 class DumpValues(unittest.TestCase):
@@ -1025,18 +974,18 @@ class DumpValues(unittest.TestCase):
         self.assert_refused("flow", "bits:fff0000000000001", 58, "bits:fff0000000000001 is not finite")
 
 
-class StoredDumps(Written):
+class StoredDumps(unittest.TestCase):
     """The stored dumps name what they are, and together hold every number. tests/stored_dumps has them read."""
 
     def test_each_opens_with_a_comment(self):
-        for name, text in build_dumps.stored_dumps().items():
+        for name, text in dumps.stored_dumps().items():
             with self.subTest(name):
                 self.assertRegex(text, r"\A# (?!expect|becomes)\S")
                 due = dump.expected(text)
                 self.assertEqual(due.becomes is None, due.number > 0 or name.startswith("largest"))
 
     def test_a_refusal_is_named_after_its_number(self):
-        for name, text in build_dumps.stored_dumps().items():
+        for name, text in dumps.stored_dumps().items():
             due = dump.expected(text)
             with self.subTest(name):
                 self.assertEqual(due.number > 0, name.startswith(("refused-", "order-")))
@@ -1046,14 +995,14 @@ class StoredDumps(Written):
                     self.assertEqual(int(name.removeprefix("refused-56-by-")), due.index)
 
     def test_every_number_is_expected_somewhere(self):
-        expected = [dump.expected(text) for text in build_dumps.stored_dumps().values()]
+        expected = [dump.expected(text) for text in dumps.stored_dumps().values()]
         self.assertEqual({due.number for due in expected}, {0, *range(56, 61)})
         self.assertEqual({due.index for due in expected if due.number == 56}, set(range(1, 9)))
 
     def test_largest_dumps_are_as_made(self):
         for name, make in largest_hour.DUMPS.items():
             with self.subTest(name):
-                self.assertEqual(build_dumps.stored_dumps()[name], make())
+                self.assertEqual(dumps.stored_dumps()[name], make())
 
     def test_expectations_that_are_refused(self):
         for text, message in (
@@ -1068,26 +1017,16 @@ class StoredDumps(Written):
             with self.subTest(text), self.assertRaisesRegex(ValueError, rf"\A{message}\Z"):
                 dump.expected(text)
 
-    def test_written_and_checked(self):
-        with tempfile.TemporaryDirectory() as folder:
-            status, out, _ = run_tool(build_dumps.main, folder)
-            self.assertEqual((status, out.count("\n")), (0, 2))
-            given = (pathlib.Path(folder) / "stdin").read_bytes()
-            lines = (pathlib.Path(folder) / "stdout").read_text().splitlines()
-            for text, line in zip(build_dumps.stored_dumps().values(), lines, strict=True):
-                sizes = struct.unpack_from("<II", given)
-                files = given[8 : 8 + sizes[0]], given[8 + sizes[0] : 8 + sum(sizes)]
-                self.assertEqual((files, line), (dump.build(text), dump.expected(text).line))
-                given = given[8 + sum(sizes) :]
-            self.assertEqual(given, b"")
-            self.assert_checked(build_dumps, folder, "the stored dumps")
+    def test_records(self):
+        for text, ((record,), lines) in zip(dumps.stored_dumps().values(), dumps.runs(), strict=True):
+            self.assertEqual((record.parts, lines), (dump.build(text), [dump.expected(text).line]))
 
 
-class StoredColumns(Written):
-    """What crates/column_runs reads and prints, from the stored hours."""
+class StoredColumns(unittest.TestCase):
+    """What is due for cases in rows and in columns, from the stored hours."""
 
     def test_every_number_is_due_on_both_ways(self):
-        due = [line.split() for room, file in build_columns.files().values() for line in build_columns.lines(room, file)]
+        due = [line.split() for room, file in column_records.files().values() for line in column_records.lines(room, file)]
         for name in ("columned", "restored"):
             self.assertEqual({words[1] for words in due if words[0] == name}, {"0", "71", "72"})
 
@@ -1099,22 +1038,17 @@ class StoredColumns(Written):
         self.assertEqual(made[14:].hex(" ", 2), "0000 0001 0107 0200 0000 0000 fe03 ff02 ff01 ff00")
         self.assertEqual(columns.restored(made), case)
 
-    def test_written_and_checked(self):
-        with tempfile.TemporaryDirectory() as folder:
-            self.assertEqual(run_tool(build_columns.main, folder)[0], 0)
-            self.assert_checked(build_columns, folder, "what the stored hours give")
-
 
 class StoredShortfalls(unittest.TestCase):
-    """What crates/shortfall_runs reads and prints, and what the stored hours say of shortfalls (S-14)."""
+    """What is due for shortfalls, and what the stored hours say of them (S-14)."""
 
     def test_by_hand_from_the_three_zone_hour(self):
         """P1 falls short nowhere, and room is asked after the judgement."""
-        self.assertEqual(build_shortfalls.answered(16, P1_CASE, P1_PROPOSAL), (0, 0, [0] * 16))
-        self.assertEqual(build_shortfalls.answered(15, P1_CASE, P1_PROPOSAL), (86, 0, []))
+        self.assertEqual(shortfalls.answered(16, P1_CASE, P1_PROPOSAL), (0, 0, [0] * 16))
+        self.assertEqual(shortfalls.answered(15, P1_CASE, P1_PROPOSAL), (86, 0, []))
         # Volume 6,001 of order 1, P5, whatever the room.
         p5 = P1_PROPOSAL[:17] + bytes.fromhex("71170000") + P1_PROPOSAL[21:]
-        self.assertEqual(build_shortfalls.answered(0, P1_CASE, p5), (21, 1, []))
+        self.assertEqual(shortfalls.answered(0, P1_CASE, p5), (21, 1, []))
 
     def test_every_kind_is_the_largest_somewhere(self):
         largest = set()
@@ -1135,7 +1069,7 @@ class StoredShortfalls(unittest.TestCase):
                 continue
             with self.subTest(name):
                 told += 1
-                sums = rules.Sums(*hour.build(text, build_hours.HOURS))
+                sums = rules.Sums(*hour.build(text, hours.HOURS))
                 parts, left = gap.beside(sums)
                 self.assertEqual({(part.kind, part.place): part.amount for part in parts if part.amount}, found)
                 together = sum(found.values()) + sum(part.amount for part in left)
@@ -1144,7 +1078,7 @@ class StoredShortfalls(unittest.TestCase):
         self.assertGreaterEqual(told, 12)
 
     def test_every_number_is_due(self):
-        numbers = {int(line.split()[0]) for line in build_shortfalls.run_files()["stdout"].decode().splitlines()}
+        numbers = {int(lines[0].split()[0]) for _, lines in shortfalls.runs()}
         self.assertLessEqual({*range(16), *range(21, 28), 86}, numbers)
 
     def test_lines_that_are_refused(self):
@@ -1164,19 +1098,111 @@ class StoredShortfalls(unittest.TestCase):
         self.assertEqual(gap.expected("# shortfall none\n"), {})
         self.assertEqual(gap.expected("# shortfall link 2 0.0000000000001\n"), {("link", 2): 1})
 
+
+class StoredSheets(unittest.TestCase):
+    """The stored sheets name what they are, and together hold every number of request S-1."""
+
+    def test_every_number_is_due(self):
+        due = {file: sheets.lines(*sheet)[0].split() for file, sheet in sheets.stored_sheets().items()}
+        self.assertEqual({int(words[0]) for words in due.values()}, {0, *range(50, 56)})
+        for file, (number, *_) in due.items():
+            with self.subTest(file):
+                refused = file.startswith(("refused-", "order-"))
+                self.assertEqual(int(number), int(file.split("-")[1]) if refused else 0)
+
+    def test_branches_by_hand(self):
+        lines = sheets.lines(3, 32, b"250.0,0,-0.75,-0.5\n1500,1,0,0\n")
+        self.assertEqual(lines, ["0 0 32", "2500 0 75000 50000", "15000 -100000 0 0"])
+        self.assertEqual(sheets.lines(3, 31, b"250.0,0,-0.75,-0.5\n1500,1,0,0\n"), ["55 0 0"])
+
+
+class StoredExchanges(unittest.TestCase):
+    """What is due for the stored exchanges: the answers also by the graph of lta.exchanges, and every cause of S-3."""
+
+    def test_answers_by_the_graph(self):
+        for run in exchange_records.EXCHANGES:
+            if run.due[0]:
+                continue
+            with self.subTest(run.name):
+                graph = exchanges.Graph(run.net, run.prices, run.pairs)
+                cut_off = graph.cut_off()
+                exported, imported = graph.sent(cut_off)
+                self.assertEqual(run.due[2:], (int(not cut_off), graph.to_carry - (exported - imported)))
+
+    def test_every_number_is_due(self):
+        self.assertEqual({run.due[0] for run in exchange_records.EXCHANGES}, {0, *range(81, 86)})
+
+    def test_a_number_by_its_size_and_sign(self):
+        by_hand = bytes.fromhex("0100000000000000 0201000000000080")
+        self.assertEqual(exchange_records.numbers((1, -258)), by_hand)
+
+
+class StoredQueues(unittest.TestCase):
+    """The stored runs of the desk queue are taken whole, and an event is the bytes that the program reads."""
+
+    def test_every_event_has_its_answer(self):
+        lines = []
+        for name, (events, answers) in queues.stored_runs().items():
+            lines += [name, *events]
+            for event, answer in zip(events, answers, strict=True):
+                self.assertEqual(answer.split(":")[0], event)
+        self.assertEqual(lines, (queues.QUEUE / "events.txt").read_text().splitlines())
+
+    def test_events_by_hand(self):
+        for event, by_hand in (("post 2 258", "70 02000000 02010000"), ("serve", "73 00000000 00000000")):
+            self.assertEqual(queues.event_bytes(event), bytes.fromhex(by_hand))
+
+
+class Records(unittest.TestCase):
+    """The bytes of the records, and the files that build_records.py writes and checks."""
+
+    def test_a_record_by_hand(self):
+        record = records.Record(b"s", (b"abc", b"de"), 1, 258)
+        by_hand = bytes.fromhex("73 01000000 02010000 03000000 02000000 00000000 616263 6465")
+        self.assertEqual(record.data, by_hand)
+        self.assertEqual(records.read(record.data), [records.Record(b"s", (b"abc", b"de", b""), 1, 258)])
+        with self.assertRaisesRegex(ValueError, "the last record is cut short"):
+            records.read(record.data[:-1])
+        with self.assertRaisesRegex(ValueError, "a record has 65537 bytes, and the program keeps 65536"):
+            _ = records.Record(b"h", (bytes(65_537),)).data
+
+    def test_a_text_that_is_refused_is_named(self):
+        with self.assertRaisesRegex(ValueError, "^x.txt: no expect line$"):
+            records.named("x", dump.expected, "# x")
+
+    def test_hours(self):
+        joined = {lines[0]: run[1].parts[0] for run, lines in hours.runs()}
+        self.assertEqual(list(joined), [f"{name}.bin" for name in stored_hours()])
+        self.assertEqual(joined["p01-three-zone-hour.bin"], P1_CASE + P1_PROPOSAL)
+
     def test_written_and_checked(self):
         with tempfile.TemporaryDirectory() as folder:
-            folder = pathlib.Path(folder)
-            self.assertEqual(run_tool(build_shortfalls.main, "--check", str(folder))[0], 1)
-            status, out, err = run_tool(build_shortfalls.main, str(folder))
+            status, out, err = run_tool(build_records.main, folder)
             self.assertEqual((status, err), (0, ""))
             self.assertRegex(out, r"\Astdin \d+ bytes\nstdout \d+ bytes\n\Z")
-            self.assertEqual(run_tool(build_shortfalls.main, "--check", str(folder)), (0, "", ""))
-            (folder / "stdout").write_text("0 0 0\n")
-            status, out, err = run_tool(build_shortfalls.main, "--check", str(folder))
-            self.assertEqual((status, out), (1, ""))
-            self.assertIn("stdout differs from what the stored hours give", err)
-        self.assertEqual(run_tool(build_shortfalls.main)[0], 2)
+            given = records.read((pathlib.Path(folder) / "stdin").read_bytes())
+            printed = (pathlib.Path(folder) / "stdout").read_text()
+            made = []
+            for kind, module in build_records.KINDS.items():
+                runs = list(module.runs())
+                made += [records.text(f"== {kind}\n"), *(record for run, _ in runs for record in run)]
+                self.assertEqual(build_records.lines_of(kind, printed), [line for _, lines in runs for line in lines])
+            self.assertEqual([record.data for record in given], [record.data for record in made])
+            self.assert_checked(folder)
+
+    def assert_checked(self, folder):
+        """In a folder that was written, each file cut and each missing is found."""
+        self.assertEqual(run_tool(build_records.main, "--check", folder), (0, "", ""))
+        for name in ("stdin", "stdout"):
+            path = pathlib.Path(folder) / name
+            data = path.read_bytes()
+            path.write_bytes(data[:-1])
+            said = f"build_records.py: {name} differs from what the stored inputs give\n"
+            self.assertEqual(run_tool(build_records.main, "--check", folder), (1, "", said))
+            path.unlink()
+            said = f"build_records.py: {name} is missing\n"
+            self.assertEqual(run_tool(build_records.main, "--check", folder), (1, "", said))
+            path.write_bytes(data)
 
 
 def main():

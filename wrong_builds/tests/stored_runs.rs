@@ -1,4 +1,4 @@
-//! The stored output of the programs over queues, columns and shortfalls: the papers' is the same, and each wrong
+//! The stored output of crates/record_runs for queues, columns and shortfalls: the papers' is the same, and each wrong
 //! build's another.
 
 use paper_hours::{forced_hour, three_zone_hour, Branch, Hour, Link, Version};
@@ -8,6 +8,41 @@ use second_judge::{
 use wrong_builds::columns::Rearrange;
 use wrong_builds::shortfalls::Value;
 use wrong_builds::{columns, queue};
+
+const RECORDS: &[u8] = include_bytes!("../../crates/record_runs/stdin");
+const RECORDS_PRINTED: &str = include_str!("../../crates/record_runs/stdout");
+
+/// A stored record: the room that is lent, and its three parts.
+struct Record {
+    room: usize,
+    parts: [&'static [u8]; 3],
+}
+
+/// The stored records of a letter, of which there are some.
+fn records(letter: u8) -> Vec<Record> {
+    let mut found = Vec::new();
+    let mut rest = RECORDS;
+    while let Some((opening, mut next)) = rest.split_first_chunk::<21>() {
+        let word = |at: usize| u32::from_le_bytes(opening[at..at + 4].try_into().unwrap()) as usize;
+        let parts = [9, 13, 17].map(|at| {
+            let (part, past) = next.split_at(word(at));
+            next = past;
+            part
+        });
+        if opening[0] == letter {
+            found.push(Record { room: word(5), parts });
+        }
+        rest = next;
+    }
+    assert!(rest.is_empty() && !found.is_empty());
+    found
+}
+
+/// What stands under a heading in the stored output of crates/record_runs.
+fn printed_of(heading: &str) -> String {
+    let lines = RECORDS_PRINTED.lines().skip_while(|line| *line != heading).skip(1);
+    lines.take_while(|line| !line.starts_with("== ")).map(|line| format!("{line}\n")).collect()
+}
 
 /// The stored runs of the desk queue as this queue prints them: a run opens with its name, and from a line `byte` on
 /// it is followed by its bytes.
@@ -53,12 +88,13 @@ fn queue_runs(new: &dyn Fn() -> Box<dyn DeskQueue>, events: &str) -> String {
     printed
 }
 
-const QUEUE_EVENTS: &str = include_str!("../../crates/queue_runs/stdin");
-const QUEUE_PRINTED: &str = include_str!("../../crates/queue_runs/stdout");
+const QUEUE_EVENTS: &str = include_str!("../../queue/events.txt");
+const QUEUE_PRINTED: &str = include_str!("../../queue/answers.txt");
 
 #[test]
 fn stored_queue_runs() {
     assert_eq!(queue_runs(&|| Box::new(Papers), QUEUE_EVENTS), QUEUE_PRINTED);
+    assert_eq!(printed_of("== queues"), QUEUE_PRINTED);
     // What is written into cells is no answer: that build shows in the bytes alone.
     for (build, name) in queue::BUILDS {
         let told = queue_runs(&build, QUEUE_EVENTS) != QUEUE_PRINTED;
@@ -67,13 +103,10 @@ fn stored_queue_runs() {
 }
 
 /// The stored files as this judge columns and restores them, two lines for each.
-fn column_runs([column, restore]: [Rearrange; 2], mut input: &[u8]) -> String {
+fn column_runs([column, restore]: [Rearrange; 2]) -> String {
     let mut printed = String::new();
-    while let Some((numbers, rest)) = input.split_first_chunk::<8>() {
-        let word = |at: usize| u32::from_le_bytes(numbers[at..at + 4].try_into().unwrap()) as usize;
-        let (file, rest) = rest.split_at(word(4));
-        input = rest;
-        let mut out = vec![0; word(0)];
+    for Record { room, parts: [file, ..] } in records(b'c') {
+        let mut out = vec![0; room];
         let columned = column(file, &mut out);
         printed += &column_line("columned", columned, &out);
         out.fill(0);
@@ -92,11 +125,10 @@ fn column_line(name: &str, answer: OutputAnswer, out: &[u8]) -> String {
 
 #[test]
 fn stored_columns() {
-    let input = include_bytes!("../../crates/column_runs/stdin");
-    let printed = include_str!("../../crates/column_runs/stdout");
-    assert_eq!(column_runs([case_columned, case_restored], input), printed);
+    let printed = printed_of("== columns");
+    assert_eq!(column_runs([case_columned, case_restored]), printed);
     for (build, name) in columns::BUILDS {
-        assert_ne!(column_runs(build, input), printed, "{name}");
+        assert_ne!(column_runs(build), printed, "{name}");
     }
 }
 
@@ -166,31 +198,26 @@ fn each_wrong_build_is_told_by_some_hour() {
     }
 }
 
-/// What crates/shortfall_runs prints for its input, as one of the builds has it.
-fn shortfall_runs(build: Value, input: &[u8]) -> String {
-    let (mut printed, mut rest) = (String::new(), input);
-    let word = |bytes: &[u8]| u32::from_le_bytes(bytes[..4].try_into().unwrap()) as usize;
-    while !rest.is_empty() {
-        let (room, case, proposal) = (word(rest), word(&rest[4..]), word(&rest[8..]));
-        let (files, next) = rest[12..].split_at(case + proposal);
+/// The lines of the stored shortfalls, as one of the builds has them.
+fn shortfall_runs(build: Value) -> String {
+    let mut printed = String::new();
+    for Record { room, parts: [case, proposal, _] } in records(b's') {
         let mut out = vec![0; room];
-        let answer = build(&files[..case], &files[case..], &mut out);
+        let answer = build(case, proposal, &mut out);
         printed += &format!("{} {} {}", answer.number, answer.index, answer.length);
         for number in out.iter().take(answer.length as usize) {
             printed += &format!(" {number}");
         }
         printed += "\n";
-        rest = next;
     }
     printed
 }
 
 #[test]
 fn stored_shortfalls() {
-    let input = include_bytes!("../../crates/shortfall_runs/stdin");
-    let printed = include_str!("../../crates/shortfall_runs/stdout");
-    assert_eq!(shortfall_runs(shortfalls, input), printed);
+    let printed = printed_of("== shortfalls");
+    assert_eq!(shortfall_runs(shortfalls), printed);
     for (build, name) in wrong_builds::shortfalls::BUILDS {
-        assert_ne!(shortfall_runs(build, input), printed, "{name}");
+        assert_ne!(shortfall_runs(build), printed, "{name}");
     }
 }

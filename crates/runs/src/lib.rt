@@ -1,16 +1,11 @@
-// What the programs over stored inputs share: how they read them, the start of a buffer that is lent or was written, and how they print.
+// What the program over stored inputs reads and prints: the numbers of a record, the start of a buffer that is lent or
+// was written, and its lines.
 ghost use mathlib.Core.Path.{_≡_};
 ghost use Prim.Native.Nat.{_+_, _≤_, _<_};
 ghost use lib.ListN.{length, take};
 ghost use Rattle.io.specs.Counts.{Counts};
 ghost use Rattle.rules.specs.Meaning.Layout.{u32At};
 use libc::STDOUT_FILENO;
-
-// A stored file: how many of its bytes were kept, or that it was not opened.
-pub enum Stored {
-    Kept(usize),
-    Unopened,
-}
 
 // A number of a record, 32 bits, little-endian; 0 where the input ends before it does.
 pub fn number_at(input: &[u8], at: usize) -> usize
@@ -54,8 +49,41 @@ pub fn lent(buffer: &mut [u8], room: usize) -> &mut [u8]
     &mut buffer[..k]
 }
 
+// THE SAME OF NUMBERS.
+fn numbers_there(numbers: &[i64], count: usize) -> usize
+    ensures { λ r. ⌜ (r ≤ length (now (numbers .entry))) × (r ≡ length (take r (now (numbers .entry)))) ⌝ }
+    ensures { λ r. ⌜ take r (now (numbers .entry)) ≡ take count (now (numbers .entry)) ⌝ }
+{
+    if count <= numbers.len() {
+        return count;
+    }
+    numbers.len()
+}
+
+pub fn first_numbers(numbers: &[i64], count: usize) -> &[i64]
+    ensures { λ r. ⌜ now r ≡ take count (now (numbers .entry)) ⌝ }
+{
+    let k = numbers_there(numbers, count);
+    &numbers[..k]
+}
+
+pub fn lent_numbers(numbers: &mut [i64], room: usize) -> &mut [i64]
+    ensures { λ r. ⌜ now r ≡ take room (now (numbers .entry)) ⌝ }
+{
+    let k = numbers_there(numbers, room);
+    &mut numbers[..k]
+}
+
 pub fn print(text: &[u8]) {
     io::write_all(STDOUT_FILENO, text);
+}
+
+pub fn end_line() {
+    print(b"\n");
+}
+
+pub fn print_space() {
+    print(b" ");
 }
 
 pub fn print_count(n: u64) {
@@ -64,7 +92,7 @@ pub fn print_count(n: u64) {
 
 // A count behind another.
 pub fn print_next(n: u64) {
-    print(b" ");
+    print_space();
     print_count(n);
 }
 
@@ -84,20 +112,4 @@ pub fn print_hex(bytes: &[u8]) {
     for k in 0..bytes.len() {
         print_byte(bytes[k]);
     }
-}
-
-// Reads the file that an argument names, as far as the buffer goes, and prints its name on a line.
-pub fn read_named(i: usize, buffer: &mut [u8]) -> Stored {
-    let mut name = io::buffer();
-    let length = os::arg(i, &mut name);
-    let file = os::open_read(&name[..length]);
-    if file < 0 {
-        os::fail(&name[..length]);
-        return Stored::Unopened;
-    }
-    let kept = io::read_full(file, buffer);
-    libc::close(file);
-    print(&name[..length]);
-    print(b"\n");
-    Stored::Kept(kept)
 }

@@ -1,0 +1,29 @@
+// A dump through its entry (S-5). A record has a case and the dump. Printed is a line: number, index and length, and
+// of an answer the number by which the judgement of the case with that proposal is known.
+use runs::print;
+
+// One byte less than the largest proposal, so that one dump finds the output short.
+const ROOM: usize = 2572;
+
+const REPORT_ROOM: usize = 176;
+
+fn print_verdict(case: &[u8], proposal: &[u8]) {
+    let mut report = [0u8; REPORT_ROOM];
+    let verdict = judgement::judge(case, proposal, &mut report);
+    print(b" judged ");
+    runs::print_count(verdict.number as u64);
+}
+
+fn convert(case: &[u8], dump: &[u8], out: &mut [u8]) {
+    let v = dump_proposal::dump_proposal(case, dump, out);
+    runs::print_written(v.number, v.index, v.length);
+    if v.number == 0 {
+        print_verdict(case, runs::first(out, v.length));
+    }
+    runs::end_line();
+}
+
+pub fn run(case: &[u8], dump: &[u8]) {
+    let mut out = [0u8; ROOM];
+    convert(case, dump, &mut out);
+}

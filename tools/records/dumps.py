@@ -1,0 +1,22 @@
+"""The stored dumps, letter d: the case and the dump. The line has number, index and length, and of what is written
+`judged` and the number of the judgement. What stands in a text, ./lta help text says.
+"""
+
+import pathlib
+
+from lta import dump
+
+from . import Record, named, texts
+
+DUMPS = pathlib.Path(__file__).resolve().parent.parent.parent / "dumps"
+
+
+def stored_dumps():
+    """The texts of the stored dumps by name, sorted."""
+    return texts(DUMPS)
+
+
+def runs():
+    for name, words in stored_dumps().items():
+        record = Record(b"d", named(name, dump.build, words, DUMPS))
+        yield (record,), [named(name, dump.expected, words).line]

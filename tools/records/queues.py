@@ -1,0 +1,38 @@
+"""The stored runs of the desk queue, letter q: the events of a run, which begins with an empty queue, behind its name.
+queue/events.txt has an event to a line, `post AREA HOUR`, `serve` or `byte PLACE VALUE`, which changes a byte to what no
+call would leave; a line `# NAME` opens a run. queue/answers.txt has the lines that are due: each event, behind a post its
+number, and behind a serve number, index, area and hour. The second judge and the archive are held to it too.
+"""
+
+import pathlib
+import struct
+
+from . import Record, text
+
+QUEUE = pathlib.Path(__file__).resolve().parent.parent.parent / "queue"
+EVENT = struct.Struct("<cII")
+
+
+def stored_runs():
+    """The events and the answers of each run by its name."""
+    events, answers = ((QUEUE / name).read_text().splitlines() for name in ("events.txt", "answers.txt"))
+    found = {}
+    for event, answer in zip(events, answers, strict=True):
+        if event.startswith("# "):
+            run = found[event] = ([], [])
+        else:
+            run[0].append(event)
+            run[1].append(answer)
+    return found
+
+
+def event_bytes(event):
+    word, *numbers = event.split()
+    first, second = (*map(int, numbers), 0, 0)[:2]
+    return EVENT.pack(word[:1].encode(), first, second)
+
+
+def runs():
+    for name, (events, answers) in stored_runs().items():
+        record = Record(b"q", (b"".join(map(event_bytes, events)),))
+        yield (text(f"{name}\n"), record), [name, *answers]

@@ -1,0 +1,60 @@
+"""What falls short in the stored hours, letter s: the output's room in numbers, the case and the proposal. The hours
+are those that are short enough, each with as much room as its counts ask for; those that say what falls short with a
+number of room too few, more than enough and none; and some that are refused, with no room. The line has number, index
+and length, and the numbers that are written. tests/stored_shortfalls holds it to both judges.
+"""
+
+from lta import causes, gap, hour, rules
+
+from . import Record, named
+from .hours import HOURS, stored_hours
+
+LONGEST = 256  # bytes of a stored hour's case that is taken
+MORE = 7  # numbers of room past the last
+# Refused by the judgement, which is asked before the room.
+REFUSED = ("p03-link-unused-tolerance-0", "p05-volume-above-quantity", "p09-share-one-above", "refused-13-share-above")
+
+
+def due_room(case):
+    """How many numbers the case's counts ask for, at most as many as an hour can have."""
+    counts = hour.case_counts(case)
+    rows = sum(counts[name] for _, name in hour.RECORDS["case"]) if counts else 0
+    return min(2 * rows, rules.SHORTFALL_ROOM)
+
+
+def records():
+    """The room, the case and the proposal of each record by name."""
+    found = {}
+    for name, words in stored_hours().items():
+        case, proposal = map(bytes, named(name, hour.build, words, HOURS))
+        told = named(name, gap.expected, words) is not None
+        if len(case) > LONGEST:
+            continue
+        room = due_room(case)
+        found[name] = (room, case, proposal)
+        if told:
+            found[f"{name},one-too-few"] = (room - 1, case, proposal)
+            found[f"{name},more-than-enough"] = (room + MORE, case, proposal)
+        if told or name in REFUSED:
+            found[f"{name},no-room"] = (0, case, proposal)
+    return found
+
+
+def answered(room, case, proposal):
+    """Number, index, and the numbers that are written, found beside the archive."""
+    verdict = causes.own_reading(case, proposal)
+    if verdict.number:
+        return verdict.number, verdict.index, []
+    shortfalls, _ = gap.beside(rules.Sums(case, proposal))
+    numbers = [number for part in shortfalls for number in divmod(part.amount, rules.WHOLE)]
+    return (86, 0, []) if room < len(numbers) else (0, 0, numbers)
+
+
+def line_of(number, index, numbers):
+    """The line that is printed for an answer."""
+    return " ".join(map(str, (number, index, len(numbers), *numbers)))
+
+
+def runs():
+    for room, case, proposal in records().values():
+        yield (Record(b"s", (case, proposal), room=room),), [line_of(*answered(room, case, proposal))]
