@@ -6,8 +6,9 @@ use native.Mathlib.Omega.{arith}
 use borrow.Author.Needs.{needs}
 use borrow.Author.Tests.{not-true, not-false}
 use lib.ListN.{length}
+use Rattle.numerals.specs.Promised.Finer.{digit-parts}
 use Rattle.numerals.specs.Steps.Scan.{lead-other, lead-end}
-use Rattle.numerals.specs.Steps.Turns.{digit-least, DigitsSoFar, turn-counts, turn-past, turns-done}
+use Rattle.numerals.specs.Steps.Turns.{DigitsSoFar, turn-counts, turn-past, turns-done}
 use Rattle.numerals.proofs.read_digits.Statement.{statement}
 use Rattle.numerals.proofs.read_digits.Tie as tie
 
@@ -38,7 +39,7 @@ with-digit-requires : tie.Need-with-digit-requires Inv-loop μ-loop
 with-digit-requires c κs =
     let d = c .before .before in
     let l = d .before .before .before in
-    (l .loop .inv .held, digit-least _ (sym (d .is-digit .ensures) ∙ not-false _ (c .before .if1 .left)))
+    (l .loop .inv .held, digit-parts _ (sym (d .is-digit .ensures) ∙ not-false _ (c .before .if1 .left)))
 
 sub-left : tie.Need-sub-left Inv-loop μ-loop
 sub-left c = omega arith

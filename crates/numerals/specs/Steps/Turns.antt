@@ -1,11 +1,10 @@
 -- What a turn of the walk over digits does: one that counts, one past those that count, and the end of them. Assumes nothing.
 use mathlib.Core.Path.{_≡_, refl, sym, ap, _∙_}
-use mathlib.Core.Bool.{Bool, true, false, not, _&&_, _||_, or-false, or-assoc}
+use mathlib.Core.Bool.{Bool, true, not, _||_, or-false, or-assoc}
 use mathlib.Core.List.{List, [], _∷_}
 use Prim.Native.Nat.{ℕ, zero, suc, _+_, _*_, _-_, _≤_, _<_}
 use native.Mathlib.Omega.{arith}
-use borrow.Author.Tests.{leb-true}
-use lib.Dec.{leb, eqb}
+use lib.Dec.{eqb}
 use lib.ListN.{length, getD, take, drop}
 use lib.Seq.{take-nil, drop-nil}
 use Rattle.decimal.specs.Meaning.Text.{valueFrom}
@@ -14,14 +13,6 @@ use Rattle.numerals.specs.Meaning.Numeral.{isDigit, firstOf, nonZero}
 use Rattle.numerals.specs.Steps.Scan.{leading, lead-digit}
 use Rattle.numerals.specs.Steps.Capped.{cap, capped, capped-le, capped-within, capped-from}
 use Rattle.numerals.specs.Steps.Pieces.{digitsFrom, digitsAt}
-
-pub digit-least : (b : ℕ) → isDigit b ≡ true → 48 ≤ b
-unfolding isDigit
-digit-least b e = leb-true 48 b (left (leb 48 b) (leb b 57) e)
-  where
-    left : (a c : Bool) → a && c ≡ true → a ≡ true
-    left true c e = refl
-    left false c e = e
 
 -- a digit d and those after it
 counts : (v l d : ℕ) (ds : List ℕ) → capped (valueFrom v (take (suc l) (d ∷ ds))) ≡ capped (valueFrom (capped (10 * v + (d - 48))) (take l ds))
