@@ -105,7 +105,7 @@ fn mark(zones: usize, j: usize) -> u8
     b'\n'
 }
 
-// The sheet ends with a field that is not the last of its line.
+// The sheet ends with a field that is not the last of its line. The next field would be empty, so no number, but would stand past the sheet's last byte.
 fn comma_missing(zones: usize, j: usize, end: usize, length: usize) -> bool
     ensures { λ r. ⌜ r ≡ commaMissing zones j end length ⌝ }
 {

@@ -11,7 +11,8 @@ use lib.Seq.{drop-cons, drop-drop}
 use Rattle.integers.specs.Ranges.{and-left, and-right}
 use Rattle.decimal.specs.Meaning.Text.{valueFrom}
 use Rattle.numerals.specs.declared.Piece.{Piece}
-use Rattle.numerals.specs.declared.Digits.{Digits}
+use Rattle.numerals.specs.declared.Whole.{Whole}
+use Rattle.numerals.specs.declared.Decimals.{Decimals}
 use Rattle.numerals.specs.declared.Number.{Number}
 use Rattle.numerals.specs.declared.NumberAnswer.{NumberAnswer}
 use Rattle.numerals.specs.declared.NumberAnswer.the-variants.{Read, NoNumber}
@@ -84,17 +85,24 @@ module _ (mark : ℕ) (s : List ℕ) (at : ℕ) (h : at ≤ length s) where
   pub cut : {p : Piece} → p ≡ pieceAt mark s at → Cut mark s at p
   cut e = subst (Cut mark s at) (sym e) (by-end (ltb end (length s)) refl)
 
--- DIGITS: those of the text t, which stands at i, after a size v; the first `left` of them count, and f is whether one past these was not zero before
-abbrev pub digitsFrom : ℕ → ℕ → Bool → ℕ → List ℕ → Digits
-digitsFrom v left f i t = record {
+-- THE DIGITS that the text t opens with, which stands at i, after a size v: those before a point
+abbrev pub wholeFrom : ℕ → ℕ → List ℕ → Whole
+wholeFrom v i t = record { value = capped (valueFrom v (leading t)); end = i + length (leading t) }
+
+abbrev pub wholeAt : List ℕ → ℕ → Whole
+wholeAt s at = wholeFrom 0 at (drop at s)
+
+-- and those after it: the first `left` of them count, and f is whether one past these was not zero before
+abbrev pub decimalsFrom : ℕ → ℕ → Bool → ℕ → List ℕ → Decimals
+decimalsFrom v left f i t = record {
   value = capped (valueFrom v (take left (leading t)));
   missing = left - length (leading t);
   finer = f || nonZero (drop left (leading t));
   end = i + length (leading t);
 }
 
-abbrev pub digitsAt : List ℕ → ℕ → ℕ → ℕ → Digits
-digitsAt s at x k = digitsFrom x k false at (drop at s)
+abbrev pub decimalsAt : List ℕ → ℕ → ℕ → ℕ → Decimals
+decimalsAt s at x k = decimalsFrom x k false at (drop at s)
 
 -- A NUMBER: the piece that starts there, as one
 abbrev pub heldNumber : ℕ → List ℕ → Number

@@ -33,6 +33,10 @@ pub ptdf-decimals : (j : ℕ) → (j ≡ 0 → ⊥) → decimalCount j ≡ 5
 ptdf-decimals zero h = absurd (h refl)
 ptdf-decimals (suc z) h = refl
 
+pub decimals-few : (j : ℕ) → decimalCount j ≤ 9
+decimals-few zero = omega arith
+decimals-few (suc z) = omega arith
+
 pub ptdf-limit : (j : ℕ) → (j ≡ 0 → ⊥) → limit j ≡ limits.ptdf
 ptdf-limit zero h = absurd (h refl)
 ptdf-limit (suc z) h = refl

@@ -24,7 +24,7 @@ slice-aggregate-number c = search needs
 -- a space is no byte of a number
 number-requires : tie.Need-number-requires
 unfolding isDigit
-number-requires c κs = (omega arith, record { no-digit = refl; no-sign = refl; no-point = refl })
+number-requires c κs = (omega arith, (record { no-digit = refl; no-sign = refl; no-point = refl }, omega arith))
 
 enum-known-x : tie.Need-enum-known-x
 enum-known-x c = search needs
