@@ -2,3 +2,4 @@
 pub mod Causes
 pub mod Answered
 pub mod ReadBack
+pub mod Clauses

@@ -4,3 +4,4 @@ pub mod Capped
 pub mod Pieces
 pub mod Turns
 pub mod Parts
+pub mod Marks

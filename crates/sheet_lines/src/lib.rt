@@ -1,14 +1,13 @@
-// The lines of a published margin sheet (request S-1): surveyed for what is wrong with them, and written as the branches of a case.
+// The lines of a published margin sheet (request S-1), read once: what is wrong with them, and the branches of a case that they turn into.
 ghost use mathlib.Core.Path.{_≡_};
 ghost use Prim.Native.Nat.{_+_, _*_, _≤_};
 ghost use lib.ListN.{length};
-ghost use lib.Seq.{sets};
 ghost use Rattle.integers.specs.Ranges as ranges;
 ghost use Rattle.rows.specs.Meaning.Place.{placeOf};
 ghost use Rattle.numerals.specs.Steps.Capped.{cap};
-ghost use Rattle.sheet_lines.specs.Meaning.Sheet.{places, limit, malformed, lineCount, branchPart, entryBytes, sheetBytes};
+ghost use Rattle.sheet_lines.specs.Meaning.Sheet.{decimalCount, limit, branchPart};
 ghost use Rattle.sheet_lines.specs.Steps.Entries.{turned, entryOfNumber};
-ghost use Rattle.sheet_lines.specs.Steps.Lines.{misplaced, lineBy, lineFlaws, firstWith, Surveyed, Good, AllGood};
+ghost use Rattle.sheet_lines.specs.Steps.Lines.{markOf, commaMissing, LineRead, rowOf, firstWith, SheetRead};
 use measures::Ptdf;
 use measures::PtdfAnswer;
 use measures::Raw;
@@ -26,14 +25,14 @@ struct Flaws {
     outside: bool,
 }
 
-// A line whose fields are all numbers, with what is wrong with them; or another.
+// A line whose fields are all numbers: what is wrong with them, and where the next line starts. Or another line.
 enum LineAnswer {
-    Read(Flaws),
+    Read(Flaws, TextCursor),
     Malformed,
 }
 
 // The first line of each cause, and how many lines there are.
-pub struct Survey {
+pub struct SheetFaults {
     pub malformed: Place,
     pub finer: Place,
     pub outside: Place,
@@ -41,8 +40,8 @@ pub struct Survey {
 }
 
 // ENTRIES. How many decimals an entry of a branch has.
-fn places(j: usize) -> usize
-    ensures { λ r. ⌜ r ≡ places j ⌝ }
+fn decimal_count(j: usize) -> usize
+    ensures { λ r. ⌜ r ≡ decimalCount j ⌝ }
 {
     if j == 0 {
         return 1;
@@ -87,35 +86,66 @@ fn out_of_range(j: usize, x: Raw) -> bool
     false
 }
 
-// LINES. A comma is missing after an earlier field, or stands after the last.
-fn misplaced(j: usize, zones: usize, end: usize, length: usize) -> bool
-    ensures { λ r. ⌜ r ≡ misplaced j zones end length ⌝ }
+// The bytes of so many branches.
+pub fn branch_part(zones: usize, n: usize) -> usize
+    requires { ⌜ zones ≤ 16 ⌝ }
+    requires { ⌜ n ≤ 65 ⌝ }
+    ensures { λ r. ⌜ r ≡ branchPart zones n ⌝ }
+{
+    4 * (zones + 1) * n
+}
+
+// LINES. A comma ends each field but the last, which the line's newline ends.
+fn mark(zones: usize, j: usize) -> u8
+    ensures { λ r. ⌜ r ≡ markOf zones j ⌝ }
+{
+    if j < zones {
+        return b',';
+    }
+    b'\n'
+}
+
+// The sheet ends with a field that is not the last of its line. The next field would be empty, so no number, but would stand past the sheet's last byte.
+fn comma_missing(zones: usize, j: usize, end: usize, length: usize) -> bool
+    ensures { λ r. ⌜ r ≡ commaMissing zones j end length ⌝ }
 {
     if j < zones {
         return length <= end;
     }
-    end < length
+    false
 }
 
-fn read_line(line: &[u8], zones: usize) -> LineAnswer
+// The line that starts there. Its numbers are put into the table at `base`.
+fn read_line(
+    sheet: &[u8],
+    start: TextCursor,
+    zones: usize,
+    table: &mut [u8],
+    base: usize,
+) -> LineAnswer
+    requires { ⌜ start .at ≤ length (now sheet) ⌝ }
     requires { ⌜ zones ≤ 16 ⌝ }
-    ensures { λ r. ⌜ r ≡ lineBy (lineFlaws zones (now (line .entry))) (malformed zones (now (line .entry))) ⌝ }
+    requires { ⌜ base + 4 * (zones + 1) ≤ length (now table) ⌝ }
+    ensures { λ r. ⌜ LineRead zones (now (sheet .entry)) (start .at) base (now (table .entry)) (now (table .exit)) r ⌝ }
 {
-    let mut cursor = TextCursor { at: 0 };
+    let mut cursor = start;
     let mut finer = false;
     let mut outside = false;
     for j in 0..zones + 1 {
-        let NumberAnswer::Read(x, piece) = cursor.number(line, b',', places(j)) else {
+        let NumberAnswer::Read(x, piece) = cursor.number(sheet, mark(zones, j), decimal_count(j))
+        else {
             return LineAnswer::Malformed;
         };
-        if misplaced(j, zones, piece.end, line.len()) {
+        if comma_missing(zones, j, piece.end, sheet.len()) {
             return LineAnswer::Malformed;
         }
+        let y = entry(j, x);
+        put_signed32(table, base + 4 * j, y);
         finer = finer | x.finer;
-        outside = outside | out_of_range(j, entry(j, x));
+        outside = outside | out_of_range(j, y);
         cursor = piece.next;
     }
-    LineAnswer::Read(Flaws { finer, outside })
+    LineAnswer::Read(Flaws { finer, outside }, cursor)
 }
 
 // The first place so far, with one place more.
@@ -133,21 +163,30 @@ fn first(found: Place, n: usize, holds: bool) -> Place
     }
 }
 
+// The row of the table for line n. Lines past the 64th are read for their causes alone: they share one row more, which is never written out.
+fn row(n: usize) -> usize
+    ensures { λ r. ⌜ r ≡ rowOf n ⌝ }
+{
+    if n < 64 {
+        return n;
+    }
+    64
+}
+
 // One walk over the whole sheet. A malformed line ends it, since row 51 is asked before the others.
-pub fn survey_lines(sheet: &[u8], zones: usize) -> Survey
+pub fn read_lines(sheet: &[u8], zones: usize, table: &mut [u8]) -> SheetFaults
     requires { ⌜ zones ≤ 16 ⌝ }
-    ensures { λ r. ⌜ Surveyed zones (now (sheet .entry)) r ⌝ }
+    requires { ⌜ 4420 ≤ length (now table) ⌝ }
+    ensures { λ r. ⌜ SheetRead zones (now (sheet .entry)) (now (table .entry)) (now (table .exit)) r ⌝ }
 {
     let mut cursor = TextCursor { at: 0 };
     let mut finer = Place::Nowhere;
     let mut outside = Place::Nowhere;
     let mut n = 0;
     while cursor.at < sheet.len() {
-        let piece = cursor.piece(sheet, b'\n');
-        let start = cursor.at;
-        let end = piece.end;
-        let LineAnswer::Read(flaws) = read_line(&sheet[start..end], zones) else {
-            return Survey {
+        let base = branch_part(zones, row(n));
+        let LineAnswer::Read(flaws, next) = read_line(sheet, cursor, zones, table, base) else {
+            return SheetFaults {
                 malformed: Place::At(n),
                 finer,
                 outside,
@@ -156,59 +195,13 @@ pub fn survey_lines(sheet: &[u8], zones: usize) -> Survey
         };
         finer = first(finer, n, flaws.finer);
         outside = first(outside, n, flaws.outside);
-        cursor = piece.next;
+        cursor = next;
         n += 1;
     }
-    Survey {
+    SheetFaults {
         malformed: Place::Nowhere,
         finer,
         outside,
         lines: n,
-    }
-}
-
-// The bytes of so many branches.
-pub fn branch_part(zones: usize, n: usize) -> usize
-    requires { ⌜ zones ≤ 16 ⌝ }
-    requires { ⌜ n ≤ 64 ⌝ }
-    ensures { λ r. ⌜ r ≡ branchPart zones n ⌝ }
-{
-    4 * (zones + 1) * n
-}
-
-// WRITING, once every row of the table passed.
-fn write_line(line: &[u8], zones: usize, out: &mut [u8], base: usize)
-    requires { ⌜ zones ≤ 16 ⌝ }
-    requires { ⌜ base + 4 * (zones + 1) ≤ length (now out) ⌝ }
-    requires { ⌜ Good zones (now line) ⌝ }
-    ensures { λ _. ⌜ now (out .exit) ≡ sets (now (out .entry)) base (entryBytes (zones + 1) (now (line .entry))) ⌝ }
-{
-    let mut cursor = TextCursor { at: 0 };
-    for j in 0..zones + 1 {
-        let NumberAnswer::Read(x, piece) = cursor.number(line, b',', places(j)) else {
-            return;
-        };
-        put_signed32(out, base + 4 * j, entry(j, x));
-        cursor = piece.next;
-    }
-}
-
-pub fn write_lines(sheet: &[u8], zones: usize, out: &mut [u8])
-    requires { ⌜ zones ≤ 16 ⌝ }
-    requires { ⌜ lineCount (now sheet) ≤ 64 ⌝ }
-    requires { ⌜ branchPart zones (lineCount (now sheet)) ≤ length (now out) ⌝ }
-    requires { ⌜ AllGood zones (now sheet) ⌝ }
-    ensures { λ _. ⌜ now (out .exit) ≡ sets (now (out .entry)) 0 (sheetBytes zones (now (sheet .entry))) ⌝ }
-{
-    let mut cursor = TextCursor { at: 0 };
-    let mut m = 0;
-    while cursor.at < sheet.len() {
-        let piece = cursor.piece(sheet, b'\n');
-        let start = cursor.at;
-        let end = piece.end;
-        let base = branch_part(zones, m);
-        write_line(&sheet[start..end], zones, out, base);
-        cursor = piece.next;
-        m += 1;
     }
 }

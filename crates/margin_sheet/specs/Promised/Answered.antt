@@ -14,7 +14,7 @@ use Rattle.rows.specs.Promised.RowLaws.{empty, all-pass, no-place}
 use Rattle.decimal.specs.Meaning.Text.{valueOf}
 use Rattle.numerals.specs.Meaning.Numeral.{whole, decimals, isNumber, units, finer}
 use Rattle.numerals.specs.Promised.Exact.{exact}
-use Rattle.sheet_lines.specs.Meaning.Sheet.{fields, places, limit, fieldOf, entryOf, malformed, tooFine, outOfRange, lineOf, lineCount, branchPart, sheetRows, sheetRefusal, sheetOutcome, sheetBytes, sheetWritten}
+use Rattle.sheet_lines.specs.Meaning.Sheet.{fields, decimalCount, limit, fieldOf, entryOf, malformed, tooFine, outOfRange, lineOf, lineCount, branchPart, sheetRows, sheetRefusal, sheetOutcome, sheetBytes, sheetWritten}
 use Rattle.margin_sheet.specs.Promised.Causes.{sheet-none, sheet-writes}
 use Rattle.sheet_lines.specs.Steps.Lines.{lines-length}
 
@@ -61,9 +61,9 @@ module _ (zones : ℕ) (sheet : List ℕ) (room : ℕ) (answered : (sheetOutcome
       number = not-false _ (not-is _ (no-place (zones + 1) (λ j. not (isNumber (fieldOf line j))) (nor-right (not (eqb (length (fields line)) (zones + 1))) _ wellformed) j k))
 
       -- nothing is rounded: all digits of the field over ten to its decimals are the entry's units over ten to ours
-      pub exactly : units (places j) field * 10 ^ length (decimals field) ≡ valueOf (whole field ++ decimals field) * 10 ^ places j
+      pub exactly : units (decimalCount j) field * 10 ^ length (decimals field) ≡ valueOf (whole field ++ decimals field) * 10 ^ decimalCount j
       unfolding sheetRows tooFine
-      exactly = exact (places j) field (not-is _ (no-place (zones + 1) (λ j. finer (places j) (fieldOf line j)) ((passed 2) .pass m h) j k))
+      exactly = exact (decimalCount j) field (not-is _ (no-place (zones + 1) (λ j. finer (decimalCount j) (fieldOf line j)) ((passed 2) .pass m h) j k))
 
       not-out : T (not (outside (limit j) (entryOf line j)))
       unfolding sheetRows outOfRange

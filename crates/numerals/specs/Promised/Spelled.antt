@@ -53,6 +53,9 @@ all-leading (b ∷ w) e = by (isDigit b) e (all-leading w)
     by true e ih = ap (λ (l : List ℕ). b ∷ l) (ih e)
     by false e ih = absurd (clash (sym e))
 
+pub digits-lead : (w : List ℕ) → digits w ≡ true → leading w ≡ w
+digits-lead w e = all-leading w (only-digits w e)
+
 -- the sign
 no-sign : (w l : List ℕ) → digits w ≡ true → starts 45 (w ++ l) ≡ false
 unfolding digits onlyDigits starts isDigit
@@ -84,7 +87,7 @@ module _ (s : Bool) (w : List ℕ) (d : Option (List ℕ)) (e : digits w ≡ tru
       by false = refl
 
   led : leading w ≡ w
-  led = all-leading w (only-digits w e)
+  led = digits-lead w e
 
   -- THE THEOREM, from the parts to the text
   pub spelled : Spelled text s w d

@@ -26,6 +26,9 @@ pub capped-within : (n : ℕ) → n ≤ cap → capped n ≡ n
 unfolding capped
 capped-within n h = ap (λ (t : Bool). cond t cap n) (le-ltb cap n h)
 
+pub capped-reached : (n : ℕ) → cap ≤ n → capped n ≡ cap
+capped-reached n h = elim (decLt cap n) [ yes l ↦ capped-over n l | no g ↦ capped-within n (omega arith) ∙ omega arith ]
+
 pub capped-le : (n : ℕ) → capped n ≤ cap
 capped-le n = elim (decLt cap n) [ yes h ↦ omega (arith, capped-over n h) | no g ↦ omega (arith, capped-within n (omega arith)) ]
 

@@ -36,17 +36,17 @@ fields [] = [] ∷ []
 fields (b ∷ bs) = cond (eqb b 44) ([] ∷ fields bs) (onto b (fields bs))
 
 -- ENTRY j OF A BRANCH: entry 0 is its margin in tenths, as it stands; entry z + 1 is the PTDF of zone z in hundred-thousandths, turned
-abbrev pub places : ℕ → ℕ
-places zero = 1
-places (suc z) = 5
+abbrev pub decimalCount : ℕ → ℕ
+decimalCount zero = 1
+decimalCount (suc z) = 5
 
 abbrev pub limit : ℕ → Range
 limit zero = limits.margin
 limit (suc z) = limits.ptdf
 
 unfoldable pub entry : ℕ → List ℕ → ℤ
-entry zero field = value (places zero) field
-entry (suc z) field = negℤ (value (places (suc z)) field)
+entry zero field = value (decimalCount zero) field
+entry (suc z) field = negℤ (value (decimalCount (suc z)) field)
 
 unfoldable pub fieldOf : List ℕ → ℕ → List ℕ
 fieldOf line j = getD (fields line) j []
@@ -60,7 +60,7 @@ unfoldable pub malformed : ℕ → List ℕ → Bool
 malformed zones line = differ (length (fields line)) (zones + 1) || anyBelow (zones + 1) (λ j. not (isNumber (fieldOf line j)))
 
 unfoldable pub tooFine : ℕ → List ℕ → Bool
-tooFine zones line = anyBelow (zones + 1) (λ j. finer (places j) (fieldOf line j))
+tooFine zones line = anyBelow (zones + 1) (λ j. finer (decimalCount j) (fieldOf line j))
 
 unfoldable pub outOfRange : ℕ → List ℕ → Bool
 outOfRange zones line = anyBelow (zones + 1) (λ j. outside (limit j) (entryOf line j))

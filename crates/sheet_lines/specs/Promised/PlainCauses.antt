@@ -23,7 +23,7 @@ use Rattle.rows.specs.Promised.RowLaws.{empty, First, no-place, any-none, all-p
 use Rattle.numerals.specs.Meaning.Numeral.{digits, starts, negative, unsigned, whole, isNumber, value, finer}
 use Rattle.numerals.specs.Meaning.Numeral as numeral
 use Rattle.numerals.specs.Promised.PlainNumbers.{Number, Times, number-bytes, value-times, times-value}
-use Rattle.sheet_lines.specs.Meaning.Sheet.{fields, places, limit, entry, fieldOf, entryOf, malformed, tooFine, outOfRange, lineOf, lineCount, branchPart, sheetRows, sheetRefusal, sheetOutcome}
+use Rattle.sheet_lines.specs.Meaning.Sheet.{fields, decimalCount, limit, entry, fieldOf, entryOf, malformed, tooFine, outOfRange, lineOf, lineCount, branchPart, sheetRows, sheetRefusal, sheetOutcome}
 use Rattle.sheet_lines.specs.Promised.PlainText.{LineText, Cells, fields-bytes, cells-of, cells-are, empty-sheet}
 
 -- A LINE OF GOOD FORM: a margin and one PTDF for each zone, every one a number
@@ -136,7 +136,7 @@ module _ (zones : ℕ) (line : List ℕ) where
     whole-to : T (not (tooFine zones line)) → Whole zones (fields line)
     unfolding tooFine fieldOf
     whole-to t =
-        let fine : (j : ℕ) → j < 1 + zones → finer (places j) (getD (fields line) j []) ≡ false = λ j h. not-is _ (no-place (zones + 1) (λ j. finer (places j) (fieldOf line j)) t j (omega arith)) in
+        let fine : (j : ℕ) → j < 1 + zones → finer (decimalCount j) (getD (fields line) j []) ≡ false = λ j h. not-is _ (no-place (zones + 1) (λ j. finer (decimalCount j) (fieldOf line j)) t j (omega arith)) in
         record {
           margin-whole = (value 1 (getD (fields line) 0 []), value-times 1 (getD (fields line) 0 []) (number 0 (omega arith)) (fine 0 (omega arith)));
           ptdf-whole = λ z h. (value 5 (getD (fields line) (suc z) []), value-times 5 (getD (fields line) (suc z) []) (number (suc z) (omega arith)) (fine (suc z) (omega arith)));
@@ -144,9 +144,9 @@ module _ (zones : ℕ) (line : List ℕ) where
 
     whole-from : Whole zones (fields line) → T (not (tooFine zones line))
     unfolding tooFine fieldOf
-    whole-from w = is-false (any-none (zones + 1) (λ j. finer (places j) (fieldOf line j)) each)
+    whole-from w = is-false (any-none (zones + 1) (λ j. finer (decimalCount j) (fieldOf line j)) each)
       where
-        each : (j : ℕ) → j < zones + 1 → T (not (finer (places j) (fieldOf line j)))
+        each : (j : ℕ) → j < zones + 1 → T (not (finer (decimalCount j) (fieldOf line j)))
         each zero h = is-false (times-value 1 (getD (fields line) 0 []) (w .margin-whole .0) (w .margin-whole .1) .0)
         each (suc z) h = let x = w .ptdf-whole z (omega arith) in is-false (times-value 5 (getD (fields line) (suc z) []) (x .0) (x .1) .0)
 

@@ -21,7 +21,7 @@ use Rattle.numerals.specs.Meaning.Numeral.{isDigit, negative, units, sign, valu
 use Rattle.numerals.specs.Steps.Scan.{Separator}
 use Rattle.numerals.specs.Steps.Capped.{cap, capped, capped-over, capped-within}
 use Rattle.numerals.specs.Steps.Pieces.{heldNumber}
-use Rattle.sheet_lines.specs.Meaning.Sheet.{places, limit, entry}
+use Rattle.sheet_lines.specs.Meaning.Sheet.{decimalCount, limit, entry}
 
 -- a PTDF's sign is turned, a margin's is not
 abbrev pub turned : ℕ → Bool → Bool
@@ -29,9 +29,13 @@ turned zero b = b
 turned (suc z) b = not b
 
 -- the margin, and a PTDF
-pub ptdf-places : (j : ℕ) → (j ≡ 0 → ⊥) → places j ≡ 5
-ptdf-places zero h = absurd (h refl)
-ptdf-places (suc z) h = refl
+pub ptdf-decimals : (j : ℕ) → (j ≡ 0 → ⊥) → decimalCount j ≡ 5
+ptdf-decimals zero h = absurd (h refl)
+ptdf-decimals (suc z) h = refl
+
+pub decimals-few : (j : ℕ) → decimalCount j ≤ 9
+decimals-few zero = omega arith
+decimals-few (suc z) = omega arith
 
 pub ptdf-limit : (j : ℕ) → (j ≡ 0 → ⊥) → limit j ≡ limits.ptdf
 ptdf-limit zero h = absurd (h refl)
@@ -45,7 +49,7 @@ neg-sign : (b : Bool) (n : ℕ) → negℤ (sign b n) ≡ sign (not b) n
 neg-sign true n = negℤ-negℤ (pos n)
 neg-sign false n = refl
 
-pub entry-sign : (j : ℕ) (field : List ℕ) → entry j field ≡ sign (turned j (negative field)) (units (places j) field)
+pub entry-sign : (j : ℕ) (field : List ℕ) → entry j field ≡ sign (turned j (negative field)) (units (decimalCount j) field)
 unfolding entry value
 entry-sign zero field = refl
 entry-sign (suc z) field = neg-sign (negative field) (units 5 field)
@@ -55,7 +59,7 @@ abbrev pub entryOfNumber : ℕ → Number → ℤ
 entryOfNumber j x = sign (turned j (x .negative)) (x .units)
 
 abbrev pub heldEntry : ℕ → List ℕ → ℤ
-heldEntry j field = entryOfNumber j (heldNumber (places j) field)
+heldEntry j field = entryOfNumber j (heldNumber (decimalCount j) field)
 
 -- holding it changes nothing of whether it lies outside
 far : (b : Bool) (g n : ℕ) → g < n → outside (range (minus g) (pos g)) (sign b n) ≡ true
@@ -111,7 +115,11 @@ pub entry-fits : (b : Bool) (n : ℕ) → n ≤ cap → SFits w32 (sign b n)
 entry-fits true n h = near-fits w32 (omega arith) (near-neg (near-pos n))
 entry-fits false n h = near-fits w32 (omega arith) (near-pos n)
 
--- a comma is no byte of a number
+-- a comma is no byte of a number, and a newline is none
 pub comma : Separator 44
 unfolding isDigit
 comma = record { no-digit = refl; no-sign = refl; no-point = refl }
+
+pub newline : Separator 10
+unfolding isDigit
+newline = record { no-digit = refl; no-sign = refl; no-point = refl }

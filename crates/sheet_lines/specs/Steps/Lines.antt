@@ -1,35 +1,35 @@
 -- The walk over a line's fields and over a sheet's lines: where it stands, and what it says of what it passed. Assumes nothing.
-use mathlib.Core.Path.{_≡_, refl, sym, ap, _∙_, subst}
+use mathlib.Core.Path.{_≡_, refl, sym, ap, _∙_}
 use mathlib.Core.Bool.{Bool, true, false, not, cond, _||_, or-true}
-use mathlib.Core.List.{List, [], _∷_}
-use mathlib.Core.Option.{Option, none, some}
+use mathlib.Core.List.{List, [], _∷_, _++_}
+use mathlib.Core.Option.{Option, none, some, Option·some-ne-none}
 use Prim.Native.Nat.{ℕ, zero, suc, _+_, _*_, _-_, _≤_, _<_}
 use native.Mathlib.Nat.{add-zero, mul-le-mul}
 use native.Mathlib.Numerals.{add-one}
-use native.Mathlib.Decide.{decLt}
 use native.Mathlib.Omega.{arith}
-use borrow.Author.Tests.{lt-ltb, le-ltb, lt-leb, le-leb, eq-eqb, ne-eqb, eqb-true, eqb-false}
-use lib.Dec.{T, eqb, ltb, leb}
-use lib.ListN.{length, getD, take, drop, length-drop, length-append, drop-of-length-le}
+use borrow.Author.Tests.{eq-eqb, ne-eqb, ltb-true, ltb-false, leb-true, leb-false}
+use lib.Dec.{eqb, ltb, leb}
+use lib.ListN.{length, getD, drop, length-drop, length-append, drop-of-length-le}
 use lib.IntN.{ℤ}
 use lib.Seq.{getD-drop, drop-drop, sets}
-use Rattle.integers.specs.Ranges.{outside, is-false, not-is}
+use Rattle.integers.specs.Ranges.{is-false}
 use Rattle.integers.specs.Bytes.{bytes-length, signed32, sets-append}
 use Rattle.rows.specs.Meaning.Rows.{anyBelow, firstBelow}
 use Rattle.rows.specs.Meaning.Place.{placeOf}
-use Rattle.rows.specs.Promised.RowLaws.{any-some, no-place, not-below}
+use Rattle.rows.specs.Promised.RowLaws.{any-some}
+use Rattle.numerals.specs.declared.TextCursor.{TextCursor}
 use Rattle.numerals.specs.declared.Piece.{Piece}
-use Rattle.numerals.specs.Meaning.Numeral.{before, after, isNumber}
-use Rattle.numerals.specs.Steps.Pieces.{Cut}
+use Rattle.numerals.specs.Meaning.Numeral.{has, before, after, isNumber}
+use Rattle.numerals.specs.Steps.Scan.{clash, Separator}
+use Rattle.numerals.specs.Steps.Pieces.{before-le, pieceTo, pieceAt, Cut, cut}
+use Rattle.numerals.specs.Steps.Marks.{split-within, within-has, number-lacks}
 use Rattle.sheet_lines.specs.declared.Flaws.{Flaws}
 use Rattle.sheet_lines.specs.declared.LineAnswer.{LineAnswer}
 use Rattle.sheet_lines.specs.declared.LineAnswer.the-variants as answer
-use Rattle.sheet_lines.specs.declared.Survey.{Survey}
-use Rattle.sheet_lines.specs.Meaning.Sheet.{lines, fields, limit, fieldOf, entryOf, malformed, tooFine, outOfRange, lineOf, lineCount, branchPart, entryBytes, lineBytes}
+use Rattle.sheet_lines.specs.declared.SheetFaults.{SheetFaults}
+use Rattle.sheet_lines.specs.Meaning.Sheet.{lines, fields, fieldOf, entryOf, malformed, tooFine, outOfRange, lineOf, lineCount, branchPart, entryBytes, lineBytes, sheetBytes}
+use Rattle.sheet_lines.specs.Steps.Entries.{comma, newline}
 use Rattle.sheet_lines.specs.Steps.Split.{fields-cut, fields-last, fields-some, lines-cut}
-
-clash : true ≡ false → ⊥
-clash q = subst (λ (t : Bool). T t) q tt
 
 -- what follows the first n of some pieces is what a text has from a place on
 pieces-more : (all rest : List (List ℕ)) (n : ℕ) (p : List ℕ) (ps : List (List ℕ)) → drop n all ≡ rest → rest ≡ p ∷ ps → drop (n + 1) all ≡ ps
@@ -40,101 +40,6 @@ piece-at all rest n p ps e q = ap (λ (k : ℕ). getD all k []) (sym (add-zero n
 
 pieces-left : (all rest : List (List ℕ)) (n : ℕ) → drop n all ≡ rest → length all - n ≡ length rest
 pieces-left all rest n e = sym (length-drop n all) ∙ ap length e
-
--- FIELDS. Before field j, which is looked for at `at`; past the last of them there are as many as there should be
-pub record FieldsFrom (zones : ℕ) (line : List ℕ) (j at : ℕ) : Type 0 where
-  pub inside : at ≤ length line
-  pub here : j ≤ zones → drop j (fields line) ≡ fields (drop at line)
-  pub done : zones < j → length (fields line) ≡ zones + 1
-
-pub fields-start : (zones : ℕ) (line : List ℕ) → FieldsFrom zones line 0 0
-fields-start zones line = record { inside = omega arith; here = λ h. refl; done = λ h. absurd (omega arith) }
-
--- the mark after field j of a line of n bytes does not stand where it should: before the last field's end, or not at an earlier one's
-abbrev pub misplaced : ℕ → ℕ → ℕ → ℕ → Bool
-misplaced j zones end n = cond (ltb j zones) (leb n end) (ltb end n)
-
-module _ (zones : ℕ) (line : List ℕ) (j at : ℕ) (p : Piece) (f : FieldsFrom zones line j at) (h : j ≤ zones) (c : Cut 44 line at p) where
-  abbrev rest : List ℕ
-  rest = drop at line
-
-  abbrev end : ℕ
-  end = p .end
-
-  ends-early : end < length line → length (before 44 rest) < length rest
-  ends-early l = omega (arith, c .ends, length-drop at line)
-
-  ends-last : length line ≤ end → length rest ≤ length (before 44 rest)
-  ends-last l = omega (arith, c .ends, length-drop at line)
-
-  cut-there : end < length line → fields rest ≡ before 44 rest ∷ fields (after 44 rest)
-  cut-there l = fields-cut rest (ends-early l)
-
-  cut-last : length line ≤ end → fields rest ≡ before 44 rest ∷ []
-  cut-last l = fields-last rest (ends-last l)
-
-  pub field-here : fieldOf line j ≡ before 44 (drop at line)
-  unfolding fieldOf
-  field-here = elim (decLt end (length line)) [
-    | yes l ↦ piece-at (fields line) (fields rest) j _ _ (f .here h) (cut-there l)
-    | no g ↦ piece-at (fields line) (fields rest) j _ _ (f .here h) (cut-last (omega arith))
-  ]
-
-  left : length (fields line) - j ≡ length (fields rest)
-  left = pieces-left (fields line) (fields rest) j (f .here h)
-
-  -- one field left, or more
-  left-last : length line ≤ end → length (fields line) ≡ j + 1
-  left-last l = omega (arith, left, ap length (cut-last l))
-
-  left-more : end < length line → j + 1 < length (fields line)
-  left-more l = omega (arith, left, ap length (cut-there l), fields-some (after 44 rest))
-
-  pub field-next : misplaced j zones end (length line) ≡ false → FieldsFrom zones line (j + 1) (p .next .at)
-  field-next e = elim (decLt j zones) [ yes l ↦ inner l | no g ↦ last (omega arith) ]
-    where
-      comma : j < zones → end < length line
-      comma l = elim (decLt end (length line)) [ yes m ↦ m | no g ↦ absurd (clash (sym (leb-yes g) ∙ sym (ap (λ (b : Bool). cond b (leb (length line) end) (ltb end (length line))) (lt-ltb j zones l)) ∙ e)) ]
-        where
-          leb-yes : (end < length line → ⊥) → leb (length line) end ≡ true
-          leb-yes g = le-leb (length line) end (omega arith)
-
-      stops : zones ≤ j → length line ≤ end
-      stops l = elim (decLt end (length line)) [ yes m ↦ absurd (clash (sym (lt-ltb end (length line) m) ∙ sym (ap (λ (b : Bool). cond b (leb (length line) end) (ltb end (length line))) (le-ltb j zones l)) ∙ e)) | no g ↦ omega arith ]
-
-      inner : j < zones → FieldsFrom zones line (j + 1) (p .next .at)
-      inner l = record {
-        inside = c .next-in;
-        here = λ m. pieces-more (fields line) (fields rest) j _ _ (f .here h) (cut-there (comma l)) ∙ ap fields (sym (c .rest));
-        done = λ m. absurd (omega arith);
-      }
-
-      last : zones ≤ j → FieldsFrom zones line (j + 1) (p .next .at)
-      last l = record { inside = c .next-in; here = λ m. absurd (omega arith); done = λ m. omega (arith, left-last (stops l)) }
-
-  -- a misplaced mark: the line has another number of fields
-  pub field-misplaced : misplaced j zones end (length line) ≡ true → length (fields line) ≡ zones + 1 → ⊥
-  field-misplaced e n = elim (decLt j zones) [ yes l ↦ early l | no g ↦ late (omega arith) ]
-    where
-      early : j < zones → ⊥
-      early l = elim (decLt end (length line)) [
-        | yes m ↦ clash (sym (sym (lt-leb (length line) end m) ∙ sym (ap (λ (b : Bool). cond b (leb (length line) end) (ltb end (length line))) (lt-ltb j zones l)) ∙ e))
-        | no g ↦ omega (arith, left-last (omega arith))
-      ]
-
-      late : zones ≤ j → ⊥
-      late l = elim (decLt end (length line)) [
-        | yes m ↦ omega (arith, left-more m)
-        | no g ↦ clash (sym (sym (le-ltb end (length line) (omega arith)) ∙ sym (ap (λ (b : Bool). cond b (leb (length line) end) (ltb end (length line))) (le-ltb j zones l)) ∙ e))
-      ]
-
-  -- in a line of the right number of fields no mark is misplaced
-  pub field-onward : length (fields line) ≡ zones + 1 → FieldsFrom zones line (j + 1) (p .next .at)
-  field-onward n = by (misplaced j zones end (length line)) refl
-    where
-      by : (b : Bool) → misplaced j zones end (length line) ≡ b → FieldsFrom zones line (j + 1) (p .next .at)
-      by true e = absurd (field-misplaced e n)
-      by false e = field-next e
 
 -- MALFORMED
 abbrev pub noNumber : List ℕ → ℕ → Bool
@@ -153,29 +58,185 @@ module _ (zones : ℕ) (line : List ℕ) where
   unfolding malformed
   malformed-no e n = (λ i. not (eq-eqb (length (fields line)) (zones + 1) e i) || n i)
 
-  pub wellformed-count : malformed zones line ≡ false → length (fields line) ≡ zones + 1
-  unfolding malformed
-  wellformed-count e = by (eqb (length (fields line)) (zones + 1)) refl
-    where
-      by : (b : Bool) → eqb (length (fields line)) (zones + 1) ≡ b → length (fields line) ≡ zones + 1
-      by true q = eqb-true (length (fields line)) (zones + 1) q
-      by false q = absurd (clash (sym (malformed-count (eqb-false (length (fields line)) (zones + 1) q)) ∙ e))
+-- THE LINE AT A PLACE of a sheet; the mark that ends its field j, a comma or for the last a newline; and that no comma follows a field before the last, which
+-- ends at `end` in a sheet of n bytes
+abbrev pub lineAt : List ℕ → ℕ → List ℕ
+lineAt sheet start = before 10 (drop start sheet)
 
--- what is said of a line
-abbrev pub lineBy : Flaws → Bool → LineAnswer
-lineBy f true = answer.Malformed
-lineBy f false = answer.Read f
+abbrev pub markOf : ℕ → ℕ → ℕ
+markOf zones j = cond (ltb j zones) 44 10
+
+abbrev pub commaMissing : ℕ → ℕ → ℕ → ℕ → Bool
+commaMissing zones j end n = cond (ltb j zones) (leb n end) false
+
+-- neither mark is a byte of a number
+pub separator : (zones j : ℕ) → Separator (markOf zones j)
+separator zones j = by (ltb j zones)
+  where
+    by : (b : Bool) → Separator (cond b 44 10)
+    by true = comma
+    by false = newline
+
+-- FIELDS of the line at `start`. Before field j, which stands at `at`; past the last of them there are as many as there should be, and `at` is past the line
+pub record FieldsFrom (zones : ℕ) (sheet : List ℕ) (start j at : ℕ) : Type 0 where
+  pub inside : at ≤ length sheet
+  pub here : j ≤ zones → drop j (fields (lineAt sheet start)) ≡ fields (lineAt sheet at)
+  pub ends : j ≤ zones → at + length (lineAt sheet at) ≡ start + length (lineAt sheet start)
+  pub count : zones < j → length (fields (lineAt sheet start)) ≡ zones + 1
+  pub past : zones < j → at ≡ (pieceAt 10 sheet start) .next .at
+
+pub fields-start : (zones : ℕ) (sheet : List ℕ) (start : ℕ) → start ≤ length sheet → FieldsFrom zones sheet start 0 start
+fields-start zones sheet start h = record { inside = h; here = λ l. refl; ends = λ l. refl; count = λ l. absurd (omega arith); past = λ l. absurd (omega arith) }
+
+-- field j is this text, and the next stands at `next`
+pub record FieldRead (zones : ℕ) (sheet : List ℕ) (start j : ℕ) (text : List ℕ) (next : ℕ) : Type 0 where
+  pub field-is : fieldOf (lineAt sheet start) j ≡ text
+  pub onward : FieldsFrom zones sheet start (j + 1) next
+
+module _ (zones : ℕ) (sheet : List ℕ) (start j at : ℕ) (f : FieldsFrom zones sheet start j at) (h : j ≤ zones) where
+  abbrev line : List ℕ
+  line = lineAt sheet start
+
+  abbrev text : List ℕ
+  text = drop at sheet
+
+  abbrev rest : List ℕ
+  rest = lineAt sheet at
+
+  left : length (fields line) - j ≡ length (fields rest)
+  left = pieces-left (fields line) (fields rest) j (f .here h)
+
+  -- no comma is left in the line
+  field-alone : has 44 rest ≡ false → fieldOf line j ≡ rest
+  unfolding fieldOf
+  field-alone e = piece-at (fields line) (fields rest) j _ _ (f .here h) (fields-last rest e)
+
+  count-alone : has 44 rest ≡ false → length (fields line) ≡ j + 1
+  count-alone e = omega (arith, left, ap length (fields-last rest e))
+
+  -- or one is
+  parted : has 44 rest ≡ true → rest ≡ before 44 text ++ 44 ∷ before 10 (after 44 text)
+  parted e = split-within 44 10 refl text e
+
+  parted-length : has 44 rest ≡ true → length rest ≡ length (before 44 text) + suc (length (before 10 (after 44 text)))
+  parted-length e = ap length (parted e) ∙ length-append (before 44 text) (44 ∷ before 10 (after 44 text))
+
+  fields-parted : has 44 rest ≡ true → fields rest ≡ before 44 text ∷ fields (before 10 (after 44 text))
+  fields-parted e = ap fields (parted e) ∙ fields-cut text (before 10 (after 44 text))
+
+  field-parted : has 44 rest ≡ true → fieldOf line j ≡ before 44 text
+  unfolding fieldOf
+  field-parted e = piece-at (fields line) (fields rest) j _ _ (f .here h) (fields-parted e)
+
+  count-parted : has 44 rest ≡ true → j + 1 < length (fields line)
+  count-parted e = omega (arith, left, ap length (fields-parted e), fields-some (before 10 (after 44 text)))
+
+  -- A FIELD BEFORE THE LAST
+  module _ (p : Piece) (l : j < zones) (c : Cut 44 sheet at p) where
+    -- the line ends with it
+    too-few : has 44 rest ≡ false → malformed zones line ≡ true
+    too-few e = malformed-count zones line (λ q. omega (arith, count-alone e))
+
+    early-no-number : isNumber (before 44 text) ≡ false → malformed zones line ≡ true
+    early-no-number n = by (has 44 rest) refl
+      where
+        by : (b : Bool) → has 44 rest ≡ b → malformed zones line ≡ true
+        by true e = malformed-field zones line j (omega arith) (ap isNumber (field-parted e) ∙ n)
+        by false e = too-few e
+
+    early-missing : length sheet ≤ p .end → malformed zones line ≡ true
+    early-missing m = by (has 44 rest) refl
+      where
+        by : (b : Bool) → has 44 rest ≡ b → malformed zones line ≡ true
+        by true e = absurd (omega (arith, parted-length e, before-le 10 text, c .ends, length-drop at sheet))
+        by false e = too-few e
+
+    early-read : isNumber (before 44 text) ≡ true → p .end < length sheet → FieldRead zones sheet start j (before 44 text) (p .next .at)
+    early-read n m =
+        let e : has 44 rest ≡ true = within-has 44 10 refl text (number-lacks 10 newline (before 44 text) n) (omega (arith, c .ends, length-drop at sheet)) in
+        record {
+          field-is = field-parted e;
+          onward = record {
+            inside = c .next-in;
+            here = λ k. pieces-more (fields line) (fields rest) j _ _ (f .here h) (fields-parted e) ∙ ap (λ (x : List ℕ). fields (before 10 x)) (sym (c .rest));
+            ends = λ k. omega (arith, f .ends h, c .next-is m, c .ends, parted-length e, ap (λ (x : List ℕ). length (before 10 x)) (c .rest));
+            count = λ k. absurd (omega arith);
+            past = λ k. absurd (omega arith);
+          };
+        }
+
+  -- THE LAST FIELD
+  module _ (p : Piece) (l : zones ≤ j) (c : Cut 10 sheet at p) where
+    last-no-number : isNumber rest ≡ false → malformed zones line ≡ true
+    last-no-number n = by (has 44 rest) refl
+      where
+        by : (b : Bool) → has 44 rest ≡ b → malformed zones line ≡ true
+        by true e = malformed-count zones line (λ q. omega (arith, count-parted e))
+        by false e = malformed-field zones line j (omega arith) (ap isNumber (field-alone e) ∙ n)
+
+    last-read : isNumber rest ≡ true → FieldRead zones sheet start j rest (p .next .at)
+    last-read n =
+        let e : has 44 rest ≡ false = number-lacks 44 comma rest n in
+        record {
+          field-is = field-alone e;
+          onward = record {
+            inside = c .next-in;
+            here = λ k. absurd (omega arith);
+            ends = λ k. absurd (omega arith);
+            count = λ k. omega (arith, count-alone e);
+            past = λ k. ap (λ (x : Piece). x .next .at) (c .is) ∙ ap (λ (e : ℕ). (pieceTo (length sheet) e) .next .at) (f .ends h);
+          };
+        }
+
+  -- EITHER, by its mark
+  module _ (p : Piece) (c : Cut (markOf zones j) sheet at p) where
+    pub field-no-number : isNumber (before (markOf zones j) text) ≡ false → malformed zones line ≡ true
+    field-no-number n = by (ltb j zones) refl c n
+      where
+        by : (b : Bool) → ltb j zones ≡ b → Cut (cond b 44 10) sheet at p → isNumber (before (cond b 44 10) text) ≡ false → malformed zones line ≡ true
+        by true e c n = early-no-number p (ltb-true j zones e) c n
+        by false e c n = last-no-number p (ltb-false j zones e) c n
+
+    pub field-unseparated : commaMissing zones j (p .end) (length sheet) ≡ true → malformed zones line ≡ true
+    field-unseparated m = by (ltb j zones) refl c m
+      where
+        by : (b : Bool) → ltb j zones ≡ b → Cut (cond b 44 10) sheet at p → cond b (leb (length sheet) (p .end)) false ≡ true → malformed zones line ≡ true
+        by true e c m = early-missing p (ltb-true j zones e) c (leb-true (length sheet) (p .end) m)
+        by false e c m = absurd (clash (sym m))
+
+    pub field-read : isNumber (before (markOf zones j) text) ≡ true → commaMissing zones j (p .end) (length sheet) ≡ false → FieldRead zones sheet start j (before (markOf zones j) text) (p .next .at)
+    field-read n m = by (ltb j zones) refl c n m
+      where
+        by : (b : Bool) → ltb j zones ≡ b → Cut (cond b 44 10) sheet at p → isNumber (before (cond b 44 10) text) ≡ true → cond b (leb (length sheet) (p .end)) false ≡ false
+            → FieldRead zones sheet start j (before (cond b 44 10) text) (p .next .at)
+        by true e c n m = early-read p (ltb-true j zones e) c n (leb-false (length sheet) (p .end) m)
+        by false e c n m = last-read p (ltb-false j zones e) c n
+
+-- a line whose numbers can be written, and a sheet of them
+pub record LineValid (zones : ℕ) (line : List ℕ) : Type 0 where
+  pub wellformed : malformed zones line ≡ false
+  pub in-range : outOfRange zones line ≡ false
+
+-- WHAT IS SAID OF A LINE, and where the next one starts
+abbrev pub lineBy : Flaws → TextCursor → Bool → LineAnswer
+lineBy f next true = answer.Malformed
+lineBy f next false = answer.Read f next
 
 abbrev pub lineFlaws : ℕ → List ℕ → Flaws
 lineFlaws zones line = record { finer = tooFine zones line; outside = outOfRange zones line }
 
-pub line-read : (f : Flaws) (b : Bool) {g : Flaws} → lineBy f b ≡ answer.Read g → (b ≡ false) × (g ≡ f)
-line-read f true e = (cc, cc)
-line-read f false e = (refl, cc)
+-- the line at `start`, read into the table `old` at `base`
+pub record LineRead (zones : ℕ) (sheet : List ℕ) (start base : ℕ) (old new : List ℕ) (r : LineAnswer) : Type 0 where
+  pub answer-is : r ≡ lineBy (lineFlaws zones (lineAt sheet start)) ((pieceAt 10 sheet start) .next) (malformed zones (lineAt sheet start))
+  pub bytes-are : LineValid zones (lineAt sheet start) → new ≡ sets old base (entryBytes (zones + 1) (lineAt sheet start))
 
-pub line-malformed : (f : Flaws) (b : Bool) → lineBy f b ≡ answer.Malformed → b ≡ true
-line-malformed f true e = refl
-line-malformed f false e = cc
+pub line-read : (f : Flaws) (n : TextCursor) (b : Bool) {g : Flaws} {m : TextCursor} → lineBy f n b ≡ answer.Read g m → (b ≡ false) × ((g ≡ f) × (m ≡ n))
+line-read f n true e = (cc, (cc, cc))
+line-read f n false e = (refl, (cc, cc))
+
+pub line-malformed : (f : Flaws) (n : TextCursor) (b : Bool) → lineBy f n b ≡ answer.Malformed → b ≡ true
+line-malformed f n true e = refl
+line-malformed f n false e = cc
 
 -- one more of some tests
 pub any-more : (j : ℕ) (f : ℕ → Bool) {a b : Bool} → a ≡ anyBelow j f → b ≡ f j → a || b ≡ anyBelow (j + 1) f
@@ -202,26 +263,31 @@ module _ (sheet : List ℕ) (n at : ℕ) (f : LinesFrom sheet n at) where
       none-left : length (lines (drop at sheet)) ≡ 0
       none-left = ap (λ (l : List ℕ). length (lines l)) (drop-of-length-le sheet h)
 
-  module _ (p : Piece) (h : at < length sheet) (c : Cut 10 sheet at p) where
-    cut-line : lines (drop at sheet) ≡ before 10 (drop at sheet) ∷ lines (after 10 (drop at sheet))
+  module _ (h : at < length sheet) where
+    cut-line : lines (drop at sheet) ≡ lineAt sheet at ∷ lines (after 10 (drop at sheet))
     cut-line = lines-cut (drop at sheet) (omega (arith, length-drop at sheet))
 
     pub line-in : n < lineCount sheet
     line-in = omega (arith, pieces-left (lines sheet) (lines (drop at sheet)) n (f .here), ap length cut-line)
 
-    pub line-here : lineOf sheet n ≡ take (p .end - at) (drop at sheet)
+    pub line-here : lineOf sheet n ≡ lineAt sheet at
     unfolding lineOf
-    line-here = piece-at (lines sheet) (lines (drop at sheet)) n _ _ (f .here) cut-line ∙ sym (c .piece)
+    line-here = piece-at (lines sheet) (lines (drop at sheet)) n _ _ (f .here) cut-line
 
-    pub line-next : LinesFrom sheet (n + 1) (p .next .at)
-    line-next = record {
-      inside = c .next-in;
-      fewer = omega (arith, f .fewer, c .advances h);
-      within = omega (arith, line-in);
-      here = pieces-more (lines sheet) (lines (drop at sheet)) n _ _ (f .here) cut-line ∙ ap lines (sym (c .rest));
-    }
+    pub line-next : {next : ℕ} → next ≡ (pieceAt 10 sheet at) .next .at → (at < next) × LinesFrom sheet (n + 1) next
+    line-next {next} e =
+        let c = cut 10 sheet at (f .inside) refl in
+        let on : at < next = omega (arith, c .advances h) in (
+          on,
+          record {
+            inside = omega (arith, c .next-in);
+            fewer = omega (arith, f .fewer);
+            within = omega (arith, line-in);
+            here = pieces-more (lines sheet) (lines (drop at sheet)) n _ _ (f .here) cut-line ∙ ap lines (sym (ap (λ (k : ℕ). drop k sheet) e ∙ c .rest));
+          },
+        )
 
--- what a survey of the lines says: a first malformed line ends it
+-- a cause of line i
 abbrev pub malformedAt : ℕ → List ℕ → ℕ → Bool
 malformedAt zones sheet i = malformed zones (lineOf sheet i)
 
@@ -231,14 +297,28 @@ tooFineAt zones sheet i = tooFine zones (lineOf sheet i)
 abbrev pub outOfRangeAt : ℕ → List ℕ → ℕ → Bool
 outOfRangeAt zones sheet i = outOfRange zones (lineOf sheet i)
 
-pub record AllRead (zones : ℕ) (sheet : List ℕ) (s : Survey) : Type 0 where
-  pub count : s .lines ≡ lineCount sheet
-  pub finer-is : placeOf (s .finer) ≡ firstBelow (lineCount sheet) (tooFineAt zones sheet)
-  pub outside-is : placeOf (s .outside) ≡ firstBelow (lineCount sheet) (outOfRangeAt zones sheet)
+-- WHAT IS SAID OF A SHEET read into the table `old`. A first malformed line ends the reading; else every line was read, and the first 64 stand at the start where
+-- no number is out of range
+pub record LinesRead (zones : ℕ) (sheet old new : List ℕ) (r : SheetFaults) : Type 0 where
+  pub count : r .lines ≡ lineCount sheet
+  pub finer-is : placeOf (r .finer) ≡ firstBelow (lineCount sheet) (tooFineAt zones sheet)
+  pub outside-is : placeOf (r .outside) ≡ firstBelow (lineCount sheet) (outOfRangeAt zones sheet)
+  pub bytes-are : placeOf (r .outside) ≡ none → lineCount sheet ≤ 64 → new ≡ sets old 0 (sheetBytes zones sheet)
 
-pub record Surveyed (zones : ℕ) (sheet : List ℕ) (s : Survey) : Type 0 where
-  pub malformed-is : placeOf (s .malformed) ≡ firstBelow (lineCount sheet) (malformedAt zones sheet)
-  pub all-read : placeOf (s .malformed) ≡ none → AllRead zones sheet s
+pub record SheetRead (zones : ℕ) (sheet old new : List ℕ) (r : SheetFaults) : Type 0 where
+  pub malformed-is : placeOf (r .malformed) ≡ firstBelow (lineCount sheet) (malformedAt zones sheet)
+  pub lines-read : placeOf (r .malformed) ≡ none → LinesRead zones sheet old new r
+
+-- the row of the table for line n: those past the 64th share one more, which is not written
+abbrev pub rowOf : ℕ → ℕ
+rowOf n = cond (ltb n 64) n 64
+
+pub row-le : (n : ℕ) → rowOf n ≤ 64
+row-le n = by (ltb n 64) refl
+  where
+    by : (b : Bool) → ltb n 64 ≡ b → cond b n 64 ≤ 64
+    by true e = omega (arith, ltb-true n 64 e)
+    by false e = omega arith
 
 -- the first place so far, with one place more
 abbrev pub firstWith : Option ℕ → ℕ → Bool → Option ℕ
@@ -253,28 +333,11 @@ first-more n f e d = (λ i. firstWith (e i) n (d i)) ∙ same (firstBelow n f) �
     same (some k) = refl
     same none = refl
 
--- a line that can be written, and a sheet of them
-pub record Good (zones : ℕ) (line : List ℕ) : Type 0 where
-  pub wellformed : malformed zones line ≡ false
-  pub in-range : outOfRange zones line ≡ false
-
-pub record AllGood (zones : ℕ) (sheet : List ℕ) : Type 0 where
-  pub none-malformed : firstBelow (lineCount sheet) (malformedAt zones sheet) ≡ none
-  pub none-outside : firstBelow (lineCount sheet) (outOfRangeAt zones sheet) ≡ none
-
-pub good-line : (zones : ℕ) (sheet : List ℕ) (i : ℕ) → AllGood zones sheet → i < lineCount sheet → Good zones (lineOf sheet i)
-good-line zones sheet i g h = record { wellformed = not-is _ (not-below _ _ (g .none-malformed) i h); in-range = not-is _ (not-below _ _ (g .none-outside) i h) }
-
-pub good-number : (zones : ℕ) (line : List ℕ) (j : ℕ) → Good zones line → j ≤ zones → isNumber (fieldOf line j) ≡ true
-good-number zones line j g h = by (isNumber (fieldOf line j)) refl
-  where
-    by : (b : Bool) → isNumber (fieldOf line j) ≡ b → b ≡ true
-    by true e = refl
-    by false e = absurd (clash (sym (malformed-field zones line j (omega arith) e) ∙ g .wellformed))
-
-pub good-entry : (zones : ℕ) (line : List ℕ) (j : ℕ) → Good zones line → j ≤ zones → outside (limit j) (entryOf line j) ≡ false
-unfolding outOfRange
-good-entry zones line j g h = not-is _ (no-place (zones + 1) (λ j. outside (limit j) (entryOf line j)) (is-false (g .in-range)) j (omega arith))
+-- nothing found yet, and nothing here
+pub first-none : (p : Option ℕ) (n : ℕ) (b : Bool) → firstWith p n b ≡ none → (p ≡ none) × (b ≡ false)
+first-none (some k) n b e = absurd (Option·some-ne-none k e)
+first-none none n true e = absurd (Option·some-ne-none n e)
+first-none none n false e = (refl, refl)
 
 -- BYTES: how many, and one more
 pub signed-length : (x : ℤ) → length (signed32 x) ≡ 4
@@ -307,5 +370,9 @@ next-line l zones m sheet =
     ∙ ap (λ (k : ℕ). sets l 0 (lineBytes zones k sheet)) (sym (add-one m))
 
 -- the bytes of the most branches
-pub part-bound : (zones n : ℕ) → zones ≤ 16 → n ≤ 64 → branchPart zones n ≤ 4352
-part-bound zones n h k = mul-le-mul {n₁ = 4 * (zones + 1)} {m₁ = n} {n₂ = 68} {m₂ = 64} (omega arith) k
+pub part-bound : (zones n : ℕ) → zones ≤ 16 → n ≤ 65 → branchPart zones n ≤ 4420
+part-bound zones n h k = mul-le-mul {n₁ = 4 * (zones + 1)} {m₁ = n} {n₂ = 68} {m₂ = 65} (omega arith) k
+
+-- a row of the table lies inside it
+pub row-room : (zones n : ℕ) → zones ≤ 16 → branchPart zones (rowOf n) + 4 * (zones + 1) ≤ 4420
+row-room zones n h = omega (arith, part-bound zones (rowOf n + 1) h (omega (arith, row-le n)))

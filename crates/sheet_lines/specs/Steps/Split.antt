@@ -1,13 +1,14 @@
 -- Lines and fields, one after another: what stands before the first mark is the first of them, and those of what follows are the others.
 -- Assumes nothing.
-use mathlib.Core.Path.{_≡_, refl, ap}
-use mathlib.Core.Bool.{Bool, true, false, cond}
-use mathlib.Core.List.{List, [], _∷_}
-use Prim.Native.Nat.{ℕ, suc, _≤_, _<_}
+use mathlib.Core.Path.{_≡_, refl, ap, _∙_}
+use mathlib.Core.Bool.{Bool, true, false, cond, _||_}
+use mathlib.Core.List.{List, [], _∷_, _++_}
+use Prim.Native.Nat.{ℕ, _<_}
 use native.Mathlib.Omega.{arith}
 use lib.Dec.{eqb}
 use lib.ListN.{length}
-use Rattle.numerals.specs.Meaning.Numeral.{before, after}
+use Rattle.numerals.specs.Meaning.Numeral.{has, before, after}
+use Rattle.numerals.specs.Steps.Scan.{clash}
 use Rattle.sheet_lines.specs.Meaning.Sheet.{onto, lines, fields}
 
 -- LINES
@@ -26,26 +27,24 @@ lines-cut (b ∷ d ∷ bs) h = by (eqb b 10) (lines-cut (d ∷ bs) (omega arith)
     by true e = refl
     by false e = ap (onto b) e
 
--- FIELDS: there is always a first one
-pub fields-cut : (s : List ℕ) → length (before 44 s) < length s → fields s ≡ before 44 s ∷ fields (after 44 s)
-unfolding fields before after
-fields-cut [] h = absurd (omega arith)
-fields-cut (b ∷ bs) h = by (eqb b 44) h (λ l. fields-cut bs l)
-  where
-    by : (t : Bool) → length (cond t [] (b ∷ before 44 bs)) < suc (length bs) → (length (before 44 bs) < length bs → fields bs ≡ before 44 bs ∷ fields (after 44 bs))
-        → cond t ([] ∷ fields bs) (onto b (fields bs)) ≡ cond t [] (b ∷ before 44 bs) ∷ fields (cond t bs (after 44 bs))
-    by true h ih = refl
-    by false h ih = ap (onto b) (ih (omega arith))
-
-pub fields-last : (s : List ℕ) → length s ≤ length (before 44 s) → fields s ≡ before 44 s ∷ []
+-- FIELDS: the one before a comma, the last, and that there always is one
+pub fields-cut : (t rest : List ℕ) → fields (before 44 t ++ 44 ∷ rest) ≡ before 44 t ∷ fields rest
 unfolding fields before
-fields-last [] h = refl
-fields-last (b ∷ bs) h = by (eqb b 44) h (λ l. fields-last bs l)
+fields-cut [] rest = refl
+fields-cut (b ∷ t) rest = by (eqb b 44) refl (fields-cut t rest)
   where
-    by : (t : Bool) → suc (length bs) ≤ length (cond t [] (b ∷ before 44 bs)) → (length bs ≤ length (before 44 bs) → fields bs ≡ before 44 bs ∷ [])
-        → cond t ([] ∷ fields bs) (onto b (fields bs)) ≡ cond t [] (b ∷ before 44 bs) ∷ []
-    by true h ih = absurd (omega arith)
-    by false h ih = ap (onto b) (ih (omega arith))
+    by : (c : Bool) → eqb b 44 ≡ c → fields (before 44 t ++ 44 ∷ rest) ≡ before 44 t ∷ fields rest → fields (cond c [] (b ∷ before 44 t) ++ 44 ∷ rest) ≡ cond c [] (b ∷ before 44 t) ∷ fields rest
+    by true q e = refl
+    by false q e = ap (λ (c : Bool). cond c ([] ∷ fields (before 44 t ++ 44 ∷ rest)) (onto b (fields (before 44 t ++ 44 ∷ rest)))) q ∙ ap (onto b) e
+
+pub fields-last : (s : List ℕ) → has 44 s ≡ false → fields s ≡ s ∷ []
+unfolding fields has
+fields-last [] h = refl
+fields-last (b ∷ bs) h = by (eqb b 44) h (fields-last bs)
+  where
+    by : (c : Bool) → c || has 44 bs ≡ false → (has 44 bs ≡ false → fields bs ≡ bs ∷ []) → cond c ([] ∷ fields bs) (onto b (fields bs)) ≡ (b ∷ bs) ∷ []
+    by true h ih = absurd (clash h)
+    by false h ih = ap (onto b) (ih h)
 
 pub fields-some : (s : List ℕ) → 0 < length (fields s)
 unfolding fields

@@ -1,5 +1,6 @@
--- `host::sheet::lta_sheet_branches` meets its contract: it is that of `sheet_branches`, word for word. Assumes nothing.
+-- `host::sheet::lta_sheet_branches` meets its contract: its clauses are taken out of what `sheet_branches` says of its answer. Assumes nothing.
 use borrow.Author.Needs.{needs}
+use Rattle.margin_sheet.specs.Promised.Clauses.{branches-held, causes-plain, bytes-plain}
 use Rattle.host.proofs.sheet.lta_sheet_branches.Statement.{statement}
 use Rattle.host.proofs.sheet.lta_sheet_branches.Tie as tie
 
@@ -10,7 +11,9 @@ same-length : tie.Need-same-length
 same-length c = search needs
 
 returns : tie.Need-returns
-returns c = c .before .before .sheet-branches .ensures
+returns c =
+    let a = c .before .before .sheet-branches .ensures in
+    (a .outcome, (a .length-is, (a .output, (branches-held a, (causes-plain a, bytes-plain a)))))
 
 pub lta-sheet-branches-spec : {M : Type 1} → statement M
 lta-sheet-branches-spec = tie.close (tie.spec sheet-branches-requires same-length returns)
