@@ -5,8 +5,10 @@ use mathlib.Core.List.{List}
 use mathlib.Core.Option.{none}
 use Prim.Native.Nat.{ℕ, _+_, _≤_, _<_}
 use native.Mathlib.Omega.{arith}
-use lib.Dec.{T, eqb, eqb→eq}
-use lib.IntN.{pos}
+use borrow.Author.Tests.{le-leb}
+use lib.Dec.{T, eqb, eqb→eq, leb}
+use lib.IntN.{ℤ, pos}
+use lib.Signed.{ltZ}
 use lib.ListN.{length}
 use Rattle.integers.specs.Ranges.{outside, is-true, and-left, and-right}
 use Rattle.measures.specs.Meaning.Limits as limits
@@ -14,7 +16,7 @@ use Rattle.rules.specs.Meaning.Layout.{u8At, u32At, caseVersion, zonesIn, links
 use Rattle.rules.specs.Meaning.Hour.{caseOf}
 use Rattle.rows.specs.Meaning.Rows.{firstBelow, firstField}
 use Rattle.rows.specs.Promised.RowLaws.{not-below, no-place, first-field}
-use Rattle.rules.specs.Meaning.Verdict.{over, unknown, repeated, linkFault}
+use Rattle.rules.specs.Meaning.Verdict.{unknown, repeated, linkFault}
 use Rattle.fields.specs.declared.Walked.{Walked}
 use Rattle.fields.specs.declared.Cursor.{Cursor}
 use Rattle.fields.specs.declared.WordField.{WordField}
@@ -22,8 +24,10 @@ use Rattle.fields.specs.declared.WordField.the-variants.{Taken, Short}
 use Rattle.fields.specs.Meaning.Field.{cursor, wordField}
 use Rattle.fields.specs.Walk.{Took, word-took, word-short}
 use Rattle.fields.specs.Meaning.Walk.{refusedAt, walked}
-use Rattle.fields.specs.Walked.{clear-0, clear-1, clear-2, clear-3, clear-4, field-stops, row-passes}
-use Rattle.case_header.specs.Opened.{linkRow}
+use Rattle.fields.specs.Record.{RecordWithin}
+use Rattle.fields.specs.Walked.{AtField, at-first, field-stops, field-passes}
+use Rattle.case_header.specs.declared.Counts.{Counts}
+use Rattle.case_header.specs.Opened.{Whole, linkRow, small, link-start-is, link-inside}
 use Rattle.zone_set.specs.Pairs.{holds, samePair, Seen}
 
 -- THE CONTRACTED VOLUME that a walk takes at a cursor: of 32 bits where the version has them, else the capacity, and the cursor stays (S-4)
@@ -63,88 +67,112 @@ pub orders-begin : (s : List ℕ) → linkAt s (linksIn s) ≡ orderAt s 0
 unfolding linkAt orderAt
 orders-begin s = omega arith
 
--- THE WALK that stands at link l: no link before it has a field at fault, and the set holds their pairs
-module _ (s : List ℕ) (l : ℕ) (h : l < linksIn s) (clear : firstBelow l (linkRow s .fails) ≡ none) {seen : List ℕ} (w : Seen (fromIn s) (toIn s) l seen) where
-  abbrev at : ℕ
-  at = linkAt s l
+-- THE LINK OF A TURN of the walk: it stands within the file, no link before it has a field at fault, and the set holds the pairs of those
+pub record LinkTurn (s : List ℕ) (l at : ℕ) (seen : List ℕ) : Type 0 where
+  pub within : RecordWithin s at 6
+  pub room : at + 6 + contractedSize (caseVersion s) ≤ length s
+  pub place : at ≡ linkAt s l
+  pub stands : AtField 7 (linksIn s) linkFields (linkFault (caseOf s)) (linkFieldAt s) l 0
+  pub pairs : Seen (fromIn s) (toIn s) l seen
 
-  abbrev from : ℕ
-  from = u8At s at
+pub link-turn : {s : List ℕ} {k : Counts} → Whole s k → (l : ℕ) → l < k .links → {at : ℕ} → at ≡ linkAt s l → firstBelow l (linkRow s .fails) ≡ none → {seen : List ℕ} → Seen (fromIn s) (toIn s) l seen → LinkTurn s l at seen
+link-turn {s} {k} w l h {at} p e q =
+    let counts = w .headed .counts in
+    let room : at + 6 + contractedSize (caseVersion s) ≤ length s = omega (arith, p, link-start-is (w .headed) l, link-inside w l h, ap (λ (k : Counts). contractedSize (k .version)) counts) in
+    record {
+      within = record { inside = omega arith; small = small w };
+      room = room;
+      place = p;
+      stands = at-first (omega (arith, h, ap (λ (k : Counts). k .links) counts)) e;
+      pairs = q;
+    }
 
-  abbrev to : ℕ
-  to = u8At s (at + 1)
+-- its zones as they are read
+pub record PairRead (s : List ℕ) (at zones from to : ℕ) : Type 0 where
+  pub zones-is : zones ≡ zonesIn s
+  pub from-is : from ≡ u8At s (at + 0)
+  pub to-is : to ≡ u8At s (at + 1)
 
+-- ITS FIELDS, as row 7 tests them
+module _ {s : List ℕ} {l at : ℕ} {seen : List ℕ} (t : LinkTurn s l at seen) where
   abbrev fault : ℕ → Bool
   fault = linkFault (caseOf s) l
 
   abbrev walk : Walked
   walk = walked (linkRow s) (cursor (orderAt s 0))
 
-  stops : (j : ℕ) → j < linkFields → firstBelow j fault ≡ none → fault j ≡ true → refusedAt 7 (linkFieldAt s l j) ≡ walk
-  stops = field-stops 7 (linksIn s) linkFields (linkFault (caseOf s)) (linkFieldAt s) l clear (cursor (orderAt s 0)) h
+  from-place : u8At s (at + 0) ≡ fromIn s l
+  unfolding fromIn
+  from-place = let q : at + 0 ≡ linkAt s l = omega (arith, t .place) in ap (u8At s) q
 
-  from-fault : fault 0 ≡ unknown (zonesIn s) from || holds seen from to
-  unfolding linkFault repeated caseOf fromIn toIn
-  from-fault = ap (λ (b : Bool). unknown (zonesIn s) from || b) (sym (w .held from to))
+  to-place : u8At s (at + 1) ≡ toIn s l
+  unfolding toIn
+  to-place = ap (λ (n : ℕ). u8At s (n + 1)) (t .place)
 
-  to-fault : fault 1 ≡ unknown (zonesIn s) to || eqb from to
-  unfolding linkFault caseOf fromIn toIn
+  from-fault : fault 0 ≡ unknown (zonesIn s) (fromIn s l) || holds seen (fromIn s l) (toIn s l)
+  unfolding linkFault repeated caseOf
+  from-fault = ap (λ (b : Bool). unknown (zonesIn s) (fromIn s l) || b) (sym (t .pairs .held (fromIn s l) (toIn s l)))
+
+  to-fault : fault 1 ≡ unknown (zonesIn s) (toIn s l) || eqb (fromIn s l) (toIn s l)
+  unfolding linkFault caseOf
   to-fault = refl
 
-  pub from-stops : unknown (zonesIn s) from ≡ true → refusedAt 7 at ≡ walk
-  from-stops e = stops 0 (omega arith) (clear-0 fault) (from-fault ∙ ap (λ (b : Bool). b || holds seen from to) e)
+  pub from-stops : {zones from : ℕ} → zones ≡ zonesIn s → from ≡ u8At s (at + 0) → zones ≤ from → {a : ℕ} → a ≡ at → refusedAt 7 a ≡ walk
+  from-stops {zones} {from} e f h p =
+      let q : unknown (zonesIn s) (fromIn s l) ≡ true = sym (λ j. leb (e j) ((f ∙ from-place) j)) ∙ le-leb zones from h in
+      field-stops (t .stands) (cursor (orderAt s 0)) (omega arith) (from-fault ∙ ap (λ (b : Bool). b || holds seen (fromIn s l) (toIn s l)) q) (p ∙ t .place)
 
   -- a pair that was seen passed: its second zone is known, and not the first
-  seen-passed : T (holds seen from to) → T (not (unknown (zonesIn s) to || eqb from to))
+  seen-passed : T (holds seen (fromIn s l) (toIn s l)) → T (not (fault 1))
   unfolding linkFault caseOf
-  seen-passed t =
-      let pair = samePair (fromIn s) (toIn s) from to in
+  seen-passed h =
+      let pair = samePair (fromIn s) (toIn s) (fromIn s l) (toIn s l) in
       let k = firstField l pair in
-      let p = first-field l pair (subst T (w .held from to) t) in
-      let f : fromIn s k ≡ from = eqb→eq (fromIn s k) from (and-left (eqb (fromIn s k) from) (eqb (toIn s k) to) (p .holds)) in
-      let g : toIn s k ≡ to = eqb→eq (toIn s k) to (and-right (eqb (fromIn s k) from) (eqb (toIn s k) to) (p .holds)) in
+      let p = first-field l pair (subst T (t .pairs .held (fromIn s l) (toIn s l)) h) in
+      let f : fromIn s k ≡ fromIn s l = eqb→eq (fromIn s k) (fromIn s l) (and-left (eqb (fromIn s k) (fromIn s l)) (eqb (toIn s k) (toIn s l)) (p .holds)) in
+      let g : toIn s k ≡ toIn s l = eqb→eq (toIn s k) (toIn s l) (and-right (eqb (fromIn s k) (fromIn s l)) (eqb (toIn s k) (toIn s l)) (p .holds)) in
       subst (λ (b : Bool). T (not b)) (λ j. unknown (zonesIn s) (g j) || eqb (f j) (g j))
-      (no-place linkFields (linkFault (caseOf s) k) (not-below l (linkRow s .fails) clear k (p .place-in)) 1 (omega arith))
+      (no-place linkFields (linkFault (caseOf s) k) (not-below l (linkRow s .fails) (t .stands .records-clear) k (p .place-in)) 1 (omega arith))
 
-  pub unseen : (unknown (zonesIn s) to || eqb from to) ≡ true → holds seen from to ≡ false
-  unseen e = by (holds seen from to) refl
+  unseen : fault 1 ≡ true → holds seen (fromIn s l) (toIn s l) ≡ false
+  unseen e = by (holds seen (fromIn s l) (toIn s l)) refl
     where
-      by : (b : Bool) → holds seen from to ≡ b → b ≡ false
+      by : (b : Bool) → holds seen (fromIn s l) (toIn s l) ≡ b → b ≡ false
       by true q = absurd (subst (λ (b : Bool). T (not b)) e (seen-passed (is-true q)))
       by false q = refl
 
-  module _ (from-known : unknown (zonesIn s) from ≡ false) where
-    pub repeated-stops : holds seen from to ≡ true → refusedAt 7 at ≡ walk
-    repeated-stops e = stops 0 (omega arith) (clear-0 fault) (from-fault ∙ (λ j. from-known j || e j))
+  -- its first zone is known
+  module _ {zones from to : ℕ} (p : PairRead s at zones from to) (known : leb zones from ≡ false) where
+    from-known : unknown (zonesIn s) (fromIn s l) ≡ false
+    from-known = sym (λ j. leb (p .zones-is j) ((p .from-is ∙ from-place) j)) ∙ known
 
-    module _ (new : holds seen from to ≡ false) where
-      first : fault 0 ≡ false
-      first = from-fault ∙ (λ j. from-known j || new j)
+    second-fault : fault 1 ≡ leb zones to || eqb from to
+    second-fault = to-fault ∙ sym (λ j. leb (p .zones-is j) ((p .to-is ∙ to-place) j) || eqb ((p .from-is ∙ from-place) j) ((p .to-is ∙ to-place) j))
 
-      pub to-stops : unknown (zonesIn s) to ≡ true → refusedAt 7 (at + 1) ≡ walk
-      to-stops e = stops 1 (omega arith) (clear-1 fault first) (to-fault ∙ ap (λ (b : Bool). b || eqb from to) e)
+    pair-held : holds seen (fromIn s l) (toIn s l) ≡ holds seen from to
+    pair-held = sym (λ j. holds seen ((p .from-is ∙ from-place) j) ((p .to-is ∙ to-place) j))
 
-      module _ (to-known : unknown (zonesIn s) to ≡ false) where
-        pub equal-stops : eqb from to ≡ true → refusedAt 7 (at + 1) ≡ walk
-        equal-stops e = stops 1 (omega arith) (clear-1 fault first) (to-fault ∙ (λ j. to-known j || e j))
+    pub repeated-stops : holds seen from to ≡ true → {a : ℕ} → a ≡ at → refusedAt 7 a ≡ walk
+    repeated-stops e q = field-stops (t .stands) (cursor (orderAt s 0)) (omega arith) (from-fault ∙ (λ j. from-known j || (pair-held ∙ e) j)) (q ∙ t .place)
 
-        module _ (unequal : eqb from to ≡ false) where
-          second : fault 1 ≡ false
-          second = to-fault ∙ (λ j. to-known j || unequal j)
+    at-to : holds seen (fromIn s l) (toIn s l) ≡ false → AtField 7 (linksIn s) linkFields (linkFault (caseOf s)) (linkFieldAt s) l 1
+    at-to e = field-passes (t .stands) (from-fault ∙ (λ j. from-known j || e j))
 
-          pub capacity-stops : outside limits.capacity (pos (u32At s (at + 2))) ≡ true → refusedAt 7 (at + 2) ≡ walk
-          unfolding linkFault caseOf capacityIn
-          capacity-stops e = stops 2 (omega arith) (clear-2 fault first second) e
+    pub to-stops : (leb zones to || eqb from to) ≡ true → {a : ℕ} → a ≡ at + 1 → refusedAt 7 a ≡ walk
+    to-stops e q =
+        let f = second-fault ∙ e in
+        field-stops (at-to (unseen f)) (cursor (orderAt s 0)) (omega arith) f (q ∙ ap (λ (n : ℕ). n + 1) (t .place))
 
-          module _ (held : outside limits.capacity (pos (u32At s (at + 2))) ≡ false) where
-            third : fault 2 ≡ false
-            unfolding linkFault caseOf capacityIn
-            third = held
+    -- so is its second, and the pair is new
+    pub at-capacity : (leb zones to || eqb from to) ≡ false → holds seen from to ≡ false → AtField 7 (linksIn s) linkFields (linkFault (caseOf s)) (linkFieldAt s) l 2
+    at-capacity e new = field-passes (at-to (pair-held ∙ new)) (second-fault ∙ e)
 
-            pub contracted-stops : over (u32At s (at + 2)) (contractedAt s (caseVersion s) (u32At s (at + 2)) (at + 6)) ≡ true → refusedAt 7 (at + 6) ≡ walk
-            unfolding linkFault caseOf capacityIn contractedIn
-            contracted-stops e = stops 3 (omega arith) (clear-3 fault first second third) e
+  pub capacity-fault : {v : ℤ} → v ≡ pos (u32At s (at + 2)) → fault 2 ≡ outside limits.capacity v
+  unfolding linkFault caseOf capacityIn
+  capacity-fault f = ap (outside limits.capacity) (sym (f ∙ ap (λ (n : ℕ). pos (u32At s (n + 2))) (t .place)))
 
-            pub link-passes : over (u32At s (at + 2)) (contractedAt s (caseVersion s) (u32At s (at + 2)) (at + 6)) ≡ false → firstBelow (l + 1) (linkRow s .fails) ≡ none
-            unfolding linkFault caseOf capacityIn contractedIn
-            link-passes e = row-passes 7 (linksIn s) linkFields (linkFault (caseOf s)) (linkFieldAt s) l clear (clear-4 fault first second third e)
+  pub contracted-fault : {offered v : ℤ} → offered ≡ pos (u32At s (at + 2)) → v ≡ pos (contractedAt s (caseVersion s) (u32At s (at + 2)) (at + 6)) → fault 3 ≡ ltZ offered v
+  unfolding linkFault caseOf capacityIn contractedIn
+  contracted-fault f g =
+      let e = f ∙ ap (λ (n : ℕ). pos (u32At s (n + 2))) (t .place) in
+      sym (λ j. ltZ (e j) ((g ∙ ap (λ (n : ℕ). pos (contractedAt s (caseVersion s) (u32At s (n + 2)) (n + 6))) (t .place)) j))
