@@ -13,26 +13,13 @@ use Rattle.rules.specs.Meaning.Verdict.{notMark, differ}
 use Rattle.fields.specs.declared.Cursor.{Cursor}
 use Rattle.fields.specs.declared.Mark.{Mark}
 use Rattle.fields.specs.declared.Walked.the-variants.{Past}
-use Rattle.fields.specs.Meaning.Field.{markAt, markField, halfField}
-use Rattle.fields.specs.Walk.{Took}
-use Rattle.fields.specs.Walk as walk
+use Rattle.fields.specs.Meaning.Field.{markAt}
+use Rattle.fields.specs.Taking.{FieldsTaken, NextTaken, none-taken, mark-next, mark-lacks, half-next, half-lacks}
 use Rattle.rules.specs.Meaning.Families.{familyVersion, familyLength}
 use Rattle.family_list.specs.Meaning.Answer.{headerBy, wrongList}
 use Rattle.family_list.specs.Steps.Answer.{too-short, wrong-mark, wrong-version, by-length}
 use Rattle.family_list.proofs.walk_header.Statement.{statement}
 use Rattle.family_list.proofs.walk_header.Tie as tie
-
-new-requires : tie.Need-new-requires
-new-requires c κs = search needs
-
-mark-requires : tie.Need-mark-requires
-mark-requires c κs = search needs
-
-enum-known-mark : tie.Need-enum-known-mark
-enum-known-mark c = search needs
-
-enum-told : tie.Need-enum-told
-enum-told c = search needs
 
 abbrev mark-file : tie.After-mark → List ℕ
 mark-file c = c .before .before .before .args .families .now
@@ -40,42 +27,28 @@ mark-file c = c .before .before .before .args .families .now
 abbrev orders-of : tie.After-mark → ℕ
 orders-of c = c .before .before .before .args .orders
 
-mark-is : (c : tie.After-mark) → c .mark .result ≡ markField (mark-file c) 0
-mark-is c = c .mark .ensures ∙ ap (λ (d : Cursor). markField (mark-file c) (d .at)) (c .before .new .ensures)
+start : (c : tie.After-mark) → FieldsTaken (mark-file c) 0 (c .before .new .result)
+start c = none-taken (mark-file c) (c .before .new .ensures)
 
-mark-took : (c : tie.After-mark2) → Took (mark-file (c .before .before)) 0 3 (markAt (mark-file (c .before .before)) 0) (c .mark2 .given .0 .0) (c .mark2 .given .0 .1 .0)
-mark-took c = walk.mark-took (mark-file (c .before .before)) 0 (sym (mark-is (c .before .before)) ∙ c .mark2 .given .1)
+mark-taken : (c : tie.After-mark2) → NextTaken (mark-file (c .before .before)) 3 (c .mark2 .given .0 .0) (markAt (mark-file (c .before .before)) 0) (c .mark2 .given .0 .1 .0)
+mark-taken c = let a = c .before .before in mark-next (start a) (a .mark .ensures) (c .mark2 .given .1)
 
 returns : tie.Need-returns
 returns c =
     let a = c .before .before in
-    ap headerBy (too-short (mark-file a) (orders-of a) (omega (arith, walk.mark-short (mark-file a) 0 (sym (mark-is a) ∙ c .enum-told .given .1))))
-
-half-requires : tie.Need-half-requires
-half-requires c κs = search needs
-
-enum-known-version : tie.Need-enum-known-version
-enum-known-version c = search needs
-
-enum-told-2 : tie.Need-enum-told-2
-enum-told-2 c = search needs
+    ap headerBy (too-short (mark-file a) (orders-of a) (omega (arith, mark-lacks (start a) (a .mark .ensures) (c .enum-told .given .1))))
 
 abbrev version-file : tie.After-half → List ℕ
 version-file c = mark-file (c .before .before .before .before)
 
-version-is : (c : tie.After-half) → c .half .result ≡ halfField (version-file c) 3
-version-is c = c .half .ensures ∙ ap (λ (d : Cursor). halfField (version-file c) (d .at)) (mark-took (c .before .before) .past)
-
-version-took : (c : tie.After-version) → Took (version-file (c .before .before)) 3 2 (u16At (version-file (c .before .before)) 3) (c .version .given .0 .0) (c .version .given .0 .1 .0)
-version-took c = walk.half-took (version-file (c .before .before)) 3 (sym (version-is (c .before .before)) ∙ c .version .given .1)
+version-taken : (c : tie.After-version) → NextTaken (version-file (c .before .before)) 5 (c .version .given .0 .0) (u16At (version-file (c .before .before)) 3) (c .version .given .0 .1 .0)
+version-taken c = let a = c .before .before in half-next (mark-taken (a .before .before) .taken) (a .half .ensures) (c .version .given .1)
 
 returns-2 : tie.Need-returns-2
 returns-2 c =
     let a = c .before .before in
-    ap headerBy (too-short (version-file a) (orders-of (a .before .before .before .before)) (omega (arith, walk.half-short (version-file a) 3 (sym (version-is a) ∙ c .enum-told2 .given .1))))
-
-differs-requires : tie.Need-differs-requires
-differs-requires c κs = search needs
+    let m = a .before .before in
+    ap headerBy (too-short (version-file a) (orders-of (m .before .before)) (omega (arith, half-lacks (mark-taken m .taken) (a .half .ensures) (c .enum-told2 .given .1))))
 
 -- the two tests
 abbrev opened : tie.After-differs → tie.After-version
@@ -83,11 +56,11 @@ opened c = c .before .before
 
 mark-test : (c : tie.After-differs) → c .differs .result ≡ notMark 76 84 70 (version-file (opened c .before .before))
 unfolding notMark
-mark-test c = c .differs .ensures ∙ ap (λ (m : Mark). not (eqb (m .0) 76 && eqb (m .1) 84 && eqb (m .2) 70)) (mark-took (opened c .before .before .before .before) .is)
+mark-test c = c .differs .ensures ∙ ap (λ (m : Mark). not (eqb (m .0) 76 && eqb (m .1) 84 && eqb (m .2) 70)) (mark-taken (opened c .before .before .before .before) .is)
 
 version-test : (c : tie.After-version) → differ (familyVersion (version-file (c .before .before))) 1 ≡ not (eqb (c .version .given .0 .0) 1)
 unfolding familyVersion
-version-test c = ap (λ (v : ℕ). differ v 1) (sym (version-took c .is))
+version-test c = ap (λ (v : ℕ). differ v 1) (sym (version-taken c .is))
 
 abbrev count : tie.After-version → ℕ
 count v = orders-of (v .before .before .before .before .before .before)
@@ -102,10 +75,7 @@ returns-4 c =
 
 -- the length that the orders demand
 parents-at : (c : tie.After-version) → c .version .given .0 .1 .0 .at ≡ 5
-parents-at c = ap (λ (d : Cursor). d .at) (version-took c .past)
-
-mul-if3 : tie.Need-mul-if3
-mul-if3 c = search needs
+parents-at c = ap (λ (d : Cursor). d .at) (version-taken c .taken .past)
 
 add-if3 : tie.Need-add-if3
 add-if3 c = let v = opened (c .before .before .before) in omega (arith, parents-at v, v .before .before .before .before .before .before .before .before .before .pre)
@@ -126,25 +96,25 @@ returns-6 : tie.Need-returns-6
 unfolding familyLength
 returns-6 c =
     let v = opened (c .before .before .before .before) in
-    ap Past (version-took v .past) ∙ ap headerBy (sym (ap not (eq-eqb (length (version-file (v .before .before))) (familyLength (count v)) (c .if3 .left ∙ omega (arith, parents-at v)))) ∙ length-test (c .before .before))
+    ap Past (version-taken v .taken .past) ∙ ap headerBy (sym (ap not (eq-eqb (length (version-file (v .before .before))) (familyLength (count v)) (c .if3 .left ∙ omega (arith, parents-at v)))) ∙ length-test (c .before .before))
 
 pub walk-header-spec : {M : Type 1} → statement M
 walk-header-spec =
     tie.close
     (tie.spec
-    new-requires
-    mark-requires
-    enum-known-mark
-    enum-told
+    (λ c κs. search needs)
+    (λ c κs. search needs)
+    (λ c. search needs)
+    (λ c. search needs)
     returns
-    half-requires
-    enum-known-version
-    enum-told-2
+    (λ c κs. search needs)
+    (λ c. search needs)
+    (λ c. search needs)
     returns-2
-    differs-requires
+    (λ c κs. search needs)
     returns-3
     returns-4
-    mul-if3
+    (λ c. search needs)
     add-if3
     returns-5
     returns-6)

@@ -13,11 +13,9 @@ use Rattle.rules.specs.Meaning.Families.{familyLength, named, parentIn, parentO
 use Rattle.rows.specs.Meaning.Rows.{firstBelow}
 use Rattle.rows.specs.Promised.RowLaws.{first-later}
 use Rattle.fields.specs.declared.Cursor.{Cursor}
-use Rattle.fields.specs.declared.Walked.the-variants.{Past}
-use Rattle.fields.specs.Meaning.Field.{cursor, halfField}
-use Rattle.fields.specs.Walk.{Took, half-took, half-short}
-use Rattle.fields.specs.Walked.{refused-past, walk-stops, walk-ends}
-use Rattle.fields.specs.Part.{partOf, part-length, part-u16}
+use Rattle.fields.specs.Meaning.Field.{cursor}
+use Rattle.fields.specs.Record.{RecordWithin, FieldRead, half-read, half-there}
+use Rattle.fields.specs.Walked.{refused-past, walk-stops, walk-done}
 use Rattle.family_list.specs.Meaning.Answer.{absent, parentRow}
 use Rattle.family_list.specs.Steps.Taken.{Taken, take-none, take-more}
 use Rattle.family_list.proofs.walk_parents.Statement.{statement}
@@ -56,72 +54,34 @@ long-is : (a : tie.Start Inv-loop μ-loop) → length (now (a .args .families)) 
 unfolding familyLength
 long-is a = a .pre .0 .long
 
-inside : (l : tie.In-loop Inv-loop μ-loop) → at l + 2 ≤ length (file l)
-inside l = omega (arith, l .before .loop .inv .1 .0, l .loop-test .taken, long-is (base l))
-
-abbrev size : tie.In-loop Inv-loop μ-loop → ℕ
-size l = at l + 2 - at l
-
-abbrev part : tie.In-loop Inv-loop μ-loop → List ℕ
-part l = partOf (file l) (at l) (size l)
-
-size-is : (l : tie.In-loop Inv-loop μ-loop) → size l ≡ 2
-size-is l = omega arith
-
-two : (l : tie.In-loop Inv-loop μ-loop) → length (part l) ≡ 2
-two l = part-length (file l) (at l) (size l) (omega (arith, size-is l, inside l)) ∙ size-is l
-
-parent-read : (l : tie.In-loop Inv-loop μ-loop) → u16At (part l) 0 ≡ parentIn (file l) (turn l)
-unfolding parentIn
-parent-read l = part-u16 (file l) (at l) (size l) 0 (omega (arith, size-is l)) ∙ ap (u16At (file l)) (omega (arith, l .before .loop .inv .1 .0))
+within : (l : tie.In-loop Inv-loop μ-loop) → RecordWithin (file l) (at l) 2
+within l = record { inside = omega (arith, l .before .loop .inv .1 .0, l .loop-test .taken, long-is (base l)); small = omega (arith, long-is (base l), base l .pre .0 .few) }
 
 add-field : tie.Need-add-field Inv-loop μ-loop
 add-field c = omega (arith, c .before .loop .inv .1 .0, low c)
 
-sub-field : tie.Need-sub-field Inv-loop μ-loop
-sub-field c = omega arith
-
-part-field-start : tie.Need-part-field-start Inv-loop μ-loop
-part-field-start c = omega arith
-
 part-field-end : tie.Need-part-field-end Inv-loop μ-loop
-part-field-end c = omega (arith, inside c)
-
-new-requires : tie.Need-new-requires Inv-loop μ-loop
-new-requires c κs = search needs
-
-half-requires : tie.Need-half-requires Inv-loop μ-loop
-half-requires c κs = search needs
-
-enum-known-parent : tie.Need-enum-known-parent Inv-loop μ-loop
-enum-known-parent c = search needs
-
-enum-told : tie.Need-enum-told Inv-loop μ-loop
-enum-told c = search needs
+part-field-end c = omega (arith, within c)
 
 abbrev of-half : tie.After-half Inv-loop μ-loop → tie.In-loop Inv-loop μ-loop
 of-half c = c .before .before .before
 
-half-is : (c : tie.After-half Inv-loop μ-loop) → c .half .result ≡ halfField (part (of-half c)) 0
-half-is c = c .half .ensures ∙ ap (λ (d : Cursor). halfField (part (of-half c)) (d .at)) (c .before .new .ensures)
+start : (c : tie.After-half Inv-loop μ-loop) → c .before .new .result .at ≡ 0
+start c = ap (λ (d : Cursor). d .at) (c .before .new .ensures)
 
 -- it is there
 returns : tie.Need-returns Inv-loop μ-loop
-returns c =
-    let h = c .before .before in
-    absurd (omega (arith, half-short (part (of-half h)) 0 (sym (half-is h) ∙ c .enum-told .given .1), two (of-half h)))
+returns c = let h = c .before .before in absurd (half-there (within (of-half h)) 0 (start h) (omega arith) (h .half .ensures) (c .enum-told .given .1))
 
 abbrev of-parent : tie.After-parent Inv-loop μ-loop → tie.In-loop Inv-loop μ-loop
 of-parent c = of-half (c .before .before)
 
-took : (c : tie.After-parent Inv-loop μ-loop) → let l = of-parent c in Took (part l) 0 2 (u16At (part l) 0) (c .parent .given .0 .0) (c .parent .given .0 .1 .0)
-took c = half-took (part (of-parent c)) 0 (sym (half-is (c .before .before)) ∙ c .parent .given .1)
+parent-read : (c : tie.After-parent Inv-loop μ-loop) → let l = of-parent c in FieldRead (c .parent .given .0 .0) (u16At (file l) (at l + 0)) (c .parent .given .0 .1 .0) 2
+parent-read c = let h = c .before .before in half-read (within (of-half h)) 0 (start h) (omega arith) (h .half .ensures) (c .parent .given .1)
 
 number-is : (c : tie.After-parent Inv-loop μ-loop) → let l = of-parent c in c .parent .given .0 .0 ≡ parentIn (file l) (turn l)
-number-is c = took c .is ∙ parent-read (of-parent c)
-
-is-absent-requires : tie.Need-is-absent-requires Inv-loop μ-loop
-is-absent-requires c κs = search needs
+unfolding parentIn
+number-is c = let l = of-parent c in let p : at l + 0 ≡ 5 + 2 * turn l = omega (arith, l .before .loop .inv .1 .0) in parent-read c .is ∙ ap (u16At (file l)) p
 
 -- ROW 17, of this order
 abbrev of-test : tie.After-is-absent Inv-loop μ-loop → tie.After-parent Inv-loop μ-loop
@@ -149,11 +109,8 @@ mul-up c = omega (arith, low (of-parent (of-test (c .before))))
 element-write-up : tie.Need-element-write-up Inv-loop μ-loop
 element-write-up c = low (of-parent (of-test (c .before)))
 
-past-at : (c : tie.After-parent Inv-loop μ-loop) → c .parent .given .0 .1 .0 .at ≡ 2
-past-at c = ap (λ (d : Cursor). d .at) (took c .past)
-
 in-file-requires : tie.Need-in-file-requires Inv-loop μ-loop
-in-file-requires c κs = let p = of-test (c .before) in let l = of-parent p in omega (arith, past-at p, l .before .loop .inv .1 .0, low l)
+in-file-requires c κs = let p = of-test (c .before) in let l = of-parent p in omega (arith, parent-read p .past, l .before .loop .inv .1 .0, low l)
 
 abbrev done : tie.After-in-file Inv-loop μ-loop → tie.After-is-absent Inv-loop μ-loop
 done c = c .before .before
@@ -171,7 +128,7 @@ loop-again c =
     let l = of-parent p in (
       omega (arith, l .loop-test .taken),
       (
-        ap (λ (d : Cursor). d .at) (c .in-file .ensures) ∙ omega (arith, past-at p, l .before .loop .inv .1 .0),
+        ap (λ (d : Cursor). d .at) (c .in-file .ensures) ∙ omega (arith, parent-read p .past, l .before .loop .inv .1 .0),
         (
           first-later (absent (file l) (base l .args .orders)) (turn l) (l .before .loop .inv .1 .1 .0) (tested t ∙ c .before .if1 .left),
           take-more (file l) (l .before .loop .up) (turn l) (p .parent .given .0 .0) (low l) (l .before .loop .inv .1 .1 .1) (number-is p),
@@ -185,8 +142,7 @@ returns-3 c =
     let l = c .before in
     let a = l .before .before in
     let all : l .loop .i ≡ a .args .orders = omega (arith, l .loop .inv .0, c .loop-test .left) in (
-      ap (λ (n : ℕ). Past (cursor n)) (l .loop .inv .1 .0 ∙ ap (λ (n : ℕ). 5 + 2 * n) all)
-          ∙ walk-ends (parentRow (now (a .args .families)) (a .args .orders)) (cursor (5 + 2 * a .args .orders)) (l .loop .i) (l .loop .inv .1 .1 .0) (omega (arith, all)) (omega (arith, all)),
+      walk-done (parentRow (now (a .args .families)) (a .args .orders)) (λ (n : ℕ). 5 + 2 * n) (l .loop .inv .1 .0) (l .loop .inv .1 .1 .0) all refl,
       λ e. subst (λ (n : ℕ). Taken (now (a .args .families)) n (l .loop .up)) all (l .loop .inv .1 .1 .1),
     )
 
@@ -199,15 +155,15 @@ walk-parents-spec =
     cast-count
     loop-holds
     add-field
-    sub-field
-    part-field-start
+    (λ c. omega arith)
+    (λ c. omega arith)
     part-field-end
-    new-requires
-    half-requires
-    enum-known-parent
-    enum-told
+    (λ c κs. search needs)
+    (λ c κs. search needs)
+    (λ c. search needs)
+    (λ c. search needs)
     returns
-    is-absent-requires
+    (λ c κs. search needs)
     cast-t21
     returns-2
     mul-up

@@ -34,45 +34,33 @@ raw x = record { 0 = x }
 abbrev pub fieldFits : List ℕ → ℕ → ℕ → Bool
 fieldFits s at n = leb (at + n) (length s)
 
--- by the test that they do
-abbrev pub markBy : Mark → Cursor → Bool → MarkField
-markBy v c true = mark.Taken v c
-markBy v c false = mark.Short
+-- a field of any kind, by the test that its bytes stand there
+abbrev pub fieldBy : {A F : Type 0} → (A → Cursor → F) → F → A → Cursor → Bool → F
+fieldBy taken short v c true = taken v c
+fieldBy taken short v c false = short
 
-abbrev pub byteBy : ℕ → Cursor → Bool → ByteField
-byteBy v c true = byte.Taken v c
-byteBy v c false = byte.Short
-
-abbrev pub wordBy : ℕ → Cursor → Bool → WordField
-wordBy v c true = word.Taken v c
-wordBy v c false = word.Short
-
-abbrev pub signedBy : Raw → Cursor → Bool → SignedField
-signedBy v c true = signed.Taken v c
-signedBy v c false = signed.Short
-
-abbrev pub longBy : ℕ → Cursor → Bool → LongField
-longBy v c true = long.Taken v c
-longBy v c false = long.Short
+-- a field of n bytes at an offset, whose value is v
+abbrev pub fieldOf : {A F : Type 0} → (A → Cursor → F) → F → List ℕ → ℕ → ℕ → A → F
+fieldOf taken short s at n v = fieldBy taken short v (cursor (at + n)) (fieldFits s at n)
 
 -- the three letters at an offset
 abbrev pub markAt : List ℕ → ℕ → Mark
 markAt s at = record { 0 = u8At s at; 1 = u8At s (at + 1); 2 = u8At s (at + 2) }
 
 abbrev pub markField : List ℕ → ℕ → MarkField
-markField s at = markBy (markAt s at) (cursor (at + 3)) (fieldFits s at 3)
+markField s at = fieldOf mark.Taken mark.Short s at 3 (markAt s at)
 
 abbrev pub byteField : List ℕ → ℕ → ByteField
-byteField s at = byteBy (u8At s at) (cursor (at + 1)) (fieldFits s at 1)
+byteField s at = fieldOf byte.Taken byte.Short s at 1 (u8At s at)
 
 abbrev pub halfField : List ℕ → ℕ → WordField
-halfField s at = wordBy (u16At s at) (cursor (at + 2)) (fieldFits s at 2)
+halfField s at = fieldOf word.Taken word.Short s at 2 (u16At s at)
 
 abbrev pub wordField : List ℕ → ℕ → WordField
-wordField s at = wordBy (u32At s at) (cursor (at + 4)) (fieldFits s at 4)
+wordField s at = fieldOf word.Taken word.Short s at 4 (u32At s at)
 
 abbrev pub signedField : List ℕ → ℕ → SignedField
-signedField s at = signedBy (raw (i32At s at)) (cursor (at + 4)) (fieldFits s at 4)
+signedField s at = fieldOf signed.Taken signed.Short s at 4 (raw (i32At s at))
 
 abbrev pub longField : List ℕ → ℕ → LongField
-longField s at = longBy (u64At s at) (cursor (at + 8)) (fieldFits s at 8)
+longField s at = fieldOf long.Taken long.Short s at 8 (u64At s at)

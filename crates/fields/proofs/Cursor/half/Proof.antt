@@ -1,13 +1,9 @@
 -- `fields::Cursor::half` meets its contract: the field is there, or it is not. Assumes nothing.
-use mathlib.Core.Path.{_≡_, ap, sym, _∙_}
-use mathlib.Core.Bool.{true}
-use Prim.Native.Nat.{ℕ, _+_, _≤_}
 use native.Mathlib.Omega.{arith}
 use borrow.Author.Needs.{needs}
-use borrow.Author.Tests.{leb-true, not-true, not-false}
-use lib.ListN.{length}
 use Rattle.rules.specs.Meaning.Layout.{u16At}
-use Rattle.fields.specs.Meaning.Field.{fieldFits, cursor, wordBy}
+use Rattle.fields.specs.declared.WordField.the-variants.{Taken, Short}
+use Rattle.fields.specs.Cursor.{field-inside, field-lacks, field-takes}
 use Rattle.fields.proofs.Cursor.half.Statement.{statement}
 use Rattle.fields.proofs.Cursor.half.Tie as tie
 
@@ -15,24 +11,21 @@ field-fits-requires : tie.Need-field-fits-requires
 field-fits-requires c κs = search needs
 
 returns : tie.Need-returns
-returns c = let a = c .before .before .before .args in ap (wordBy (u16At (a .s .now) (a .self .at)) (cursor (a .self .at + 2))) (sym (not-true _ (c .if1 .taken)) ∙ c .before .field-fits .ensures)
-
-it-fits : (c : tie.Else1) → fieldFits (c .before .before .before .args .s .now) (c .before .before .before .args .self .at) 2 ≡ true
-it-fits c = sym (c .before .field-fits .ensures) ∙ not-false _ (c .if1 .left)
-
-inside : (c : tie.Else1) → c .before .before .before .args .self .at + 2 ≤ length (c .before .before .before .args .s .now)
-inside c = leb-true _ _ (it-fits c)
+returns c =
+    let a = c .before .before .before .args in
+    field-lacks (a .s .now) (a .self .at) 2 (c .before .field-fits .ensures) Taken Short (u16At (a .s .now) (a .self .at)) (c .if1 .taken)
 
 half-at-requires : tie.Need-half-at-requires
-half-at-requires c κs = inside c
+half-at-requires c κs = let a = c .before .before .before .args in field-inside (a .s .now) (a .self .at) 2 (c .before .field-fits .ensures) (c .if1 .left)
 
 add-t7 : tie.Need-add-t7
-add-t7 c = omega (arith, inside (c .before))
+add-t7 c = let e = c .before in let a = e .before .before .before .args in omega (arith, field-inside (a .s .now) (a .self .at) 2 (e .before .field-fits .ensures) (e .if1 .left))
 
 returns-2 : tie.Need-returns-2
 returns-2 c =
-    let a = c .before .before .before .before .args in
-    ap (λ (x : ℕ). wordBy x (cursor (a .self .at + 2)) true) (c .half-at .ensures .0) ∙ ap (wordBy (u16At (a .s .now) (a .self .at)) (cursor (a .self .at + 2))) (sym (it-fits (c .before)))
+    let e = c .before in
+    let a = e .before .before .before .args in
+    field-takes (a .s .now) (a .self .at) 2 (e .before .field-fits .ensures) Taken Short (u16At (a .s .now) (a .self .at)) (e .if1 .left) (c .half-at .ensures .0)
 
 pub half-spec : {M : Type 1} → statement M
 half-spec = tie.close (tie.spec field-fits-requires returns half-at-requires add-t7 returns-2)

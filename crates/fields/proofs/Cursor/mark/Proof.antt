@@ -1,13 +1,13 @@
 -- `fields::Cursor::mark` meets its contract: the three letters are there, or they are not. Assumes nothing.
-use mathlib.Core.Path.{_≡_, ap, sym, _∙_}
-use mathlib.Core.Bool.{true}
+use mathlib.Core.Path.{refl}
 use Prim.Native.Nat.{_+_, _≤_}
 use native.Mathlib.Omega.{arith}
 use borrow.Author.Needs.{needs}
-use borrow.Author.Tests.{leb-true, not-true, not-false}
 use lib.ListN.{length}
 use Rattle.rules.specs.Meaning.Layout.{u8At}
-use Rattle.fields.specs.Meaning.Field.{fieldFits, cursor, markAt, markBy}
+use Rattle.fields.specs.declared.MarkField.the-variants.{Taken, Short}
+use Rattle.fields.specs.Meaning.Field.{markAt}
+use Rattle.fields.specs.Cursor.{field-inside, field-lacks, field-takes}
 use Rattle.fields.proofs.Cursor.mark.Statement.{statement}
 use Rattle.fields.proofs.Cursor.mark.Tie as tie
 
@@ -15,13 +15,12 @@ field-fits-requires : tie.Need-field-fits-requires
 field-fits-requires c κs = search needs
 
 returns : tie.Need-returns
-returns c = let a = c .before .before .before .args in ap (markBy (markAt (a .s .now) (a .self .at)) (cursor (a .self .at + 3))) (sym (not-true _ (c .if1 .taken)) ∙ c .before .field-fits .ensures)
-
-it-fits : (c : tie.Else1) → fieldFits (c .before .before .before .args .s .now) (c .before .before .before .args .self .at) 3 ≡ true
-it-fits c = sym (c .before .field-fits .ensures) ∙ not-false _ (c .if1 .left)
+returns c =
+    let a = c .before .before .before .args in
+    field-lacks (a .s .now) (a .self .at) 3 (c .before .field-fits .ensures) Taken Short (markAt (a .s .now) (a .self .at)) (c .if1 .taken)
 
 inside : (c : tie.Else1) → c .before .before .before .args .self .at + 3 ≤ length (c .before .before .before .args .s .now)
-inside c = leb-true _ _ (it-fits c)
+inside c = let a = c .before .before .before .args in field-inside (a .s .now) (a .self .at) 3 (c .before .field-fits .ensures) (c .if1 .left)
 
 shared-slice-read-t7 : tie.Need-shared-slice-read-t7
 shared-slice-read-t7 c = omega (arith, inside (c .before))
@@ -46,7 +45,7 @@ unfolding u8At
 returns-2 c =
     let e = c .before .before .before in
     let a = e .before .before .before .args in
-    ap (markBy (markAt (a .s .now) (a .self .at)) (cursor (a .self .at + 3))) (sym (it-fits e))
+    field-takes (a .s .now) (a .self .at) 3 (e .before .field-fits .ensures) Taken Short (markAt (a .s .now) (a .self .at)) (e .if1 .left) refl
 
 pub mark-spec : {M : Type 1} → statement M
 mark-spec =

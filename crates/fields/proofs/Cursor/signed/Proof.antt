@@ -1,14 +1,11 @@
 -- `fields::Cursor::signed` meets its contract: the field is there, or it is not. Assumes nothing.
-use mathlib.Core.Path.{_≡_, ap, sym, _∙_}
-use mathlib.Core.Bool.{true}
-use Prim.Native.Nat.{_+_, _≤_}
+use mathlib.Core.Path.{ap}
 use native.Mathlib.Omega.{arith}
 use borrow.Author.Needs.{needs}
-use borrow.Author.Tests.{leb-true, not-true, not-false}
-use lib.ListN.{length}
-use lib.IntN.{ℤ}
 use Rattle.rules.specs.Meaning.Layout.{i32At}
-use Rattle.fields.specs.Meaning.Field.{fieldFits, cursor, raw, signedBy}
+use Rattle.fields.specs.Meaning.Field.{raw}
+use Rattle.fields.specs.declared.SignedField.the-variants.{Taken, Short}
+use Rattle.fields.specs.Cursor.{field-inside, field-lacks, field-takes}
 use Rattle.fields.proofs.Cursor.signed.Statement.{statement}
 use Rattle.fields.proofs.Cursor.signed.Tie as tie
 
@@ -16,24 +13,21 @@ field-fits-requires : tie.Need-field-fits-requires
 field-fits-requires c κs = search needs
 
 returns : tie.Need-returns
-returns c = let a = c .before .before .before .args in ap (signedBy (raw (i32At (a .s .now) (a .self .at))) (cursor (a .self .at + 4))) (sym (not-true _ (c .if1 .taken)) ∙ c .before .field-fits .ensures)
-
-it-fits : (c : tie.Else1) → fieldFits (c .before .before .before .args .s .now) (c .before .before .before .args .self .at) 4 ≡ true
-it-fits c = sym (c .before .field-fits .ensures) ∙ not-false _ (c .if1 .left)
-
-inside : (c : tie.Else1) → c .before .before .before .args .self .at + 4 ≤ length (c .before .before .before .args .s .now)
-inside c = leb-true _ _ (it-fits c)
+returns c =
+    let a = c .before .before .before .args in
+    field-lacks (a .s .now) (a .self .at) 4 (c .before .field-fits .ensures) Taken Short (raw (i32At (a .s .now) (a .self .at))) (c .if1 .taken)
 
 signed-at-requires : tie.Need-signed-at-requires
-signed-at-requires c κs = inside c
+signed-at-requires c κs = let a = c .before .before .before .args in field-inside (a .s .now) (a .self .at) 4 (c .before .field-fits .ensures) (c .if1 .left)
 
 add-t7 : tie.Need-add-t7
-add-t7 c = omega (arith, inside (c .before))
+add-t7 c = let e = c .before in let a = e .before .before .before .args in omega (arith, field-inside (a .s .now) (a .self .at) 4 (e .before .field-fits .ensures) (e .if1 .left))
 
 returns-2 : tie.Need-returns-2
 returns-2 c =
-    let a = c .before .before .before .before .args in
-    ap (λ (x : ℤ). signedBy (raw x) (cursor (a .self .at + 4)) true) (c .signed-at .ensures) ∙ ap (signedBy (raw (i32At (a .s .now) (a .self .at))) (cursor (a .self .at + 4))) (sym (it-fits (c .before)))
+    let e = c .before in
+    let a = e .before .before .before .args in
+    field-takes (a .s .now) (a .self .at) 4 (e .before .field-fits .ensures) Taken Short (raw (i32At (a .s .now) (a .self .at))) (e .if1 .left) (ap raw (c .signed-at .ensures))
 
 pub signed-spec : {M : Type 1} → statement M
 signed-spec = tie.close (tie.spec field-fits-requires returns signed-at-requires add-t7 returns-2)

@@ -1,13 +1,9 @@
 -- `fields::Cursor::word` meets its contract: the field is there, or it is not. Assumes nothing.
-use mathlib.Core.Path.{_≡_, ap, sym, _∙_}
-use mathlib.Core.Bool.{true}
-use Prim.Native.Nat.{ℕ, _+_, _≤_}
 use native.Mathlib.Omega.{arith}
 use borrow.Author.Needs.{needs}
-use borrow.Author.Tests.{leb-true, not-true, not-false}
-use lib.ListN.{length}
 use Rattle.rules.specs.Meaning.Layout.{u32At}
-use Rattle.fields.specs.Meaning.Field.{fieldFits, cursor, wordBy}
+use Rattle.fields.specs.declared.WordField.the-variants.{Taken, Short}
+use Rattle.fields.specs.Cursor.{field-inside, field-lacks, field-takes}
 use Rattle.fields.proofs.Cursor.word.Statement.{statement}
 use Rattle.fields.proofs.Cursor.word.Tie as tie
 
@@ -15,24 +11,21 @@ field-fits-requires : tie.Need-field-fits-requires
 field-fits-requires c κs = search needs
 
 returns : tie.Need-returns
-returns c = let a = c .before .before .before .args in ap (wordBy (u32At (a .s .now) (a .self .at)) (cursor (a .self .at + 4))) (sym (not-true _ (c .if1 .taken)) ∙ c .before .field-fits .ensures)
-
-it-fits : (c : tie.Else1) → fieldFits (c .before .before .before .args .s .now) (c .before .before .before .args .self .at) 4 ≡ true
-it-fits c = sym (c .before .field-fits .ensures) ∙ not-false _ (c .if1 .left)
-
-inside : (c : tie.Else1) → c .before .before .before .args .self .at + 4 ≤ length (c .before .before .before .args .s .now)
-inside c = leb-true _ _ (it-fits c)
+returns c =
+    let a = c .before .before .before .args in
+    field-lacks (a .s .now) (a .self .at) 4 (c .before .field-fits .ensures) Taken Short (u32At (a .s .now) (a .self .at)) (c .if1 .taken)
 
 word-at-requires : tie.Need-word-at-requires
-word-at-requires c κs = inside c
+word-at-requires c κs = let a = c .before .before .before .args in field-inside (a .s .now) (a .self .at) 4 (c .before .field-fits .ensures) (c .if1 .left)
 
 add-t7 : tie.Need-add-t7
-add-t7 c = omega (arith, inside (c .before))
+add-t7 c = let e = c .before in let a = e .before .before .before .args in omega (arith, field-inside (a .s .now) (a .self .at) 4 (e .before .field-fits .ensures) (e .if1 .left))
 
 returns-2 : tie.Need-returns-2
 returns-2 c =
-    let a = c .before .before .before .before .args in
-    ap (λ (x : ℕ). wordBy x (cursor (a .self .at + 4)) true) (c .word-at .ensures) ∙ ap (wordBy (u32At (a .s .now) (a .self .at)) (cursor (a .self .at + 4))) (sym (it-fits (c .before)))
+    let e = c .before in
+    let a = e .before .before .before .args in
+    field-takes (a .s .now) (a .self .at) 4 (e .before .field-fits .ensures) Taken Short (u32At (a .s .now) (a .self .at)) (e .if1 .left) (c .word-at .ensures)
 
 pub word-spec : {M : Type 1} → statement M
 word-spec = tie.close (tie.spec field-fits-requires returns word-at-requires add-t7 returns-2)

@@ -1,9 +1,9 @@
--- `link_walk::contracted_field` meets its contract: by the version. Assumes nothing.
+-- `case_links::contracted_field` meets its contract: by the version. Assumes nothing.
 use mathlib.Core.Path.{sym, ap, _∙_}
 use borrow.Author.Needs.{needs}
-use Rattle.link_walk.specs.Walk.{contractedBy}
-use Rattle.link_walk.proofs.contracted_field.Statement.{statement}
-use Rattle.link_walk.proofs.contracted_field.Tie as tie
+use Rattle.case_links.specs.Walk.{contractedBy}
+use Rattle.case_links.proofs.contracted_field.Statement.{statement}
+use Rattle.case_links.proofs.contracted_field.Tie as tie
 
 contracts-requires : tie.Need-contracts-requires
 contracts-requires c κs = search needs
