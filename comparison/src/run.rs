@@ -169,11 +169,14 @@ impl Run {
         self.check(name, times >= least, format!("{times}"));
     }
 
-    /// A check for each number that an entry must reach, by how often it was answered.
+    /// A check for each number that an entry must reach, by how often it was answered, and one that it answers no other.
     pub fn check_numbers(&mut self, reach: &Reach, times: &[u64]) {
-        for number in reach.numbers {
+        for number in &reach.numbers {
             self.check_times(format!("{number}"), times[*number as usize], reach.times);
         }
+        let reached: u64 = reach.numbers.iter().map(|number| times[*number as usize]).sum();
+        let others = times.iter().sum::<u64>() - reached;
+        self.check("others".into(), others == 0, format!("{others}"));
     }
 
     /// A row of the closing table.

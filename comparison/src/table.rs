@@ -106,7 +106,7 @@ mod tests {
 
     #[test]
     fn a_number_that_is_not_met_is_not_reached() {
-        let reach = Reach { numbers: &[0, 2], times: 2 };
+        let reach = Reach { numbers: vec![0, 2], times: 2 };
         let entry = Entry::new("entry", 9, &[(&reach, &[2, 0, 1])], &[0, 5]);
         assert_eq!((entry.numbers, entry.builds), ((1, 2), (1, 2)));
         let mut entries = vec![entry.clone()];

@@ -45,19 +45,22 @@ static void readers(void)
         amount_reads(ends[k]);
 }
 
-/* Every number that an entry returns has words of its own, and no other number has any. */
+/* No two numbers have the same words. Which numbers have words, and which, tests/numbers asks. */
 static void number_texts(void)
 {
     const char *none = lta_number_text(UINT32_MAX);
+    unsigned count = 0;
     for (uint32_t n = 0; n < 300; n++) {
         const char *words = lta_number_text(n);
-        bool due = n <= 18 || (n >= 21 && n <= 28) || n == 30 || n == 31 || (n >= 50 && n <= 64) || n == 71 || n == 72 || (n >= 81 && n <= 86);
-        bool ok = due == (strcmp(words, none) != 0);
+        bool worded = strcmp(words, none) != 0, own = true;
         about("number %" PRIu32 " has the words '%s'", n, words);
-        for (uint32_t m = 0; due && m < n; m++)
-            ok = strcmp(words, lta_number_text(m)) != 0 && ok;
-        check(ok);
+        for (uint32_t m = 0; worded && m < n; m++)
+            own = strcmp(words, lta_number_text(m)) != 0 && own;
+        check(own);
+        count += worded;
     }
+    about("%u numbers have words", count);
+    check(count >= 52 && count < 100);
 }
 
 /* THREADS. Each has hours of its own, and must get of each call just what one caller alone gets. */

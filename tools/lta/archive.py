@@ -13,7 +13,7 @@ import subprocess
 import tempfile
 from dataclasses import dataclass
 
-from . import hour, rules
+from . import hour, numbers, rules
 from .telling import tell
 
 ROOT = pathlib.Path(__file__).resolve().parent.parent.parent
@@ -51,7 +51,7 @@ class Judgement:
     @property
     def text(self):
         """What the number means, in words."""
-        return rules.NUMBERS.get(self.number, f"number {self.number}")
+        return numbers.text(self.number)
 
     @property
     def totals(self):
@@ -75,8 +75,7 @@ class Carried:
     @property
     def text(self):
         """What the number means, in words."""
-        words = {**rules.NUMBERS, **rules.INTUITIVE_NUMBERS, 0: "answered"}
-        return words.get(self.number, f"number {self.number}")
+        return numbers.text(self.number, "answered")
 
 
 @dataclass(frozen=True)
@@ -94,7 +93,7 @@ class Dumped:
     @property
     def text(self):
         """What the number means, in words."""
-        return {**rules.DUMP_NUMBERS, 0: "written"}.get(self.number, f"number {self.number}")
+        return numbers.text(self.number, "written")
 
 
 @dataclass(frozen=True)
@@ -112,7 +111,7 @@ class Columned:
     @property
     def text(self):
         """What the number means, in words."""
-        return {**rules.COLUMN_NUMBERS, 0: "written"}.get(self.number, f"number {self.number}")
+        return numbers.text(self.number, "written")
 
 
 @dataclass(frozen=True)
@@ -134,8 +133,7 @@ class Shortfalls:
     @property
     def text(self):
         """What the number means, in words."""
-        words = {**rules.NUMBERS, **rules.SHORTFALL_NUMBERS, 0: "answered"}
-        return words.get(self.number, f"number {self.number}")
+        return numbers.text(self.number, "answered")
 
 
 # Building.

@@ -9,7 +9,7 @@ import json
 from collections import deque
 from dataclasses import dataclass
 
-from . import account, amounts, archive, hour, rules
+from . import account, amounts, archive, hour, numbers, rules
 from .causes import Disagreement, explain
 from .inputs import InputError, printable, why_not
 
@@ -169,7 +169,7 @@ class Told:
 def ask(name, case, proposal, pairs):
     """Has the archive answer, and finds the rest."""
     answer = archive.intuitive(case, proposal, pairs.zones)
-    if answer.number in rules.NUMBERS and answer.number:
+    if answer.number in numbers.VERDICTS and not answer.answered:
         return Told(name, pairs, answer, refused_hour(case, proposal, answer))
     sums = rules.Sums(case, proposal)
     if not answer.answered:

@@ -36,64 +36,6 @@ LIMITS = {
 WIDEST_TOLERANCE = 10_000
 ZONE_PRICE = tuple(GRAINS_PER_CENT * limit for limit in LIMITS["price"])
 
-# What each number means, as lta_number_text of the C header says it.
-NUMBERS = {
-    0: "accepted",
-    1: "case shorter than 14 bytes",
-    2: "case does not begin with LTC",
-    3: "case version is neither 1 nor 2",
-    4: "header field outside its range",
-    5: "case length is not what the header demands",
-    6: "branch field out of range",
-    7: "link field at fault",
-    8: "order field out of range",
-    9: "proposal shorter than 13 bytes",
-    10: "proposal does not begin with LTP",
-    11: "proposal version is not 1",
-    12: "proposal length is wrong for this case",
-    13: "LTA share above 100,000",
-    14: "shadow price above 1,000,000",
-    15: "tolerance above 10,000 cents",
-    16: "family list of wrong mark, version or length",
-    17: "parent that does not exist",
-    18: "order that leads back to itself",
-    21: "volume above its order's quantity",
-    22: "net positions do not sum to zero",
-    23: "flow above the link's share of its capacity",
-    24: "load above the branch's share of its margin",
-    25: "zone price out of range",
-    26: "gap above the tolerance",
-    27: "no link, and an LTA share above 0",
-    28: "fraction above its parent's",
-    30: "report buffer under 176 bytes",
-}
-# The same of request S-3's.
-INTUITIVE_NUMBERS = {
-    81: "no zone, over 16, or lists of two lengths",
-    82: "net position out of range, or their sum is not zero",
-    83: "price of a zone out of range",
-    84: "pair with an unknown zone, equal zones, repeated or past the 64th",
-    85: "scratch under 324 numbers, or under 96 for the small entries",
-}
-
-# The same of request S-5's.
-DUMP_NUMBERS = {
-    56: "case refused by 1 to 8",
-    57: "dump length is wrong for this case",
-    58: "value of the dump is not finite",
-    59: "value of the dump, or its result, out of range",
-    60: "output too short for the proposal",
-}
-
-# The same of request S-10's.
-COLUMN_NUMBERS = {
-    71: "case not readable, or no columned file of one",
-    72: "output shorter than the file",
-}
-
-# The same of request S-14's.
-SHORTFALL_NUMBERS = {86: "output too short for the shortfalls"}
-
 Branch = namedtuple("Branch", "ram ptdfs shadow")
 Link = namedtuple("Link", "source sink capacity contracted flow")
 Order = namedtuple("Order", "zone buys quantity price volume")

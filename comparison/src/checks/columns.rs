@@ -197,7 +197,7 @@ pub fn files(run: &mut Run, rng: &mut Rng) {
     for (entry, name) in ENTRIES {
         let inputs = inputs[entry as usize];
         run.check_times(format!("{name}, inputs"), inputs, LEAST_INPUTS);
-        for number in COLUMNS.numbers {
+        for number in &COLUMNS.numbers {
             let times = files.numbers[entry as usize][*number as usize];
             run.check_times(format!("{name}, {number}"), times, COLUMNS.times);
         }
@@ -207,7 +207,7 @@ pub fn files(run: &mut Run, rng: &mut Rng) {
     run.section("columns, wrong builds, times told from the library");
     let all = inputs[0] + inputs[1];
     run.check_told(&BUILDS, &files.second_wrong, all);
-    let reached = files.numbers.each_ref().map(|times| (&COLUMNS, &times[..]));
+    let reached = files.numbers.each_ref().map(|times| (&*COLUMNS, &times[..]));
     run.entry("lta_case_columned, lta_case_restored", all, &reached, &files.second_wrong);
 }
 

@@ -121,11 +121,7 @@ pub fn fractions(lists: &mut Lists, rng: &mut Rng) {
 
 /// The place of a number among those that are asked.
 fn rank(number: u32) -> usize {
-    let asked = JUDGE_FAMILIES.numbers.iter().position(|one| *one == number);
-    match number {
-        30 => 0,
-        _ => 1 + asked.expect("a number of the table"),
-    }
+    JUDGE_FAMILIES.numbers.iter().position(|one| *one == number).expect("a number of the table")
 }
 
 /// Families beside whatever else is wrong: what is asked first is answered.

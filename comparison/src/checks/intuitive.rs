@@ -339,6 +339,6 @@ fn told(run: &mut Run, entry: &'static str, sections: [&'static str; 3], tally: 
     run.check_numbers(&HOUR_INTUITIVE, &tally.hour_numbers);
     run.section(sections[2]);
     run.check_told(builds, &tally.second_wrong, inputs + hours);
-    let reached = [(&INTUITIVE, &tally.numbers[..]), (&HOUR_INTUITIVE, &tally.hour_numbers)];
+    let reached = [(&*INTUITIVE, &tally.numbers[..]), (&*HOUR_INTUITIVE, &tally.hour_numbers)];
     run.entry(entry, inputs + hours, &reached, &tally.second_wrong);
 }

@@ -36,7 +36,7 @@ pub fn hours(run: &mut Run, rng: &mut Rng) {
         hour(run, rng, &mut met);
     }
     run.end();
-    for number in JUDGE_REARRANGED.numbers {
+    for number in &JUDGE_REARRANGED.numbers {
         at_least(run, format!("verdict {number}"), met.numbers[*number as usize]);
     }
     at_least(run, "an order moved".into(), met.moved);

@@ -1,0 +1,56 @@
+"""The numbers that the entries return: numbers.txt, the one table of them, read."""
+
+import pathlib
+import re
+from typing import NamedTuple
+
+TABLE = pathlib.Path(__file__).resolve().parent / "numbers.txt"
+
+HEADING = re.compile(r"\[(\w+)\] (.+)")
+ROW = re.compile(r" *(\d+)  +(\w+)  +(\S+(?: \S+)*)  +(\S+(?: \S+)*)")
+
+
+class Number(NamedTuple):
+    """A row: the number, its name in the C header, what its index counts (empty where the index is 0), and its words."""
+
+    number: int
+    name: str
+    index: str
+    words: str
+
+
+class Section(NamedTuple):
+    """An enum of the C header: the entries that return its numbers, and its rows in the order of asking."""
+
+    entries: list
+    rows: list
+
+
+def read(text):
+    """The sections of a table, by the header's enum."""
+    sections = {}
+    for place, line in enumerate(text.splitlines(), 1):
+        if not line or line.startswith("#"):
+            continue
+        heading, row = HEADING.fullmatch(line), ROW.fullmatch(line)
+        if heading:
+            rows = []
+            sections[heading[1]] = Section(heading[2].split(", "), rows)
+        elif row and sections:
+            rows.append(Number(int(row[1]), row[2], row[3].replace("-", ""), row[4]))
+        else:
+            raise ValueError(f"numbers.txt, line {place}: no row, which is NUMBER  NAME  INDEX  WORDS, two spaces apart")
+    return sections
+
+
+SECTIONS = read(TABLE.read_text(encoding="utf-8"))
+# What each number means, whichever entry returns it.
+WORDS = {row.number: row.words for section in SECTIONS.values() for row in section.rows}
+# The judgement's, and those of them that are asked only where there is a family list.
+VERDICTS = {row.number for row in SECTIONS["lta_number"].rows}
+FAMILY_VERDICTS = {row.number for row in SECTIONS["lta_number"].rows if row.name.startswith("LTA_FAMILY")}
+
+
+def text(number, answered=WORDS[0]):
+    """What a number means, in words; `answered` is what 0 is called."""
+    return WORDS.get(number, f"number {number}") if number else answered
