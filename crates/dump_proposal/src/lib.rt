@@ -2,26 +2,24 @@
 ghost use mathlib.Core.Path.{_≡_};
 ghost use mathlib.Core.Bool.{true, not};
 ghost use mathlib.Core.List.{_++_};
-ghost use Prim.Native.Nat.{_+_, _*_, _≤_, _<_};
-ghost use lib.ListN.{length, take};
+ghost use Prim.Native.Nat.{_+_, _*_, _≤_};
+ghost use lib.ListN.{length};
 ghost use lib.Seq.{sets};
 ghost use Rattle.integers.specs.Bytes.{bytesOf};
-ghost use Rattle.rows.specs.Meaning.Rows.{verdict, firstBelow};
+ghost use Rattle.rows.specs.Meaning.Rows.{firstBelow};
 ghost use Rattle.rows.specs.Meaning.Place.{placeOf};
 ghost use Rattle.case_header.specs.Opened.{Opened, Limited};
 ghost use Rattle.binary64.specs.Meaning.Value.{bitsAt, finite};
-ghost use Rattle.dump_proposal.specs.Meaning.Dump.{proposalMark, dumpOutcome, dumpWritten, dumpOutput, fieldsFrom, Holds, Volumes};
-ghost use Rattle.dump_proposal.specs.Promised.PlainBytes.{WrittenProposal};
-ghost use Rattle.dump_proposal.specs.Steps.Walks.{restOf, countOf, AllFinite, NoneOutside, faultAfter, openingTaken};
+ghost use Rattle.dump_proposal.specs.Meaning.Dump.{proposalMark, DumpAnswered};
+ghost use Rattle.dump_proposal.specs.Steps.Walks.{restOf, openingTaken, tableBytes, FiniteDump, OpeningHeld, RestConverted};
 use binary64::is_finite;
 use binary64::value;
 use case_file::CaseAnswer;
 use case_file::read_case;
 use case_header::Counts;
+use dump_values::DumpOpening;
 use dump_values::FieldAnswer;
-use dump_values::Opening;
 use dump_values::field_of;
-use dump_values::leaves_field;
 use dump_values::opening_fields;
 use fields::Cursor;
 use fields::LongField;
@@ -30,19 +28,38 @@ use output::Written;
 use output::refused;
 use rows::Place;
 use words::put_low32;
+use words::put_word;
 
 // The values before the orders' shares: the LTA share and the system price.
 const OPENING: usize = 2;
+
+// The bytes of a value.
+const VALUE: usize = 8;
 
 // Where the proposal's fields stand: after mark and version, and after the opening's two.
 const FIELDS_AT: usize = 5;
 
 const REST_AT: usize = 13;
 
+// The entries of the table of converted fields: as many as the largest case has orders, links and branches, and few for
+// a small case, since clearing the large table takes longer than converting a small dump.
+const TABLE: usize = 640;
+
+const SMALL_TABLE: usize = 64;
+
+// 2 ^ 32.
+const WORD_END: u64 = 4294967296;
+
 // The opening as it is taken, with the cursor past it; or that the dump is too short for it.
 enum OpeningField {
-    Taken(Opening, Cursor),
+    Taken(DumpOpening, Cursor),
     Short,
+}
+
+// The numbers that the opening became.
+struct OpeningNumbers {
+    share: Bits,
+    system: Bits,
 }
 
 // The values after the opening.
@@ -78,38 +95,48 @@ fn opening(dump: &[u8]) -> OpeningField
     requires { ⌜ finite (bitsAt (now dump) 1) ≡ true ⌝ }
     ensures { λ r. ⌜ r ≡ openingTaken (now (dump .entry)) ⌝ }
 {
-    let LongField::Taken(share, at_price) = Cursor::new(0).long(dump) else {
+    let LongField::Taken(share, at_system) = Cursor::new(0).long(dump) else {
         return OpeningField::Short;
     };
-    let LongField::Taken(price, at_rest) = at_price.long(dump) else {
+    let LongField::Taken(system, at_rest) = at_system.long(dump) else {
         return OpeningField::Short;
     };
     OpeningField::Taken(
-        Opening {
+        DumpOpening {
             share: value(share),
-            price: value(price),
+            system: value(system),
         },
         at_rest,
     )
 }
 
-// Row 59, after the opening. No value is missing here either.
-fn first_outside(case: &[u8], k: Counts, dump: &[u8], start: Cursor) -> Place
-    requires { ⌜ Opened (now «case») k ⌝ }
+// The 32 bits that stand in a field.
+fn low32(x: Bits) -> u32
+    ensures { λ r. ⌜ bytesOf 4 r ≡ bytesOf 4 (x .0) ⌝ }
+{
+    (x.0 % WORD_END) as u32
+}
+
+// Row 59, after the opening: each value's field into the table, up to the first that has none. A value is taken over its
+// own eight bytes: their length is known, so that the compiler drops the test for a missing field from the loop.
+fn convert_rest(case: &[u8], k: Counts, dump: &[u8], start: Cursor, table: &mut [u32]) -> Place
+    requires { ⌜ FiniteDump (now «case») k (now dump) ⌝ }
     requires { ⌜ start .at ≡ 16 ⌝ }
-    requires { ⌜ length (now dump) ≡ 8 * countOf k ⌝ }
-    requires { ⌜ AllFinite (countOf k) (now dump) ⌝ }
-    ensures { λ r. ⌜ placeOf r ≡ firstBelow (restOf k) (faultAfter (now («case» .entry)) (now (dump .entry))) ⌝ }
+    requires { ⌜ restOf k ≤ length (now table) ⌝ }
+    ensures { λ r. ⌜ RestConverted (now («case» .entry)) (now (dump .entry)) (restOf k) (placeOf r) (now (table .exit)) ⌝ }
 {
     let mut cursor = start;
     for i in 0..rest_of(k) {
-        let LongField::Taken(bits, next) = cursor.long(dump) else {
+        let at = cursor.at;
+        let field = &dump[at..at + VALUE];
+        let LongField::Taken(bits, past) = Cursor::new(0).long(field) else {
             return Place::At(i);
         };
-        if leaves_field(case, k, i, bits) {
+        let FieldAnswer::Held(x) = field_of(case, k, i, bits) else {
             return Place::At(i);
-        }
-        cursor = next;
+        };
+        table[i] = low32(x);
+        cursor = past.in_file(at);
     }
     Place::Nowhere
 }
@@ -126,54 +153,68 @@ fn put_mark(out: &mut [u8])
     out[4] = 0;
 }
 
-fn write_opening(out: &mut [u8], share: Bits, price: Bits)
+fn write_opening(out: &mut [u8], opening: OpeningNumbers)
     requires { ⌜ 13 ≤ length (now out) ⌝ }
-    ensures { λ _. ⌜ now (out .exit) ≡ sets (now (out .entry)) 0 (proposalMark ++ (bytesOf 4 (share .0) ++ bytesOf 4 (price .0))) ⌝ }
+    ensures { λ _. ⌜ now (out .exit) ≡ sets (now (out .entry)) 0 (proposalMark ++ (bytesOf 4 (opening .share .0) ++ bytesOf 4 (opening .system .0))) ⌝ }
 {
     put_mark(out);
+    let share = opening.share;
     put_low32(out, FIELDS_AT, share);
-    put_low32(out, FIELDS_AT + 4, price);
+    let system = opening.system;
+    put_low32(out, FIELDS_AT + 4, system);
 }
 
-// The fields after the opening's. No value is missing and each has its field, so that the walk does not end early.
-fn write_rest(case: &[u8], k: Counts, dump: &[u8], start: Cursor, out: &mut [u8])
-    requires { ⌜ Opened (now «case») k ⌝ }
+// The fields after the opening's, as the table has them.
+fn write_rest(table: &[u32], rest: usize, out: &mut [u8])
+    requires { ⌜ rest ≤ length (now table) ⌝ }
+    requires { ⌜ 13 + 4 * rest ≤ length (now out) ⌝ }
+    ensures { λ _. ⌜ now (out .exit) ≡ sets (now (out .entry)) 13 (tableBytes rest (now (table .entry))) ⌝ }
+{
+    for i in 0..rest {
+        put_word(out, REST_AT + 4 * i, table[i]);
+    }
+}
+
+// Rows 59 and 60, for a dump whose opening has its fields, and the proposal: the other values are converted into the
+// table, and nothing is written before all of them are.
+fn convert_by(
+    case: &[u8],
+    k: Counts,
+    dump: &[u8],
+    start: Cursor,
+    opening: OpeningNumbers,
+    table: &mut [u32],
+    out: &mut [u8],
+) -> Written
+    requires { ⌜ FiniteDump (now «case») k (now dump) ⌝ }
     requires { ⌜ start .at ≡ 16 ⌝ }
-    requires { ⌜ length (now dump) ≡ 8 * countOf k ⌝ }
-    requires { ⌜ AllFinite (countOf k) (now dump) ⌝ }
-    requires { ⌜ NoneOutside (restOf k) (now «case») (now dump) ⌝ }
-    requires { ⌜ 13 + 4 * restOf k ≤ length (now out) ⌝ }
-    ensures { λ _. ⌜ now (out .exit) ≡ sets (now (out .entry)) 13 (fieldsFrom (now («case» .entry)) (now (dump .entry)) 2 (restOf k)) ⌝ }
+    requires { ⌜ OpeningHeld (now «case») (now dump) opening ⌝ }
+    requires { ⌜ restOf k ≤ length (now table) ⌝ }
+    ensures { λ r. ⌜ DumpAnswered (now («case» .entry)) (now (dump .entry)) (now (out .entry)) r (now (out .exit)) ⌝ }
 {
-    let mut cursor = start;
-    for i in 0..rest_of(k) {
-        let LongField::Taken(bits, next) = cursor.long(dump) else {
-            return;
-        };
-        let FieldAnswer::Held(x) = field_of(case, k, i, bits) else {
-            return;
-        };
-        put_low32(out, REST_AT + 4 * i, x);
-        cursor = next;
+    let outside = convert_rest(case, k, dump, start, table);
+    if let Place::At(i) = outside {
+        return refused(59, OPENING + i);
+    }
+    let rest = rest_of(k);
+    let length = REST_AT + 4 * rest;
+    if out.len() < length {
+        return refused(60, 0);
+    }
+    write_opening(out, opening);
+    write_rest(table, rest, out);
+    Written {
+        number: 0,
+        index: 0,
+        length,
     }
 }
 
-// Rows 57 to 60, for a readable case, and the proposal.
-fn convert(case: &[u8], k: Counts, dump: &[u8], out: &mut [u8]) -> Written
-    requires { ⌜ Opened (now «case») k ⌝ }
-    ensures { λ r. ⌜ verdict (r .number) (r .index) ≡ dumpOutcome (now («case» .entry)) (now (dump .entry)) (length (now (out .entry))) ⌝ }
-    ensures { λ r. ⌜ r .length ≡ length (dumpWritten (now («case» .entry)) (now (dump .entry)) (length (now (out .entry)))) ⌝ }
-    ensures { λ r. ⌜ now (out .exit) ≡ dumpOutput (now («case» .entry)) (now (dump .entry)) (now (out .entry)) ⌝ }
+// Rows 59 and 60, for a dump of finite values: the opening's fields, and the table for the others.
+fn convert_finite(case: &[u8], k: Counts, dump: &[u8], out: &mut [u8]) -> Written
+    requires { ⌜ FiniteDump (now «case») k (now dump) ⌝ }
+    ensures { λ r. ⌜ DumpAnswered (now («case» .entry)) (now (dump .entry)) (now (out .entry)) r (now (out .exit)) ⌝ }
 {
-    let rest = rest_of(k);
-    let count = OPENING + rest;
-    if dump.len() != 8 * count {
-        return refused(57, 0);
-    }
-    let not_finite = first_not_finite(dump, count);
-    if let Place::At(n) = not_finite {
-        return refused(58, n);
-    }
     let OpeningField::Taken(values, at_rest) = opening(dump) else {
         return refused(57, 0);
     };
@@ -182,35 +223,38 @@ fn convert(case: &[u8], k: Counts, dump: &[u8], out: &mut [u8]) -> Written
     let FieldAnswer::Held(share) = share_field else {
         return refused(59, 0);
     };
-    let price_field = fields.price;
-    let FieldAnswer::Held(price) = price_field else {
+    let system_field = fields.system;
+    let FieldAnswer::Held(system) = system_field else {
         return refused(59, 1);
     };
-    let outside = first_outside(case, k, dump, at_rest);
-    if let Place::At(i) = outside {
-        return refused(59, OPENING + i);
+    let numbers = OpeningNumbers { share, system };
+    if rest_of(k) <= SMALL_TABLE {
+        let mut table = [0u32; SMALL_TABLE];
+        return convert_by(case, k, dump, at_rest, numbers, &mut table, out);
     }
-    let length = REST_AT + 4 * rest;
-    if out.len() < length {
-        return refused(60, 0);
+    let mut table = [0u32; TABLE];
+    convert_by(case, k, dump, at_rest, numbers, &mut table, out)
+}
+
+// Rows 57 to 60, for a readable case, and the proposal.
+fn convert(case: &[u8], k: Counts, dump: &[u8], out: &mut [u8]) -> Written
+    requires { ⌜ Opened (now «case») k ⌝ }
+    ensures { λ r. ⌜ DumpAnswered (now («case» .entry)) (now (dump .entry)) (now (out .entry)) r (now (out .exit)) ⌝ }
+{
+    let count = OPENING + rest_of(k);
+    if dump.len() != 8 * count {
+        return refused(57, 0);
     }
-    write_opening(out, share, price);
-    write_rest(case, k, dump, at_rest, out);
-    Written {
-        number: 0,
-        index: 0,
-        length,
+    let not_finite = first_not_finite(dump, count);
+    if let Place::At(n) = not_finite {
+        return refused(58, n);
     }
+    convert_finite(case, k, dump, out)
 }
 
 // The proposal for a case, from a dump, as `host` exports it.
 pub fn dump_proposal(case: &[u8], dump: &[u8], out: &mut [u8]) -> Written
-    ensures outcome { λ r. ⌜ verdict (r .number) (r .index) ≡ dumpOutcome (now («case» .entry)) (now (dump .entry)) (length (now (out .entry))) ⌝ }
-    ensures length { λ r. ⌜ r .length ≡ length (dumpWritten (now («case» .entry)) (now (dump .entry)) (length (now (out .entry)))) ⌝ }
-    ensures output { λ r. ⌜ now (out .exit) ≡ dumpOutput (now («case» .entry)) (now (dump .entry)) (now (out .entry)) ⌝ }
-    ensures read_back { λ r. ⌜ (r .number ≡ 0 → Holds (now («case» .entry)) (now (dump .entry)) (take (r .length) (now (out .exit)))) ⌝ }
-    ensures volumes { λ r. ⌜ (r .number ≡ 0 → Volumes (now («case» .entry)) (now (dump .entry)) (take (r .length) (now (out .exit)))) ⌝ }
-    ensures bytes { λ r. ⌜ (r .number ≡ 0 → WrittenProposal (now («case» .entry)) (now (dump .entry)) (now (out .entry)) (now (out .exit))) ⌝ }
+    ensures { λ r. ⌜ DumpAnswered (now («case» .entry)) (now (dump .entry)) (now (out .entry)) r (now (out .exit)) ⌝ }
 {
     match read_case(case) {
         CaseAnswer::Refused(refusal) => refused(56, refusal.number as usize),

@@ -1,16 +1,14 @@
 // What each value of a solver's dump becomes (S-5): the field of the proposal that stands in its place, or that it has none.
 ghost use mathlib.Core.Path.{_≡_};
-ghost use mathlib.Core.Bool.{true, not, _&&_};
+ghost use mathlib.Core.Bool.{true};
 ghost use Prim.Native.Nat.{_+_, _≤_, _<_};
 ghost use lib.Dec.{T};
-ghost use lib.Ieee as Ieee;
 ghost use lib.Ieee.Scale as float;
 ghost use Rattle.binary64.specs.Meaning.Value.{finite};
-ghost use Rattle.binary64.specs.Steps.Machine.{zero64, one64};
 ghost use Rattle.case_header.specs.Opened.{Opened};
-ghost use Rattle.dump_values.specs.Meaning.Answer.{fieldOf, isOutside};
-ghost use Rattle.dump_values.specs.Steps.Fields.{shareField, flowField, systemField, shadowField};
-ghost use Rattle.dump_values.specs.Meaning.Field.{afterOpening, fault};
+ghost use Rattle.dump_values.specs.Meaning.Answer.{fieldOf};
+ghost use Rattle.dump_values.specs.Steps.Fields.{shareField, flowField, systemField, shadowField, openingFields};
+ghost use Rattle.dump_values.specs.Meaning.Field.{afterOpening};
 use binary64::WholeAnswer;
 use binary64::cut_to_word;
 use binary64::nearest_up_to;
@@ -30,14 +28,14 @@ pub enum FieldAnswer {
 }
 
 // The dump's opening: the LTA share and the system price.
-pub struct Opening {
+pub struct DumpOpening {
     pub share: f64,
-    pub price: f64,
+    pub system: f64,
 }
 
 pub struct OpeningFields {
     pub share: FieldAnswer,
-    pub price: FieldAnswer,
+    pub system: FieldAnswer,
 }
 
 // A share of one, in hundred-thousandths.
@@ -66,18 +64,6 @@ fn share_of(x: f64, whole: u32) -> FieldAnswer
         }
     }
     FieldAnswer::Outside
-}
-
-// The test of a share alone: whatever the whole, its product is in its field.
-fn outside_unit(x: f64) -> bool
-    ensures { λ r. ⌜ r ≡ not (Ieee.le zero64 x && Ieee.le x one64) ⌝ }
-{
-    if x >= 0.0 {
-        if x <= 1.0 {
-            return false;
-        }
-    }
-    true
 }
 
 fn flow(x: f64) -> FieldAnswer
@@ -125,15 +111,14 @@ fn system_price(x: f64) -> FieldAnswer
     FieldAnswer::Held(Raw::signed((0 - (n as i64)) as i32).bits())
 }
 
-pub fn opening_fields(o: Opening) -> OpeningFields
+pub fn opening_fields(o: DumpOpening) -> OpeningFields
     requires { ⌜ T (float.finite (o .share)) ⌝ }
-    requires { ⌜ T (float.finite (o .price)) ⌝ }
-    ensures { λ r. ⌜ r .share ≡ shareField (o .share) 100000 ⌝ }
-    ensures { λ r. ⌜ r .price ≡ systemField (o .price) ⌝ }
+    requires { ⌜ T (float.finite (o .system)) ⌝ }
+    ensures { λ r. ⌜ r ≡ openingFields o ⌝ }
 {
     let share = share_of(o.share, PARTS_IN_ONE);
-    let price = system_price(o.price);
-    OpeningFields { share, price }
+    let system = system_price(o.system);
+    OpeningFields { share, system }
 }
 
 // The field of the i-th value after the opening: the orders' shares, then the links' flows, then the branches' shadow prices.
@@ -153,30 +138,4 @@ pub fn field_of(case: &[u8], k: Counts, i: usize, bits: u64) -> FieldAnswer
         return flow(x);
     }
     shadow_price(x)
-}
-
-fn has_none(field: FieldAnswer) -> bool
-    ensures { λ r. ⌜ r ≡ isOutside field ⌝ }
-{
-    match field {
-        FieldAnswer::Held(_) => false,
-        FieldAnswer::Outside => true,
-    }
-}
-
-// Row 59 at the i-th value after the opening. A share needs no product for it, and so no order; the contract speaks of the case.
-pub fn leaves_field(case: &[u8], k: Counts, i: usize, bits: u64) -> bool
-    requires { ⌜ Opened (now «case») k ⌝ }
-    requires { ⌜ i < k .orders + k .links + k .branches ⌝ }
-    requires { ⌜ finite bits ≡ true ⌝ }
-    ensures { λ r. ⌜ r ≡ fault (afterOpening (now («case» .entry)) i) bits ⌝ }
-{
-    let x = value(bits);
-    if i < k.orders {
-        return outside_unit(x);
-    }
-    if i < k.orders + k.links {
-        return has_none(flow(x));
-    }
-    has_none(shadow_price(x))
 }

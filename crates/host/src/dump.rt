@@ -2,7 +2,7 @@
 ghost use mathlib.Core.Path.{_≡_};
 ghost use lib.ListN.{length, take};
 ghost use Rattle.rows.specs.Meaning.Rows.{verdict};
-ghost use Rattle.dump_proposal.specs.Meaning.Dump.{dumpOutcome, dumpWritten, dumpOutput, Holds, Volumes};
+ghost use Rattle.dump_proposal.specs.Meaning.Dump.{dumpOutcome, dumpWritten, dumpOutput, ProposalHolds, VolumesWithin};
 ghost use Rattle.dump_proposal.specs.Promised.PlainBytes.{WrittenProposal};
 use dump_proposal::dump_proposal;
 use output::Written;
@@ -16,8 +16,8 @@ pub extern "C" fn lta_dump_proposal(case: &[u8], dump: &[u8], out: &mut [u8]) ->
     ensures outcome { λ r. ⌜ verdict (r .number) (r .index) ≡ dumpOutcome (now («case» .entry)) (now (dump .entry)) (length (now (out .entry))) ⌝ }
     ensures length { λ r. ⌜ r .length ≡ length (dumpWritten (now («case» .entry)) (now (dump .entry)) (length (now (out .entry)))) ⌝ }
     ensures output { λ r. ⌜ now (out .exit) ≡ dumpOutput (now («case» .entry)) (now (dump .entry)) (now (out .entry)) ⌝ }
-    ensures read_back { λ r. ⌜ (r .number ≡ 0 → Holds (now («case» .entry)) (now (dump .entry)) (take (r .length) (now (out .exit)))) ⌝ }
-    ensures volumes { λ r. ⌜ (r .number ≡ 0 → Volumes (now («case» .entry)) (now (dump .entry)) (take (r .length) (now (out .exit)))) ⌝ }
+    ensures read_back { λ r. ⌜ (r .number ≡ 0 → ProposalHolds (now («case» .entry)) (now (dump .entry)) (take (r .length) (now (out .exit)))) ⌝ }
+    ensures volumes { λ r. ⌜ (r .number ≡ 0 → VolumesWithin (now («case» .entry)) (now (dump .entry)) (take (r .length) (now (out .exit)))) ⌝ }
     ensures bytes { λ r. ⌜ (r .number ≡ 0 → WrittenProposal (now («case» .entry)) (now (dump .entry)) (now (out .entry)) (now (out .exit))) ⌝ }
 {
     dump_proposal(case, dump, out)

@@ -43,8 +43,8 @@ share-took b = let f = b .before .before in value-took (dump f) (f .before .new 
 long-requires-2 : tie.Need-long-requires-2
 long-requires-2 c κs = search needs
 
-enum-known-price : tie.Need-enum-known-price
-enum-known-price c = search needs
+enum-known-system : tie.Need-enum-known-system
+enum-known-system c = search needs
 
 enum-told-2 : tie.Need-enum-told-2
 enum-told-2 c = search needs
@@ -59,11 +59,11 @@ returns-2 c =
     let f = b .before .before in
     absurd (value-there (dump f) (b .share .given .0 .1 .0 .at) 1 (share-took b .1) (omega (arith, entry f .pre .0)) (sym (g .long2 .ensures) ∙ c .enum-told2 .given .1))
 
-price-took : (b : tie.After-price) → (b .price .given .0 .0 ≡ bitsAt (dump (share-of (b .before .before) .before .before)) 1) × (b .price .given .0 .1 .0 .at ≡ 16)
-price-took b =
+system-took : (b : tie.After-system) → (b .system .given .0 .0 ≡ bitsAt (dump (share-of (b .before .before) .before .before)) 1) × (b .system .given .0 .1 .0 .at ≡ 16)
+system-took b =
     let g = b .before .before in
     let a = share-of g in
-    value-took (dump (a .before .before)) (a .share .given .0 .1 .0 .at) 1 (share-took a .1) (sym (g .long2 .ensures) ∙ b .price .given .1)
+    value-took (dump (a .before .before)) (a .share .given .0 .1 .0 .at) 1 (share-took a .1) (sym (g .long2 .ensures) ∙ b .system .given .1)
 
 value-requires : tie.Need-value-requires
 value-requires c κs =
@@ -73,7 +73,7 @@ value-requires c κs =
 value-requires-2 : tie.Need-value-requires-2
 value-requires-2 c κs =
     let b = c .before .before in
-    ap finite (price-took b .0) ∙ entry (share-of (b .before .before) .before .before) .pre .1 .1
+    ap finite (system-took b .0) ∙ entry (share-of (b .before .before) .before .before) .pre .1 .1
 
 returns-3 : tie.Need-returns-3
 returns-3 c =
@@ -81,8 +81,8 @@ returns-3 c =
     let b = v .before .before in
     let a = share-of (b .before .before) in
     let share = v .value .ensures ∙ ap (ofBits binary64) (share-took a .0) in
-    let price = c .value2 .ensures ∙ ap (ofBits binary64) (price-took b .0) in
-    (λ i. opened.Taken (record { share = share i; price = price i }) (record { at = price-took b .1 i }))
+    let system = c .value2 .ensures ∙ ap (ofBits binary64) (system-took b .0) in
+    (λ i. opened.Taken (record { share = share i; system = system i }) (record { at = system-took b .1 i }))
 
 pub opening-spec : {M : Type 1} → statement M
 opening-spec =
@@ -94,7 +94,7 @@ opening-spec =
     enum-told
     returns
     long-requires-2
-    enum-known-price
+    enum-known-system
     enum-told-2
     returns-2
     value-requires

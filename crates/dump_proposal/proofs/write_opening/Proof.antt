@@ -26,12 +26,12 @@ same-length c = search needs
 returns : tie.Need-returns
 returns c =
     let q = c .before .before in
-    let p = q .before .before .before .before in
-    let m = p .before .before .before .before in
+    let p = q .before .before .before .before .before in
+    let m = p .before .before .before .before .before in
     let a = m .before .before .before .args in
     q .put-low322 .ensures
-    ∙ (λ j. sets ((p .put-low32 .ensures ∙ (λ i. sets (m .put-mark .ensures i) 5 (bytesOf 4 (a .share .0)))) j) 9 (bytesOf 4 (a .price .0)))
-    ∙ opening-run (now (a .out)) (a .share .0) (a .price .0)
+    ∙ (λ j. sets ((p .put-low32 .ensures ∙ (λ i. sets (m .put-mark .ensures i) 5 (bytesOf 4 (a .opening .share .0)))) j) 9 (bytesOf 4 (a .opening .system .0)))
+    ∙ opening-run (now (a .out)) (a .opening .share .0) (a .opening .system .0)
 
 pub write-opening-spec : {M : Type 1} → statement M
 write-opening-spec =

@@ -11,9 +11,10 @@ use mir.Syntax.{w64}
 use mir.Val.{ofZ}
 use Rattle.integers.specs.Bytes.{bytesOf}
 use Rattle.rows.specs.declared.Outcome.{Outcome}
-use Rattle.rows.specs.Meaning.Rows.{Row, refusal, answer, once, field, each}
+use Rattle.rows.specs.Meaning.Rows.{Row, verdict, refusal, answer, once, field, each}
 use Rattle.rules.specs.Meaning.Layout.{ordersIn, linksIn, branchesIn, quantityIn, proposalLength, shareIn, systemIn, volumeIn, flowIn, shadowIn}
 use Rattle.rules.specs.Meaning.Verdict.{under, differ, caseRefusal, proposalRefusal}
+use Rattle.output.specs.declared.Written.{Written}
 use Rattle.output.specs.Meaning.Output.{writtenBy, outputAfter}
 use Rattle.binary64.specs.Meaning.Value.{bitsAt, finite, Within}
 use Rattle.dump_values.specs.Meaning.Field.{kindOf, converted, fault}
@@ -83,9 +84,15 @@ dumpWritten s d room = writtenBy (dumpRefusal s d room) (proposalBytes s d)
 unfoldable pub dumpOutput : List ℕ → List ℕ → List ℕ → List ℕ
 dumpOutput s d out = outputAfter (dumpWritten s d (length out)) out
 
+-- WHAT THE ENTRY OWES: number and index, the length of what it wrote, and every byte of the output afterwards
+pub record DumpAnswered (s d before : List ℕ) (r : Written) (after : List ℕ) : Type 0 where
+  pub outcome : verdict (r .number) (r .index) ≡ dumpOutcome s d (length before)
+  pub written : r .length ≡ length (dumpWritten s d (length before))
+  pub output : after ≡ dumpOutput s d before
+
 -- WHAT IS READ BACK of an answer: the proposal t has the right length for the case and rows 9 to 14 pass; each field holds its own value's number and
 -- nothing else, so that nothing is rebalanced
-pub record Holds (s d t : List ℕ) : Type 0 where
+pub record ProposalHolds (s d t : List ℕ) : Type 0 where
   pub length-is : length t ≡ proposalLength s
   pub passes : proposalRefusal s t ≡ none
   pub share-is : pos (shareIn t) ≡ converted (kindOf s 0) (bitsAt d 0)
@@ -95,5 +102,5 @@ pub record Holds (s d t : List ℕ) : Type 0 where
   pub shadow-is : (m : ℕ) → m < branchesIn s → pos (shadowIn s t m) ≡ converted (kindOf s (2 + (ordersIn s + linksIn s + m))) (bitsAt d (2 + (ordersIn s + linksIn s + m)))
 
 -- THE VOLUMES of an answer: each is at most its order's quantity, and differs from the exact product of share and quantity by less than one tenth
-pub record Volumes (s d t : List ℕ) : Type 0 where
+pub record VolumesWithin (s d t : List ℕ) : Type 0 where
   pub volume-within : (i : ℕ) → i < ordersIn s → Within (bitsAt d (2 + i)) (quantityIn s i) (volumeIn s t i)

@@ -31,7 +31,7 @@ use Rattle.binary64.specs.Meaning.Value.{bitsAt, finite, negative, aboveOne, cu
 use Rattle.binary64.specs.Promised.Within.{share-within}
 use Rattle.dump_values.specs.Meaning.Field.{Kind, share-of, flow, shadow-price, kindOf, productOf, converted, forbidden, fieldRange, fault}
 use Rattle.dump_values.specs.Promised.PlainPlaces.{after-kind, order-kind, flow-kind, shadow-kind}
-use Rattle.dump_proposal.specs.Meaning.Dump.{valueCount, refuses, dumpRows, dumpRefusal, dumpOutcome, proposalMark, fieldBytes, fieldsFrom, proposalBytes, dumpWritten, dumpOutput, Holds, Volumes}
+use Rattle.dump_proposal.specs.Meaning.Dump.{valueCount, refuses, dumpRows, dumpRefusal, dumpOutcome, proposalMark, fieldBytes, fieldsFrom, proposalBytes, dumpWritten, dumpOutput, ProposalHolds, VolumesWithin}
 use Rattle.dump_proposal.specs.Promised.Causes.{dump-none, dump-writes}
 use Rattle.dump_proposal.specs.Steps.Walks.{fields-length}
 use Rattle.dump_proposal.specs.Steps.Answers.{bytes-are}
@@ -249,7 +249,7 @@ module _ (s d : List ℕ) (room : ℕ) (answered : (dumpOutcome s d room) .numbe
   passes = header-passes ∙ body-passes
 
   -- THE THEOREM
-  pub read-back : Holds s d t
+  pub read-back : ProposalHolds s d t
   unfolding converted kindOf
   read-back = record {
     length-is = length-is;
@@ -261,7 +261,7 @@ module _ (s d : List ℕ) (room : ℕ) (answered : (dumpOutcome s d room) .numbe
     shadow-is = λ m h. ap pos (shadow-back m h) ∙ sym (ap (λ (k : Kind). converted k (bitsAt d (shadow-place m h))) (is-shadow m h));
   }
 
-  pub volumes : Volumes s d t
+  pub volumes : VolumesWithin s d t
   volumes = record { volume-within = λ i h. subst (λ (v : ℕ). Within (bitsAt d (2 + i)) (quantityIn s i) v) (sym (volume-back i h)) (volume-exact i h) }
 
 -- the same of the bytes that the entry says it wrote, as they then stand in its output
@@ -270,5 +270,5 @@ unfolding dumpOutput
 stands s d out e = take-append-seam (dumpWritten s d (length out)) (drop (length (dumpWritten s d (length out))) out) ∙ dump-writes s d (length out) e
 
 pub written-back : (s d out : List ℕ) → (dumpOutcome s d (length out)) .number ≡ 0
-    → let t = take (length (dumpWritten s d (length out))) (dumpOutput s d out) in Holds s d t × Volumes s d t
-written-back s d out e = subst (λ (b : List ℕ). Holds s d b × Volumes s d b) (sym (stands s d out e)) (read-back s d (length out) e, volumes s d (length out) e)
+    → let t = take (length (dumpWritten s d (length out))) (dumpOutput s d out) in ProposalHolds s d t × VolumesWithin s d t
+written-back s d out e = subst (λ (b : List ℕ). ProposalHolds s d b × VolumesWithin s d b) (sym (stands s d out e)) (read-back s d (length out) e, volumes s d (length out) e)

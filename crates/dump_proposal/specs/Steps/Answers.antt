@@ -5,14 +5,15 @@ use mathlib.Core.List.{List, [], _++_, append-assoc}
 use mathlib.Core.Option.{Option, none, some}
 use Prim.Native.Nat.{ℕ, zero, suc, _+_, _*_, _≤_, _<_}
 use native.Mathlib.Omega.{arith}
-use borrow.Author.Tests.{lt-ltb, le-ltb, eq-eqb, ne-eqb}
+use borrow.Author.Tests.{lt-ltb, le-ltb, eq-eqb, ne-eqb, not-false}
 use lib.Dec.{T}
 use lib.ListN.{length, drop, length-append}
 use lib.Seq.{sets}
 use mir.Syntax.{w64}
 use mir.Val.{ofZ}
 use Rattle.integers.specs.Bytes.{bytesOf, sets-append}
-use Rattle.integers.specs.Ranges.{is-true, is-false}
+use Rattle.integers.specs.Ranges.{is-true, is-false, not-is}
+use Rattle.measures.specs.declared.Bits.{Bits}
 use Rattle.rows.specs.declared.Outcome.{Outcome}
 use Rattle.rows.specs.Meaning.Rows.{verdict, firstBelow, refusal, each}
 use Rattle.rows.specs.Promised.RowLaws.{first-is, first-some, first-none, not-below, row-found, row-clear, field-fails, field-passes}
@@ -23,10 +24,13 @@ use Rattle.output.specs.Steps.Met as output
 use Rattle.case_header.specs.declared.Counts.{Counts}
 use Rattle.case_header.specs.Opened.{Opened}
 use Rattle.binary64.specs.Meaning.Value.{bitsAt, finite}
+use Rattle.dump_values.specs.declared.FieldAnswer.the-variants as answer
+use Rattle.dump_values.specs.Meaning.Answer.{fieldOf}
 use Rattle.dump_values.specs.Meaning.Field.{kindOf, converted, fault}
 use Rattle.dump_values.specs.Promised.PlainPlaces.{after-kind}
-use Rattle.dump_proposal.specs.Meaning.Dump.{valueCount, dumpLength, refuses, numberIn, dumpRows, dumpRefusal, dumpOutcome, proposalMark, fieldsFrom, proposalBytes, dumpWritten, dumpOutput}
-use Rattle.dump_proposal.specs.Steps.Walks.{restOf, countOf, faultAfter, fields-length, fields-split}
+use Rattle.dump_proposal.specs.Meaning.Dump.{valueCount, dumpLength, refuses, numberIn, dumpRows, dumpRefusal, dumpOutcome, proposalMark, fieldsFrom, proposalBytes, dumpWritten, dumpOutput, DumpAnswered}
+use Rattle.dump_proposal.specs.declared.OpeningNumbers.{OpeningNumbers}
+use Rattle.dump_proposal.specs.Steps.Walks.{restOf, countOf, FiniteDump, OpeningHeld, TableHolds, faultAfter, field-held, field-outside, field-number, fields-length, fields-split, tableBytes, table-fields}
 
 -- THE COUNTS of a readable case are its own
 module _ {s : List ℕ} {k : Counts} (o : Opened s k) where
@@ -145,20 +149,83 @@ whole-run s d l {x} {y} rest e p q =
     ∙ sets-append l 0 (proposalMark ++ fieldsFrom s d 0 2) (fieldsFrom s d 2 rest)
     ∙ ap (sets l 0) (append-assoc proposalMark (fieldsFrom s d 0 2) (fieldsFrom s d 2 rest) ∙ ap (λ (b : List ℕ). proposalMark ++ b) (fields-split s d 2 rest ∙ ap (fieldsFrom s d 0) e))
 
--- WHAT IS OWED: number and index, length, every byte
-abbrev pub Met : List ℕ → List ℕ → List ℕ → Written → List ℕ → Type 0
-Met s d out r after =
-    (verdict (r .number) (r .index) ≡ dumpOutcome s d (length out))
-    × ((r .length ≡ length (dumpWritten s d (length out)))
-    × (after ≡ dumpOutput s d out))
-
-pub met-refusal : (s d out : List ℕ) {n k : ℕ} {r : Written} → dumpRefusal s d (length out) ≡ some (verdict n k) → r ≡ record { number = n; index = k; length = 0 } → Met s d out r out
+-- WHAT IS OWED, of a refusal and of an answer
+pub met-refusal : (s d out : List ℕ) {n k : ℕ} {r : Written} → dumpRefusal s d (length out) ≡ some (verdict n k) → r ≡ record { number = n; index = k; length = 0 } → DumpAnswered s d out r out
 unfolding dumpOutcome dumpWritten dumpOutput
-met-refusal s d out e q = output.met-refusal (proposalBytes s d) out e q
+met-refusal s d out e q = let m = output.met-refusal (proposalBytes s d) out e q in record { outcome = m .0; written = m .1 .0; output = m .1 .1 }
 
 pub met-answer : (s d out : List ℕ) {after : List ℕ} {m : ℕ} → dumpRefusal s d (length out) ≡ none → proposalLength s ≤ length out → m ≡ proposalLength s
-    → after ≡ sets out 0 (proposalBytes s d) → Met s d out (record { number = 0; index = 0; length = m }) after
+    → after ≡ sets out 0 (proposalBytes s d) → DumpAnswered s d out (record { number = 0; index = 0; length = m }) after
 unfolding dumpOutcome dumpWritten dumpOutput
 met-answer s d out e h q b =
     let l = bytes-are s d in
-    output.met-answer (proposalBytes s d) out e (omega (arith, l)) (q ∙ sym l) b
+    let m = output.met-answer (proposalBytes s d) out e (omega (arith, l)) (q ∙ sym l) b in
+    record { outcome = m .0; written = m .1 .0; output = m .1 .1 }
+
+-- ROW BY ROW, for the counts of a readable case
+module _ (s d out : List ℕ) {k : Counts} where
+  length-due : Opened s k → 8 * countOf k ≡ dumpLength s
+  unfolding dumpLength
+  length-due o = ap (λ (n : ℕ). 8 * n) (count-is o)
+
+  pub met-57 : {r : Written} → Opened s k → (length d ≡ 8 * countOf k → ⊥) → r ≡ record { number = 57; index = 0; length = 0 } → DumpAnswered s d out r out
+  met-57 o h q = met-refusal s d out (refused-57 s d (length out) (past-56 s d (length out) (o .readable .none-holds)) (λ e. h (e ∙ sym (length-due o)))) q
+
+  from-2 : Opened s k → length d ≡ 8 * countOf k → From s d (length out) 2
+  from-2 o h = past-57 s d (length out) (past-56 s d (length out) (o .readable .none-holds)) (h ∙ length-due o)
+
+  pub met-58 : {n : ℕ} {r : Written} → Opened s k → length d ≡ 8 * countOf k → firstBelow (countOf k) (notFiniteAt d) ≡ some n
+      → r ≡ record { number = 58; index = n; length = 0 } → DumpAnswered s d out r out
+  met-58 o h e q = met-refusal s d out (refused-58 s d (length out) (from-2 o h) (ap (λ (n : ℕ). firstBelow n (notFiniteAt d)) (sym (count-is o)) ∙ e)) q
+
+  pub finite-dump : Opened s k → length d ≡ 8 * countOf k → firstBelow (countOf k) (notFiniteAt d) ≡ none → FiniteDump s k d
+  finite-dump o h e = record { opened = o; long = h; is-finite = λ n l. not-false _ (not-is _ (not-below (countOf k) (notFiniteAt d) e n l)) }
+
+  module _ (f : FiniteDump s k d) where
+    from-3 : From s d (length out) 3
+    from-3 = past-58 s d (length out) (from-2 (f .opened) (f .long)) (first-none (valueCount s) (notFiniteAt d) (λ n h. is-false (ap not (f .is-finite n (subst (λ (m : ℕ). n < m) (sym (count-is (f .opened))) h)))))
+
+    counted : {n : Option ℕ} → firstBelow (countOf k) (outOfFieldAt s d) ≡ n → firstBelow (valueCount s) (outOfFieldAt s d) ≡ n
+    counted e = ap (λ (m : ℕ). firstBelow m (outOfFieldAt s d)) (sym (count-is (f .opened))) ∙ e
+
+    met-59 : {n : ℕ} {r : Written} → firstBelow (countOf k) (outOfFieldAt s d) ≡ some n → r ≡ record { number = 59; index = n; length = 0 } → DumpAnswered s d out r out
+    met-59 e q = met-refusal s d out (refused-59 s d (length out) from-3 (counted e)) q
+
+    -- the LTA share has no field; or it has, and the system price has none
+    pub met-share : {r : Written} → fieldOf (kindOf s 0) (bitsAt d 0) ≡ answer.Outside → r ≡ record { number = 59; index = 0; length = 0 } → DumpAnswered s d out r out
+    met-share e q = met-59 (share-first s d (restOf k) (field-outside (kindOf s 0) (bitsAt d 0) e)) q
+
+    pub met-system : {x : Bits} {r : Written} → fieldOf (kindOf s 0) (bitsAt d 0) ≡ answer.Held x → fieldOf (kindOf s 1) (bitsAt d 1) ≡ answer.Outside
+        → r ≡ record { number = 59; index = 1; length = 0 } → DumpAnswered s d out r out
+    met-system z e q = met-59 (price-first s d (restOf k) (field-held (kindOf s 0) (bitsAt d 0) z) (field-outside (kindOf s 1) (bitsAt d 1) e)) q
+
+    -- both have, and another value has none
+    module _ {o : OpeningNumbers} (h : OpeningHeld s d o) where
+      share-in : outOfFieldAt s d 0 ≡ false
+      share-in = field-held (kindOf s 0) (bitsAt d 0) (h .share-held)
+
+      system-in : outOfFieldAt s d 1 ≡ false
+      system-in = field-held (kindOf s 1) (bitsAt d 1) (h .system-held)
+
+      pub met-rest : {i : ℕ} {r : Written} → firstBelow (restOf k) (faultAfter s d) ≡ some i → r ≡ record { number = 59; index = 2 + i; length = 0 } → DumpAnswered s d out r out
+      met-rest e q = met-59 (rest-first s d (restOf k) share-in system-in e) q
+
+      -- every value has its field
+      module _ (e : firstBelow (restOf k) (faultAfter s d) ≡ none) where
+        from-4 : From s d (length out) 4
+        from-4 = past-59 s d (length out) from-3 (counted (none-first s d (restOf k) share-in system-in e))
+
+        pub met-60 : {r : Written} → length out < 13 + 4 * restOf k → r ≡ record { number = 60; index = 0; length = 0 } → DumpAnswered s d out r out
+        met-60 l q = met-refusal s d out (refused-60 s d (length out) from-4 (subst (λ (n : ℕ). length out < n) (length-of (f .opened)) l)) q
+
+        -- the opening is written, and then the table
+        pub met-0 : {rest : ℕ} {t begun after : List ℕ} → rest ≡ restOf k → 13 + 4 * rest ≤ length out → TableHolds s d (restOf k) t
+            → begun ≡ sets out 0 (proposalMark ++ (bytesOf 4 (o .share .0) ++ bytesOf 4 (o .system .0))) → after ≡ sets begun 13 (tableBytes rest t)
+            → DumpAnswered s d out (record { number = 0; index = 0; length = 13 + 4 * rest }) after
+        met-0 {rest} {t} n l held b c =
+            let size : 13 + 4 * rest ≡ proposalLength s = ap (λ (m : ℕ). 13 + 4 * m) n ∙ length-of (f .opened) in
+            let fits = subst (λ (m : ℕ). m ≤ length out) size l in
+            met-answer s d out (all-passed s d (length out) from-4 fits) fits size
+            (c ∙ (λ j. sets (b j) 13 (tableBytes (n j) t))
+            ∙ ap (sets (sets out 0 (proposalMark ++ (bytesOf 4 (o .share .0) ++ bytesOf 4 (o .system .0)))) 13) (table-fields s d t held)
+            ∙ whole-run s d out (restOf k) (count-is (f .opened)) (field-number (kindOf s 0) (bitsAt d 0) (h .share-held)) (field-number (kindOf s 1) (bitsAt d 1) (h .system-held)))

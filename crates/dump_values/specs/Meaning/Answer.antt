@@ -12,10 +12,6 @@ abbrev pub fieldBy : Bool → ℤ → FieldAnswer
 fieldBy true z = Held (record { 0 = ofZ w64 z })
 fieldBy false z = Outside
 
-abbrev pub isOutside : FieldAnswer → Bool
-isOutside (Held x) = false
-isOutside Outside = true
-
 -- by the bits
 abbrev pub fieldOf : Kind → ℕ → FieldAnswer
 fieldOf k b = fieldBy (not (fault k b)) (converted k b)

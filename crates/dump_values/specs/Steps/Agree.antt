@@ -23,7 +23,7 @@ use Rattle.dump_values.specs.declared.FieldAnswer.the-variants.{Outside}
 use Rattle.dump_values.specs.Meaning.Field as kind
 use Rattle.dump_values.specs.Meaning.Field.{Kind, productOf, converted, forbidden, fieldRange, fault}
 use Rattle.dump_values.specs.Promised.PlainFaults.{share-held}
-use Rattle.dump_values.specs.Meaning.Answer.{isOutside, fieldBy, fieldOf}
+use Rattle.dump_values.specs.Meaning.Answer.{fieldBy, fieldOf}
 use Rattle.dump_values.specs.Steps.Fields.{shareField, flowField, shadowField, signOf, signedOf, systemBy, systemField}
 
 -- TESTS. A number of no sign against a range from zero, and a number of either sign against 32 signed bits
@@ -200,16 +200,3 @@ ten-bits = refl
 pub hundred-bits : ofBits binary64 0x4059_0000_0000_0000 ≡ ofInt binary64 (pos 100)
 unfolding ofBits ofInt round
 hundred-bits = refl
-
--- ROW 59 ALONE, by the field
-outside-by : (t : Bool) (z : ℤ) → isOutside (fieldBy t z) ≡ not t
-outside-by true z = refl
-outside-by false z = refl
-
-pub outside-fault : (k : Kind) (b : ℕ) → isOutside (fieldOf k b) ≡ fault k b
-outside-fault k b = outside-by (not (fault k b)) (converted k b) ∙ twice-not (fault k b)
-
--- and of a share without its whole
-pub unit-fault : (b : ℕ) → finite b ≡ true → (q : ℕ) → q ≤ 100000 → not (le zero64 (ofBits binary64 b) && le (ofBits binary64 b) one64) ≡ fault (kind.share-of q) b
-unit-fault b f q h =
-    sym (outside-by (le zero64 (ofBits binary64 b) && le (ofBits binary64 b) one64) (pos (cut (times (ofBits binary64 b) q)))) ∙ ap isOutside (share-agrees b f q h) ∙ outside-fault (kind.share-of q) b

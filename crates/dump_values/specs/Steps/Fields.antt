@@ -10,6 +10,8 @@ use Rattle.binary64.specs.Meaning.Value.{cut, nearest}
 use Rattle.binary64.specs.Steps.Machine.{zero64, one64, times}
 use Rattle.binary64.specs.Steps.Whole.{word-end}
 use Rattle.dump_values.specs.declared.FieldAnswer.{FieldAnswer}
+use Rattle.dump_values.specs.declared.DumpOpening.{DumpOpening}
+use Rattle.dump_values.specs.declared.OpeningFields.{OpeningFields}
 use Rattle.dump_values.specs.Meaning.Answer.{fieldBy}
 
 -- by the machine's value
@@ -36,3 +38,7 @@ systemBy p = fieldBy (float.finite p && not (outside limits.systemPrice (signedO
 
 abbrev pub systemField : Float → FieldAnswer
 systemField x = systemBy (times x 100)
+
+-- THE OPENING: the LTA share in hundred-thousandths, and the system price
+abbrev pub openingFields : DumpOpening → OpeningFields
+openingFields o = record { share = shareField (o .share) 100000; system = systemField (o .system) }
