@@ -1,4 +1,4 @@
--- An augmenting path over the lent lists: the pairs' bytes, the scratch and the marks. Assumes nothing.
+-- An augmenting path over the lent lists: the pairs' bytes, the scratch and the labels. Assumes nothing.
 use mathlib.Core.Path.{_≡_, sym, ap, _∙_}
 use mathlib.Core.List.{List}
 use Prim.Native.Nat.{ℕ, _+_, _*_, _-_, _≤_, _<_}
@@ -11,12 +11,13 @@ use Rattle.transports.specs.Meaning.Network.{Network, Placed}
 use Rattle.zone_pairs.specs.Meaning.Pairs.{pairCount, firstZone, secondZone, networkOf}
 use Rattle.flow_scratch.specs.Meaning.Places.{amountAt, transportOf}
 use Rattle.flow_scratch.specs.Scratch.{Rest, rest-set, set-flow, set-sent, set-got}
+use Rattle.augmenting_path.specs.declared.Labels.{Labels}
 use Rattle.augmenting_path.specs.Lacking.{Lacking, State, more-along, less-along, use-got, use-sent}
 use Rattle.augmenting_path.specs.Links.{Trail, Link, Links, links-on, links-back, links-got}
 
--- the marks as they lie in one list, four numbers to a zone; the fourth is of the order of a search
-abbrev pub trailOf : List ℕ → Trail
-trailOf marks = record { lab = λ z. getD marks (4 * z) 0; dep = λ z. getD marks (4 * z + 1) 0; by = λ z. getD marks (4 * z + 2) 0 }
+-- the labels of a search
+abbrev pub trailOf : Labels → Trail
+trailOf m = record { lab = λ z. getD (m .label) z 0; dep = λ z. getD (m .depth) z 0; by = λ z. getD (m .via) z 0 }
 
 -- the sizes of an hour that no row refuses
 pub record Sized (net prices : List ℤ) (bytes : List ℕ) : Type 0 where

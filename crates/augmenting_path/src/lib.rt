@@ -1,4 +1,4 @@
-// An augmenting path (request S-3): d more is brought to a zone with import left, back along the pairs that a search marked, to a zone with export left.
+// An augmenting path (request S-3): d more is brought to a zone with import left, back along the pairs that a search kept, to a zone with export left.
 ghost use mathlib.Core.Path.{_≡_};
 ghost use Prim.Native.Nat.{_+_, _*_, _≤_, _<_};
 ghost use lib.ListN.{length};
@@ -11,19 +11,20 @@ use flow_scratch::amount;
 use flow_scratch::store;
 use zone_pairs::zone_at;
 
-// The marks of a search, four numbers for each of sixteen zones: how much can be brought to it (0: not reached), its depth, the pair by which it was reached, and
-// the zone that was reached as the so manieth; then, in the last of four numbers more, how many were reached.
-pub const MARKS: usize = 68;
-
-pub const MARK: usize = 4;
-
-pub const DEPTH: usize = 1;
-
-pub const VIA: usize = 2;
-
-pub const ORDER: usize = 3;
-
-pub const COUNT: usize = 67;
+// What a search knows of the sixteen zones, and of the zones in the order in which it reached them.
+pub struct Labels {
+    // How much more can be brought to the zone; 0: it is not reached.
+    pub label: [u64; 16],
+    // It falls along the path back, to 0 at a zone with export left.
+    pub depth: [u8; 16],
+    // The pair by which the zone was reached.
+    pub via: [u8; 16],
+    // The zones reached, first come first, and how many they are.
+    pub queue: [u8; 16],
+    pub count: usize,
+    // A zone that is reached and has import left; 16: none yet.
+    pub sink: usize,
+}
 
 // Zone z lacks d: pair k makes it even, and its other zone lacks d. Flow back along a used pair is less of it.
 fn shift(pairs: &[u8], s: &mut [i64], k: usize, z: usize, d: u64) -> usize
@@ -46,26 +47,26 @@ fn shift(pairs: &[u8], s: &mut [i64], k: usize, z: usize, d: u64) -> usize
 }
 
 // From a zone that lacks d back along its path, to a zone with export left.
-fn walk_back(pairs: &[u8], s: &mut [i64], marks: &[u64; MARKS], t: usize, d: u64) -> usize
-    requires { ⌜ SomePath (now pairs) (now s) (trailOf (now marks)) d t ⌝ }
-    ensures { λ r. ⌜ Walked (now (pairs .entry)) (now (s .entry)) (now (s .exit)) (trailOf (now (marks .entry))) d t r ⌝ }
+fn walk_back(pairs: &[u8], s: &mut [i64], labels: Labels, t: usize, d: u64) -> usize
+    requires { ⌜ SomePath (now pairs) (now s) (trailOf labels) d t ⌝ }
+    ensures { λ r. ⌜ Walked (now (pairs .entry)) (now (s .entry)) (now (s .exit)) (trailOf labels) d t r ⌝ }
 {
     let mut z = t;
-    while 0 < marks[MARK * z + DEPTH] {
-        let k = marks[MARK * z + VIA] as usize;
+    while 0 < labels.depth[z] {
+        let k = labels.via[z] as usize;
         z = shift(pairs, s, k, z, d);
     }
     z
 }
 
 // Brings d more to zone t, from a zone with export left.
-pub fn augment(pairs: &[u8], s: &mut [i64], marks: &[u64; MARKS], t: usize, d: u64)
-    requires { ⌜ SomeAugment (now pairs) (now s) (trailOf (now marks)) d t ⌝ }
-    ensures { λ _. ⌜ Augmented (now (pairs .entry)) (now (s .entry)) (now (s .exit)) (trailOf (now (marks .entry))) d t ⌝ }
+pub fn augment(pairs: &[u8], s: &mut [i64], labels: Labels, t: usize, d: u64)
+    requires { ⌜ SomeAugment (now pairs) (now s) (trailOf labels) d t ⌝ }
+    ensures { λ _. ⌜ Augmented (now (pairs .entry)) (now (s .entry)) (now (s .exit)) (trailOf labels) d t ⌝ }
 {
     let got = amount(s, GOT + t);
     store(s, GOT + t, got + d);
-    let z = walk_back(pairs, s, marks, t, d);
+    let z = walk_back(pairs, s, labels, t, d);
     let sent = amount(s, SENT + z);
     store(s, SENT + z, sent + d);
 }

@@ -1,20 +1,15 @@
 // Whether an hour is intuitive (requests S-3 and S-13): it is judged, and where it is accepted its net positions, turned, and its zone prices are asked.
 ghost use mathlib.Core.Path.{_≡_};
-ghost use Prim.Native.Nat.{_≤_, _<_};
-ghost use lib.ListN.{length};
+ghost use Prim.Native.Nat.{_≤_};
 ghost use lib.IntN.{pos, _-ℤ_};
-ghost use lib.Signed.{_≤ℤ_};
 ghost use mir.Syntax.{w64};
 ghost use mir.Val.{toZ};
-ghost use Rattle.rows.specs.Meaning.Rows.{verdict};
 ghost use Rattle.clearing.specs.Held.{tenthsAt};
 ghost use Rattle.network.specs.Prices.{grainsAt};
-ghost use Rattle.transports.specs.Meaning.Network.{CarriesAll, Excess};
-ghost use Rattle.intuitive.specs.Meaning.Intuitive.{scratchRoom, LargestTotal};
+ghost use Rattle.intuitive.specs.Meaning.Intuitive.{scratchRoom};
 ghost use Rattle.intuitive.specs.Meaning.SmallScratch.{smallRoom};
-ghost use Rattle.hour_intuitive.specs.Meaning.Hour.{hourOutcome, hourNetwork, hourRent, hourScratch};
+ghost use Rattle.hour_intuitive.specs.Meaning.Hour.{HourAnswer};
 ghost use Rattle.hour_intuitive.specs.Steps.Lent.{FitsTo, Lists, refusedAs};
-ghost use Rattle.hour_intuitive.specs.Steps.Kept.{Kept};
 use findings::find;
 use intuitive::Carried;
 use intuitive::SCRATCH;
@@ -83,7 +78,7 @@ fn hour_intuitive_in(
     n: usize,
 ) -> Carried
     requires { ⌜ 96 ≤ n ⌝ }
-    ensures { λ r. ⌜ Kept (now («case» .entry)) (now (proposal .entry)) (now (pairs .entry)) n (now (scratch .entry)) r (now (scratch .exit)) ⌝ }
+    ensures { λ r. ⌜ HourAnswer (now («case» .entry)) (now (proposal .entry)) (now (pairs .entry)) n (now (scratch .entry)) r (now (scratch .exit)) ⌝ }
 {
     let found = find(case, proposal);
     let judged = found.verdict;
@@ -100,14 +95,7 @@ fn hour_intuitive_in(
 
 // The judgement's number and index where the hour is not accepted; else the answer for its exports, its prices and these pairs. As `host` exports it.
 pub fn hour_intuitive(case: &[u8], proposal: &[u8], pairs: &[u8], scratch: &mut [i64]) -> Carried
-    ensures outcome { λ r. ⌜ verdict (r .number) (r .index) ≡ hourOutcome (now («case» .entry)) (now (proposal .entry)) (now (pairs .entry)) scratchRoom (length (now (scratch .entry))) ⌝ }
-    ensures yes { λ r. ⌜ (r .number ≡ 0 → r .intuitive ≡ 1 → CarriesAll (hourNetwork (now («case» .entry)) (now (proposal .entry)) (now (pairs .entry)))) ⌝ }
-    ensures no { λ r. ⌜ (r .number ≡ 0 → r .intuitive ≡ 0 → Excess (hourNetwork (now («case» .entry)) (now (proposal .entry)) (now (pairs .entry)))) ⌝ }
-    ensures yes_or_no { λ r. ⌜ r .intuitive < 2 ⌝ }
-    ensures largest { λ r. ⌜ (r .number ≡ 0 → LargestTotal (hourNetwork (now («case» .entry)) (now (proposal .entry)) (now (pairs .entry))) (r .total .0)) ⌝ }
-    ensures scratch { λ r. ⌜ now (scratch .exit) ≡ hourScratch (now («case» .entry)) (now (proposal .entry)) (now (pairs .entry)) scratchRoom (now (scratch .entry)) ⌝ }
-    ensures refused { λ r. ⌜ (0 < r .number → (r .intuitive ≡ 0) × (r .total .0 ≡ pos 0)) ⌝ }
-    ensures yes_rent { λ r. ⌜ (r .number ≡ 0 → r .intuitive ≡ 1 → pos 0 ≤ℤ hourRent (now («case» .entry)) (now (proposal .entry))) ⌝ }
+    ensures { λ r. ⌜ HourAnswer (now («case» .entry)) (now (proposal .entry)) (now (pairs .entry)) scratchRoom (now (scratch .entry)) r (now (scratch .exit)) ⌝ }
 {
     hour_intuitive_in(case, proposal, pairs, scratch, SCRATCH)
 }
@@ -119,14 +107,7 @@ pub fn hour_intuitive_small(
     pairs: &[u8],
     scratch: &mut [i64],
 ) -> Carried
-    ensures outcome { λ r. ⌜ verdict (r .number) (r .index) ≡ hourOutcome (now («case» .entry)) (now (proposal .entry)) (now (pairs .entry)) smallRoom (length (now (scratch .entry))) ⌝ }
-    ensures yes { λ r. ⌜ (r .number ≡ 0 → r .intuitive ≡ 1 → CarriesAll (hourNetwork (now («case» .entry)) (now (proposal .entry)) (now (pairs .entry)))) ⌝ }
-    ensures no { λ r. ⌜ (r .number ≡ 0 → r .intuitive ≡ 0 → Excess (hourNetwork (now («case» .entry)) (now (proposal .entry)) (now (pairs .entry)))) ⌝ }
-    ensures yes_or_no { λ r. ⌜ r .intuitive < 2 ⌝ }
-    ensures largest { λ r. ⌜ (r .number ≡ 0 → LargestTotal (hourNetwork (now («case» .entry)) (now (proposal .entry)) (now (pairs .entry))) (r .total .0)) ⌝ }
-    ensures scratch { λ r. ⌜ now (scratch .exit) ≡ hourScratch (now («case» .entry)) (now (proposal .entry)) (now (pairs .entry)) smallRoom (now (scratch .entry)) ⌝ }
-    ensures refused { λ r. ⌜ (0 < r .number → (r .intuitive ≡ 0) × (r .total .0 ≡ pos 0)) ⌝ }
-    ensures yes_rent { λ r. ⌜ (r .number ≡ 0 → r .intuitive ≡ 1 → pos 0 ≤ℤ hourRent (now («case» .entry)) (now (proposal .entry))) ⌝ }
+    ensures { λ r. ⌜ HourAnswer (now («case» .entry)) (now (proposal .entry)) (now (pairs .entry)) smallRoom (now (scratch .entry)) r (now (scratch .exit)) ⌝ }
 {
     hour_intuitive_in(case, proposal, pairs, scratch, SMALL_SCRATCH)
 }

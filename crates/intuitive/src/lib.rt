@@ -3,13 +3,10 @@ ghost use mathlib.Core.Path.{_≡_};
 ghost use Prim.Native.Nat.{_≤_, _<_};
 ghost use lib.ListN.{length};
 ghost use lib.IntN.{pos};
-ghost use lib.Signed.{_≤ℤ_};
 ghost use Rattle.rows.specs.Meaning.Rows.{verdict, refusal, answer};
-ghost use Rattle.zone_pairs.specs.Meaning.Pairs.{importsWorth, networkOf};
-ghost use Rattle.transports.specs.Meaning.Network.{CarriesAll, Excess};
-ghost use Rattle.intuitive.specs.Meaning.Intuitive.{intuitiveOutcome, LargestTotal, intuitiveScratch};
+ghost use Rattle.intuitive.specs.Meaning.Intuitive.{scratchRoom, intuitiveOutcome, IntuitiveAnswer};
 ghost use Rattle.intuitive.specs.Meaning.SmallScratch.{smallRoom};
-ghost use Rattle.intuitive.specs.Steps.Answers.{restRows, ListsPass, flagOf, Met};
+ghost use Rattle.intuitive.specs.Steps.Answers.{restRows, ListsPass, flagOf};
 use largest_transport::largest_transport;
 use measures::Tenths;
 use net_positions::first_position_outside;
@@ -110,7 +107,7 @@ fn answered(
 ) -> Carried
     requires { ⌜ 96 ≤ n ⌝ }
     requires { ⌜ o ≡ intuitiveOutcome (now net) (now prices) (now pairs) n (length (now scratch)) ⌝ }
-    ensures { λ r. ⌜ Met (now (net .entry)) (now (prices .entry)) (now (pairs .entry)) n (now (scratch .entry)) r (now (scratch .exit)) ⌝ }
+    ensures { λ r. ⌜ IntuitiveAnswer (now (net .entry)) (now (prices .entry)) (now (pairs .entry)) n (now (scratch .entry)) r (now (scratch .exit)) ⌝ }
 {
     let number = o.number;
     if number != 0 {
@@ -139,7 +136,7 @@ pub fn intuitive_in(
     n: usize,
 ) -> Carried
     requires { ⌜ 96 ≤ n ⌝ }
-    ensures { λ r. ⌜ Met (now (net .entry)) (now (prices .entry)) (now (pairs .entry)) n (now (scratch .entry)) r (now (scratch .exit)) ⌝ }
+    ensures { λ r. ⌜ IntuitiveAnswer (now (net .entry)) (now (prices .entry)) (now (pairs .entry)) n (now (scratch .entry)) r (now (scratch .exit)) ⌝ }
 {
     let o = examine(net, prices, pairs, n, scratch.len());
     answered(net, prices, pairs, scratch, n, o)
@@ -155,7 +152,7 @@ pub fn intuitive_of(
 ) -> Carried
     requires { ⌜ 96 ≤ n ⌝ }
     requires { ⌜ ListsPass (now net) (now prices) ⌝ }
-    ensures { λ r. ⌜ Met (now (net .entry)) (now (prices .entry)) (now (pairs .entry)) n (now (scratch .entry)) r (now (scratch .exit)) ⌝ }
+    ensures { λ r. ⌜ IntuitiveAnswer (now (net .entry)) (now (prices .entry)) (now (pairs .entry)) n (now (scratch .entry)) r (now (scratch .exit)) ⌝ }
 {
     let o = examine_rest(pairs, net.len(), n, scratch.len());
     answered(net, prices, pairs, scratch, n, o)
@@ -168,14 +165,7 @@ pub fn intuitive(
     pairs: &[u8],
     scratch: &mut [i64],
 ) -> Carried
-    ensures outcome { λ r. ⌜ verdict (r .number) (r .index) ≡ intuitiveOutcome (now («net_exports» .entry)) (now («zone_prices» .entry)) (now (pairs .entry)) 324 (length (now (scratch .entry))) ⌝ }
-    ensures yes { λ r. ⌜ (r .number ≡ 0 → r .intuitive ≡ 1 → CarriesAll (networkOf (now («net_exports» .entry)) (now («zone_prices» .entry)) (now (pairs .entry)))) ⌝ }
-    ensures no { λ r. ⌜ (r .number ≡ 0 → r .intuitive ≡ 0 → Excess (networkOf (now («net_exports» .entry)) (now («zone_prices» .entry)) (now (pairs .entry)))) ⌝ }
-    ensures yes_or_no { λ r. ⌜ r .intuitive < 2 ⌝ }
-    ensures largest { λ r. ⌜ (r .number ≡ 0 → LargestTotal (networkOf (now («net_exports» .entry)) (now («zone_prices» .entry)) (now (pairs .entry))) (r .total .0)) ⌝ }
-    ensures scratch { λ r. ⌜ now (scratch .exit) ≡ intuitiveScratch (now («net_exports» .entry)) (now («zone_prices» .entry)) (now (pairs .entry)) 324 (now (scratch .entry)) ⌝ }
-    ensures refused { λ r. ⌜ (0 < r .number → (r .intuitive ≡ 0) × (r .total .0 ≡ pos 0)) ⌝ }
-    ensures yes_rent { λ r. ⌜ (r .number ≡ 0 → r .intuitive ≡ 1 → pos 0 ≤ℤ importsWorth (now («net_exports» .entry)) (now («zone_prices» .entry))) ⌝ }
+    ensures { λ r. ⌜ IntuitiveAnswer (now («net_exports» .entry)) (now («zone_prices» .entry)) (now (pairs .entry)) scratchRoom (now (scratch .entry)) r (now (scratch .exit)) ⌝ }
 {
     intuitive_in(net_exports, zone_prices, pairs, scratch, SCRATCH)
 }
@@ -187,14 +177,7 @@ pub fn intuitive_small(
     pairs: &[u8],
     scratch: &mut [i64],
 ) -> Carried
-    ensures outcome { λ r. ⌜ verdict (r .number) (r .index) ≡ intuitiveOutcome (now («net_exports» .entry)) (now («zone_prices» .entry)) (now (pairs .entry)) smallRoom (length (now (scratch .entry))) ⌝ }
-    ensures yes { λ r. ⌜ (r .number ≡ 0 → r .intuitive ≡ 1 → CarriesAll (networkOf (now («net_exports» .entry)) (now («zone_prices» .entry)) (now (pairs .entry)))) ⌝ }
-    ensures no { λ r. ⌜ (r .number ≡ 0 → r .intuitive ≡ 0 → Excess (networkOf (now («net_exports» .entry)) (now («zone_prices» .entry)) (now (pairs .entry)))) ⌝ }
-    ensures yes_or_no { λ r. ⌜ r .intuitive < 2 ⌝ }
-    ensures largest { λ r. ⌜ (r .number ≡ 0 → LargestTotal (networkOf (now («net_exports» .entry)) (now («zone_prices» .entry)) (now (pairs .entry))) (r .total .0)) ⌝ }
-    ensures scratch { λ r. ⌜ now (scratch .exit) ≡ intuitiveScratch (now («net_exports» .entry)) (now («zone_prices» .entry)) (now (pairs .entry)) smallRoom (now (scratch .entry)) ⌝ }
-    ensures refused { λ r. ⌜ (0 < r .number → (r .intuitive ≡ 0) × (r .total .0 ≡ pos 0)) ⌝ }
-    ensures yes_rent { λ r. ⌜ (r .number ≡ 0 → r .intuitive ≡ 1 → pos 0 ≤ℤ importsWorth (now («net_exports» .entry)) (now («zone_prices» .entry))) ⌝ }
+    ensures { λ r. ⌜ IntuitiveAnswer (now («net_exports» .entry)) (now («zone_prices» .entry)) (now (pairs .entry)) smallRoom (now (scratch .entry)) r (now (scratch .exit)) ⌝ }
 {
     intuitive_in(net_exports, zone_prices, pairs, scratch, SMALL_SCRATCH)
 }

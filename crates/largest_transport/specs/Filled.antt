@@ -19,9 +19,10 @@ use Rattle.zone_pairs.specs.Meaning.Pairs.{networkOf}
 use Rattle.zone_pairs.specs.Steps.Table.{Distinct}
 use Rattle.flow_scratch.specs.Meaning.Places.{amountAt, transportOf}
 use Rattle.flow_scratch.specs.Cleared.{Cleared}
+use Rattle.augmenting_path.specs.declared.Labels.{Labels}
 use Rattle.augmenting_path.specs.Lacking.{State}
 use Rattle.augmenting_path.specs.Path.{trailOf, Sized, Augment}
-use Rattle.residual_search.specs.Joins.{Searched}
+use Rattle.residual_search.specs.Searched.{Searched}
 
 -- flows that leave no augmenting path, and carry the total
 pub record Filled (c : Network) (b : Transport) (total : ℕ) : Type 0 where
@@ -49,9 +50,9 @@ module _ (net prices : List ℤ) (bytes : List ℕ) (z : Sized net prices bytes)
   pub exports-few : allExports c ≤ 819200000
   exports-few = omega (arith, sum-bound (length net) 51200000 (λ y. up (positionAt net y)) (z .exports-le), mul-le-mul-right 51200000 (z .zones))
 
-  module _ (s : List ℤ) (total : ℕ) (room : 96 ≤ length s) (st : State c (transportOf s) total) (marks : List ℕ) (t : ℕ) (r : Searched net prices bytes s marks t) where
+  module _ (s : List ℤ) (total : ℕ) (room : 96 ≤ length s) (st : State c (transportOf s) total) (m : Labels) (r : Searched net prices bytes s m) where
     -- a zone was found: d more can be brought to it
-    pub augment-of : (d : ℕ) → t < length net → 0 < d → d ≤ getD marks (4 * t) 0 → d ≤ dn (positionAt net t) - amountAt s (80 + t) → Augment net prices total bytes s (trailOf marks) d t
+    pub augment-of : (d : ℕ) → m .sink < length net → 0 < d → d ≤ getD (m .label) (m .sink) 0 → d ≤ dn (positionAt net (m .sink)) - amountAt s (80 + m .sink) → Augment net prices total bytes s (trailOf m) d (m .sink)
     augment-of d h some l i = record {
       sized = z;
       room = room;
@@ -61,10 +62,10 @@ module _ (net prices : List ℤ) (bytes : List ℕ) (z : Sized net prices bytes)
       some = some;
       lab = l;
       left = omega (arith, some, i);
-      few = omega (arith, total-le c (transportOf s) total st, exports-few, i, z .imports-le t h);
+      few = omega (arith, total-le c (transportOf s) total st, exports-few, i, z .imports-le (m .sink) h);
     }
 
-    pub filled : length net ≤ t → Filled c (transportOf s) total
+    pub filled : length net ≤ m .sink → Filled c (transportOf s) total
     filled h = record { state = st; set = _; saturated = r .none h (st .carries) }
 
 -- AN EMPTY TRANSPORT

@@ -12,14 +12,12 @@ ghost use Rattle.flow_scratch.specs.Cleared.{Cleared};
 ghost use Rattle.augmenting_path.specs.Lacking.{State};
 ghost use Rattle.augmenting_path.specs.Path.{Sized};
 ghost use Rattle.largest_transport.specs.Filled.{Filled, Answer};
-use augmenting_path::MARK;
-use augmenting_path::MARKS;
 use augmenting_path::augment;
 use flow_scratch::AMOUNTS;
 use flow_scratch::amount;
 use flow_scratch::clear;
 use flow_scratch::import_left;
-use residual_search::least;
+use residual_search::min;
 use residual_search::search;
 use zone_pairs::pair_table;
 
@@ -38,15 +36,15 @@ fn fill(net: &[i64], prices: &[i64], pairs: &[u8], s: &mut [i64]) -> u64
     ensures rest { λ r. ⌜ Rest (now (s .entry)) (now (s .exit)) ⌝ }
 {
     let table = pair_table(pairs);
-    let mut marks = [0u64; MARKS];
     let mut total = 0;
     loop {
-        let t = search(net, prices, pairs, &table, s, &mut marks);
+        let labels = search(net, prices, pairs, &table, s);
+        let t = labels.sink;
         if net.len() <= t {
             return total;
         }
-        let d = least(marks[MARK * t], import_left(net, s, t));
-        augment(pairs, s, &marks, t, d);
+        let d = min(labels.label[t], import_left(net, s, t));
+        augment(pairs, s, labels, t, d);
         total += d;
     }
 }

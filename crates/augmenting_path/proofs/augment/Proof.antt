@@ -40,7 +40,7 @@ module _ (c : tie.After-store) where
   start = c .before .before .before .before .before
 
   abbrev trail : Trail
-  trail = trailOf (now (start .args .marks))
+  trail = trailOf (start .args .labels)
 
   opened : (net prices : List ℤ) (total : ℕ) → Augment net prices total (now (start .args .pairs)) (now (start .args .s)) trail (start .args .d) (start .args .t)
       → PathBack net prices total (now (start .args .pairs)) (c .store .last .0) trail (start .args .d) (start .args .t)

@@ -13,11 +13,11 @@ use Rattle.augmenting_path.proofs.walk_back.Statement.{statement}
 use Rattle.augmenting_path.proofs.walk_back.Tie as tie
 
 abbrev Inv-loop : tie.InvT-loop
-Inv-loop pairs s₀ marks t d z₀ s z =
-    ((net prices : List ℤ) (total : ℕ) → PathBack net prices total pairs s₀ (trailOf marks) d z₀ → PathBack net prices total pairs s (trailOf marks) d z) × Rest s₀ s
+Inv-loop pairs s₀ t d labels z₀ s z =
+    ((net prices : List ℤ) (total : ℕ) → PathBack net prices total pairs s₀ (trailOf labels) d z₀ → PathBack net prices total pairs s (trailOf labels) d z) × Rest s₀ s
 
 abbrev μ-loop : tie.MeasureT-loop
-μ-loop pairs s₀ marks t d z₀ s z = getD marks (4 * z + 1) 0
+μ-loop pairs s₀ t d labels z₀ s z = getD (labels .depth) z 0
 
 loop-holds : tie.Need-loop-holds Inv-loop μ-loop
 loop-holds c = (λ net prices total h. h, rest-refl (now (c .before .args .s)))
@@ -27,38 +27,26 @@ module _ (c : tie.At-loop Inv-loop μ-loop) where
   abbrev st : tie.Start Inv-loop μ-loop
   st = c .before .before
 
-  abbrev some : SomePath (now (st .args .pairs)) (now (st .args .s)) (trailOf (now (st .args .marks))) (st .args .d) (st .args .t)
+  abbrev some : SomePath (now (st .args .pairs)) (now (st .args .s)) (trailOf (st .args .t3)) (st .args .d) (st .args .t)
   some = st .pre
 
-  at : PathBack (some .net) (some .prices) (some .total) (now (st .args .pairs)) (c .loop .s) (trailOf (now (st .args .marks))) (st .args .d) (c .loop .z)
+  at : PathBack (some .net) (some .prices) (some .total) (now (st .args .pairs)) (c .loop .s) (trailOf (st .args .t3)) (st .args .d) (c .loop .z)
   at = c .loop .inv .0 (some .net) (some .prices) (some .total) (some .path)
 
   low : c .loop .z < 16
   low = omega (arith, at .inside, at .sized .zones)
 
-mul-if1 : tie.Need-mul-if1 Inv-loop μ-loop
-mul-if1 c = omega (arith, low c)
-
-add-if1 : tie.Need-add-if1 Inv-loop μ-loop
-add-if1 c = omega (arith, low c)
-
-mul-if1-2 : tie.Need-mul-if1-2 Inv-loop μ-loop
-mul-if1-2 c = omega (arith, low c)
-
 element-copy-out-if1 : tie.Need-element-copy-out-if1 Inv-loop μ-loop
 element-copy-out-if1 c = omega (arith, low c)
 
-mul-k : tie.Need-mul-k Inv-loop μ-loop
-mul-k c = omega (arith, low (c .before .before))
-
-add-k : tie.Need-add-k Inv-loop μ-loop
-add-k c = omega (arith, low (c .before .before))
-
-mul-k-2 : tie.Need-mul-k-2 Inv-loop μ-loop
-mul-k-2 c = omega (arith, low (c .before .before))
-
 element-copy-out-k : tie.Need-element-copy-out-k Inv-loop μ-loop
 element-copy-out-k c = omega (arith, low (c .before .before))
+
+cast-k : tie.Need-cast-k Inv-loop μ-loop
+cast-k c =
+    let t = c .before in
+    let h = t .before .before in
+    omega (arith, step-safe _ _ _ _ _ _ _ _ (at h) (t .if1 .taken) .0, at h .sized .pairs)
 
 shift-requires : tie.Need-shift-requires Inv-loop μ-loop
 shift-requires c κs =
@@ -72,9 +60,9 @@ module _ (c : tie.After-s Inv-loop μ-loop) where
   abbrev h : tie.At-loop Inv-loop μ-loop
   h = c .before .before .before .before .before .before
 
-  stepped : (net prices : List ℤ) (total : ℕ) → PathBack net prices total (now (st h .args .pairs)) (h .loop .s) (trailOf (now (st h .args .marks))) (st h .args .d) (h .loop .z)
-      → PathBack net prices total (now (st h .args .pairs)) (c .before .shift .last .1 .0) (trailOf (now (st h .args .marks))) (st h .args .d) (c .before .shift .result)
-      × ((getD (now (st h .args .marks)) (4 * c .before .shift .result + 1) 0 < getD (now (st h .args .marks)) (4 * h .loop .z + 1) 0) × Rest (h .loop .s) (c .before .shift .last .1 .0))
+  stepped : (net prices : List ℤ) (total : ℕ) → PathBack net prices total (now (st h .args .pairs)) (h .loop .s) (trailOf (st h .args .t3)) (st h .args .d) (h .loop .z)
+      → PathBack net prices total (now (st h .args .pairs)) (c .before .shift .last .1 .0) (trailOf (st h .args .t3)) (st h .args .d) (c .before .shift .result)
+      × ((getD (st h .args .t3 .depth) (c .before .shift .result) 0 < getD (st h .args .t3 .depth) (h .loop .z) 0) × Rest (h .loop .s) (c .before .shift .last .1 .0))
   stepped net prices total p = path-step net prices total _ _ _ _ _ p (c .before .before .before .before .if1 .taken) (c .before .shift .last .1 .0) (c .before .shift .result) (c .before .shift .ensures)
 
 loop-less : tie.Need-loop-less Inv-loop μ-loop
@@ -104,14 +92,9 @@ walk-back-spec =
     Inv-loop
     μ-loop
     loop-holds
-    mul-if1
-    add-if1
-    mul-if1-2
     element-copy-out-if1
-    mul-k
-    add-k
-    mul-k-2
     element-copy-out-k
+    cast-k
     shift-requires
     loop-less
     loop-again

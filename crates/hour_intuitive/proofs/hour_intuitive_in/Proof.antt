@@ -9,8 +9,7 @@ use lib.ListN.{length}
 use lib.Seq.{length-take-le}
 use lib.IntN.{ℤ}
 use Rattle.findings.specs.Found.{Finds, hourRows}
-use Rattle.intuitive.specs.Steps.Answers.{clauses}
-use Rattle.hour_intuitive.specs.Steps.Kept.{kept-refused, exports-fit, prices-fit, exports-are, prices-are, pass, kept-answer}
+use Rattle.hour_intuitive.specs.Steps.Kept.{hour-refused, exports-fit, prices-fit, exports-are, prices-are, pass, hour-answer}
 use Rattle.hour_intuitive.proofs.hour_intuitive_in.Statement.{statement}
 use Rattle.hour_intuitive.proofs.hour_intuitive_in.Tie as tie
 
@@ -45,7 +44,7 @@ refused-requires c κs = search needs
 returns : tie.Need-returns
 returns c =
     let f = c .before .before .before .before in
-    kept-refused (file f) (plan f) (pairs f) (n f) (scratch f) (f .find .result) (f .find .ensures) (omega (arith, c .before .if1 .taken)) (c .refused .ensures)
+    hour-refused (file f) (plan f) (pairs f) (n f) (scratch f) (f .find .result) (f .find .ensures) (omega (arith, c .before .if1 .taken)) (c .refused .ensures)
 
 turned-requires : tie.Need-turned-requires
 turned-requires c κs =
@@ -88,10 +87,10 @@ returns-2 c =
     let f = c .before .before .before .before .before .before .before .before .before .before .before .before in
     let e = accepted (c .before .before .before .before .before .before .before .before .before) in
     let l = c .before .before .before .before .before in
-    kept-answer (file f) (plan f) (pairs f) (n f) (scratch f) (f .find .result) (f .find .ensures) e _ _
+    hour-answer (file f) (plan f) (pairs f) (n f) (scratch f) (f .find .result) (f .find .ensures) e _ _
     (exports-are (file f) (plan f) (pairs f) (n f) (scratch f) (f .find .result) (f .find .ensures) e _ (l .before .turned .ensures))
     (prices-are (file f) (plan f) (pairs f) (n f) (scratch f) (f .find .result) (f .find .ensures) e _ (l .listed .ensures))
-    (clauses _ _ (pairs f) (n f) (scratch f) _ _ (c .before .intuitive-of .ensures))
+    (c .before .intuitive-of .ensures)
 
 pub hour-intuitive-in-spec : {M : Type 1} → statement M
 hour-intuitive-in-spec =

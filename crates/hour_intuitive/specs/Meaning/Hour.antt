@@ -12,7 +12,8 @@ use Rattle.rules.specs.Meaning.Hour.{caseOf, planOf, pricesOf, net, zonePrice, 
 use Rattle.rules.specs.Meaning.Verdict.{table}
 use Rattle.transports.specs.Meaning.Network.{Network}
 use Rattle.zone_pairs.specs.Meaning.Pairs.{networkOf}
-use Rattle.intuitive.specs.Meaning.Intuitive.{intuitiveRows, scratchBy}
+use Rattle.intuitive.specs.declared.Carried.{Carried}
+use Rattle.intuitive.specs.Meaning.Intuitive.{intuitiveRows, scratchBy, EntryAnswer}
 
 -- a list of n numbers, by their places
 unfoldable pub listTo : ℕ → (ℕ → ℤ) → List ℤ
@@ -43,3 +44,7 @@ hourOutcome s t pairs n room = answer (refusal (askedRows s t pairs n room))
 -- the scratch afterwards
 unfoldable pub hourScratch : List ℕ → List ℕ → List ℕ → ℕ → List ℤ → List ℤ
 hourScratch s t pairs n scratch = scratchBy (refusal (askedRows s t pairs n (length scratch))) n scratch
+
+-- WHAT AN ENTRY ANSWERS of an hour, with n = 324 or 96, for the scratch that is lent, the result and the scratch afterwards
+abbrev pub HourAnswer : List ℕ → List ℕ → List ℕ → ℕ → List ℤ → Carried → List ℤ → Type 0
+HourAnswer s t pairs n scratch = EntryAnswer (hourOutcome s t pairs n (length scratch)) (hourNetwork s t pairs) (hourScratch s t pairs n scratch)

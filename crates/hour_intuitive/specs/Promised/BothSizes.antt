@@ -18,16 +18,12 @@ use Rattle.intuitive.specs.declared.Carried.{Carried}
 use Rattle.intuitive.specs.Meaning.Intuitive.{scratchRoom, intuitiveRows, intuitiveRefusal, intuitiveOutcome}
 use Rattle.intuitive.specs.Meaning.SmallScratch.{smallRoom}
 use Rattle.intuitive.specs.Promised.Causes.{intuitive-none}
-use Rattle.intuitive.specs.Promised.BothSizes.{Clauses, clauses-agree, same-rows, refused-alike}
+use Rattle.intuitive.specs.Promised.BothSizes.{entries-agree, same-rows, refused-alike}
 use Rattle.intuitive.specs.Steps.Sizes.{placed, room-in}
-use Rattle.hour_intuitive.specs.Meaning.Hour.{hourExports, hourPrices, hourNetwork, askedRows, hourOutcome, hourScratch}
+use Rattle.hour_intuitive.specs.Meaning.Hour.{hourExports, hourPrices, hourNetwork, askedRows, hourOutcome, HourAnswer}
 use Rattle.hour_intuitive.specs.Promised.Asked.{not-accepted, accepted-asks}
 
 module _ (s t pairs : List ℕ) where
-  -- THE CONTRACT of the wide entry with n = 324, of the smaller with n = 96, for a scratch that is lent, a result and the scratch afterwards
-  abbrev pub Contract : ℕ → List ℤ → Carried → List ℤ → Type 0
-  Contract n scratch = Clauses (hourOutcome s t pairs n (length scratch)) (hourNetwork s t pairs) (hourScratch s t pairs n scratch)
-
   abbrev judged : List Row
   judged = table none s t reportRoom (caseOf s) (planOf s t) (pricesOf s t)
 
@@ -37,11 +33,11 @@ module _ (s t pairs : List ℕ) where
   answered n room e = intuitive-none (hourExports s t) (hourPrices s t) pairs n room ((later 0 judged (intuitiveRows (hourExports s t) (hourPrices s t) pairs n room) tt e) .then-second)
 
   -- YES OR NO AND THE TOTAL ARE EQUAL on each hour that both take, whatever scratches are lent
-  pub answers-agree : (a b : List ℤ) (r q : Carried) (a' b' : List ℤ) → Contract scratchRoom a r a' → Contract smallRoom b q b' → r .number ≡ 0 → q .number ≡ 0
+  pub answers-agree : (a b : List ℤ) (r q : Carried) (a' b' : List ℤ) → HourAnswer s t pairs scratchRoom a r a' → HourAnswer s t pairs smallRoom b q b' → r .number ≡ 0 → q .number ≡ 0
       → (r .intuitive ≡ q .intuitive) × (r .total .0 ≡ q .total .0)
   answers-agree a b r q a' b' x y e f =
-      let taken = answered scratchRoom (length a) (sym (ap (λ (o : Outcome). o .number) (x .0)) ∙ e) in
-      clauses-agree (hourNetwork s t pairs) (placed (hourExports s t) (hourPrices s t) pairs scratchRoom (length a) taken) _ _ _ _ r q a' b' x y e f
+      let taken = answered scratchRoom (length a) (sym (ap (λ (o : Outcome). o .number) (x .outcome)) ∙ e) in
+      entries-agree (hourNetwork s t pairs) (placed (hourExports s t) (hourPrices s t) pairs scratchRoom (length a) taken) _ _ _ _ r q a' b' x y e f
 
   -- WHAT IS TAKEN: a scratch which the wide entry takes is answered alike by the smaller, refused or not
   pub wide-is-small : (room : ℕ) → scratchRoom ≤ room → hourOutcome s t pairs smallRoom room ≡ hourOutcome s t pairs scratchRoom room

@@ -23,17 +23,15 @@ use Rattle.rules.specs.Meaning.Verdict.{roomRows, caseRows, proposalRows, clear
 use Rattle.net_positions.specs.Promised.PlainPositions.{positions-inside, sum-zero}
 use Rattle.zone_pairs.specs.Promised.PlainPairs.{AllGood, FirstBadPair}
 use Rattle.intuitive.specs.declared.Carried.{Carried}
-use Rattle.intuitive.specs.Meaning.Intuitive.{scratchRoom, intuitiveRows, intuitiveRefusal, intuitiveOutcome, scratchBy, intuitiveScratch}
+use Rattle.intuitive.specs.Meaning.Intuitive.{scratchRoom, intuitiveRows, intuitiveRefusal, intuitiveOutcome, scratchBy, intuitiveScratch, IntuitiveAnswer}
 use Rattle.intuitive.specs.Meaning.SmallScratch.{smallRoom}
-use Rattle.intuitive.specs.Promised.BothSizes as lists
 use Rattle.intuitive.specs.Promised.PlainCauses as causes
 use Rattle.intuitive.specs.Promised.PlainCauses.{Past83, prices-inside, ScratchCleared, zeros-then}
 use Rattle.intuitive.specs.Promised.PlainAnswers as answers
 use Rattle.intuitive.specs.Promised.PlainAnswers.{Routes, Enclosed, LargestCarried, everyExport}
 use Rattle.intuitive.specs.Steps.Answers.{ListsPass}
-use Rattle.hour_intuitive.specs.Meaning.Hour.{hourExports, hourPrices, askedRows, hourOutcome, hourScratch}
+use Rattle.hour_intuitive.specs.Meaning.Hour.{hourExports, hourPrices, askedRows, hourOutcome, hourScratch, HourAnswer}
 use Rattle.hour_intuitive.specs.Promised.Asked.{list-length, list-at, asked-then, none-refused, not-accepted, accepted-asks, lists-pass, never-81, never-82, never-83}
-use Rattle.hour_intuitive.specs.Promised.BothSizes.{Contract}
 
 -- lists that 81 to 83 pass, in plain numbers
 plain-lists : (exports prices : List ℤ) → ListsPass exports prices → Past83 exports prices
@@ -202,20 +200,26 @@ module _ (s t pairs : List ℕ) (scratch : List ℤ) where
       by none q = absurd (omega (arith, h, q))
 
 -- YES, NO AND THE TOTAL of a result that meets the contract with number 0 are those of the hour's lists
-module _ (s t pairs : List ℕ) (n : ℕ) (scratch : List ℤ) (r : Carried) (after : List ℤ) (met : Contract s t pairs n scratch r after) (taken : r .number ≡ 0) where
+module _ (s t pairs : List ℕ) (n : ℕ) (scratch : List ℤ) (r : Carried) (after : List ℤ) (met : HourAnswer s t pairs n scratch r after) (taken : r .number ≡ 0) where
   answered-0 : hourOutcome s t pairs n (length scratch) ≡ verdict 0 (r .index)
-  answered-0 = sym (met .0) ∙ ap (λ (m : ℕ). verdict m (r .index)) taken
+  answered-0 = sym (met .outcome) ∙ ap (λ (m : ℕ). verdict m (r .index)) taken
 
   pub accepted : outcome s t 176 ≡ verdict 0 0
   accepted = says-0 s t pairs n (length scratch) (r .index) .0 answered-0 .1 .0 .0
 
-  as-lists : lists.Contract (hourExports s t) (hourPrices s t) pairs n scratch r after
+  as-lists : IntuitiveAnswer (hourExports s t) (hourPrices s t) pairs n scratch r after
   unfolding hourScratch intuitiveScratch intuitiveRefusal
   as-lists =
-      let same = asked-then s t pairs n (length scratch) (none-refused s t pairs n (length scratch) (ap (λ (o : Outcome). o .number) accepted)) in (
-        met .0 ∙ asks s t pairs n (length scratch) accepted,
-        (met .1 .0, (met .1 .1 .0, (met .1 .1 .1 .0, (met .1 .1 .1 .1 .0, (met .1 .1 .1 .1 .1 .0 ∙ ap (λ (o : Option Outcome). scratchBy o n scratch) same, met .1 .1 .1 .1 .1 .1))))),
-      )
+      let same = asked-then s t pairs n (length scratch) (none-refused s t pairs n (length scratch) (ap (λ (o : Outcome). o .number) accepted)) in
+      record {
+        outcome = met .outcome ∙ asks s t pairs n (length scratch) accepted;
+        a-yes = met .a-yes;
+        a-no = met .a-no;
+        yes-or-no = met .yes-or-no;
+        largest = met .largest;
+        scratch = met .scratch ∙ ap (λ (o : Option Outcome). scratchBy o n scratch) same;
+        refused = met .refused;
+      }
 
   pub says-yes : (r .intuitive ≡ 1) ↔ Routes (hourExports s t) (hourPrices s t) pairs
   says-yes = answers.says-yes (hourExports s t) (hourPrices s t) pairs n scratch r after as-lists taken

@@ -37,8 +37,8 @@ use Rattle.findings.specs.Found.{hourRows}
 use Rattle.intuitive.specs.declared.Carried.{Carried}
 use Rattle.intuitive.specs.Meaning.Intuitive.{intuitiveRefusal}
 use Rattle.intuitive.specs.Promised.PlainAnswers.{count-is, counted}
-use Rattle.hour_intuitive.specs.Meaning.Hour.{hourExports, hourPrices, hourNetwork, hourRent, hourOutcome}
-use Rattle.hour_intuitive.specs.Promised.BothSizes.{Contract, answered}
+use Rattle.hour_intuitive.specs.Meaning.Hour.{hourExports, hourPrices, hourNetwork, hourRent, hourOutcome, HourAnswer}
+use Rattle.hour_intuitive.specs.Promised.BothSizes.{answered}
 use Rattle.hour_intuitive.specs.Promised.PlainHour.{price-is, says-0, accepted}
 use Rattle.hour_intuitive.specs.Promised.Rent.{rent-of-flows, rent-nonneg}
 
@@ -99,18 +99,18 @@ module _ (s t buffer : List ℕ) (enough : 176 ≤ length buffer) (e : outcome s
       ∙ sym (stands-signed (bufferAfter s t buffer) (48 + 8 * z) (zonePrice (caseOf s) (pricesOf s t) z) (fit .zonePrice-fits z h) ((report-written s t buffer (inl zero)) .price-at z h))
 
 -- OF EITHER ENTRY: an hour that it answers yes
-module _ (s t pairs : List ℕ) (n : ℕ) (scratch : List ℤ) (r : Carried) (after : List ℤ) (met : Contract s t pairs n scratch r after) (taken : r .number ≡ 0) (yes-said : r .intuitive ≡ 1) where
+module _ (s t pairs : List ℕ) (n : ℕ) (scratch : List ℤ) (r : Carried) (after : List ℤ) (met : HourAnswer s t pairs n scratch r after) (taken : r .number ≡ 0) (yes-said : r .intuitive ≡ 1) where
   number-is : (hourOutcome s t pairs n (length scratch)) .number ≡ 0
-  number-is = sym (ap (λ (o : Outcome). o .number) (met .0)) ∙ taken
+  number-is = sym (ap (λ (o : Outcome). o .number) (met .outcome)) ∙ taken
 
   passed : intuitiveRefusal (hourExports s t) (hourPrices s t) pairs n (length scratch) ≡ none
   passed = answered s t pairs n (length scratch) number-is
 
   i : CarriesAll (hourNetwork s t pairs)
-  i = met .1 .0 taken yes-said
+  i = met .a-yes taken yes-said
 
   good : (k : ℕ) → k < pairCount pairs → GoodPair (getD s 5 0) pairs k
-  good k h = says-0 s t pairs n (length scratch) (r .index) .0 (sym (met .0) ∙ ap (λ (m : ℕ). verdict m (r .index)) taken) .1 .0 .1 k (is-pair pairs k .0 h)
+  good k h = says-0 s t pairs n (length scratch) (r .index) .0 (sym (met .outcome) ∙ ap (λ (m : ℕ). verdict m (r .index)) taken) .1 .0 .1 k (is-pair pairs k .0 h)
 
   pub reported-rent : (buffer : List ℕ) → 176 ≤ length buffer → RentOfFlows pairs (bufferAfter s t buffer)
   reported-rent buffer enough = record {

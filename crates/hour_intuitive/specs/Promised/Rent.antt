@@ -21,9 +21,9 @@ use Rattle.transports.specs.Meaning.Network.{CarriesAll}
 use Rattle.intuitive.specs.declared.Carried.{Carried}
 use Rattle.intuitive.specs.Meaning.Intuitive.{intuitiveRefusal}
 use Rattle.intuitive.specs.Steps.Sizes.{placed, balanced}
-use Rattle.hour_intuitive.specs.Meaning.Hour.{hourExports, hourPrices, hourNetwork, hourRent, hourOutcome}
+use Rattle.hour_intuitive.specs.Meaning.Hour.{hourExports, hourPrices, hourNetwork, hourRent, hourOutcome, HourAnswer}
 use Rattle.hour_intuitive.specs.Promised.Asked.{list-length, list-at}
-use Rattle.hour_intuitive.specs.Promised.BothSizes.{Contract, answered}
+use Rattle.hour_intuitive.specs.Promised.BothSizes.{answered}
 
 module _ (s t pairs : List ℕ) where
   turned-back : (x : ℤ) → negℤ (pos 0 -ℤ x) ≡ x
@@ -48,5 +48,5 @@ module _ (s t pairs : List ℕ) where
     rent-nonneg = rw (← rent-is) (worth-nonneg (hourExports s t) (hourPrices s t) pairs (placed _ _ pairs n room passed) (balanced _ _ pairs n room passed) i)
 
   -- OF THE ENTRY: an hour that it answers yes
-  pub yes-rent : (n : ℕ) (scratch : List ℤ) (r : Carried) (after : List ℤ) → Contract s t pairs n scratch r after → r .number ≡ 0 → r .intuitive ≡ 1 → pos 0 ≤ℤ hourRent s t
-  yes-rent n scratch r after a e y = rent-nonneg n (length scratch) (sym (ap (λ (o : Outcome). o .number) (a .0)) ∙ e) (a .1 .0 e y)
+  pub yes-rent : (n : ℕ) (scratch : List ℤ) (r : Carried) (after : List ℤ) → HourAnswer s t pairs n scratch r after → r .number ≡ 0 → r .intuitive ≡ 1 → pos 0 ≤ℤ hourRent s t
+  yes-rent n scratch r after a e y = rent-nonneg n (length scratch) (sym (ap (λ (o : Outcome). o .number) (a .outcome)) ∙ e) (a .a-yes e y)

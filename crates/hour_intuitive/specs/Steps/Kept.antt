@@ -25,19 +25,14 @@ use Rattle.network.specs.Prices.{grainsAt}
 use Rattle.zone_pairs.specs.Meaning.Pairs.{networkOf}
 use Rattle.intuitive.specs.declared.Carried.{Carried}
 use Rattle.intuitive.specs.Steps.Answers.{ListsPass}
-use Rattle.intuitive.specs.Meaning.Intuitive.{scratchBy, intuitiveRefusal, intuitiveOutcome, intuitiveScratch}
-use Rattle.intuitive.specs.Promised.BothSizes.{Clauses}
+use Rattle.intuitive.specs.Meaning.Intuitive.{scratchBy, intuitiveRefusal, intuitiveOutcome, intuitiveScratch, EntryAnswer}
 use Rattle.findings.specs.declared.Found.{Found}
 use Rattle.findings.specs.Found.{Finds, hourRows}
-use Rattle.hour_intuitive.specs.Meaning.Hour.{listTo, hourExports, hourPrices, hourNetwork, askedRows, hourOutcome, hourScratch}
+use Rattle.hour_intuitive.specs.Meaning.Hour.{listTo, hourExports, hourPrices, hourNetwork, askedRows, hourOutcome, hourScratch, HourAnswer}
 use Rattle.hour_intuitive.specs.Promised.Asked.{refused-first, asked-then, none-refused, position-near, price-in, lists-pass}
-use Rattle.hour_intuitive.specs.Promised.BothSizes.{Contract}
 use Rattle.hour_intuitive.specs.Steps.Lent.{FitsTo, Lists, part-is, same-list, refusedAs}
 
 module _ (s t pairs : List ℕ) (n : ℕ) (scratch : List ℤ) where
-  abbrev pub Kept : Carried → List ℤ → Type 0
-  Kept = Contract s t pairs n scratch
-
   -- with room enough 30 passes
   past-room : refusal (table none s t reportRoom (caseOf s) (planOf s t) (pricesOf s t)) ≡ refusal (hourRows none s t)
   unfolding table roomRows
@@ -45,22 +40,25 @@ module _ (s t pairs : List ℕ) (n : ℕ) (scratch : List ℤ) where
 
   module _ (f : Found) (h : Finds (hourRows none s t) s t f) where
     -- NOT ACCEPTED
-    pub kept-refused : 0 < f .verdict .number → {r : Carried} → r ≡ refusedAs (f .verdict) → Kept r scratch
+    pub hour-refused : 0 < f .verdict .number → {r : Carried} → r ≡ refusedAs (f .verdict) → HourAnswer s t pairs n scratch r scratch
     unfolding hourOutcome hourScratch
-    kept-refused l e = subst (λ (r : Carried). Kept r scratch) (sym e) (by (refusal (hourRows none s t)) refl)
+    hour-refused l e = subst (λ (r : Carried). HourAnswer s t pairs n scratch r scratch) (sym e) (by (refusal (hourRows none s t)) refl)
       where
         apart : {X : Type 0} → f .verdict .number ≡ 0 → X
         apart q = absurd (omega (arith, l))
 
-        by : (o : Option Outcome) → refusal (hourRows none s t) ≡ o → Kept (refusedAs (f .verdict)) scratch
+        by : (o : Option Outcome) → refusal (hourRows none s t) ≡ o → HourAnswer s t pairs n scratch (refusedAs (f .verdict)) scratch
         by (some x) q =
-            let asked = refused-first s t pairs n (length scratch) x (past-room ∙ q) in (
-              h .verdict-is ∙ ap answer (q ∙ sym asked),
-              (
-                λ z. apart z,
-                (λ z. apart z, (omega arith, (λ z. apart z, (sym (ap (λ (o : Option Outcome). scratchBy o n scratch) asked), λ p. (refl, refl))))),
-              ),
-            )
+            let asked = refused-first s t pairs n (length scratch) x (past-room ∙ q) in
+            record {
+              outcome = h .verdict-is ∙ ap answer (q ∙ sym asked);
+              a-yes = λ z. apart z;
+              a-no = λ z. apart z;
+              yes-or-no = omega arith;
+              largest = λ z. apart z;
+              scratch = sym (ap (λ (o : Option Outcome). scratchBy o n scratch) asked);
+              refused = λ p. (refl, refl);
+            }
         by none q = apart (ap (λ (o : Outcome). o .number) (h .verdict-is ∙ ap answer q))
 
     -- ACCEPTED
@@ -99,11 +97,11 @@ module _ (s t pairs : List ℕ) (n : ℕ) (scratch : List ℤ) where
       pass exports prices x y = subst (λ (p : List ℤ). ListsPass p prices) (sym x) (subst (λ (q : List ℤ). ListsPass (hourExports s t) q) (sym y) (lists-pass s t pairs n (length scratch) accepted))
 
       -- so that their answer is the hour's
-      pub kept-answer : (exports prices : List ℤ) → exports ≡ hourExports s t → prices ≡ hourPrices s t → {r : Carried} {b : List ℤ}
-          → Clauses (intuitiveOutcome exports prices pairs n (length scratch)) (networkOf exports prices pairs) (intuitiveScratch exports prices pairs n scratch) r b → Kept r b
+      pub hour-answer : (exports prices : List ℤ) → exports ≡ hourExports s t → prices ≡ hourPrices s t → {r : Carried} {b : List ℤ}
+          → EntryAnswer (intuitiveOutcome exports prices pairs n (length scratch)) (networkOf exports prices pairs) (intuitiveScratch exports prices pairs n scratch) r b → HourAnswer s t pairs n scratch r b
       unfolding hourOutcome hourScratch intuitiveOutcome intuitiveRefusal intuitiveScratch
-      kept-answer exports prices x y {r} {b} k =
+      hour-answer exports prices x y {r} {b} k =
           let asked = sym (asked-then s t pairs n (length scratch) (none-refused s t pairs n (length scratch) accepted)) in
-          subst (λ (o : Option Outcome). Clauses (answer o) (hourNetwork s t pairs) (scratchBy o n scratch) r b) asked
-          (subst (λ (q : List ℤ). Clauses (answer (intuitiveRefusal (hourExports s t) q pairs n (length scratch))) (networkOf (hourExports s t) q pairs) (scratchBy (intuitiveRefusal (hourExports s t) q pairs n (length scratch)) n scratch) r b) y
-          (subst (λ (p : List ℤ). Clauses (answer (intuitiveRefusal p prices pairs n (length scratch))) (networkOf p prices pairs) (scratchBy (intuitiveRefusal p prices pairs n (length scratch)) n scratch) r b) x k))
+          subst (λ (o : Option Outcome). EntryAnswer (answer o) (hourNetwork s t pairs) (scratchBy o n scratch) r b) asked
+          (subst (λ (q : List ℤ). EntryAnswer (answer (intuitiveRefusal (hourExports s t) q pairs n (length scratch))) (networkOf (hourExports s t) q pairs) (scratchBy (intuitiveRefusal (hourExports s t) q pairs n (length scratch)) n scratch) r b) y
+          (subst (λ (p : List ℤ). EntryAnswer (answer (intuitiveRefusal p prices pairs n (length scratch))) (networkOf p prices pairs) (scratchBy (intuitiveRefusal p prices pairs n (length scratch)) n scratch) r b) x k))

@@ -2,7 +2,7 @@
 use mathlib.Core.Path.{refl}
 use lib.ListN.{length}
 use denote.Ref.{now}
-use Rattle.intuitive.specs.Steps.Answers.{met-refused, met-answer, passed}
+use Rattle.intuitive.specs.Steps.Answers.{answer-refused, answer-given, passed}
 use Rattle.intuitive.specs.Steps.Sizes.{sized, room-in}
 use borrow.Author.Needs.{needs}
 use Rattle.intuitive.proofs.answered.Statement.{statement}
@@ -12,7 +12,7 @@ returns : tie.Need-returns
 returns c =
     let t = c .before .before in
     let a = t .args in
-    met-refused (now (a .net)) (now (a .prices)) (now (a .pairs)) (a .n) (now (a .scratch)) (a .o) (t .pre .1) (c .if1 .taken) _ refl
+    answer-refused (now (a .net)) (now (a .prices)) (now (a .pairs)) (a .n) (now (a .scratch)) (a .o) (t .pre .1) (c .if1 .taken) _ refl
 
 largest-transport-requires : tie.Need-largest-transport-requires
 largest-transport-requires c κs =
@@ -38,7 +38,7 @@ returns-2 c =
     let t = x .before .before in
     let a = t .args in
     let p = passed (now (a .net)) (now (a .prices)) (now (a .pairs)) (a .n) (now (a .scratch)) (a .o) (t .pre .1) (x .if1 .left) in
-    met-answer (now (a .net)) (now (a .prices)) (now (a .pairs)) (a .n) (now (a .scratch)) (a .o) (t .pre .1) (x .if1 .left) (l .largest-transport .last .1 .1 .1 .0)
+    answer-given (now (a .net)) (now (a .prices)) (now (a .pairs)) (a .n) (now (a .scratch)) (a .o) (t .pre .1) (x .if1 .left) (l .largest-transport .last .1 .1 .1 .0)
     (l .largest-transport .result .all) (l .largest-transport .result .total) (c .before .flag .result) (c .volume .result .0) (l .largest-transport .ensures .0)
     (room-in (now (a .net)) (now (a .prices)) (now (a .pairs)) (a .n) (length (now (a .scratch))) p) (l .largest-transport .ensures .1 .1) (c .before .flag .ensures) (c .volume .ensures)
 

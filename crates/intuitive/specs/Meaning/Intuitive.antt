@@ -4,18 +4,19 @@ use mathlib.Core.Path.{_≡_}
 use mathlib.Core.Bool.{Bool, _||_}
 use mathlib.Core.List.{List, [], _∷_, _++_}
 use mathlib.Core.Option.{Option, none, some}
-use Prim.Native.Nat.{ℕ}
+use Prim.Native.Nat.{ℕ, _<_}
 use lib.ListN.{length, drop, replicate}
 use lib.IntN.{ℤ, pos}
 use Rattle.integers.specs.Ranges.{outside}
 use Rattle.measures.specs.Meaning.Limits as limits
 use Rattle.rows.specs.declared.Outcome.{Outcome}
-use Rattle.rows.specs.Meaning.Rows.{Row, refusal, answer, once, each}
+use Rattle.rows.specs.Meaning.Rows.{Row, verdict, refusal, answer, once, each}
 use Rattle.rules.specs.Meaning.Layout.{zoneCounts}
 use Rattle.rules.specs.Meaning.Verdict.{under, differ}
 use Rattle.net_positions.specs.Meaning.Positions.{positionOutside, unbalanced}
-use Rattle.zone_pairs.specs.Meaning.Pairs.{pairCount, badPair, priceAt}
-use Rattle.transports.specs.Meaning.Network.{Network, Largest}
+use Rattle.zone_pairs.specs.Meaning.Pairs.{pairCount, badPair, priceAt, networkOf}
+use Rattle.transports.specs.Meaning.Network.{Network, Largest, CarriesAll, Excess}
+use Rattle.intuitive.specs.declared.Carried.{Carried}
 
 -- so many numbers of scratch are lent; in S-13 `SmallScratch.smallRoom`
 abbrev pub scratchRoom : ℕ
@@ -58,3 +59,18 @@ scratchBy none n s = replicate n (pos 0) ++ drop n s
 
 unfoldable pub intuitiveScratch : List ℤ → List ℤ → List ℕ → ℕ → List ℤ → List ℤ
 intuitiveScratch net prices pairs n s = scratchBy (intuitiveRefusal net prices pairs n (length s)) n s
+
+-- WHAT AN ENTRY ANSWERS, where its outcome is o, its network c and the scratch afterwards b′: the clauses of its contract, which `host` spells out. The eighth,
+-- `yes_rent`, follows from them
+pub record EntryAnswer (o : Outcome) (c : Network) (b′ : List ℤ) (r : Carried) (b : List ℤ) : Type 0 where
+  pub outcome : verdict (r .number) (r .index) ≡ o
+  pub a-yes : r .number ≡ 0 → r .intuitive ≡ 1 → CarriesAll c
+  pub a-no : r .number ≡ 0 → r .intuitive ≡ 0 → Excess c
+  pub yes-or-no : r .intuitive < 2
+  pub largest : r .number ≡ 0 → LargestTotal c (r .total .0)
+  pub scratch : b ≡ b′
+  pub refused : 0 < r .number → (r .intuitive ≡ 0) × (r .total .0 ≡ pos 0)
+
+-- of net positions, prices and pairs, with n = 324 or 96, for the scratch s that is lent, the result and the scratch afterwards
+abbrev pub IntuitiveAnswer : List ℤ → List ℤ → List ℕ → ℕ → List ℤ → Carried → List ℤ → Type 0
+IntuitiveAnswer net prices pairs n s = EntryAnswer (intuitiveOutcome net prices pairs n (length s)) (networkOf net prices pairs) (intuitiveScratch net prices pairs n s)

@@ -8,53 +8,37 @@ use Prim.Native.Nat.{ℕ, _≤_, _<_}
 use native.Mathlib.Omega.{arith}
 use borrow.Author.Tests.{le-ltb}
 use lib.ListN.{length}
-use lib.IntN.{ℤ, pos}
+use lib.IntN.{ℤ}
 use Rattle.rows.specs.declared.Outcome.{Outcome}
-use Rattle.rows.specs.Meaning.Rows.{Row, verdict, refusal, answer, once, each}
+use Rattle.rows.specs.Meaning.Rows.{Row, refusal, answer, once, each}
 use Rattle.rows.specs.Promised.RowLaws.{else-refusal, refusal-append, field-fails, field-passes}
 use Rattle.rules.specs.Meaning.Verdict.{under}
 use Rattle.net_positions.specs.Meaning.Positions.{positionOutside, unbalanced}
 use Rattle.zone_pairs.specs.Meaning.Pairs.{pairCount, badPair, networkOf}
-use Rattle.transports.specs.Meaning.Network.{Network, Placed, CarriesAll, Excess}
+use Rattle.transports.specs.Meaning.Network.{Network, Placed}
 use Rattle.flow_scratch.specs.Meaning.Places.{amountAt, transportOf}
 use Rattle.intuitive.specs.declared.Carried.{Carried}
-use Rattle.intuitive.specs.Meaning.Intuitive.{scratchRoom, unfit, priceOutside, intuitiveRows, intuitiveRefusal, intuitiveOutcome, LargestTotal, intuitiveScratch}
+use Rattle.intuitive.specs.Meaning.Intuitive.{scratchRoom, unfit, priceOutside, intuitiveRows, intuitiveRefusal, intuitiveOutcome, EntryAnswer, IntuitiveAnswer}
 use Rattle.intuitive.specs.Meaning.SmallScratch.{flowPlace, exportPlace, importPlace, smallRoom}
 use Rattle.intuitive.specs.Promised.Causes.{intuitive-none}
 use Rattle.intuitive.specs.Promised.OneAnswer.{one-answer}
 use Rattle.intuitive.specs.Steps.Sizes.{placed, room-in}
 
--- THE FIRST SEVEN CLAUSES OF A CONTRACT, in their order, for the outcome o, the network c and the scratch b′ that they
--- name. The entries of an hour have the same. The eighth, `yes_rent`, follows from them.
-abbrev pub Clauses : Outcome → Network → List ℤ → Carried → List ℤ → Type 0
-Clauses o c b′ r b =
-    (verdict (r .number) (r .index) ≡ o)
-    × ((r .number ≡ 0 → r .intuitive ≡ 1 → CarriesAll c)
-    × ((r .number ≡ 0 → r .intuitive ≡ 0 → Excess c)
-    × ((r .intuitive < 2)
-    × ((r .number ≡ 0 → LargestTotal c (r .total .0))
-    × ((b ≡ b′)
-    × (0 < r .number → (r .intuitive ≡ 0) × (r .total .0 ≡ pos 0)))))))
-
--- two results that meet such clauses with number 0 say the same of one network
-pub clauses-agree : (c : Network) → Placed c → (o p : Outcome) (s′ t′ : List ℤ) (r q : Carried) (s t : List ℤ) → Clauses o c s′ r s → Clauses p c t′ q t → r .number ≡ 0 → q .number ≡ 0
+-- two answers with number 0 say the same of one network
+pub entries-agree : (c : Network) → Placed c → (o p : Outcome) (s′ t′ : List ℤ) (r q : Carried) (s t : List ℤ) → EntryAnswer o c s′ r s → EntryAnswer p c t′ q t → r .number ≡ 0 → q .number ≡ 0
     → (r .intuitive ≡ q .intuitive) × (r .total .0 ≡ q .total .0)
-clauses-agree c ok o p s′ t′ r q s t a b e f =
+entries-agree c ok o p s′ t′ r q s t a b e f =
     one-answer c ok (r .intuitive) (q .intuitive) (r .total .0) (q .total .0)
-    (record { yes-or-no = a .1 .1 .1 .0; a-yes = a .1 .0 e; a-no = a .1 .1 .0 e; most = a .1 .1 .1 .1 .0 e })
-    (record { yes-or-no = b .1 .1 .1 .0; a-yes = b .1 .0 f; a-no = b .1 .1 .0 f; most = b .1 .1 .1 .1 .0 f })
+    (record { yes-or-no = a .yes-or-no; a-yes = a .a-yes e; a-no = a .a-no e; most = a .largest e })
+    (record { yes-or-no = b .yes-or-no; a-yes = b .a-yes f; a-no = b .a-no f; most = b .largest f })
 
 module _ (net prices : List ℤ) (pairs : List ℕ) where
-  -- THE CONTRACT of the wide entry with n = 324, of the smaller with n = 96, for a scratch s that is lent, a result and the scratch afterwards
-  abbrev pub Contract : ℕ → List ℤ → Carried → List ℤ → Type 0
-  Contract n s = Clauses (intuitiveOutcome net prices pairs n (length s)) (networkOf net prices pairs) (intuitiveScratch net prices pairs n s)
-
   -- YES OR NO AND THE TOTAL ARE EQUAL on each input that both take, whatever scratches are lent
-  pub answers-agree : (s t : List ℤ) (r q : Carried) (s' t' : List ℤ) → Contract scratchRoom s r s' → Contract smallRoom t q t' → r .number ≡ 0 → q .number ≡ 0
+  pub answers-agree : (s t : List ℤ) (r q : Carried) (s' t' : List ℤ) → IntuitiveAnswer net prices pairs scratchRoom s r s' → IntuitiveAnswer net prices pairs smallRoom t q t' → r .number ≡ 0 → q .number ≡ 0
       → (r .intuitive ≡ q .intuitive) × (r .total .0 ≡ q .total .0)
   answers-agree s t r q s' t' a b e f =
-      let taken = intuitive-none net prices pairs scratchRoom (length s) (sym (ap (λ (o : Outcome). o .number) (a .0)) ∙ e) in
-      clauses-agree (networkOf net prices pairs) (placed net prices pairs scratchRoom (length s) taken) _ _ _ _ r q s' t' a b e f
+      let taken = intuitive-none net prices pairs scratchRoom (length s) (sym (ap (λ (o : Outcome). o .number) (a .outcome)) ∙ e) in
+      entries-agree (networkOf net prices pairs) (placed net prices pairs scratchRoom (length s) taken) _ _ _ _ r q s' t' a b e f
 
   -- WHAT IS TAKEN. With room enough the table is the same, however much is asked for
   abbrev before-85 : List Row

@@ -26,9 +26,8 @@ use Rattle.transports.specs.Meaning.Network.{Network, CarriesAll, Excess, Large
 use Rattle.transports.specs.Promised.Duality.{not-both, one-largest, yes-total, no-total}
 use Rattle.transports.specs.Promised.PlainFlows.{broughtTo, takenFrom, Routed, yes-routed, Shipped, largest-is}
 use Rattle.intuitive.specs.declared.Carried.{Carried}
-use Rattle.intuitive.specs.Meaning.Intuitive.{intuitiveRefusal}
+use Rattle.intuitive.specs.Meaning.Intuitive.{intuitiveRefusal, IntuitiveAnswer}
 use Rattle.intuitive.specs.Promised.Causes.{intuitive-none}
-use Rattle.intuitive.specs.Promised.BothSizes.{Contract}
 use Rattle.intuitive.specs.Steps.Sizes.{placed, balanced, pairs-even}
 
 -- what flows into zone z along the pairs, and out of it
@@ -211,9 +210,9 @@ module _ (net prices : List ℤ) (pairs : List ℕ) (n room : ℕ) (passed : int
   )
 
 -- OF A RESULT THAT MEETS THE CONTRACT, of either entry
-module _ (net prices : List ℤ) (pairs : List ℕ) (n : ℕ) (s : List ℤ) (r : Carried) (s' : List ℤ) (met : Contract net prices pairs n s r s') (taken : r .number ≡ 0) where
+module _ (net prices : List ℤ) (pairs : List ℕ) (n : ℕ) (s : List ℤ) (r : Carried) (s' : List ℤ) (met : IntuitiveAnswer net prices pairs n s r s') (taken : r .number ≡ 0) where
   passed : intuitiveRefusal net prices pairs n (length s) ≡ none
-  passed = intuitive-none net prices pairs n (length s) (sym (ap (λ (o : Outcome). o .number) (met .0)) ∙ taken)
+  passed = intuitive-none net prices pairs n (length s) (sym (ap (λ (o : Outcome). o .number) (met .outcome)) ∙ taken)
 
   carries-all : CarriesAll (networkOf net prices pairs) ↔ Routes net prices pairs
   carries-all =
@@ -226,51 +225,51 @@ module _ (net prices : List ℤ) (pairs : List ℕ) (n : ℕ) (s : List ℤ) (r 
 
   -- YES
   pub says-yes : (r .intuitive ≡ 1) ↔ Routes net prices pairs
-  says-yes = (λ y. carries-all .0 (met .1 .0 taken y), λ f. by (decLt 0 (r .intuitive)) (carries-all .1 f))
+  says-yes = (λ y. carries-all .0 (met .a-yes taken y), λ f. by (decLt 0 (r .intuitive)) (carries-all .1 f))
     where
       by : Dec (0 < r .intuitive) → CarriesAll (networkOf net prices pairs) → r .intuitive ≡ 1
-      by (yes h) i = omega (arith, h, met .1 .1 .1 .0)
-      by (no h) i = absurd (never i (met .1 .1 .0 taken (omega arith)))
+      by (yes h) i = omega (arith, h, met .yes-or-no)
+      by (no h) i = absurd (never i (met .a-no taken (omega arith)))
 
   -- NO
   pub says-no : (r .intuitive ≡ 0) ↔ Enclosed net prices pairs
-  says-no = (λ y. enclosed net prices pairs n (length s) passed .0 (met .1 .1 .0 taken y), λ f. by (decLt 0 (r .intuitive)) (enclosed net prices pairs n (length s) passed .1 f))
+  says-no = (λ y. enclosed net prices pairs n (length s) passed .0 (met .a-no taken y), λ f. by (decLt 0 (r .intuitive)) (enclosed net prices pairs n (length s) passed .1 f))
     where
       by : Dec (0 < r .intuitive) → Excess (networkOf net prices pairs) → r .intuitive ≡ 0
-      by (yes h) x = absurd (never (met .1 .0 taken (omega (arith, h, met .1 .1 .1 .0))) x)
+      by (yes h) x = absurd (never (met .a-yes taken (omega (arith, h, met .yes-or-no))) x)
       by (no h) x = omega arith
 
   -- THE TOTAL, in tenths
   pub says-total : (t : ℕ) → (r .total .0 ≡ pos t) ↔ LargestCarried net prices pairs t
   says-total t = (
-    λ e. let v = met .1 .1 .1 .1 .0 taken in
+    λ e. let v = met .largest taken in
         let w = largest-is (networkOf net prices pairs) t .0 (subst (λ (u : ℕ). Largest (networkOf net prices pairs) u) (ap up (sym (v .is) ∙ e)) (v .largest)) in
         (plain 1 t .0 (w .0), λ d u f. w .1 d u (plain d u .1 f)),
-    λ w. let v = met .1 .1 .1 .1 .0 taken in
+    λ w. let v = met .largest taken in
         v .is ∙ ap pos (one-largest (networkOf net prices pairs) (v .volume) t (v .largest) (largest-is (networkOf net prices pairs) t .1 (plain 1 t .1 (w .0), λ d u f. w .1 d u (plain d u .0 f)))),
   )
     where
       plain : (d u : ℕ) → Shipped (networkOf net prices pairs) d u ↔ FlowsCarry net prices pairs d u
       plain = shipped net prices pairs n (length s) passed
 
-  total-up : up (r .total .0) ≡ (met .1 .1 .1 .1 .0 taken) .volume
-  total-up = ap up ((met .1 .1 .1 .1 .0 taken) .is)
+  total-up : up (r .total .0) ≡ (met .largest taken) .volume
+  total-up = ap up ((met .largest taken) .is)
 
   yes-all : r .intuitive ≡ 1 → up (r .total .0) ≡ everyExport net
-  yes-all y = total-up ∙ yes-total (networkOf net prices pairs) ((met .1 .1 .1 .1 .0 taken) .volume) (met .1 .0 taken y) ((met .1 .1 .1 .1 .0 taken) .largest)
+  yes-all y = total-up ∙ yes-total (networkOf net prices pairs) ((met .largest taken) .volume) (met .a-yes taken y) ((met .largest taken) .largest)
 
   no-less : r .intuitive ≡ 0 → up (r .total .0) < everyExport net
-  no-less y = omega (arith, total-up, no-total (networkOf net prices pairs) (placed net prices pairs n (length s) passed) ((met .1 .1 .1 .1 .0 taken) .volume) (met .1 .1 .0 taken y) ((met .1 .1 .1 .1 .0 taken) .largest))
+  no-less y = omega (arith, total-up, no-total (networkOf net prices pairs) (placed net prices pairs n (length s) passed) ((met .largest taken) .volume) (met .a-no taken y) ((met .largest taken) .largest))
 
   total-nat : r .total .0 ≡ pos (up (r .total .0))
-  total-nat = (met .1 .1 .1 .1 .0 taken) .is ∙ ap pos (sym total-up)
+  total-nat = (met .largest taken) .is ∙ ap pos (sym total-up)
 
   -- THE TOTAL OF A YES is the sum of all exports, and that of a no is less
   pub yes-is-all : (r .intuitive ≡ 1) ↔ (r .total .0 ≡ pos (everyExport net))
   yes-is-all = (λ y. total-nat ∙ ap pos (yes-all y), λ e. by (decLt 0 (r .intuitive)) e)
     where
       by : Dec (0 < r .intuitive) → r .total .0 ≡ pos (everyExport net) → r .intuitive ≡ 1
-      by (yes h) e = omega (arith, h, met .1 .1 .1 .0)
+      by (yes h) e = omega (arith, h, met .yes-or-no)
       by (no h) e = absurd (omega (arith, no-less (omega arith), ap up e))
 
   pub no-is-less : (r .intuitive ≡ 0) ↔ (r .total .0 <ℤ pos (everyExport net))
@@ -280,5 +279,5 @@ module _ (net prices : List ℤ) (pairs : List ℕ) (n : ℕ) (s : List ℤ) (r 
   )
     where
       by : Dec (0 < r .intuitive) → up (r .total .0) < everyExport net → r .intuitive ≡ 0
-      by (yes h) l = absurd (omega (arith, l, yes-all (omega (arith, h, met .1 .1 .1 .0))))
+      by (yes h) l = absurd (omega (arith, l, yes-all (omega (arith, h, met .yes-or-no))))
       by (no h) l = omega arith

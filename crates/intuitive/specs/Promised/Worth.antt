@@ -15,9 +15,8 @@ use Rattle.zone_pairs.specs.Promised.Worth as pairs-worth
 use Rattle.zone_pairs.specs.Promised.Worth.{pairGain}
 use Rattle.transports.specs.Meaning.Network.{CarriesAll}
 use Rattle.intuitive.specs.declared.Carried.{Carried}
-use Rattle.intuitive.specs.Meaning.Intuitive.{intuitiveRefusal, intuitiveOutcome}
+use Rattle.intuitive.specs.Meaning.Intuitive.{intuitiveRefusal, intuitiveOutcome, IntuitiveAnswer}
 use Rattle.intuitive.specs.Promised.Causes.{intuitive-none}
-use Rattle.intuitive.specs.Promised.BothSizes.{Contract}
 use Rattle.intuitive.specs.Steps.Sizes.{placed, balanced}
 
 module _ (net prices : List ℤ) (pairs : List ℕ) where
@@ -33,5 +32,5 @@ module _ (net prices : List ℤ) (pairs : List ℕ) where
     worth-nonneg = pairs-worth.worth-nonneg net prices pairs (placed net prices pairs n room passed) (balanced net prices pairs n room passed) i
 
   -- OF THE ENTRY: what it answers yes
-  pub yes-worth-nonneg : (n : ℕ) (s : List ℤ) (r : Carried) (s' : List ℤ) → Contract net prices pairs n s r s' → r .number ≡ 0 → r .intuitive ≡ 1 → pos 0 ≤ℤ importsWorth net prices
-  yes-worth-nonneg n s r s' a e y = worth-nonneg n (length s) (sym (ap (λ (o : Outcome). o .number) (a .0)) ∙ e) (a .1 .0 e y)
+  pub yes-worth-nonneg : (n : ℕ) (s : List ℤ) (r : Carried) (s' : List ℤ) → IntuitiveAnswer net prices pairs n s r s' → r .number ≡ 0 → r .intuitive ≡ 1 → pos 0 ≤ℤ importsWorth net prices
+  yes-worth-nonneg n s r s' a e y = worth-nonneg n (length s) (sym (ap (λ (o : Outcome). o .number) (a .outcome)) ∙ e) (a .a-yes e y)

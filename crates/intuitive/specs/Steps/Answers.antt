@@ -1,4 +1,4 @@
--- The table's rows as the entry asks them, and what it then owes of the number, the answer and every number of the scratch. Assumes nothing.
+-- The table's rows as the entry asks them, and what it then answers of the number, the answer and every number of the scratch. Assumes nothing.
 use mathlib.Core.Path.{_≡_, refl, sym, ap, _∙_}
 use mathlib.Core.Bool.{Bool, true, false, not, _||_}
 use mathlib.Core.List.{List, [], _∷_, _++_}
@@ -20,13 +20,12 @@ use Rattle.rules.specs.Meaning.Verdict.{under}
 use Rattle.net_positions.specs.Meaning.Positions.{positionOutside, unbalanced}
 use Rattle.zone_pairs.specs.Meaning.Pairs.{pairCount, badPair, networkOf}
 use Rattle.zone_pairs.specs.Steps.Tests.{pair-past}
-use Rattle.transports.specs.Meaning.Network.{CarriesAll, Excess}
+use Rattle.transports.specs.Meaning.Network.{Network, CarriesAll, Excess}
 use Rattle.flow_scratch.specs.Cleared.{Cleared}
 use Rattle.largest_transport.specs.Filled.{Answer}
 use Rattle.intuitive.specs.declared.Carried.{Carried}
-use Rattle.intuitive.specs.Meaning.Intuitive.{unfit, priceOutside, intuitiveRows, intuitiveRefusal, intuitiveOutcome, LargestTotal, scratchBy, intuitiveScratch}
+use Rattle.intuitive.specs.Meaning.Intuitive.{unfit, priceOutside, intuitiveRows, intuitiveRefusal, intuitiveOutcome, LargestTotal, scratchBy, intuitiveScratch, EntryAnswer, IntuitiveAnswer}
 use Rattle.intuitive.specs.Promised.Causes.{intuitive-none, scratch-refused, scratch-answered}
-use Rattle.intuitive.specs.Promised.BothSizes.{Contract}
 
 -- 84 and 85, of so many zones
 abbrev pub restRows : ℕ → List ℕ → ℕ → ℕ → List Row
@@ -146,35 +145,28 @@ flag-low : (b : Bool) → flagOf b < 2
 flag-low true = omega arith
 flag-low false = omega arith
 
--- WHAT THE ENTRY OWES
-pub record Met (net prices : List ℤ) (pairs : List ℕ) (n : ℕ) (s : List ℤ) (r : Carried) (s' : List ℤ) : Type 0 where
-  pub outcome : verdict (r .number) (r .index) ≡ intuitiveOutcome net prices pairs n (length s)
-  pub a-yes : r .number ≡ 0 → r .intuitive ≡ 1 → CarriesAll (networkOf net prices pairs)
-  pub a-no : r .number ≡ 0 → r .intuitive ≡ 0 → Excess (networkOf net prices pairs)
-  pub yes-or-no : r .intuitive < 2
-  pub most : r .number ≡ 0 → LargestTotal (networkOf net prices pairs) (r .total .0)
-  pub scratch : s' ≡ intuitiveScratch net prices pairs n s
-  pub refused : 0 < r .number → (r .intuitive ≡ 0) × (r .total .0 ≡ pos 0)
-
--- as the clauses of its contract
-pub clauses : (net prices : List ℤ) (pairs : List ℕ) (n : ℕ) (s : List ℤ) (r : Carried) (s' : List ℤ) → Met net prices pairs n s r s' → Contract net prices pairs n s r s'
-clauses net prices pairs n s r s' m = (m .outcome, (m .a-yes, (m .a-no, (m .yes-or-no, (m .most, (m .scratch, m .refused))))))
-
--- and an eighth behind seven
-pub and-eighth : {A B C D E F G H : Type 0} → A × (B × (C × (D × (E × (F × G))))) → H → A × (B × (C × (D × (E × (F × (G × H))))))
-and-eighth k h = (k .0, (k .1 .0, (k .1 .1 .0, (k .1 .1 .1 .0, (k .1 .1 .1 .1 .0, (k .1 .1 .1 .1 .1 .0, (k .1 .1 .1 .1 .1 .1, h)))))))
+-- an answer and the eighth clause as the clauses of a contract
+pub clauses : {o : Outcome} {c : Network} {b′ : List ℤ} {r : Carried} {b : List ℤ} {H : Type 0} → EntryAnswer o c b′ r b → H
+    → (verdict (r .number) (r .index) ≡ o)
+    × ((r .number ≡ 0 → r .intuitive ≡ 1 → CarriesAll c)
+    × ((r .number ≡ 0 → r .intuitive ≡ 0 → Excess c)
+    × ((r .intuitive < 2)
+    × ((r .number ≡ 0 → LargestTotal c (r .total .0))
+    × ((b ≡ b′)
+    × ((0 < r .number → (r .intuitive ≡ 0) × (r .total .0 ≡ pos 0)) × H))))))
+clauses m h = (m .outcome, (m .a-yes, (m .a-no, (m .yes-or-no, (m .largest, (m .scratch, (m .refused, h)))))))
 
 module _ (net prices : List ℤ) (pairs : List ℕ) (n : ℕ) (s : List ℤ) (o : Outcome) (said : o ≡ intuitiveOutcome net prices pairs n (length s)) where
   number-is : o .number ≡ (intuitiveOutcome net prices pairs n (length s)) .number
   number-is = ap (λ (x : Outcome). x .number) said
 
-  pub met-refused : (o .number ≡ 0 → ⊥) → (r : Carried) → r ≡ record { number = o .number; index = o .index; intuitive = 0; total = record { 0 = pos 0 } } → Met net prices pairs n s r s
-  met-refused h r e = rw e (record {
+  pub answer-refused : (o .number ≡ 0 → ⊥) → (r : Carried) → r ≡ record { number = o .number; index = o .index; intuitive = 0; total = record { 0 = pos 0 } } → IntuitiveAnswer net prices pairs n s r s
+  answer-refused h r e = rw e (record {
     outcome = said;
     a-yes = λ z. absurd (h z);
     a-no = λ z. absurd (h z);
     yes-or-no = omega arith;
-    most = λ z. absurd (h z);
+    largest = λ z. absurd (h z);
     scratch = sym (scratch-refused net prices pairs n s (positive (decLt 0 ((intuitiveOutcome net prices pairs n (length s)) .number))));
     refused = λ l. (refl, refl);
   })
@@ -187,14 +179,14 @@ module _ (net prices : List ℤ) (pairs : List ℕ) (n : ℕ) (s : List ℤ) (o 
   pub passed : o .number ≡ 0 → intuitiveRefusal net prices pairs n (length s) ≡ none
   passed z = intuitive-none net prices pairs n (length s) (sym number-is ∙ z)
 
-  pub met-answer : o .number ≡ 0 → (s' : List ℤ) (all : Bool) (volume flag : ℕ) (total : ℤ) → Answer (networkOf net prices pairs) all volume → n ≤ length s → Cleared n s s' → flag ≡ flagOf all → total ≡ pos volume
-      → Met net prices pairs n s (record { number = 0; index = 0; intuitive = flag; total = record { 0 = total } }) s'
-  met-answer z s' all volume flag total a h w f t = record {
+  pub answer-given : o .number ≡ 0 → (s' : List ℤ) (all : Bool) (volume flag : ℕ) (total : ℤ) → Answer (networkOf net prices pairs) all volume → n ≤ length s → Cleared n s s' → flag ≡ flagOf all → total ≡ pos volume
+      → IntuitiveAnswer net prices pairs n s (record { number = 0; index = 0; intuitive = flag; total = record { 0 = total } }) s'
+  answer-given z s' all volume flag total a h w f t = record {
     outcome = outcome-by net prices pairs n (length s) (passed z);
     a-yes = λ e x. a .carries-all (flag-yes all (sym f ∙ x));
     a-no = λ e x. a .excess (flag-no all (sym f ∙ x));
     yes-or-no = rw f (flag-low all);
-    most = λ e. record { volume = volume; is = t; largest = a .largest };
+    largest = λ e. record { volume = volume; is = t; largest = a .largest };
     scratch = cleared-is n s s' h w ∙ sym (scratch-answered net prices pairs n s (sym number-is ∙ z));
     refused = λ l. absurd (omega arith);
   }

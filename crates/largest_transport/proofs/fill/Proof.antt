@@ -1,6 +1,5 @@
 -- `largest_transport::fill` meets its contract. The loop's invariant: the transport carries the total, and past it the scratch is as it was. The measure is what
 -- is left of all exports. Assumes nothing.
-use mathlib.Core.Path.{_≡_, refl}
 use mathlib.Core.List.{List}
 use Prim.Native.Nat.{ℕ, _+_, _*_, _-_, _≤_, _<_}
 use native.Mathlib.Omega.{arith}
@@ -12,6 +11,7 @@ use Rattle.transports.specs.Meaning.Network.{allExports}
 use Rattle.zone_pairs.specs.Meaning.Pairs.{networkOf}
 use Rattle.flow_scratch.specs.Meaning.Places.{transportOf}
 use Rattle.flow_scratch.specs.Scratch.{Rest, rest-refl, rest-trans}
+use Rattle.augmenting_path.specs.declared.Labels.{Labels}
 use Rattle.augmenting_path.specs.Lacking.{State}
 use Rattle.augmenting_path.specs.Path.{trailOf, Augment}
 use Rattle.largest_transport.specs.Filled.{total-le, exports-few, distinct, augment-of, filled}
@@ -19,16 +19,16 @@ use Rattle.largest_transport.proofs.fill.Statement.{statement}
 use Rattle.largest_transport.proofs.fill.Tie as tie
 
 abbrev Inv-loop : tie.InvT-loop
-Inv-loop net prices pairs s₀ table marks₀ total₀ s marks total = State (networkOf net prices pairs) (transportOf s) total × (Rest s₀ s × (length marks ≡ 68))
+Inv-loop net prices pairs s₀ table total₀ s total = State (networkOf net prices pairs) (transportOf s) total × Rest s₀ s
 
 abbrev μ-loop : tie.MeasureT-loop
-μ-loop net prices pairs s₀ table marks₀ total₀ s marks total = allExports (networkOf net prices pairs) - total
+μ-loop net prices pairs s₀ table total₀ s total = allExports (networkOf net prices pairs) - total
 
 pair-table-requires : tie.Need-pair-table-requires Inv-loop μ-loop
 pair-table-requires c κs = let t = c .before in distinct (now (t .args .net)) (now (t .args .prices)) (now (t .args .pairs)) (t .pre .0)
 
 loop-holds : tie.Need-loop-holds Inv-loop μ-loop
-loop-holds c = (c .before .before .pre .1 .1, (rest-refl (now (c .before .before .args .s)), refl))
+loop-holds c = (c .before .before .pre .1 .1, rest-refl (now (c .before .before .args .s)))
 
 module _ (h : tie.At-loop Inv-loop μ-loop) where
   abbrev st : tie.Start Inv-loop μ-loop
@@ -44,76 +44,74 @@ module _ (h : tie.At-loop Inv-loop μ-loop) where
   bytes = now (st .args .pairs)
 
   room : 96 ≤ length (h .loop .s)
-  room = omega (arith, h .loop .inv .1 .0 .len, st .pre .1 .0)
+  room = omega (arith, h .loop .inv .1 .len, st .pre .1 .0)
 
 search-requires : tie.Need-search-requires Inv-loop μ-loop
-search-requires c κs = let h = c .before .before .before in (st h .pre .0, (h .before .pair-table .ensures, (room h, h .loop .inv .1 .1)))
+search-requires c κs = let h = c .before .before in (st h .pre .0, (h .before .pair-table .ensures, room h))
 
 same-length : tie.Need-same-length Inv-loop μ-loop
-same-length c = c .before .before .before .before .before .loop .inv .1 .0 .len
+same-length c = c .before .before .before .before .loop .inv .1 .len
 
 returns : tie.Need-returns Inv-loop μ-loop
 returns c =
     let r = c .before in
-    let h = r .before .before .before .before in
-    (filled (net h) (prices h) (bytes h) (st h .pre .0) (h .loop .s) (h .loop .total) (room h) (h .loop .inv .0) (r .search .last .1 .1 .1 .1 .1 .0) (r .search .result) (r .search .ensures .0) (c .if1 .taken), h .loop .inv .1 .0)
+    let h = r .before .before .before in
+    (filled (net h) (prices h) (bytes h) (st h .pre .0) (h .loop .s) (h .loop .total) (room h) (h .loop .inv .0) (r .search .result) (r .search .ensures) (c .if1 .taken), h .loop .inv .1)
 
-low : (c : tie.Else1 Inv-loop μ-loop) → c .before .search .result < 16
-low c = omega (arith, c .if1 .left, st (c .before .before .before .before .before) .pre .0 .zones)
+low : (c : tie.Else1 Inv-loop μ-loop) → c .before .search .result .sink < 16
+low c = omega (arith, c .if1 .left, st (c .before .before .before .before) .pre .0 .zones)
 
-mul-least : tie.Need-mul-least Inv-loop μ-loop
-mul-least c = omega (arith, low c)
+mul-min : tie.Need-mul-min Inv-loop μ-loop
+mul-min c = omega (arith, low c)
 
-mul-least-2 : tie.Need-mul-least-2 Inv-loop μ-loop
-mul-least-2 c = omega (arith, low c)
-
-array-read-least : tie.Need-array-read-least Inv-loop μ-loop
-array-read-least c = omega (arith, low c)
+element-copy-out-min : tie.Need-element-copy-out-min Inv-loop μ-loop
+element-copy-out-min c = omega (arith, low c)
 
 import-left-requires : tie.Need-import-left-requires Inv-loop μ-loop
 import-left-requires c κs =
-    let r = c .before .before in
-    let h = r .before .before .before .before in
-    (c .before .if1 .left, (st h .pre .0 .zones, (room h, st h .pre .0 .imports-le (r .search .result) (c .before .if1 .left))))
+    let e = c .before .before in
+    let r = e .before in
+    let h = r .before .before .before in
+    (e .if1 .left, (st h .pre .0 .zones, (room h, st h .pre .0 .imports-le (r .search .result .sink) (e .if1 .left))))
 
-least-requires : tie.Need-least-requires Inv-loop μ-loop
-least-requires c κs = search needs
+min-requires : tie.Need-min-requires Inv-loop μ-loop
+min-requires c κs = search needs
 
 -- what is brought
-module _ (c : tie.After-least Inv-loop μ-loop) where
+module _ (c : tie.After-min Inv-loop μ-loop) where
   abbrev e : tie.Else1 Inv-loop μ-loop
-  e = c .before .before .before
+  e = c .before .before .before .before
 
   abbrev r : tie.After-search Inv-loop μ-loop
   r = e .before
 
   abbrev h : tie.At-loop Inv-loop μ-loop
-  h = r .before .before .before .before
+  h = r .before .before .before
 
-  abbrev marks : List ℕ
-  marks = r .search .last .1 .1 .1 .1 .1 .0
+  abbrev labels : Labels
+  labels = r .search .result
 
-  bringing : Augment (net h) (prices h) (h .loop .total) (bytes h) (h .loop .s) (trailOf marks) (c .least .result) (r .search .result)
+  bringing : Augment (net h) (prices h) (h .loop .total) (bytes h) (h .loop .s) (trailOf labels) (c .min .result) (labels .sink)
   bringing =
-      let f = r .search .ensures .0 .found (e .if1 .left) in
-      augment-of (net h) (prices h) (bytes h) (st h .pre .0) (h .loop .s) (h .loop .total) (room h) (h .loop .inv .0) marks (r .search .result) (r .search .ensures .0) (c .least .result) (e .if1 .left)
-      (c .least .ensures .1 .1 (f .reached) (omega (arith, f .left, c .before .import-left .ensures)))
-      (c .least .ensures .0)
-      (omega (arith, c .least .ensures .1 .0, c .before .import-left .ensures))
+      let f = r .search .ensures .found (e .if1 .left) in
+      augment-of (net h) (prices h) (bytes h) (st h .pre .0) (h .loop .s) (h .loop .total) (room h) (h .loop .inv .0) labels (r .search .ensures) (c .min .result) (e .if1 .left)
+      (c .min .ensures .1 .1 (f .reached) (omega (arith, f .left, c .before .import-left .ensures)))
+      (c .min .ensures .0)
+      (omega (arith, c .min .ensures .1 .0, c .before .import-left .ensures))
 
 augment-requires : tie.Need-augment-requires Inv-loop μ-loop
 augment-requires c κs =
-    let l = c .before .before in
+    let l = c .before in
     record { net = net (h l); prices = prices (h l); total = h l .loop .total; augment = bringing l }
 
 module _ (c : tie.After-s Inv-loop μ-loop) where
-  abbrev l : tie.After-least Inv-loop μ-loop
-  l = c .before .before .before .before
+  abbrev l : tie.After-min Inv-loop μ-loop
+  l = c .before .before .before
 
-  next : State (networkOf (net (h l)) (prices (h l)) (bytes (h l))) (transportOf (c .before .augment .last .1 .0)) (h l .loop .total + l .least .result)
+  next : State (networkOf (net (h l)) (prices (h l)) (bytes (h l))) (transportOf (c .before .augment .last .1 .0)) (h l .loop .total + l .min .result)
   next = c .before .augment .ensures .state (net (h l)) (prices (h l)) (h l .loop .total) (bringing l)
 
-  next-le : h l .loop .total + l .least .result ≤ allExports (networkOf (net (h l)) (prices (h l)) (bytes (h l)))
+  next-le : h l .loop .total + l .min .result ≤ allExports (networkOf (net (h l)) (prices (h l)) (bytes (h l)))
   next-le = total-le _ _ _ next
 
 add-total : tie.Need-add-total Inv-loop μ-loop
@@ -123,7 +121,7 @@ loop-less : tie.Need-loop-less Inv-loop μ-loop
 loop-less c = omega (arith, next-le c, bringing (l c) .some)
 
 loop-again : tie.Need-loop-again Inv-loop μ-loop
-loop-again c = (next c, (rest-trans (h (l c) .loop .inv .1 .0) (c .before .augment .ensures .rest), r (l c) .search .ensures .1))
+loop-again c = (next c, rest-trans (h (l c) .loop .inv .1) (c .before .augment .ensures .rest))
 
 pub fill-spec : {M : Type 1} → statement M
 fill-spec =
@@ -136,11 +134,10 @@ fill-spec =
     search-requires
     same-length
     returns
-    mul-least
-    mul-least-2
-    array-read-least
+    mul-min
+    element-copy-out-min
     import-left-requires
-    least-requires
+    min-requires
     augment-requires
     add-total
     loop-less

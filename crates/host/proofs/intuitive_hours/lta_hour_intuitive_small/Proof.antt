@@ -1,5 +1,7 @@
--- `host::intuitive_hours::lta_hour_intuitive_small` meets its contract: it is that of `hour_intuitive_small`, word for word. Assumes nothing.
+-- `host::intuitive_hours::lta_hour_intuitive_small` meets its contract: the clauses of what `hour_intuitive_small` answers, and the eighth, which follows. Assumes nothing.
 use borrow.Author.Needs.{needs}
+use Rattle.intuitive.specs.Steps.Answers.{clauses}
+use Rattle.hour_intuitive.specs.Promised.Rent.{yes-rent}
 use Rattle.host.proofs.intuitive_hours.lta_hour_intuitive_small.Statement.{statement}
 use Rattle.host.proofs.intuitive_hours.lta_hour_intuitive_small.Tie as tie
 
@@ -10,7 +12,7 @@ same-length : tie.Need-same-length
 same-length c = search needs
 
 returns : tie.Need-returns
-returns c = c .before .hour-intuitive-small .ensures
+returns c = let m = c .before .hour-intuitive-small .ensures in clauses m (yes-rent _ _ _ _ _ _ _ m)
 
 pub lta-hour-intuitive-small-spec : {M : Type 1} → statement M
 lta-hour-intuitive-small-spec = tie.close (tie.spec hour-intuitive-small-requires same-length returns)

@@ -1,5 +1,7 @@
--- `host::intuitive_hours::lta_intuitive` meets its contract: it is that of `intuitive`, word for word. Assumes nothing.
+-- `host::intuitive_hours::lta_intuitive` meets its contract: the clauses of what `intuitive` answers, and the eighth, which follows. Assumes nothing.
 use borrow.Author.Needs.{needs}
+use Rattle.intuitive.specs.Steps.Answers.{clauses}
+use Rattle.intuitive.specs.Promised.Worth.{yes-worth-nonneg}
 use Rattle.host.proofs.intuitive_hours.lta_intuitive.Statement.{statement}
 use Rattle.host.proofs.intuitive_hours.lta_intuitive.Tie as tie
 
@@ -10,7 +12,7 @@ same-length : tie.Need-same-length
 same-length c = search needs
 
 returns : tie.Need-returns
-returns c = c .before .intuitive .ensures
+returns c = let m = c .before .intuitive .ensures in clauses m (yes-worth-nonneg _ _ _ _ _ _ _ m)
 
 pub lta-intuitive-spec : {M : Type 1} → statement M
 lta-intuitive-spec = tie.close (tie.spec intuitive-requires same-length returns)

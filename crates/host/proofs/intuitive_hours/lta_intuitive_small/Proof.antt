@@ -1,5 +1,7 @@
--- `host::intuitive_hours::lta_intuitive_small` meets its contract: it is that of `intuitive_small`, word for word. Assumes nothing.
+-- `host::intuitive_hours::lta_intuitive_small` meets its contract: the clauses of what `intuitive_small` answers, and the eighth, which follows. Assumes nothing.
 use borrow.Author.Needs.{needs}
+use Rattle.intuitive.specs.Steps.Answers.{clauses}
+use Rattle.intuitive.specs.Promised.Worth.{yes-worth-nonneg}
 use Rattle.host.proofs.intuitive_hours.lta_intuitive_small.Statement.{statement}
 use Rattle.host.proofs.intuitive_hours.lta_intuitive_small.Tie as tie
 
@@ -10,7 +12,7 @@ same-length : tie.Need-same-length
 same-length c = search needs
 
 returns : tie.Need-returns
-returns c = c .before .intuitive-small .ensures
+returns c = let m = c .before .intuitive-small .ensures in clauses m (yes-worth-nonneg _ _ _ _ _ _ _ m)
 
 pub lta-intuitive-small-spec : {M : Type 1} → statement M
 lta-intuitive-small-spec = tie.close (tie.spec intuitive-small-requires same-length returns)
