@@ -30,10 +30,10 @@ module _ (c : tie.After-judge) where
   t = start .args .proposal .now
 
   answered : c .judge .result ≡ outcome s t reportRoom
-  answered = c .judge .ensures .0
+  answered = c .judge .ensures .verdict-is
 
   left : c .judge .last .1 .1 .0 ≡ bufferAfter s t (replicate reportRoom 0)
-  left = c .judge .ensures .1 .0
+  left = c .judge .ensures .buffer-is
 
 -- the first line stands, and the test of its number
 module _ (c : tie.After-reports) where
