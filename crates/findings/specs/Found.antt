@@ -9,38 +9,40 @@ use lib.ListN.{replicate}
 use lib.Dec.{T, eqb, eqb→eq}
 use lib.IntN.{pos}
 use Rattle.integers.specs.Ranges.{isZero}
-use Rattle.rules.specs.Meaning.Hour.{Case, Plan, Prices, caseOf, planOf, pricesOf, net, netSum, fbPart, noLink}
+use Rattle.rules.specs.Meaning.Hour.{Case, Plan, Prices, caseOf, planOf, pricesOf, net, netSum, fbPart, noLink, welfare}
 use Rattle.rules.specs.Meaning.Report.{totalsOf, reports}
 use Rattle.rules.specs.Meaning.Verdict.{over, caseRows, proposalRows, wideTolerance, familyRows, excessVolume, fractionRows, unbalanced, shareWithoutLink, overusedLink, exchangeRows, clearingRows, judgementRows}
 use Rattle.rows.specs.declared.Outcome.{Outcome}
 use Rattle.rows.specs.Meaning.Rows.{Row, verdict, firstBelow, failing, rowElse, refusal, answer, once}
 use Rattle.rows.specs.Promised.RowLaws.{else-refusal, refusal-append, lacks, not-refused, zero-none, behind}
 use Rattle.measures.specs.declared.Microcents.{Microcents}
-use Rattle.case_header.specs.declared.Counts.{Counts}
-use Rattle.proposal_file.specs.declared.Opening.{Opening}
-use Rattle.proposal_file.specs.Proposed.{Proposed}
-use Rattle.proposal_file.specs.Meaning.Answer.{openingOf}
+use Rattle.clearing.specs.declared.HourRead.{HourRead}
 use Rattle.clearing.specs.Held.{Holds, noTenths}
+use Rattle.clearing.specs.Read.{HourReadFrom}
+use Rattle.clearing.specs.Stages.{VolumesIn, FlowsIn}
 use Rattle.network.specs.Prices.{Priced, noGrains}
 use Rattle.report.specs.Written.{totalsIn}
-use Rattle.findings.specs.declared.Files.{Files}
+use Rattle.findings.specs.declared.FamilyList.{FamilyList}
+use Rattle.findings.specs.declared.FamilyList.the-variants.{Given, Absent}
+use Rattle.findings.specs.declared.Reading.{Reading}
+use Rattle.findings.specs.declared.Cleared.{Cleared}
 use Rattle.findings.specs.declared.Found.{Found}
 
 -- the family list that is given (S-11), or none
-abbrev pub listOf : Bool → List ℕ → Option (List ℕ)
-listOf true f = some f
-listOf false f = none
+abbrev pub listOf : FamilyList → List ℕ → Option (List ℕ)
+listOf Given f = some f
+listOf Absent f = none
 
 -- the table from row 1 to row 26, of a case s and a proposal t, with a family list or without
 abbrev pub hourRows : Option (List ℕ) → List ℕ → List ℕ → List Row
 hourRows fs s t = caseRows s (caseOf s) ++ (proposalRows s t (caseOf s) (planOf s t) (pricesOf s t) ++ judgementRows fs (caseOf s) (planOf s t) (pricesOf s t))
 
--- THE STAGES of it, in its order: 1 to 18, of what is read; 21 and 28, of the orders; 22, 27 and 23, of the links; 24 to 26, behind 23
+-- THE STAGES of it, in its order: 1 to 18, `read`; 21 and 28, of the orders, with 22, 27 and 23, of the links, `clear`; 24 to 26, behind 23, `value`
 abbrev pub admittedRows : Option (List ℕ) → Case → List Row
 admittedRows fs c = wideTolerance c ∷ familyRows fs c
 
-abbrev pub fileRows : Option (List ℕ) → List ℕ → List ℕ → List Row
-fileRows fs s t = caseRows s (caseOf s) ++ (proposalRows s t (caseOf s) (planOf s t) (pricesOf s t) ++ admittedRows fs (caseOf s))
+abbrev pub readRows : Option (List ℕ) → List ℕ → List ℕ → List Row
+readRows fs s t = caseRows s (caseOf s) ++ (proposalRows s t (caseOf s) (planOf s t) (pricesOf s t) ++ admittedRows fs (caseOf s))
 
 abbrev pub orderRows : Option (List ℕ) → Case → Plan → List Row
 orderRows fs c p = excessVolume c p ∷ fractionRows fs c p
@@ -48,26 +50,40 @@ orderRows fs c p = excessVolume c p ∷ fractionRows fs c p
 abbrev pub linkRows : Case → Plan → List Row
 linkRows c p = unbalanced c p ∷ shareWithoutLink c p ∷ overusedLink c p ∷ []
 
-abbrev pub networkRows : Case → Plan → Prices → List Row
-networkRows c p d = behind 23 (exchangeRows c p d)
+abbrev pub clearRows : Option (List ℕ) → Case → Plan → List Row
+clearRows fs c p = orderRows fs c p ++ linkRows c p
 
-pub stages : (fs : Option (List ℕ)) (s t : List ℕ) → hourRows fs s t ≡ fileRows fs s t ++ (orderRows fs (caseOf s) (planOf s t) ++ (linkRows (caseOf s) (planOf s t) ++ networkRows (caseOf s) (planOf s t) (pricesOf s t)))
+abbrev pub valueRows : Case → Plan → Prices → List Row
+valueRows c p d = behind 23 (exchangeRows c p d)
+
+pub stages : (fs : Option (List ℕ)) (s t : List ℕ) → hourRows fs s t ≡ readRows fs s t ++ (clearRows fs (caseOf s) (planOf s t) ++ valueRows (caseOf s) (planOf s t) (pricesOf s t))
 unfolding clearingRows
 stages fs s t =
     let of-case = caseRows s (caseOf s) in
     let of-proposal = proposalRows s t (caseOf s) (planOf s t) (pricesOf s t) in
-    let rest = orderRows fs (caseOf s) (planOf s t) ++ (linkRows (caseOf s) (planOf s t) ++ networkRows (caseOf s) (planOf s t) (pricesOf s t)) in
-    sym (append-assoc of-case (of-proposal ++ admittedRows fs (caseOf s)) rest ∙ ap (λ (rows : List Row). of-case ++ rows) (append-assoc of-proposal (admittedRows fs (caseOf s)) rest))
+    let of-lists = admittedRows fs (caseOf s) in
+    let of-orders = orderRows fs (caseOf s) (planOf s t) in
+    let of-links = linkRows (caseOf s) (planOf s t) in
+    let of-network = valueRows (caseOf s) (planOf s t) (pricesOf s t) in
+    sym (append-assoc of-case (of-proposal ++ of-lists) ((of-orders ++ of-links) ++ of-network)
+    ∙ ap (λ (rows : List Row). of-case ++ rows) (append-assoc of-proposal of-lists ((of-orders ++ of-links) ++ of-network) ∙ ap (λ (rows : List Row). of-proposal ++ (of-lists ++ rows)) (append-assoc of-orders of-links of-network)))
 
+-- CLEARED: what holds where rows 21, 28, 22, 27 and 23 pass
+pub record HourCleared (c : Case) (p : Plan) (r : Cleared) : Type 0 where
+  pub volumes-in : VolumesIn c p
+  pub flows-in : FlowsIn c p
+  pub nets-are : Holds (net c p) (r .nets)
+  pub parts-are : Holds (fbPart c p) (r .parts)
+  pub welfare-is : r .welfare .0 ≡ welfare c p
+
+-- FOUND: the verdict, and what holds of an hour that is valued
 pub record Finds (rows : List Row) (s t : List ℕ) (r : Found) : Type 0 where
   pub verdict-is : r .verdict ≡ answer (refusal rows)
   pub valued-is : r .valued ≡ reports (r .verdict .number)
-  pub few-zones : r .counts .zones ≤ 16
-  pub zones-are : r .valued ≡ true → r .counts .zones ≡ (caseOf s) .zones
-  pub counts-are : r .valued ≡ true → Proposed s (r .counts) t
-  pub opening-is : r .valued ≡ true → r .opening ≡ openingOf t
-  pub nets-are : r .valued ≡ true → Holds (net (caseOf s) (planOf s t)) (r .nets)
-  pub parts-are : r .valued ≡ true → Holds (fbPart (caseOf s) (planOf s t)) (r .parts)
+  pub few-zones : r .hour .counts .zones ≤ 16
+  pub zones-are : r .valued ≡ true → r .hour .counts .zones ≡ (caseOf s) .zones
+  pub hour-is : r .valued ≡ true → HourReadFrom s t (r .hour)
+  pub cleared-is : r .valued ≡ true → HourCleared (caseOf s) (planOf s t) (r .cleared)
   pub prices-are : r .valued ≡ true → Priced (caseOf s) (pricesOf s t) (r .prices)
   pub totals-are : r .valued ≡ true → totalsIn (r .totals) ≡ totalsOf (caseOf s) (planOf s t) (pricesOf s t)
 
@@ -75,26 +91,30 @@ pub record Finds (rows : List Row) (s t : List ℕ) (r : Found) : Type 0 where
 abbrev noMoney : Microcents
 noMoney = record { 0 = pos 0 }
 
-abbrev noCounts : Counts
-noCounts = record { version = 0; zones = 0; branches = 0; links = 0; orders = 0; tolerance = noMoney }
+abbrev nothingRead : HourRead
+nothingRead = record {
+  counts = record { version = 0; zones = 0; branches = 0; links = 0; orders = 0; tolerance = noMoney };
+  opening = record { share = record { 0 = pos 0 }; system = record { 0 = pos 0 } };
+}
 
-abbrev noOpening : Opening
-noOpening = record { share = record { 0 = pos 0 }; system = record { 0 = pos 0 } }
+abbrev pub unreadAs : Outcome → Reading
+unreadAs o = record { verdict = o; hour = nothingRead }
 
-abbrev pub unreadAs : Outcome → Files
-unreadAs o = record { verdict = o; counts = noCounts; opening = noOpening }
+abbrev pub unclearedAs : Outcome → Cleared
+unclearedAs o = record { verdict = o; nets = replicate 16 noTenths; parts = replicate 16 noTenths; welfare = noMoney }
 
-abbrev pub refusedAs : Outcome → Found
-refusedAs o = record {
+abbrev pub refusedWith : Outcome → Cleared → Found
+refusedWith o x = record {
   verdict = o;
   valued = false;
-  counts = noCounts;
-  opening = noOpening;
-  nets = replicate 16 noTenths;
-  parts = replicate 16 noTenths;
+  hour = nothingRead;
+  cleared = x;
   prices = replicate 16 noGrains;
   totals = record { welfare = noMoney; bound = noMoney; gap = noMoney; rent = noMoney; owed = noMoney };
 }
+
+abbrev pub refusedAs : Outcome → Found
+refusedAs o = refusedWith o (unclearedAs o)
 
 false-true : {X : Type 0} → false ≡ true → X
 false-true e = absurd (subst (λ (b : Bool). T (not b)) e tt)
@@ -106,10 +126,8 @@ module _ {rows : List Row} {s t : List ℕ} where
     valued-is = sym w;
     few-zones = omega arith;
     zones-are = λ f. false-true f;
-    counts-are = λ f. false-true f;
-    opening-is = λ f. false-true f;
-    nets-are = λ f. false-true f;
-    parts-are = λ f. false-true f;
+    hour-is = λ f. false-true f;
+    cleared-is = λ f. false-true f;
     prices-are = λ f. false-true f;
     totals-are = λ f. false-true f;
   })
@@ -121,10 +139,8 @@ module _ {rows : List Row} {s t : List ℕ} where
     valued-is = f .valued-is;
     few-zones = f .few-zones;
     zones-are = f .zones-are;
-    counts-are = f .counts-are;
-    opening-is = f .opening-is;
-    nets-are = f .nets-are;
-    parts-are = f .parts-are;
+    hour-is = f .hour-is;
+    cleared-is = f .cleared-is;
     prices-are = f .prices-are;
     totals-are = f .totals-are;
   }
@@ -147,35 +163,49 @@ writes-no-report rows o a b e = λ j.
     not-by (eqb (o .number) 0) (λ t. not-refused 0 rows a o e (eqb→eq (o .number) 0 t)) j
     || not-by (eqb (o .number) 26) (λ t. not-refused 26 rows b o e (eqb→eq (o .number) 26 t)) j
 
--- A STAGE, whose rows lack 0 and 26: it refuses by its verdict, or its verdict is 0 and the stages behind it are asked
+-- A STAGE, whose rows lack 0 and 26: it refuses by its verdict, or its verdict is 0 and the rows behind it are asked
 pub record Silent (qs : List Row) : Type 0 where
   pub not-0 : T (lacks 0 qs)
   pub not-26 : T (lacks 26 qs)
 
 module _ {qs : List Row} (rs : List Row) {v : Outcome} (l : Silent qs) (e : v ≡ answer (refusal qs)) where
-  pub stage-refuses : {s t : List ℕ} {r : Found} → 0 < v .number → r ≡ refusedAs v → Finds (qs ++ rs) s t r
-  stage-refuses {s} {t} {r} h q = by (refusal qs) refl
+  refuses : 0 < v .number → refusal qs ≡ some v
+  refuses h = by (refusal qs) refl
     where
-      by : (o : Option Outcome) → refusal qs ≡ o → Finds (qs ++ rs) s t r
-      by (some x) p = let w = p ∙ ap (λ (o : Outcome). some o) (sym (e ∙ ap answer p)) in finds-refused v q (writes-no-report qs v (l .not-0) (l .not-26) w) (first-refuses qs rs v w)
+      by : (o : Option Outcome) → refusal qs ≡ o → refusal qs ≡ some v
+      by (some x) p = p ∙ ap (λ (o : Outcome). some o) (sym (e ∙ ap answer p))
       by none p = absurd (omega (arith, h, ap (λ (o : Outcome). o .number) (e ∙ ap answer p)))
 
-  pub stage-passes : {s t : List ℕ} {r : Found} → v .number ≡ 0 → Finds rs s t r → Finds (qs ++ rs) s t r
-  stage-passes h f = same-rows (first-passes qs rs (zero-none qs (l .not-0) (sym (ap (λ (o : Outcome). o .number) e) ∙ h))) f
+  passes : v .number ≡ 0 → refusal (qs ++ rs) ≡ refusal rs
+  passes h = first-passes qs rs (zero-none qs (l .not-0) (sym (ap (λ (o : Outcome). o .number) e) ∙ h))
 
-pub files-silent : (fs : Option (List ℕ)) (s t : List ℕ) → Silent (fileRows fs s t)
+  -- of the verdict, and of what is found
+  pub verdict-refuses : 0 < v .number → v ≡ answer (refusal (qs ++ rs))
+  verdict-refuses h = sym (ap answer (first-refuses qs rs v (refuses h)))
+
+  pub verdict-passes : {w : Outcome} → v .number ≡ 0 → w ≡ answer (refusal rs) → w ≡ answer (refusal (qs ++ rs))
+  verdict-passes h q = q ∙ sym (ap answer (passes h))
+
+  pub stage-refuses : {s t : List ℕ} {r : Found} → 0 < v .number → r ≡ refusedAs v → Finds (qs ++ rs) s t r
+  stage-refuses h q = finds-refused v q (writes-no-report qs v (l .not-0) (l .not-26) (refuses h)) (first-refuses qs rs v (refuses h))
+
+  pub stage-passes : {s t : List ℕ} {r : Found} → v .number ≡ 0 → Finds rs s t r → Finds (qs ++ rs) s t r
+  stage-passes h f = same-rows (passes h) f
+
+pub read-silent : (fs : Option (List ℕ)) (s t : List ℕ) → Silent (readRows fs s t)
 unfolding caseRows proposalRows lacks
-files-silent none s t = record { not-0 = tt; not-26 = tt }
-files-silent (some f) s t = record { not-0 = tt; not-26 = tt }
+read-silent none s t = record { not-0 = tt; not-26 = tt }
+read-silent (some f) s t = record { not-0 = tt; not-26 = tt }
 
 pub orders-silent : (fs : Option (List ℕ)) (c : Case) (p : Plan) → Silent (orderRows fs c p)
 unfolding lacks
 orders-silent none c p = record { not-0 = tt; not-26 = tt }
 orders-silent (some f) c p = record { not-0 = tt; not-26 = tt }
 
-pub links-silent : (c : Case) (p : Plan) → Silent (linkRows c p)
+pub clear-silent : (fs : Option (List ℕ)) (c : Case) (p : Plan) → Silent (clearRows fs c p)
 unfolding lacks
-links-silent c p = record { not-0 = tt; not-26 = tt }
+clear-silent none c p = record { not-0 = tt; not-26 = tt }
+clear-silent (some f) c p = record { not-0 = tt; not-26 = tt }
 
 -- A STAGE'S ANSWER: the verdict of rows that refuse, and what holds where they pass
 pub answers : (rows : List Row) {o : Outcome} {v : Outcome} → v ≡ o → refusal rows ≡ some o → v ≡ answer (refusal rows)

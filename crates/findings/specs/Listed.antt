@@ -1,6 +1,6 @@
 -- What the driver asks of a family list, where there is one (S-11), and what it comes to in the table's rows. Assumes nothing.
 use mathlib.Core.Path.{_≡_, refl, subst}
-use mathlib.Core.Bool.{Bool, true, false, not}
+use mathlib.Core.Bool.{Bool, true, false}
 use mathlib.Core.List.{List, []}
 use mathlib.Core.Option.{Option, none, some, Option·none-ne-some}
 use Prim.Native.Nat.{ℕ, _≤_, _<_}
@@ -18,35 +18,41 @@ use Rattle.family_list.specs.declared.FamilyAnswer.{FamilyAnswer}
 use Rattle.family_list.specs.declared.FamilyAnswer.the-variants.{Sound, Refused}
 use Rattle.family_list.specs.Meaning.Answer.{familyAnswer}
 use Rattle.family_list.specs.Steps.Answer.{Known, refused-of, passed-of, known-of}
+use Rattle.findings.specs.declared.FamilyList.{FamilyList}
+use Rattle.findings.specs.declared.FamilyList.the-variants.{Given, Absent}
 use Rattle.findings.specs.Found.{listOf, admittedRows}
 
 -- ROWS 16 TO 18
-abbrev pub listedAnswer : Bool → List ℕ → ℕ → FamilyAnswer
-listedAnswer true f orders = familyAnswer f orders
-listedAnswer false f orders = Sound
+abbrev pub listedAnswer : FamilyList → List ℕ → ℕ → FamilyAnswer
+listedAnswer Given f orders = familyAnswer f orders
+listedAnswer Absent f orders = Sound
+
+abbrev absent : FamilyList → Bool
+absent Given = false
+absent Absent = true
 
 module _ (f : List ℕ) (c : Case) {orders : ℕ} (count : c .orders ≡ orders) where
-  pub families-refuse : (listed : Bool) (o : Outcome) → listedAnswer listed f orders ≡ Refused o → refusal (familyRows (listOf listed f) c) ≡ some o
-  families-refuse true o e = refused-of f c count e
-  families-refuse false o e = cc
+  pub families-refuse : (list : FamilyList) (o : Outcome) → listedAnswer list f orders ≡ Refused o → refusal (familyRows (listOf list f) c) ≡ some o
+  families-refuse Given o e = refused-of f c count e
+  families-refuse Absent o e = cc
 
-  pub families-pass : (listed : Bool) → listedAnswer listed f orders ≡ Sound → refusal (familyRows (listOf listed f) c) ≡ none
+  pub families-pass : (list : FamilyList) → listedAnswer list f orders ≡ Sound → refusal (familyRows (listOf list f) c) ≡ none
   unfolding refusal
-  families-pass true e = passed-of f c count e
-  families-pass false e = refl
+  families-pass Given e = passed-of f c count e
+  families-pass Absent e = refl
 
-  pub families-known : (listed : Bool) → orders ≤ 512 → listedAnswer listed f orders ≡ Sound → listed ≡ true → Known f orders
-  families-known true h e q = known-of f c count h e
-  families-known false h e q = absurd (subst (λ (b : Bool). T (not b)) q tt)
+  pub families-known : (list : FamilyList) → orders ≤ 512 → listedAnswer list f orders ≡ Sound → list ≡ Given → Known f orders
+  families-known Given h e q = known-of f c count h e
+  families-known Absent h e q = absurd (subst (λ (l : FamilyList). T (absent l)) q tt)
 
 -- ROWS 15 TO 18, of every case with these counts: the verdict, and where they pass a list that is known
 pub record Counted (c : Case) (k : Counts) : Type 0 where
   pub tolerance-is : k .tolerance .0 ≡ limits.microcentsOf (pos (c .tolerance))
   pub orders-is : c .orders ≡ k .orders
 
-pub record Admitted (k : Counts) (listed : Bool) (f : List ℕ) (r : Outcome) : Type 0 where
-  pub verdict-is : (c : Case) → Counted c k → r ≡ answer (refusal (admittedRows (listOf listed f) c))
-  pub known : (c : Case) → Counted c k → r .number ≡ 0 → listed ≡ true → Known f (k .orders)
+pub record Admitted (k : Counts) (list : FamilyList) (f : List ℕ) (r : Outcome) : Type 0 where
+  pub verdict-is : (c : Case) → Counted c k → r ≡ answer (refusal (admittedRows (listOf list f) c))
+  pub known : (c : Case) → Counted c k → r .number ≡ 0 → list ≡ Given → Known f (k .orders)
 
 -- ROW 28
 abbrev pub fractionPlace : Option (List ℕ) → Case → Plan → Option ℕ

@@ -1,5 +1,6 @@
-// THE DRIVER: what the verdict table from row 1 to row 26 finds in an hour. `find_listed_after`, near the end, asks the stages in the table's order. The verdict of a
-// stage is 0 where its rows pass, and a stage may rest on what those before it passed.
+// THE DRIVER: what the verdict table from row 1 to row 26 finds in an hour. `find_by_stages`, near the end, asks three stages in the table's order: `read`
+// (1 to 18), `clear` (21, 28, 22, 27, 23) and `value` (24 to 26). The verdict of a stage is 0 where its rows pass, and a stage may rest on what those before
+// it passed.
 ghost use mathlib.Core.Path.{_≡_};
 ghost use mathlib.Core.Bool.{true, not, cond, _&&_};
 ghost use mathlib.Core.Option.{none, some};
@@ -16,12 +17,12 @@ ghost use Rattle.rows.specs.Meaning.Place.{placeOf};
 ghost use Rattle.rows.specs.Meaning.Rows.{verdict, failing, refusal, answer};
 ghost use Rattle.rules.specs.Meaning.Verdict.{excessVolume};
 ghost use Rattle.case_header.specs.Meaning.Answer.{headerAnswer};
-ghost use Rattle.proposal_file.specs.Proposed.{Proposed};
-ghost use Rattle.proposal_file.specs.Meaning.Answer.{openingOf};
 ghost use Rattle.family_list.specs.Steps.Answer.{Known};
-ghost use Rattle.clearing.specs.Held.{tenthsAt, Holds};
-ghost use Rattle.clearing.specs.Stages.{VolumesIn, FlowsIn};
-ghost use Rattle.findings.specs.Found.{Finds, fileRows, orderRows, linkAnswer, networkRows, hourRows, listOf, unreadAs, refusedAs};
+ghost use Rattle.clearing.specs.Held.{tenthsAt};
+ghost use Rattle.clearing.specs.Read.{HourReadFrom};
+ghost use Rattle.clearing.specs.Stages.{VolumesIn};
+ghost use Rattle.findings.specs.declared.FamilyList.the-variants.{Given};
+ghost use Rattle.findings.specs.Found.{Finds, HourCleared, readRows, clearRows, orderRows, linkAnswer, valueRows, hourRows, listOf, unreadAs, unclearedAs, refusedAs};
 ghost use Rattle.findings.specs.Listed.{Admitted, listedAnswer, fractionPlace};
 use case_branches::ptdf_table;
 use case_file::CaseAnswer;
@@ -29,6 +30,7 @@ use case_file::read_case_after;
 use case_header::Counts;
 use case_header::HeaderAnswer;
 use case_header::read_header;
+use clearing::HourRead;
 use clearing::link_sums;
 use clearing::net_sum;
 use clearing::order_sums;
@@ -51,14 +53,33 @@ use rows::Place;
 use valuation::totals;
 use valuation::zone_sums;
 
-// The verdict, and of an hour that is valued, which is one of verdict 0 or 26, its counts, opening, net positions, flow-based parts, prices and totals.
+// Whether there is a family list (S-11). An enum holds no slice, so the list goes next to this mark, and where it is absent the slice next to it is empty.
+pub enum FamilyList {
+    Given,
+    Absent,
+}
+
+// What `read` answers: the verdict of rows 1 to 18 and, where they pass, what was read.
+struct Reading {
+    verdict: Outcome,
+    hour: HourRead,
+}
+
+// What `clear` answers: the verdict of rows 21, 28, 22, 27 and 23 and, where they pass, net positions, flow-based parts and welfare.
+pub struct Cleared {
+    pub verdict: Outcome,
+    pub nets: [Tenths; 16],
+    pub parts: [Tenths; 16],
+    pub welfare: Microcents,
+}
+
+// The verdict and, of an hour that is valued, which is one of verdict 0 or 26, what was read, its clearing, prices and totals. What `clear` answered is kept
+// whole: its arrays are copied once.
 pub struct Found {
     pub verdict: Outcome,
     pub valued: bool,
-    pub counts: Counts,
-    pub opening: Opening,
-    pub nets: [Tenths; 16],
-    pub parts: [Tenths; 16],
+    pub hour: HourRead,
+    pub cleared: Cleared,
     pub prices: [Grains; 16],
     pub totals: Totals,
 }
@@ -69,18 +90,19 @@ const PASSED: Outcome = Outcome {
     index: 0,
 };
 
-const NO_COUNTS: Counts = Counts {
-    version: 0,
-    zones: 0,
-    branches: 0,
-    links: 0,
-    orders: 0,
-    tolerance: Microcents::ZERO,
-};
-
-const NO_OPENING: Opening = Opening {
-    share: Share::LEAST,
-    system: Cents::SHADOW_PRICE_LEAST,
+const NOTHING_READ: HourRead = HourRead {
+    counts: Counts {
+        version: 0,
+        zones: 0,
+        branches: 0,
+        links: 0,
+        orders: 0,
+        tolerance: Microcents::ZERO,
+    },
+    opening: Opening {
+        share: Share::LEAST,
+        system: Cents::SHADOW_PRICE_LEAST,
+    },
 };
 
 const NO_TOTALS: Totals = Totals {
@@ -91,17 +113,28 @@ const NO_TOTALS: Totals = Totals {
     owed: Microcents::ZERO,
 };
 
+// Refused before anything is cleared.
+fn uncleared(verdict: Outcome) -> Cleared
+    ensures { λ r. ⌜ r ≡ unclearedAs verdict ⌝ }
+{
+    Cleared {
+        verdict,
+        nets: [Tenths::ZERO; 16],
+        parts: [Tenths::ZERO; 16],
+        welfare: Microcents::ZERO,
+    }
+}
+
 // Refused, so that there is nothing to report.
 fn refused_by(verdict: Outcome) -> Found
     ensures { λ r. ⌜ r ≡ refusedAs verdict ⌝ }
 {
+    let cleared = uncleared(verdict);
     Found {
         verdict,
         valued: false,
-        counts: NO_COUNTS,
-        opening: NO_OPENING,
-        nets: [Tenths::ZERO; 16],
-        parts: [Tenths::ZERO; 16],
+        hour: NOTHING_READ,
+        cleared,
         prices: [Grains::ZERO; 16],
         totals: NO_TOTALS,
     }
@@ -119,107 +152,105 @@ fn outcome(number: u32, place: usize) -> Outcome
 }
 
 // Rows 16 to 18, where there is a family list.
-fn read_listed(families: &[u8], orders: usize, listed: bool) -> FamilyAnswer
+fn read_with_families(families: &[u8], list: FamilyList, orders: usize) -> FamilyAnswer
     requires { ⌜ orders ≤ 512 ⌝ }
-    ensures { λ r. ⌜ r ≡ listedAnswer listed (now (families .entry)) orders ⌝ }
+    ensures { λ r. ⌜ r ≡ listedAnswer list (now (families .entry)) orders ⌝ }
 {
-    if listed {
-        return read_families(families, orders);
+    match list {
+        FamilyList::Given => read_families(families, orders),
+        FamilyList::Absent => FamilyAnswer::Sound,
     }
-    FamilyAnswer::Sound
 }
 
 // Rows 15 to 18: a tolerance too wide to be accepted (S-12), and the family list.
-fn admit(k: Counts, families: &[u8], listed: bool) -> Outcome
+fn admit(k: Counts, families: &[u8], list: FamilyList) -> Outcome
     requires { ⌜ k .orders ≤ 512 ⌝ }
-    ensures { λ r. ⌜ Admitted k listed (now (families .entry)) r ⌝ }
+    ensures { λ r. ⌜ Admitted k list (now (families .entry)) r ⌝ }
 {
     let tolerance = k.tolerance;
     let MicrocentsAnswer::Held(_) = tolerance.accepted_tolerance() else {
         return outcome(15, 0);
     };
-    match read_listed(families, k.orders, listed) {
+    match read_with_families(families, list, k.orders) {
         FamilyAnswer::Refused(refusal) => refusal,
         FamilyAnswer::Sound => PASSED,
     }
 }
 
-// ROWS 1 TO 18: what is read, with the counts and the opening.
-struct Files {
-    verdict: Outcome,
-    counts: Counts,
-    opening: Opening,
-}
-
-fn not_read(verdict: Outcome) -> Files
+fn not_read(verdict: Outcome) -> Reading
     ensures { λ r. ⌜ r ≡ unreadAs verdict ⌝ }
 {
-    Files {
+    Reading {
         verdict,
-        counts: NO_COUNTS,
-        opening: NO_OPENING,
+        hour: NOTHING_READ,
     }
 }
 
-fn read_files(
+// ROWS 1 TO 18: the case, the proposal, and what is asked of them and the family list alone.
+fn read(
     case: &[u8],
     header: HeaderAnswer,
     proposal: &[u8],
     families: &[u8],
-    listed: bool,
-) -> Files
+    list: FamilyList,
+) -> Reading
     requires { ⌜ header ≡ headerAnswer (now «case») ⌝ }
-    ensures verdict { λ r. ⌜ r .verdict ≡ answer (refusal (fileRows (listOf listed (now (families .entry))) (now («case» .entry)) (now (proposal .entry)))) ⌝ }
-    ensures counts { λ r. ⌜ (r .verdict .number ≡ 0 → Proposed (now («case» .entry)) (r .counts) (now (proposal .entry))) ⌝ }
-    ensures opening { λ r. ⌜ (r .verdict .number ≡ 0 → r .opening ≡ openingOf (now (proposal .entry))) ⌝ }
-    ensures families { λ r. ⌜ (r .verdict .number ≡ 0 → listed ≡ true → Known (now (families .entry)) (r .counts .orders)) ⌝ }
+    ensures verdict { λ r. ⌜ r .verdict ≡ answer (refusal (readRows (listOf list (now (families .entry))) (now («case» .entry)) (now (proposal .entry)))) ⌝ }
+    ensures hour { λ r. ⌜ (r .verdict .number ≡ 0 → HourReadFrom (now («case» .entry)) (now (proposal .entry)) (r .hour)) ⌝ }
+    ensures families { λ r. ⌜ (r .verdict .number ≡ 0 → list ≡ Given → Known (now (families .entry)) (r .hour .counts .orders)) ⌝ }
 {
-    // Lent again: handed on as it came, it is copied by sixteen bytes that were written by eight, for which the processor waits.
+    // Reborrow: handed on as it came, the slice is reloaded by 16 bytes right after it was stored by 8 and 8, for which the processor waits.
     match read_case_after(&case[..], header) {
         CaseAnswer::Refused(refusal) => not_read(refusal),
         CaseAnswer::Readable(counts) => match read_proposal(case, counts, proposal) {
             ProposalAnswer::Refused(refusal) => not_read(refusal),
-            ProposalAnswer::Sound(opening) => Files {
-                verdict: admit(counts, families, listed),
-                counts,
-                opening,
+            ProposalAnswer::Sound(opening) => Reading {
+                verdict: admit(counts, families, list),
+                hour: HourRead { counts, opening },
             },
         },
     }
 }
 
 // Row 28, where there is a family list.
-fn first_over(case: &[u8], k: Counts, proposal: &[u8], families: &[u8], listed: bool) -> Place
-    requires { ⌜ Proposed (now «case») k (now proposal) ⌝ }
-    requires { ⌜ VolumesIn (caseOf (now «case»)) (planOf (now «case») (now proposal)) ⌝ }
-    requires { ⌜ (listed ≡ true → Known (now families) (k .orders)) ⌝ }
-    ensures { λ r. ⌜ placeOf r ≡ fractionPlace (listOf listed (now (families .entry))) (caseOf (now («case» .entry))) (planOf (now («case» .entry)) (now (proposal .entry))) ⌝ }
-{
-    if listed {
-        return first_over_parent(case, k, proposal, families);
-    }
-    Place::Nowhere
-}
-
-// ROWS 21 AND 28, of the orders: the first volume above its quantity, and the families.
-fn order_verdict(
+fn first_over(
     case: &[u8],
-    k: Counts,
     proposal: &[u8],
     families: &[u8],
-    listed: bool,
+    list: FamilyList,
+    hour: HourRead,
+) -> Place
+    requires { ⌜ HourReadFrom (now «case») (now proposal) hour ⌝ }
+    requires { ⌜ VolumesIn (caseOf (now «case»)) (planOf (now «case») (now proposal)) ⌝ }
+    requires { ⌜ (list ≡ Given → Known (now families) (hour .counts .orders)) ⌝ }
+    ensures { λ r. ⌜ placeOf r ≡ fractionPlace (listOf list (now (families .entry))) (caseOf (now («case» .entry))) (planOf (now («case» .entry)) (now (proposal .entry))) ⌝ }
+{
+    let k = hour.counts;
+    match list {
+        FamilyList::Given => first_over_parent(case, k, proposal, families),
+        FamilyList::Absent => Place::Nowhere,
+    }
+}
+
+// Rows 21 and 28, of the orders: the first volume above its quantity, and the families.
+fn order_verdict(
+    case: &[u8],
+    proposal: &[u8],
+    families: &[u8],
+    list: FamilyList,
+    hour: HourRead,
     excess: Place,
 ) -> Outcome
-    requires { ⌜ Proposed (now «case») k (now proposal) ⌝ }
-    requires { ⌜ (listed ≡ true → Known (now families) (k .orders)) ⌝ }
+    requires { ⌜ HourReadFrom (now «case») (now proposal) hour ⌝ }
+    requires { ⌜ (list ≡ Given → Known (now families) (hour .counts .orders)) ⌝ }
     requires { ⌜ placeOf excess ≡ failing (excessVolume (caseOf (now «case»)) (planOf (now «case») (now proposal))) ⌝ }
-    ensures verdict { λ r. ⌜ r ≡ answer (refusal (orderRows (listOf listed (now (families .entry))) (caseOf (now («case» .entry))) (planOf (now («case» .entry)) (now (proposal .entry))))) ⌝ }
+    ensures verdict { λ r. ⌜ r ≡ answer (refusal (orderRows (listOf list (now (families .entry))) (caseOf (now («case» .entry))) (planOf (now («case» .entry)) (now (proposal .entry))))) ⌝ }
     ensures volumes { λ r. ⌜ (r .number ≡ 0 → placeOf excess ≡ none) ⌝ }
 {
     if let Place::At(i) = excess {
         return outcome(21, i);
     }
-    let over = first_over(case, k, proposal, families, listed);
+    let over = first_over(case, proposal, families, list, hour);
     if let Place::At(i) = over {
         return outcome(28, i);
     }
@@ -236,13 +267,15 @@ fn share_without_link(links: usize, share: Share) -> bool
     false
 }
 
-// ROWS 22, 27 AND 23: the balance, the share without links, and the first link that is overused.
-fn link_verdict(k: Counts, share: Share, nets: [Tenths; 16], overused: Place) -> Outcome
-    requires { ⌜ k .zones ≤ 16 ⌝ }
-    requires { ⌜ SumsFit (λ z. tenthsAt nets z) (k .zones) ⌝ }
+// Rows 22, 27 and 23: the balance, the share without links, and the first link that is overused.
+fn link_verdict(hour: HourRead, nets: [Tenths; 16], overused: Place) -> Outcome
+    requires { ⌜ hour .counts .zones ≤ 16 ⌝ }
+    requires { ⌜ SumsFit (λ z. tenthsAt nets z) (hour .counts .zones) ⌝ }
     requires { ⌜ ((l : ℕ) → placeOf overused ≡ some l → l < 4294967296) ⌝ }
-    ensures { λ r. ⌜ r ≡ linkAnswer (not (isZero (sumTo (k .zones) (λ z. tenthsAt nets z)))) (eqb (k .links) 0 && ltZ (pos 0) (share .0)) (placeOf overused) ⌝ }
+    ensures { λ r. ⌜ r ≡ linkAnswer (not (isZero (sumTo (hour .counts .zones) (λ z. tenthsAt nets z)))) (eqb (hour .counts .links) 0 && ltZ (pos 0) (hour .opening .share .0)) (placeOf overused) ⌝ }
 {
+    let k = hour.counts;
+    let share = hour.opening.share;
     let unbalanced = !net_sum(nets, k.zones).is_zero();
     let no_domain = share_without_link(k.links, share);
     if unbalanced {
@@ -257,6 +290,35 @@ fn link_verdict(k: Counts, share: Share, nets: [Tenths; 16], overused: Place) ->
     PASSED
 }
 
+// ROWS 21, 28, 22, 27 AND 23: the orders and the links, with net positions, flow-based parts and welfare.
+fn clear(case: &[u8], proposal: &[u8], families: &[u8], list: FamilyList, hour: HourRead) -> Cleared
+    requires { ⌜ HourReadFrom (now «case») (now proposal) hour ⌝ }
+    requires { ⌜ (list ≡ Given → Known (now families) (hour .counts .orders)) ⌝ }
+    ensures verdict { λ r. ⌜ r .verdict ≡ answer (refusal (clearRows (listOf list (now (families .entry))) (caseOf (now («case» .entry))) (planOf (now («case» .entry)) (now (proposal .entry))))) ⌝ }
+    ensures cleared { λ r. ⌜ (r .verdict .number ≡ 0 → HourCleared (caseOf (now («case» .entry))) (planOf (now («case» .entry)) (now (proposal .entry))) r) ⌝ }
+{
+    // 21, the volumes; 28, the families.
+    let accepted = order_sums(case, proposal, hour);
+    let excess = accepted.excess;
+    let unfilled = order_verdict(case, proposal, families, list, hour, excess);
+    if unfilled.number != 0 {
+        return uncleared(unfilled);
+    }
+    let nets = accepted.nets;
+    // 22, the balance; 27, the share without links; 23, the links.
+    let exchange = link_sums(case, proposal, hour, nets);
+    let overused = exchange.overused;
+    let verdict = link_verdict(hour, nets, overused);
+    let parts = exchange.parts;
+    let welfare = accepted.welfare;
+    Cleared {
+        verdict,
+        nets,
+        parts,
+        welfare,
+    }
+}
+
 // Row 26: its number where the gap exceeds the tolerance, else 0.
 fn gap_verdict(gap: Microcents, tolerance: Microcents) -> u32
     ensures { λ r. ⌜ r ≡ cond (ltZ (tolerance .0) (gap .0)) 26 0 ⌝ }
@@ -265,51 +327,31 @@ fn gap_verdict(gap: Microcents, tolerance: Microcents) -> u32
 }
 
 // ROWS 24 TO 26: the branches, the zone prices and the gap, with all that is found in an hour that is valued.
-fn value_hour(
-    case: &[u8],
-    k: Counts,
-    proposal: &[u8],
-    opening: Opening,
-    nets: [Tenths; 16],
-    parts: [Tenths; 16],
-    welfare: Microcents,
-) -> Found
-    requires { ⌜ Proposed (now «case») k (now proposal) ⌝ }
-    requires { ⌜ opening ≡ openingOf (now proposal) ⌝ }
-    requires { ⌜ VolumesIn (caseOf (now «case»)) (planOf (now «case») (now proposal)) ⌝ }
-    requires { ⌜ FlowsIn (caseOf (now «case»)) (planOf (now «case») (now proposal)) ⌝ }
-    requires { ⌜ Holds (net (caseOf (now «case»)) (planOf (now «case») (now proposal))) nets ⌝ }
-    requires { ⌜ Holds (fbPart (caseOf (now «case»)) (planOf (now «case») (now proposal))) parts ⌝ }
-    requires { ⌜ welfare .0 ≡ rules.welfare (caseOf (now «case»)) (planOf (now «case») (now proposal)) ⌝ }
-    ensures { λ r. ⌜ Finds (networkRows (caseOf (now («case» .entry))) (planOf (now («case» .entry)) (now (proposal .entry))) (pricesOf (now («case» .entry)) (now (proposal .entry)))) (now («case» .entry)) (now (proposal .entry)) r ⌝ }
+fn value(case: &[u8], proposal: &[u8], hour: HourRead, cleared: Cleared) -> Found
+    requires { ⌜ HourReadFrom (now «case») (now proposal) hour ⌝ }
+    requires { ⌜ HourCleared (caseOf (now «case»)) (planOf (now «case») (now proposal)) cleared ⌝ }
+    ensures { λ r. ⌜ Finds (valueRows (caseOf (now («case» .entry))) (planOf (now («case» .entry)) (now (proposal .entry))) (pricesOf (now («case» .entry)) (now (proposal .entry)))) (now («case» .entry)) (now (proposal .entry)) r ⌝ }
 {
-    let zones = k.zones;
-    let share = opening.share;
+    let k = hour.counts;
+    let nets = cleared.nets;
+    let parts = cleared.parts;
     let table = ptdf_table(case, k);
-    let branches = branch_sums(
-        case,
-        k,
-        proposal,
-        table,
-        parts,
-        share.rest(),
-        opening.system,
-    );
+    let branches = branch_sums(case, proposal, hour, table, parts);
     let overloaded = branches.overloaded;
     if let Place::At(m) = overloaded {
         return refused_by(outcome(24, m));
     }
     let prices = branches.prices;
-    let zoned = zone_sums(nets, prices, zones);
+    let zoned = zone_sums(nets, prices, k.zones);
     let outside = zoned.outside;
     if let Place::At(z) = outside {
         return refused_by(outcome(25, z));
     }
     let totals = totals(
         case,
-        k,
         proposal,
-        welfare,
+        hour,
+        cleared.welfare,
         prices,
         branches.total,
         zoned.rent,
@@ -319,73 +361,59 @@ fn value_hour(
     Found {
         verdict: Outcome { number, index: 0 },
         valued: true,
-        counts: k,
-        opening,
-        nets,
-        parts,
+        hour,
+        cleared,
         prices,
         totals,
     }
 }
 
-// The hour, after its header was read: the table's rows top to bottom, stage by stage.
-pub fn find_listed_after(
+// The hour, once its header was read: the table's rows top to bottom, stage by stage.
+fn find_by_stages(
     case: &[u8],
     header: HeaderAnswer,
     proposal: &[u8],
     families: &[u8],
-    listed: bool,
+    list: FamilyList,
 ) -> Found
     requires { ⌜ header ≡ headerAnswer (now «case») ⌝ }
-    ensures { λ r. ⌜ Finds (hourRows (listOf listed (now (families .entry))) (now («case» .entry)) (now (proposal .entry))) (now («case» .entry)) (now (proposal .entry)) r ⌝ }
+    ensures { λ r. ⌜ Finds (hourRows (listOf list (now (families .entry))) (now («case» .entry)) (now (proposal .entry))) (now («case» .entry)) (now (proposal .entry)) r ⌝ }
 {
     // 1 to 8, the case; 9 to 14, the proposal; 15, the tolerance; 16 to 18, the family list where there is one (S-11).
-    let files = read_files(case, header, proposal, families, listed);
-    let unread = files.verdict;
+    let reading = read(case, header, proposal, families, list);
+    let unread = reading.verdict;
     if unread.number != 0 {
         return refused_by(unread);
     }
-    let k = files.counts;
-    let opening = files.opening;
-    // 21, the volumes; 28, the families.
-    let accepted = order_sums(case, k, proposal);
-    let excess = accepted.excess;
-    let unfilled = order_verdict(case, k, proposal, families, listed, excess);
-    if unfilled.number != 0 {
-        return refused_by(unfilled);
+    let hour = reading.hour;
+    // 21, the volumes; 28, the families; 22, the balance; 27, the share without links; 23, the links.
+    let cleared = clear(case, proposal, families, list, hour);
+    let not_cleared = cleared.verdict;
+    if not_cleared.number != 0 {
+        return refused_by(not_cleared);
     }
-    let nets = accepted.nets;
-    // 22, the balance; 27, the share without links; 23, the links.
-    let share = opening.share;
-    let exchange = link_sums(case, k, proposal, share, nets);
-    let overused = exchange.overused;
-    let unlinked = link_verdict(k, share, nets, overused);
-    if unlinked.number != 0 {
-        return refused_by(unlinked);
-    }
-    let parts = exchange.parts;
     // 24, the branches; 25, the zone prices; 26, the gap.
-    value_hour(case, k, proposal, opening, nets, parts, accepted.welfare)
+    value(case, proposal, hour, cleared)
 }
 
 // The hour, from its first byte.
-pub fn find_listed(case: &[u8], proposal: &[u8], families: &[u8], listed: bool) -> Found
-    ensures { λ r. ⌜ Finds (hourRows (listOf listed (now (families .entry))) (now («case» .entry)) (now (proposal .entry))) (now («case» .entry)) (now (proposal .entry)) r ⌝ }
+pub fn find_with_families(case: &[u8], proposal: &[u8], families: &[u8], list: FamilyList) -> Found
+    ensures { λ r. ⌜ Finds (hourRows (listOf list (now (families .entry))) (now («case» .entry)) (now (proposal .entry))) (now («case» .entry)) (now (proposal .entry)) r ⌝ }
 {
-    find_listed_after(case, read_header(case), proposal, families, listed)
+    find_by_stages(case, read_header(case), proposal, families, list)
 }
 
 // The same without a family list.
 pub fn find(case: &[u8], proposal: &[u8]) -> Found
     ensures { λ r. ⌜ Finds (hourRows none (now («case» .entry)) (now (proposal .entry))) (now («case» .entry)) (now (proposal .entry)) r ⌝ }
 {
-    find_listed(case, proposal, &case[..0], false)
+    find_with_families(case, proposal, &case[..0], FamilyList::Absent)
 }
 
-// The same, after the header was read.
+// The same, once the header was read.
 pub fn find_after_header(case: &[u8], header: HeaderAnswer, proposal: &[u8]) -> Found
     requires { ⌜ header ≡ headerAnswer (now «case») ⌝ }
     ensures { λ r. ⌜ Finds (hourRows none (now («case» .entry)) (now (proposal .entry))) (now («case» .entry)) (now (proposal .entry)) r ⌝ }
 {
-    find_listed_after(case, header, proposal, &case[..0], false)
+    find_by_stages(case, header, proposal, &case[..0], FamilyList::Absent)
 }

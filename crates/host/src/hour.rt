@@ -7,6 +7,7 @@ ghost use Rattle.rules.specs.Meaning.Report.{bufferAfter, familyBufferAfter};
 ghost use Rattle.rules.specs.Meaning.Verdict.{outcome, familyOutcome};
 ghost use Rattle.rules.specs.Meaning.AnnexPromise.{AnnexDemand3};
 ghost use Rattle.rules.specs.Promised.PlainReport.{ReportOf};
+ghost use Rattle.judgement.specs.Meaning.Packed.{packed};
 use judgement::judge;
 use judgement::judge_families;
 
@@ -22,7 +23,7 @@ fn packed(number: u32, index: u32) -> u64
 // compares with clearings of LTA share 0 alone (`Clearing`).
 #[no_mangle]
 pub extern "C" fn lta_judge(case: &[u8], proposal: &[u8], report: &mut [u8]) -> u64
-    ensures outcome { λ r. ⌜ r ≡ (outcome (now («case» .entry)) (now (proposal .entry)) (length (now (report .entry)))) .number + 256 * (outcome (now («case» .entry)) (now (proposal .entry)) (length (now (report .entry)))) .index ⌝ }
+    ensures outcome { λ r. ⌜ r ≡ packed (outcome (now («case» .entry)) (now (proposal .entry)) (length (now (report .entry)))) ⌝ }
     ensures number { λ r. ⌜ r % 256 ≡ (outcome (now («case» .entry)) (now (proposal .entry)) (length (now (report .entry)))) .number ⌝ }
     ensures index { λ r. ⌜ r / 256 ≡ (outcome (now («case» .entry)) (now (proposal .entry)) (length (now (report .entry)))) .index ⌝ }
     ensures report { λ r. ⌜ now (report .exit) ≡ bufferAfter (now («case» .entry)) (now (proposal .entry)) (now (report .entry)) ⌝ }
@@ -49,12 +50,17 @@ pub extern "C" fn lta_judge_families(
     families: &[u8],
     report: &mut [u8],
 ) -> u64
-    ensures outcome { λ r. ⌜ r ≡ (familyOutcome (now («case» .entry)) (now (proposal .entry)) (now (families .entry)) (length (now (report .entry)))) .number + 256 * (familyOutcome (now («case» .entry)) (now (proposal .entry)) (now (families .entry)) (length (now (report .entry)))) .index ⌝ }
-    ensures number { λ r. ⌜ r % 256 ≡ (familyOutcome (now («case» .entry)) (now (proposal .entry)) (now (families .entry)) (length (now (report .entry)))) .number ⌝ }
-    ensures index { λ r. ⌜ r / 256 ≡ (familyOutcome (now («case» .entry)) (now (proposal .entry)) (now (families .entry)) (length (now (report .entry)))) .index ⌝ }
-    ensures report { λ r. ⌜ now (report .exit) ≡ familyBufferAfter (now («case» .entry)) (now (proposal .entry)) (now (families .entry)) (now (report .entry)) ⌝ }
+    ensures outcome { λ r. ⌜ r ≡ packed (familyOutcome (now («case» .entry)) (now (proposal .entry)) (now (families .entry))
+        (length (now (report .entry)))) ⌝ }
+    ensures number { λ r. ⌜ r % 256 ≡ (familyOutcome (now («case» .entry)) (now (proposal .entry)) (now (families .entry))
+        (length (now (report .entry)))) .number ⌝ }
+    ensures index { λ r. ⌜ r / 256 ≡ (familyOutcome (now («case» .entry)) (now (proposal .entry)) (now (families .entry))
+        (length (now (report .entry)))) .index ⌝ }
+    ensures report { λ r. ⌜ now (report .exit) ≡ familyBufferAfter (now («case» .entry)) (now (proposal .entry)) (now (families .entry))
+        (now (report .entry)) ⌝ }
     ensures bytes { λ r. ⌜ ReportOf (r % 256) (now («case» .entry)) (now (proposal .entry)) (now (report .entry)) (now (report .exit)) ⌝ }
-    ensures totals { λ r. ⌜ FamilyTotalsReported (now («case» .entry)) (now (proposal .entry)) (now (families .entry)) (length (now (report .entry))) (now (report .exit)) ⌝ }
+    ensures totals { λ r. ⌜ FamilyTotalsReported (now («case» .entry)) (now (proposal .entry)) (now (families .entry))
+        (length (now (report .entry))) (now (report .exit)) ⌝ }
     ensures families { λ r. ⌜ (r ≡ 0 → FamiliesKept (now («case» .entry)) (now (proposal .entry)) (now (families .entry))) ⌝ }
     ensures allowed { λ r. ⌜ (r ≡ 0 → Allowed (now («case» .entry)) (now (proposal .entry))) ⌝ }
     ensures accuracy { λ r. ⌜ (r ≡ 0 → Accurate (now («case» .entry)) (now (report .exit))) ⌝ }

@@ -15,7 +15,8 @@ pub extern "C" fn lta_shortfalls(case: &[u8], proposal: &[u8], out: &mut [i64]) 
     ensures outcome { λ r. ⌜ verdict (r .number) (r .index) ≡ shortfallOutcome (now («case» .entry)) (now (proposal .entry)) (length (now (out .entry))) ⌝ }
     ensures length { λ r. ⌜ r .length ≡ length (shortfallWritten (now («case» .entry)) (now (proposal .entry)) (length (now (out .entry)))) ⌝ }
     ensures output { λ r. ⌜ now (out .exit) ≡ shortfallOutput (now («case» .entry)) (now (proposal .entry)) (now (out .entry)) ⌝ }
-    ensures shortfalls { λ r. ⌜ (r .number ≡ 0 → Answers (caseOf (now («case» .entry))) (planOf (now («case» .entry)) (now (proposal .entry))) (pricesOf (now («case» .entry)) (now (proposal .entry))) (now (out .exit))) ⌝ }
+    ensures shortfalls { λ r. ⌜ (r .number ≡ 0 → Answers (caseOf (now («case» .entry)))
+        (planOf (now («case» .entry)) (now (proposal .entry))) (pricesOf (now («case» .entry)) (now (proposal .entry))) (now (out .exit))) ⌝ }
 {
     hour_shortfalls(case, proposal, out)
 }

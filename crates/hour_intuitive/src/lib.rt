@@ -85,8 +85,8 @@ fn hour_intuitive_in(
     if judged.number != 0 {
         return refused(judged);
     }
-    let zones = found.counts.zones;
-    let nets = found.nets;
+    let zones = found.hour.counts.zones;
+    let nets = found.cleared.nets;
     let prices = found.prices;
     let exports = turned(nets, zones);
     let list = listed(prices, zones);

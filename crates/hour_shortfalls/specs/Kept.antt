@@ -28,46 +28,35 @@ use Rattle.shortfalls.specs.Promised.Account.{hour-accounted}
 use Rattle.shortfalls.specs.Promised.Answer.{gap-small, hour-answers}
 use Rattle.shortfalls.specs.Promised.Causes.{room-passes, refused-first}
 use Rattle.single_shortfall.specs.Judged.{Judged}
+use Rattle.hour_shortfalls.specs.Meaning.HourShortfalls.{HourShortfalls}
 use Rattle.hour_shortfalls.specs.Pairs.{countOf}
 
 module _ (s t : List ℕ) (out : List ℤ) where
   abbrev numbers : List ℤ
   numbers = shortfallNumbers (caseOf s) (planOf s t) (pricesOf s t)
 
-  -- the clauses of the contract
-  abbrev pub Kept : Written → List ℤ → Type 0
-  Kept r after =
-      (verdict (r .number) (r .index) ≡ shortfallOutcome s t (length out))
-      × ((r .length ≡ length (shortfallWritten s t (length out)))
-      × ((after ≡ shortfallOutput s t out)
-      × (r .number ≡ 0 → Answers (caseOf s) (planOf s t) (pricesOf s t) after)))
-
   -- REFUSED
-  pub kept-refused : (n k : ℕ) → 0 < n → refusal (shortfallRows s t (length out)) ≡ some (verdict n k) → {r : Written} → r ≡ record { number = n; index = k; length = 0 } → Kept r out
+  pub kept-refused : (n k : ℕ) → 0 < n → refusal (shortfallRows s t (length out)) ≡ some (verdict n k) → {r : Written} → r ≡ record { number = n; index = k; length = 0 } → HourShortfalls s t out r out
   unfolding shortfallOutcome shortfallWritten shortfallOutput
-  kept-refused n k h e q = subst (λ (r : Written). Kept r out) (sym q) (
-    sym (ap answer e),
-    (
-      sym (ap (λ (o : Option Outcome). length (writtenBy o numbers)) e),
-      (sym (ap (λ (o : Option Outcome). writtenBy o numbers ++ drop (length (writtenBy o numbers)) out) e), λ z. absurd (omega (arith, h))),
-    ),
-  )
+  kept-refused n k h e q = subst (λ (r : Written). HourShortfalls s t out r out) (sym q) (record {
+    outcome-is = sym (ap answer e);
+    length-is = sym (ap (λ (o : Option Outcome). length (writtenBy o numbers)) e);
+    output-is = sym (ap (λ (o : Option Outcome). writtenBy o numbers ++ drop (length (writtenBy o numbers)) out) e);
+    answers = λ z. absurd (omega (arith, h));
+  })
 
   -- ANSWERED
   pub kept-answer : Accepted s t reportRoom → {m : ℕ} {after : List ℤ} → refusal (shortfallRows s t (length out)) ≡ none → length numbers ≤ length out → m ≡ length numbers → after ≡ sets out 0 numbers
-      → Kept (record { number = 0; index = 0; length = m }) after
+      → HourShortfalls s t out (record { number = 0; index = 0; length = m }) after
   unfolding shortfallOutcome shortfallWritten shortfallOutput
   kept-answer a {m} {after} e h q w =
-      let stands = w ∙ sets-eq numbers out 0 (omega arith) ∙ ap (λ (n : ℕ). numbers ++ drop n out) (zero-add (length numbers)) in (
-        sym (ap answer e),
-        (
-          q ∙ sym (ap (λ (o : Option Outcome). length (writtenBy o numbers)) e),
-          (
-            stands ∙ sym (ap (λ (o : Option Outcome). writtenBy o numbers ++ drop (length (writtenBy o numbers)) out) e),
-            λ z. subst (λ (l : List ℤ). Answers (caseOf s) (planOf s t) (pricesOf s t) l) (sym stands) (hour-answers s t reportRoom a (drop (length numbers) out)),
-          ),
-        ),
-      )
+      let stands = w ∙ sets-eq numbers out 0 (omega arith) ∙ ap (λ (n : ℕ). numbers ++ drop n out) (zero-add (length numbers)) in
+      record {
+        outcome-is = sym (ap answer e);
+        length-is = q ∙ sym (ap (λ (o : Option Outcome). length (writtenBy o numbers)) e);
+        output-is = stands ∙ sym (ap (λ (o : Option Outcome). writtenBy o numbers ++ drop (length (writtenBy o numbers)) out) e);
+        answers = λ z. subst (λ (l : List ℤ). Answers (caseOf s) (planOf s t) (pricesOf s t) l) (sym stands) (hour-answers s t reportRoom a (drop (length numbers) out));
+      }
 
   -- WHAT WAS FOUND
   module _ (f : Found) (h : Finds (hourRows none s t) s t f) where
@@ -92,18 +81,18 @@ module _ (s t : List ℕ) (out : List ℤ) where
       unfolding reports
       valued = h .valued-is ∙ ap reports e
 
-      pub judged : Judged s (f .counts) t
+      pub judged : Judged s (f .hour .counts) t
       judged = record {
-        proposed = h .counts-are valued;
+        proposed = (h .hour-is valued) .proposed;
         clearing = allowed s t reportRoom (found-accepted e);
         prices-in = record { within = passed .cleared .zonePrice-in };
         accounted = hour-accounted s t reportRoom (found-accepted e);
         gap-small = gap-small s t reportRoom (found-accepted e);
       }
 
-      pub count-is : countOf (f .counts) ≡ shortfallCount (caseOf s)
+      pub count-is : countOf (f .hour .counts) ≡ shortfallCount (caseOf s)
       unfolding shortfallCount caseOf
-      count-is = ap countOf ((h .counts-are valued) .opened .counts)
+      count-is = ap countOf (((h .hour-is valued) .proposed) .opened .counts)
 
 -- the counts are few
 pub few : {s : List ℕ} {k : Counts} {t : List ℕ} → Judged s k t → Limited k

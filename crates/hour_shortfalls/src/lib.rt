@@ -5,15 +5,15 @@ ghost use lib.ListN.{length};
 ghost use lib.Seq.{sets};
 ghost use lib.IntN.{pos, _-ℤ_};
 ghost use Rattle.measures.specs.Meaning.Limits as limits;
-ghost use Rattle.rows.specs.Meaning.Rows.{verdict};
 ghost use Rattle.rules.specs.Meaning.Hour.{caseOf, planOf, pricesOf, fbPart};
 ghost use Rattle.case_branches.specs.Table.{tableOf};
 ghost use Rattle.proposal_file.specs.Meaning.Answer.{openingOf};
 ghost use Rattle.clearing.specs.Held.{Holds};
 ghost use Rattle.network.specs.Prices.{Priced};
 ghost use Rattle.shortfalls.specs.Meaning.Shortfalls.{orderShortfall, branchShortfall, linkShortfall};
-ghost use Rattle.shortfalls.specs.Meaning.Answer.{pairsTo, shortfallNumbers, shortfallOutcome, shortfallWritten, shortfallOutput, Answers};
+ghost use Rattle.shortfalls.specs.Meaning.Answer.{pairsTo, shortfallNumbers};
 ghost use Rattle.single_shortfall.specs.Judged.{Judged};
+ghost use Rattle.hour_shortfalls.specs.Meaning.HourShortfalls.{HourShortfalls};
 ghost use Rattle.hour_shortfalls.specs.Pairs.{numbersIn, Writable, countOf};
 use case_branches::ptdf_table;
 use case_header::Counts;
@@ -102,16 +102,16 @@ fn put_links(
 
 // All of them, of an accepted hour, from what was found in it.
 fn put_all(case: &[u8], proposal: &[u8], found: Found, out: &mut [i64])
-    requires { ⌜ Judged (now «case») (found .counts) (now proposal) ⌝ }
-    requires { ⌜ found .opening ≡ openingOf (now proposal) ⌝ }
-    requires { ⌜ Holds (fbPart (caseOf (now «case»)) (planOf (now «case») (now proposal))) (found .parts) ⌝ }
+    requires { ⌜ Judged (now «case») (found .hour .counts) (now proposal) ⌝ }
+    requires { ⌜ found .hour .opening ≡ openingOf (now proposal) ⌝ }
+    requires { ⌜ Holds (fbPart (caseOf (now «case»)) (planOf (now «case») (now proposal))) (found .cleared .parts) ⌝ }
     requires { ⌜ Priced (caseOf (now «case»)) (pricesOf (now «case») (now proposal)) (found .prices) ⌝ }
-    requires { ⌜ 2 * countOf (found .counts) ≤ length (now out) ⌝ }
+    requires { ⌜ 2 * countOf (found .hour .counts) ≤ length (now out) ⌝ }
     ensures { λ _. ⌜ now (out .exit) ≡ sets (now (out .entry)) 0 (shortfallNumbers (caseOf (now («case» .entry))) (planOf (now («case» .entry)) (now (proposal .entry))) (pricesOf (now («case» .entry)) (now (proposal .entry)))) ⌝ }
 {
-    let k = found.counts;
-    let share = found.opening.share;
-    let parts = found.parts;
+    let k = found.hour.counts;
+    let share = found.hour.opening.share;
+    let parts = found.cleared.parts;
     let prices = found.prices;
     let table = ptdf_table(case, k);
     put_orders(case, k, proposal, prices, out);
@@ -121,17 +121,14 @@ fn put_all(case: &[u8], proposal: &[u8], found: Found, out: &mut [i64])
 
 // The judgement's number and index where the hour is not accepted; else its shortfalls, or 86 where the output is too short. As `host` exports it.
 pub fn hour_shortfalls(case: &[u8], proposal: &[u8], out: &mut [i64]) -> Written
-    ensures outcome { λ r. ⌜ verdict (r .number) (r .index) ≡ shortfallOutcome (now («case» .entry)) (now (proposal .entry)) (length (now (out .entry))) ⌝ }
-    ensures length { λ r. ⌜ r .length ≡ length (shortfallWritten (now («case» .entry)) (now (proposal .entry)) (length (now (out .entry)))) ⌝ }
-    ensures output { λ r. ⌜ now (out .exit) ≡ shortfallOutput (now («case» .entry)) (now (proposal .entry)) (now (out .entry)) ⌝ }
-    ensures shortfalls { λ r. ⌜ (r .number ≡ 0 → Answers (caseOf (now («case» .entry))) (planOf (now («case» .entry)) (now (proposal .entry))) (pricesOf (now («case» .entry)) (now (proposal .entry))) (now (out .exit))) ⌝ }
+    ensures { λ r. ⌜ HourShortfalls (now («case» .entry)) (now (proposal .entry)) (now (out .entry)) r (now (out .exit)) ⌝ }
 {
     let found = find(case, proposal);
     let judged = found.verdict;
     if judged.number != 0 {
         return refused(judged.number, judged.index as usize);
     }
-    let k = found.counts;
+    let k = found.hour.counts;
     let length = 2 * (k.orders + k.branches + k.links);
     if out.len() < length {
         return refused(86, 0);

@@ -5,7 +5,7 @@ use mathlib.Core.List.{List, _++_}
 use mathlib.Core.Option.{Option, none, some}
 use Prim.Native.Nat.{ℕ, zero, suc, _≤_, _<_}
 use native.Mathlib.Omega.{arith}
-use lib.ListN.{drop}
+use lib.ListN.{length, drop}
 use lib.Dec.{T, eqb, eqb→eq}
 use lib.IntN.{ℤ}
 use Rattle.integers.specs.Bytes.{signed64}
@@ -13,10 +13,12 @@ use Rattle.rules.specs.Meaning.Layout.{zonePriceAt}
 use Rattle.rules.specs.Meaning.Hour.{Case, Plan, Prices, caseOf, planOf, pricesOf, zonePrice}
 use Rattle.rows.specs.declared.Outcome.{Outcome}
 use Rattle.rows.specs.Meaning.Rows.{Row, verdict, refusal, answer}
-use Rattle.rules.specs.Meaning.Report.{Totals, headerBytes, totalBytes, priceBytes, reportText, totalsOf, reports, reportBytes, reportSize, written}
+use Rattle.rules.specs.Meaning.Report.{Totals, headerBytes, totalBytes, priceBytes, reportText, totalsOf, reports, reportBytes, reportSize, written, bufferAfter, familyBufferAfter}
+use Rattle.rules.specs.Meaning.Verdict.{table, outcome, familyOutcome}
 use Rattle.report.specs.Written.{totalsIn, priceIn}
 use Rattle.findings.specs.declared.Found.{Found}
 use Rattle.findings.specs.Found.{Finds}
+use Rattle.judgement.specs.Meaning.HourJudged.{HourJudged, FamilyHourJudged}
 
 -- for the case s, the proposal t and the buffer b: the verdict r, and the buffer b′ afterwards
 pub record Judged (rows : List Row) (s t b : List ℕ) (r : Outcome) (b′ : List ℕ) : Type 0 where
@@ -39,6 +41,18 @@ same-rows {s = s} {t = t} {b = b} {r = r} {b′ = b′} e j = record {
   buffer = j .buffer ∙ ap (λ (o : Option Outcome). written (answer o) (caseOf s) (planOf s t) (pricesOf s t) b) (sym e);
 }
 
+-- BY THE WHOLE TABLE, without a family list and with one (S-11)
+abbrev tableFor : Option (List ℕ) → List ℕ → List ℕ → List ℕ → List Row
+tableFor fs s t b = table fs s t (length b) (caseOf s) (planOf s t) (pricesOf s t)
+
+pub hour-judged : {s t b : List ℕ} {r : Outcome} {b′ : List ℕ} → Judged (tableFor none s t b) s t b r b′ → HourJudged s t b r b′
+unfolding outcome bufferAfter
+hour-judged j = record { verdict-is = j .given; buffer-is = j .buffer }
+
+pub family-hour-judged : {s t f b : List ℕ} {r : Outcome} {b′ : List ℕ} → Judged (tableFor (some f) s t b) s t b r b′ → FamilyHourJudged s t f b r b′
+unfolding familyOutcome familyBufferAfter
+family-hour-judged j = record { verdict-is = j .given; buffer-is = j .buffer }
+
 -- the report's bytes from values that are the hour's
 price-ext : (n : ℕ) (f g : ℕ → ℤ) → ((z : ℕ) → z < n → f z ≡ g z) → priceBytes n f ≡ priceBytes n g
 unfolding priceBytes
@@ -54,7 +68,7 @@ same-report number zones x price c p d b e t h =
 
 -- WHAT IS CONCLUDED from what was found: the buffer afterwards
 abbrev pub reportOf : Found → List ℕ → List ℕ
-reportOf r b = reportText (r .verdict .number) (r .counts .zones) (totalsIn (r .totals)) (priceIn (r .prices)) ++ drop (zonePriceAt (r .counts .zones)) b
+reportOf r b = reportText (r .verdict .number) (r .hour .counts .zones) (totalsIn (r .totals)) (priceIn (r .prices)) ++ drop (zonePriceAt (r .hour .counts .zones)) b
 
 abbrev pub concluded : Found → List ℕ → List ℕ
 concluded r b = cond (r .valued) (reportOf r b) b
@@ -62,7 +76,7 @@ concluded r b = cond (r .valued) (reportOf r b) b
 -- what is needed to write it
 pub record Reportable (r : Found) : Type 0 where
   pub valued-is : r .valued ≡ reports (r .verdict .number)
-  pub few-zones : r .counts .zones ≤ 16
+  pub few-zones : r .hour .counts .zones ≤ 16
 
 or-either : (a b : Bool) {X : Type 0} → (T a → X) → (T b → X) → T (a || b) → X
 or-either true b f g t = f tt
@@ -87,7 +101,7 @@ judged rows s t b f h e q = record {
 }
   where
     by : (v : Bool) → f .valued ≡ v → cond v (reportOf f b) b ≡ written (f .verdict) (caseOf s) (planOf s t) (pricesOf s t) b
-    by true q = same-report (f .verdict .number) (f .counts .zones) (totalsIn (f .totals)) (priceIn (f .prices)) (caseOf s) (planOf s t) (pricesOf s t) b (h .zones-are q) (h .totals-are q) ((h .prices-are q) .each)
+    by true q = same-report (f .verdict .number) (f .hour .counts .zones) (totalsIn (f .totals)) (priceIn (f .prices)) (caseOf s) (planOf s t) (pricesOf s t) b (h .zones-are q) (h .totals-are q) ((h .prices-are q) .each)
         ∙ ap (λ (x : Bool). cond x (reportBytes (f .verdict .number) (caseOf s) (planOf s t) (pricesOf s t) ++ drop (reportSize (caseOf s)) b) b) (sym q ∙ h .valued-is)
     by false q = ap (λ (x : Bool). cond x (reportBytes (f .verdict .number) (caseOf s) (planOf s t) (pricesOf s t) ++ drop (reportSize (caseOf s)) b) b) (sym q ∙ h .valued-is)
 

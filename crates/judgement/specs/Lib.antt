@@ -1,4 +1,5 @@
--- What a stage answers, and from the table to the contract
+-- What the judgement answers, what a stage answers, and from the table to the entries' clauses
+pub mod Meaning
 pub mod Judged
-pub mod Promises
 pub mod Packed
+pub mod Promises

@@ -1,23 +1,26 @@
--- From the whole table to the judgement's contract: the outcome, the buffer, and what is promised in the numbers that the report's bytes hold; without a family
--- list and with one. Assumes nothing.
+-- From the judgement to the entries' clauses: the packed outcome, the buffer, and what is promised in the numbers that the report's bytes hold; without a
+-- family list and with one. Assumes nothing.
 use mathlib.Core.Path.{_≡_, sym, ap, subst, _∙_}
 use mathlib.Core.List.{List}
-use mathlib.Core.Option.{none, some}
-use Prim.Native.Nat.{ℕ}
+use Prim.Native.Nat.{ℕ, _/_, _%_}
 use lib.ListN.{length}
 use lib.Dec.{T}
 use Rattle.rules.specs.Meaning.Hour.{caseOf, planOf, pricesOf}
-use Rattle.rules.specs.Meaning.Verdict.{table, outcome, familyOutcome}
+use Rattle.rules.specs.Meaning.Verdict.{outcome, familyOutcome}
 use Rattle.rules.specs.Meaning.Report.{Reported, reports, bufferAfter, familyBufferAfter}
 use Rattle.rules.specs.Promised.Reported.{reported}
 use Rattle.rules.specs.Meaning.Promise.{TotalsReported, Allowed, Accurate, GapWithin, HasLink, Covered, Best, CoveredInFull, FamilyTotalsReported, FamiliesKept}
 use Rattle.rules.specs.Promised.Guarantee.{Accepted, Demand3, demand-3}
 use Rattle.rules.specs.Promised.Families.{accepted-without, family-buffer, family-reported}
+use Rattle.rules.specs.Promised.Causes.{outcome-below, family-below}
+use Rattle.rules.specs.Promised.PlainReport.{ReportOf, report-of, family-report-of}
 use Rattle.rules.specs.Meaning.AnnexPromise.{AnnexDemand3}
 use Rattle.rules.specs.Promised.Annex.AnnexHour.{annex-demand-3}
 use Rattle.rows.specs.declared.Outcome.{Outcome}
 use Rattle.family_list.specs.Promised.FamilyList.{families-kept}
-use Rattle.judgement.specs.Judged.{Judged}
+use Rattle.judgement.specs.Meaning.HourJudged.{HourJudged, FamilyHourJudged}
+use Rattle.judgement.specs.Meaning.Packed.{packed}
+use Rattle.judgement.specs.Packed.{packed-is, packed-number, packed-index, packed-zero}
 
 -- WHAT IS PROMISED OF AN ACCEPTED HOUR, for the buffer b′ afterwards, with a list and without; A says that it is accepted
 abbrev pub DemandsIf : Type 0 → List ℕ → List ℕ → List ℕ → Type 0
@@ -55,48 +58,75 @@ module _ (s t b : List ℕ) (r : Outcome) (b′ : List ℕ) (accepted : r .numbe
     ),
   )
 
--- WITHOUT A LIST
-module _ (s t b : List ℕ) (r : Outcome) (b′ : List ℕ) (j : Judged (table none s t (length b) (caseOf s) (planOf s t) (pricesOf s t)) s t b r b′) where
-  answered : r ≡ outcome s t (length b)
-  unfolding outcome
-  answered = j .given
-
-  buffered : b′ ≡ bufferAfter s t b
-  unfolding outcome bufferAfter
-  buffered = j .buffer
-
+-- WITHOUT A LIST: the verdict r, and its packed number n
+module _ (s t b : List ℕ) (r : Outcome) (b′ : List ℕ) (j : HourJudged s t b r b′) where
   totals : TotalsReported s t (length b) b′
-  totals w = subst (λ (x : List ℕ). Reported ((outcome s t (length b)) .number) (caseOf s) (planOf s t) (pricesOf s t) x) (sym buffered) (reported s t b w)
+  totals w = subst (λ (x : List ℕ). Reported ((outcome s t (length b)) .number) (caseOf s) (planOf s t) (pricesOf s t) x) (sym (j .buffer-is)) (reported s t b w)
 
-  pub promises : (r ≡ outcome s t (length b)) × ((b′ ≡ bufferAfter s t b) × (TotalsReported s t (length b) b′ × Demands s t r b′))
-  promises = (answered, (buffered, (totals, demands s t b r b′ (λ e. record { answer = sym (ap (λ (v : Outcome). v .number) answered) ∙ e }) (λ e. buffered))))
+  accepts : r .number ≡ 0 → Accepted s t (length b)
+  accepts e = record { answer = sym (ap (λ (v : Outcome). v .number) (j .verdict-is)) ∙ e }
+
+  pub clauses : (n : ℕ) → n ≡ packed r
+      → (n ≡ packed (outcome s t (length b)))
+      × ((n % 256 ≡ (outcome s t (length b)) .number)
+      × ((n / 256 ≡ (outcome s t (length b)) .index)
+      × ((b′ ≡ bufferAfter s t b) × (ReportOf (n % 256) s t b b′ × (TotalsReported s t (length b) b′ × DemandsIf (n ≡ 0) s t b′)))))
+  clauses n e =
+      let below = outcome-below s t (length b) in
+      let number = packed-number n e (j .verdict-is) below in (
+        packed-is n e (j .verdict-is),
+        (
+          number,
+          (
+            packed-index n e (j .verdict-is) below,
+            (
+              j .buffer-is,
+              (
+                report-of s t b number (j .buffer-is),
+                (totals, demands-from s t b′ (packed-zero n e (j .verdict-is)) (demands s t b r b′ accepts (λ e. j .buffer-is))),
+              ),
+            ),
+          ),
+        ),
+      )
 
 -- WITH THE FAMILY LIST f (S-11)
-module _ (s t f b : List ℕ) (r : Outcome) (b′ : List ℕ) (j : Judged (table (some f) s t (length b) (caseOf s) (planOf s t) (pricesOf s t)) s t b r b′) where
-  family-answered : r ≡ familyOutcome s t f (length b)
-  unfolding familyOutcome
-  family-answered = j .given
-
-  family-buffered : b′ ≡ familyBufferAfter s t f b
-  unfolding familyOutcome familyBufferAfter
-  family-buffered = j .buffer
-
+module _ (s t f b : List ℕ) (r : Outcome) (b′ : List ℕ) (j : FamilyHourJudged s t f b r b′) where
   zero : r .number ≡ 0 → (familyOutcome s t f (length b)) .number ≡ 0
-  zero e = sym (ap (λ (v : Outcome). v .number) family-answered) ∙ e
+  zero e = sym (ap (λ (v : Outcome). v .number) (j .verdict-is)) ∙ e
 
   same-buffer : r .number ≡ 0 → b′ ≡ bufferAfter s t b
   unfolding reports
-  same-buffer e = family-buffered ∙ family-buffer s t f b (subst (λ (n : ℕ). T (reports n)) (sym (zero e)) tt)
+  same-buffer e = j .buffer-is ∙ family-buffer s t f b (subst (λ (n : ℕ). T (reports n)) (sym (zero e)) tt)
 
-  pub family-promises : (r ≡ familyOutcome s t f (length b))
-      × ((b′ ≡ familyBufferAfter s t f b) × (FamilyTotalsReported s t f (length b) b′ × ((r .number ≡ 0 → FamiliesKept s t f) × Demands s t r b′)))
-  family-promises = (
-    family-answered,
-    (
-      family-buffered,
-      (
-        subst (λ (x : List ℕ). FamilyTotalsReported s t f (length b) x) (sym family-buffered) (family-reported s t f b),
-        (λ e. families-kept s t f (length b) (zero e), demands s t b r b′ (λ e. accepted-without s t f (length b) (zero e)) same-buffer),
-      ),
-    ),
-  )
+  pub family-clauses : (n : ℕ) → n ≡ packed r
+      → (n ≡ packed (familyOutcome s t f (length b)))
+      × ((n % 256 ≡ (familyOutcome s t f (length b)) .number)
+      × ((n / 256 ≡ (familyOutcome s t f (length b)) .index)
+      × ((b′ ≡ familyBufferAfter s t f b)
+      × (ReportOf (n % 256) s t b b′ × (FamilyTotalsReported s t f (length b) b′ × ((n ≡ 0 → FamiliesKept s t f) × DemandsIf (n ≡ 0) s t b′))))))
+  family-clauses n e =
+      let below = family-below s t f (length b) in
+      let number = packed-number n e (j .verdict-is) below in
+      let accepted = packed-zero n e (j .verdict-is) in (
+        packed-is n e (j .verdict-is),
+        (
+          number,
+          (
+            packed-index n e (j .verdict-is) below,
+            (
+              j .buffer-is,
+              (
+                family-report-of s t b f number (j .buffer-is),
+                (
+                  subst (λ (x : List ℕ). FamilyTotalsReported s t f (length b) x) (sym (j .buffer-is)) (family-reported s t f b),
+                  (
+                    λ z. families-kept s t f (length b) (zero (accepted z)),
+                    demands-from s t b′ accepted (demands s t b r b′ (λ e. accepted-without s t f (length b) (zero e)) same-buffer),
+                  ),
+                ),
+              ),
+            ),
+          ),
+        ),
+      )

@@ -1,26 +1,22 @@
 // Branches in one pass, with the branch rule, zone prices and branch total (verdict 24, rules 5, 6 and 9).
 ghost use mathlib.Core.Path.{_≡_};
 ghost use mathlib.Core.Option.{none};
-ghost use lib.IntN.{pos, _-ℤ_};
-ghost use Rattle.measures.specs.Meaning.Limits as limits;
 ghost use Rattle.rules.specs.Meaning.Hour.{caseOf, planOf, pricesOf, fbPart};
 ghost use Rattle.rules.specs.Meaning.Hour as rules;
 ghost use Rattle.rows.specs.Meaning.Rows.{failing};
 ghost use Rattle.rows.specs.Meaning.Place.{placeOf};
 ghost use Rattle.rules.specs.Meaning.Verdict.{overloadedBranch};
 ghost use Rattle.case_branches.specs.Table.{tableOf};
-ghost use Rattle.proposal_file.specs.Proposed.{Proposed};
 ghost use Rattle.clearing.specs.Stages.{VolumesIn, FlowsIn};
 ghost use Rattle.clearing.specs.Held.{Holds};
+ghost use Rattle.clearing.specs.Read.{HourReadFrom};
 ghost use Rattle.network.specs.Prices.{Priced};
 use case_branches::margin_at;
-use case_header::Counts;
-use measures::Cents;
+use clearing::HourRead;
 use measures::Grains;
 use measures::Load;
 use measures::Microcents;
 use measures::Ptdf;
-use measures::Share;
 use measures::Tenths;
 use proposal_file::shadow_at;
 use rows::Place;
@@ -35,24 +31,24 @@ pub struct Network {
 // Rules 5, 6 and 9 over the branches, and verdict 24: the first branch loaded above its margin, scaled by the flow-based share.
 pub fn branch_sums(
     case: &[u8],
-    k: Counts,
     proposal: &[u8],
+    hour: HourRead,
     table: [[i32; 16]; 64],
     parts: [Tenths; 16],
-    flow_based: Share,
-    system: Cents,
 ) -> Network
-    requires { ⌜ Proposed (now «case») k (now proposal) ⌝ }
+    requires { ⌜ HourReadFrom (now «case») (now proposal) hour ⌝ }
     requires { ⌜ VolumesIn (caseOf (now «case»)) (planOf (now «case») (now proposal)) ⌝ }
     requires { ⌜ FlowsIn (caseOf (now «case»)) (planOf (now «case») (now proposal)) ⌝ }
     requires { ⌜ table ≡ tableOf (now «case») ⌝ }
     requires { ⌜ Holds (fbPart (caseOf (now «case»)) (planOf (now «case») (now proposal))) parts ⌝ }
-    requires { ⌜ «flow_based» .0 ≡ pos limits.partsInOne -ℤ pos ((planOf (now «case») (now proposal)) .share) ⌝ }
-    requires { ⌜ system .0 ≡ (pricesOf (now «case») (now proposal)) .system ⌝ }
     ensures overloaded { λ r. ⌜ placeOf (r .overloaded) ≡ failing (overloadedBranch (caseOf (now («case» .entry))) (planOf (now («case» .entry)) (now (proposal .entry)))) ⌝ }
     ensures prices { λ r. ⌜ (placeOf (r .overloaded) ≡ none → Priced (caseOf (now («case» .entry))) (pricesOf (now («case» .entry)) (now (proposal .entry))) (r .prices)) ⌝ }
     ensures total { λ r. ⌜ (placeOf (r .overloaded) ≡ none → r .total .0 ≡ rules.branchTotal (caseOf (now («case» .entry))) (pricesOf (now («case» .entry)) (now (proposal .entry)))) ⌝ }
 {
+    let k = hour.counts;
+    let share = hour.opening.share;
+    let flow_based = share.rest();
+    let system = hour.opening.system;
     let zones = k.zones;
     let branches = k.branches;
     let base = system.in_grains();

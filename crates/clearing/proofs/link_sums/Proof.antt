@@ -20,10 +20,9 @@ use Rattle.rules.specs.Meaning.Hour.{Case, Plan, caseOf, planOf, linkUse, linkR
 use Rattle.rows.specs.Meaning.Rows.{firstBelow}
 use Rattle.rows.specs.Promised.RowLaws.{first-here, first-later, first-nowhere, not-below}
 use Rattle.rules.specs.Meaning.Verdict.{over}
-use Rattle.rules.specs.Steps.Passed.{CaseSound, case-sound, proposal-sound}
 use Rattle.rules.specs.Promised.Fits.{flow-in, partial-near}
-use Rattle.case_header.specs.declared.Counts.{Counts}
 use Rattle.case_links.specs.declared.Link.{Link}
+use Rattle.clearing.specs.Read.{sound, links-is, share-is, share-in}
 use Rattle.clearing.specs.Held.{tenthsAt, Holds}
 use Rattle.clearing.specs.Parts.{flows, partly, in-set, out-next, out-set}
 use Rattle.clearing.specs.Stages.{word-small}
@@ -31,12 +30,12 @@ use Rattle.clearing.proofs.link_sums.Statement.{statement}
 use Rattle.clearing.proofs.link_sums.Tie as tie
 
 abbrev Inv-loop : tie.InvT-loop
-Inv-loop case k proposal share links parts₀ l₀ parts l =
+Inv-loop case proposal k share links parts₀ l₀ parts l =
     (l ≤ k .links)
     × ((firstBelow l (λ j. over (linkRoom (caseOf case) (planOf case proposal) j) (linkUse (caseOf case) (planOf case proposal) j)) ≡ none) × Holds (partly (caseOf case) (planOf case proposal) l l) parts)
 
 abbrev μ-loop : tie.MeasureT-loop
-μ-loop case k proposal share links parts₀ l₀ parts l = k .links - l
+μ-loop case proposal k share links parts₀ l₀ parts l = k .links - l
 
 -- the hour that is judged
 abbrev hour : tie.Start Inv-loop μ-loop → Case
@@ -47,7 +46,7 @@ plan a = planOf (now (a .args .«case»)) (now (a .args .proposal))
 
 -- where a turn's steps come from: the flow and the link that were read, the loop, the entry
 abbrev entry : tie.At-loop Inv-loop μ-loop → tie.Start Inv-loop μ-loop
-entry l = l .before .before .before
+entry l = l .before .before .before .before .before
 
 abbrev link : tie.After-exceeds Inv-loop μ-loop → tie.After-link-at Inv-loop μ-loop
 link c = c .before .before .before .before .before
@@ -61,34 +60,24 @@ loop c = c .before .before
 abbrev from-link : tie.After-link-at Inv-loop μ-loop → tie.Start Inv-loop μ-loop
 from-link c = entry (loop c)
 
-links-is : (a : tie.Start Inv-loop μ-loop) → a .args .k .links ≡ hour a .links
-unfolding caseOf
-links-is a = ap (λ (k : Counts). k .links) (a .pre .0 .opened .counts)
-
-sound : (a : tie.Start Inv-loop μ-loop) → CaseSound (hour a)
-sound a = case-sound _ (a .pre .0 .opened .readable)
-
-share-in : (a : tie.Start Inv-loop μ-loop) → plan a .share ≤ 100000
-share-in a = (proposal-sound _ _ (a .pre .0 .passed)) .share-in
-
 no-flow : (x : ℤ) → x -ℤ (pos 0 -ℤ pos 0) ≡ x
 no-flow x = +ℤ-idr x
 
 loop-holds : tie.Need-loop-holds Inv-loop μ-loop
 unfolding sumTo firstBelow
 loop-holds c =
-    let a = c .before .before in
-    (omega arith, (refl, record { long = a .pre .1 .1 .1 .long; each = λ z h. a .pre .1 .1 .1 .each z h ∙ sym (no-flow _) }))
+    let a = c .before .before .before .before in
+    (omega arith, (refl, record { long = a .pre .1 .1 .long; each = λ z h. a .pre .1 .1 .each z h ∙ sym (no-flow _) }))
 
 link-at-requires : tie.Need-link-at-requires Inv-loop μ-loop
-link-at-requires c κs = (entry (c .before) .pre .0 .opened, c .loop-test .taken)
+link-at-requires c κs = (entry (c .before) .pre .0 .proposed .opened, c .loop-test .taken)
 
 flow-at-requires : tie.Need-flow-at-requires Inv-loop μ-loop
-flow-at-requires c κs = (entry (c .before .before) .pre .0, c .before .loop-test .taken)
+flow-at-requires c κs = (entry (c .before .before) .pre .0 .proposed, c .before .loop-test .taken)
 
 -- this link is one of the case's, and its zones
 inside : (c : tie.After-link-at Inv-loop μ-loop) → loop c .loop .l < hour (from-link c) .links
-inside c = omega (arith, links-is (from-link c), c .before .loop-test .taken)
+inside c = omega (arith, links-is (from-link c .pre .0), c .before .loop-test .taken)
 
 to-is : (c : tie.After-link-at Inv-loop μ-loop) → c .link-at .result .to ≡ hour (from-link c) .to (loop c .loop .l)
 unfolding caseOf
@@ -99,10 +88,10 @@ unfolding caseOf
 from-is c = ap (λ (k : Link). k .from) (c .link-at .ensures)
 
 to-small : (c : tie.After-link-at Inv-loop μ-loop) → hour (from-link c) .to (loop c .loop .l) < 16
-to-small c = let cs = sound (from-link c) in omega (arith, cs .placed .to-in (loop c .loop .l) (inside c), cs .zones-in .1)
+to-small c = let cs = sound (from-link c .pre .0) in omega (arith, cs .placed .to-in (loop c .loop .l) (inside c), cs .zones-in .1)
 
 from-small : (c : tie.After-link-at Inv-loop μ-loop) → hour (from-link c) .from (loop c .loop .l) < 16
-from-small c = let cs = sound (from-link c) in omega (arith, cs .placed .from-in (loop c .loop .l) (inside c), cs .zones-in .1)
+from-small c = let cs = sound (from-link c .pre .0) in omega (arith, cs .placed .from-in (loop c .loop .l) (inside c), cs .zones-in .1)
 
 to-in : (c : tie.After-link-at Inv-loop μ-loop) → c .link-at .result .to < 16
 to-in c = omega (arith, to-is c, to-small c)
@@ -116,15 +105,15 @@ whole-requires c κs =
     let f = c .before in
     let l = loop (f .before) in
     sfits-by w64 (ap (λ (x : ℤ). x *ℤ pos partsInOne) (f .flow-at .ensures))
-    (near-fits w64 (omega arith) (near-mul (near-unsigned _ 4294967295 (word-small (now (entry l .args .proposal)) _ (record { byte = λ i. omega (arith, l .before .shared-slice-known2 .given i) }))) (near-pos partsInOne)))
+    (near-fits w64 (omega arith) (near-mul (near-unsigned _ 4294967295 (word-small (now (entry l .args .proposal)) _ (record { byte = λ i. omega (arith, l .before .before .before .shared-slice-known2 .given i) }))) (near-pos partsInOne)))
 
 part-requires : tie.Need-part-requires Inv-loop μ-loop
 unfolding caseOf planOf
 part-requires c κs =
     let k = c .before .before .before in
     let a = from-link k in
-    sfits-by w64 (λ j. a .pre .1 .1 .0 j *ℤ (k .link-at .ensures j) .capacity .0)
-    (near-fits w64 (omega arith) (near-mul (near-unsigned _ 100000 (share-in a)) (near-unsigned _ 100000 ((sound a) .capacity-in (loop k .loop .l) (inside k)))))
+    sfits-by w64 (λ j. share-is (a .pre .0) j *ℤ (k .link-at .ensures j) .capacity .0)
+    (near-fits w64 (omega arith) (near-mul (near-unsigned _ 100000 (share-in (a .pre .0))) (near-unsigned _ 100000 ((sound (a .pre .0)) .capacity-in (loop k .loop .l) (inside k)))))
 
 exceeds-requires : tie.Need-exceeds-requires Inv-loop μ-loop
 exceeds-requires c κs = search needs
@@ -136,7 +125,7 @@ unfolding linkRoom linkUse caseOf planOf
 answered c =
     c .exceeds .ensures
     ∙ (λ j. ltZ
-    ((c .before .part .ensures ∙ (λ i. from-link (link c) .pre .1 .1 .0 i *ℤ (link c .link-at .ensures i) .capacity .0)) j)
+    ((c .before .part .ensures ∙ (λ i. share-is (from-link (link c) .pre .0) i *ℤ (link c .link-at .ensures i) .capacity .0)) j)
     ((c .before .before .whole .ensures ∙ ap (λ (x : ℤ). x *ℤ pos partsInOne) (flow c .flow-at .ensures)) j))
 
 returns : tie.Need-returns Inv-loop μ-loop
@@ -155,13 +144,13 @@ flows-small : (c : tie.Else1 Inv-loop μ-loop) (j : ℕ) → j < loop (link (c .
 flows-small c j h =
     let k = link (c .before) in
     let a = from-link k in
-    flow-in (hour a) (sound a) (plan a) (share-in a) j (omega (arith, inside k)) (nltb→le (linkRoom (hour a) (plan a) j) (linkUse (hour a) (plan a) j) (not-below _ _ (passed c) j h))
+    flow-in (hour a) (sound (a .pre .0)) (plan a) (share-in (a .pre .0)) j (omega (arith, inside k)) (nltb→le (linkRoom (hour a) (plan a) j) (linkUse (hour a) (plan a) j) (not-below _ _ (passed c) j h))
 
 near : (c : tie.Else1 Inv-loop μ-loop) (n : ℕ) → n ≤ loop (link (c .before)) .loop .l + 1 → (z : ℕ) → Near 64000000 (partly (hour (from-link (link (c .before)))) (plan (from-link (link (c .before)))) n n z)
 near c n h z =
     let k = link (c .before) in
     let a = from-link k in
-    partial-near (hour a) (sound a) (plan a) (a .pre .1 .0 .within) n (omega (arith, inside k)) (λ l i. flows-small c l (omega arith)) z
+    partial-near (hour a) (sound (a .pre .0)) (plan a) (a .pre .1 .0 .within) n (omega (arith, inside k)) (λ l i. flows-small c l (omega arith)) z
 
 mul-minus : tie.Need-mul-minus Inv-loop μ-loop
 mul-minus c = omega (arith, to-in (link (c .before)))
@@ -224,7 +213,7 @@ array-set-from-parts-2 : tie.Need-array-set-from-parts-2 Inv-loop μ-loop
 array-set-from-parts-2 c = from-in (link (else-of (c .before .before) .before))
 
 add-l : tie.Need-add-l Inv-loop μ-loop
-add-l c = let k = link (else-of (c .before .before) .before) in omega (arith, inside k, (sound (from-link k)) .links-in)
+add-l c = let k = link (else-of (c .before .before) .before) in omega (arith, inside k, (sound (from-link k .pre .0)) .links-in)
 
 loop-less : tie.Need-loop-less Inv-loop μ-loop
 loop-less c = let k = link (else-of (c .before .before) .before) in omega (arith, k .before .loop-test .taken)
@@ -250,7 +239,7 @@ unfolding fbPart ltaPart inflow outflow
 returns-2 c =
     let l = c .before in
     let a = entry l in
-    let e : l .loop .l ≡ hour a .links = omega (arith, links-is a) in (
+    let e : l .loop .l ≡ hour a .links = omega (arith, links-is (a .pre .0)) in (
       sym (first-nowhere _ (l .loop .l) (omega arith) (omega arith) (l .loop .inv .1 .0)),
       λ n. subst (λ (n : ℕ). Holds (partly (hour a) (plan a) n n) (l .loop .parts)) e (l .loop .inv .1 .1),
     )

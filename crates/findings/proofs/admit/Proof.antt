@@ -20,7 +20,7 @@ use Rattle.findings.proofs.admit.Statement.{statement}
 use Rattle.findings.proofs.admit.Tie as tie
 
 abbrev list : tie.Start → Option (List ℕ)
-list a = listOf (a .args .listed) (now (a .args .families))
+list a = listOf (a .args .list) (now (a .args .families))
 
 -- 15
 abbrev weighed : tie.After-accepted-tolerance → tie.Start
@@ -60,11 +60,11 @@ within c h q =
     once-passes (sym (in-cents w h q) ∙ (microcents-held _ _ (c .enum-told .given .0 .0) (sym (w .accepted-tolerance .ensures) ∙ c .enum-told .given .1)) .0)
 
 -- 16 TO 18
-abbrev asked : tie.After-read-listed → tie.Start
+abbrev asked : tie.After-read-with-families → tie.Start
 asked p = weighed (p .before .before .before)
 
-read-listed-requires : tie.Need-read-listed-requires
-read-listed-requires c κs = search needs
+read-with-families-requires : tie.Need-read-with-families-requires
+read-with-families-requires c κs = search needs
 
 enum-known-refusal : tie.Need-enum-known-refusal
 enum-known-refusal c = search needs
@@ -77,21 +77,21 @@ returns-2 c =
     let o = c .before in
     let p = o .before .before in
     let a = asked p in
-    let e = sym (p .read-listed .ensures) ∙ o .refusal .given .1 in
+    let e = sym (p .read-with-families .ensures) ∙ o .refusal .given .1 in
     record {
-      verdict-is = λ h q. sym (ap answer (row-clear (wideTolerance h) (familyRows (list a) h) (within (p .before) h q) ∙ families-refuse (now (a .args .families)) h (q .orders-is) (a .args .listed) _ e));
-      known = λ h q z. families-not-0 (list a) h (families-refuse (now (a .args .families)) h (q .orders-is) (a .args .listed) _ e) z;
+      verdict-is = λ h q. sym (ap answer (row-clear (wideTolerance h) (familyRows (list a) h) (within (p .before) h q) ∙ families-refuse (now (a .args .families)) h (q .orders-is) (a .args .list) _ e));
+      known = λ h q z. families-not-0 (list a) h (families-refuse (now (a .args .families)) h (q .orders-is) (a .args .list) _ e) z;
     }
 
 returns-3 : tie.Need-returns-3
 returns-3 c =
     let p = c .before .before in
     let a = asked p in
-    let e = sym (p .read-listed .ensures) ∙ c .enum-told3 .given .1 in
+    let e = sym (p .read-with-families .ensures) ∙ c .enum-told3 .given .1 in
     record {
-      verdict-is = λ h q. sym (ap answer (row-clear (wideTolerance h) (familyRows (list a) h) (within (p .before) h q) ∙ families-pass (now (a .args .families)) h (q .orders-is) (a .args .listed) e));
-      known = λ h q z. families-known (now (a .args .families)) h (q .orders-is) (a .args .listed) (a .pre) e;
+      verdict-is = λ h q. sym (ap answer (row-clear (wideTolerance h) (familyRows (list a) h) (within (p .before) h q) ∙ families-pass (now (a .args .families)) h (q .orders-is) (a .args .list) e));
+      known = λ h q z. families-known (now (a .args .families)) h (q .orders-is) (a .args .list) (a .pre) e;
     }
 
 pub admit-spec : {M : Type 1} → statement M
-admit-spec = tie.close (tie.spec accepted-tolerance-requires enum-told enum-told-2 outcome-requires returns read-listed-requires enum-known-refusal enum-told-3 returns-2 returns-3)
+admit-spec = tie.close (tie.spec accepted-tolerance-requires enum-told enum-told-2 outcome-requires returns read-with-families-requires enum-known-refusal enum-told-3 returns-2 returns-3)

@@ -17,23 +17,23 @@ use Rattle.findings.proofs.link_verdict.Tie as tie
 
 -- the two tests, and the place
 abbrev unbalanced : tie.Start → Bool
-unbalanced a = not (isZero (sumTo (a .args .k .zones) (λ z. tenthsAt (a .args .nets) z)))
+unbalanced a = not (isZero (sumTo (a .args .hour .counts .zones) (λ z. tenthsAt (a .args .nets) z)))
 
 abbrev no-domain : tie.Start → Bool
-no-domain a = eqb (a .args .k .links) 0 && ltZ (pos 0) (a .args .share .0)
+no-domain a = eqb (a .args .hour .counts .links) 0 && ltZ (pos 0) (a .args .hour .opening .share .0)
 
 abbrev place : tie.Start → Option ℕ
 place a = placeOf (a .args .overused)
 
 -- 22
 net-sum-requires : tie.Need-net-sum-requires
-net-sum-requires c κs = (c .pre .0, c .pre .1 .0)
+net-sum-requires c κs = let a = c .before .before in (a .pre .0, a .pre .1 .0)
 
 is-zero-requires : tie.Need-is-zero-requires
 is-zero-requires c κs = search needs
 
 abbrev start : tie.After-is-zero → tie.Start
-start c = c .before .before
+start c = c .before .before .before .before
 
 balance-is : (c : tie.After-is-zero) → unbalanced (start c) ≡ not (c .is-zero .result)
 balance-is c = sym (ap not (c .is-zero .ensures ∙ ap isZero (c .before .net-sum .ensures)))

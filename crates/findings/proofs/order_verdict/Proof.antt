@@ -11,7 +11,7 @@ use Rattle.rows.specs.Meaning.Rows.{failing, refusal, answer}
 use Rattle.rows.specs.Meaning.Place.{placeOf}
 use Rattle.rows.specs.Promised.RowLaws.{row-found, row-clear, at-place, at-none, place-below}
 use Rattle.rules.specs.Meaning.Verdict.{excessVolume, fractionRows}
-use Rattle.rules.specs.Steps.Passed.{case-sound}
+use Rattle.clearing.specs.Read.{sound}
 use Rattle.clearing.specs.Stages.{volumes-in}
 use Rattle.findings.specs.Found.{listOf, orderRows, answers, never-0}
 use Rattle.findings.specs.Listed.{fractionPlace, place-few, fraction-over, fractions-within}
@@ -26,10 +26,10 @@ abbrev plan : tie.Start → Plan
 plan a = planOf (now (a .args .«case»)) (now (a .args .proposal))
 
 abbrev list : tie.Start → Option (List ℕ)
-list a = listOf (a .args .listed) (now (a .args .families))
+list a = listOf (a .args .list) (now (a .args .families))
 
 few-orders : (a : tie.Start) → hour a .orders ≤ 512
-few-orders a = (case-sound _ (a .pre .0 .opened .readable)) .orders-in
+few-orders a = (sound (a .pre .0)) .orders-in
 
 -- 21
 enum-known-excess : tie.Need-enum-known-excess

@@ -71,26 +71,26 @@ module _ (s t pairs : List ℕ) (n : ℕ) (scratch : List ℤ) where
       unfolding reports
       valued = h .valued-is ∙ ap reports e
 
-      net-is : (z : ℕ) → z < f .counts .zones → pos 0 -ℤ tenthsAt (f .nets) z ≡ pos 0 -ℤ net (caseOf s) (planOf s t) z
-      net-is z l = ap (λ (x : ℤ). pos 0 -ℤ x) ((h .nets-are valued) .each z (omega (arith, h .few-zones)))
+      net-is : (z : ℕ) → z < f .hour .counts .zones → pos 0 -ℤ tenthsAt (f .cleared .nets) z ≡ pos 0 -ℤ net (caseOf s) (planOf s t) z
+      net-is z l = ap (λ (x : ℤ). pos 0 -ℤ x) (((h .cleared-is valued) .nets-are) .each z (omega (arith, h .few-zones)))
 
-      price-is : (z : ℕ) → z < f .counts .zones → grainsAt (f .prices) z ≡ zonePrice (caseOf s) (pricesOf s t) z
+      price-is : (z : ℕ) → z < f .hour .counts .zones → grainsAt (f .prices) z ≡ zonePrice (caseOf s) (pricesOf s t) z
       price-is z l = (h .prices-are valued) .each z (omega (arith, h .zones-are valued))
 
-      pub exports-fit : FitsTo (λ z. pos 0 -ℤ tenthsAt (f .nets) z) (f .counts .zones)
+      pub exports-fit : FitsTo (λ z. pos 0 -ℤ tenthsAt (f .cleared .nets) z) (f .hour .counts .zones)
       exports-fit = record { fits = λ z l. sfits-by w64 (net-is z l) (near-fits w64 (omega arith) (position-near s t pairs n (length scratch) accepted z)) }
 
-      pub prices-fit : FitsTo (λ z. grainsAt (f .prices) z) (f .counts .zones)
+      pub prices-fit : FitsTo (λ z. grainsAt (f .prices) z) (f .hour .counts .zones)
       prices-fit = record { fits = λ z l. sfits-by w64 (price-is z l) (near-fits w64 (omega arith) (near-zone-price _ (price-in s t pairs n (length scratch) accepted z (omega (arith, h .zones-are valued))))) }
 
       -- the lists that are lent are the hour's
-      pub exports-are : (xs : List ℤ) → Lists (λ z. pos 0 -ℤ tenthsAt (f .nets) z) (f .counts .zones) xs → take (f .counts .zones) xs ≡ hourExports s t
+      pub exports-are : (xs : List ℤ) → Lists (λ z. pos 0 -ℤ tenthsAt (f .cleared .nets) z) (f .hour .counts .zones) xs → take (f .hour .counts .zones) xs ≡ hourExports s t
       unfolding hourExports
-      exports-are xs l = part-is _ (f .counts .zones) xs (h .few-zones) l ∙ same-list (f .counts .zones) _ _ net-is ∙ ap (λ (k : ℕ). listTo k (λ z. pos 0 -ℤ net (caseOf s) (planOf s t) z)) (h .zones-are valued)
+      exports-are xs l = part-is _ (f .hour .counts .zones) xs (h .few-zones) l ∙ same-list (f .hour .counts .zones) _ _ net-is ∙ ap (λ (k : ℕ). listTo k (λ z. pos 0 -ℤ net (caseOf s) (planOf s t) z)) (h .zones-are valued)
 
-      pub prices-are : (xs : List ℤ) → Lists (λ z. grainsAt (f .prices) z) (f .counts .zones) xs → take (f .counts .zones) xs ≡ hourPrices s t
+      pub prices-are : (xs : List ℤ) → Lists (λ z. grainsAt (f .prices) z) (f .hour .counts .zones) xs → take (f .hour .counts .zones) xs ≡ hourPrices s t
       unfolding hourPrices
-      prices-are xs l = part-is _ (f .counts .zones) xs (h .few-zones) l ∙ same-list (f .counts .zones) _ _ price-is ∙ ap (λ (k : ℕ). listTo k (λ z. zonePrice (caseOf s) (pricesOf s t) z)) (h .zones-are valued)
+      prices-are xs l = part-is _ (f .hour .counts .zones) xs (h .few-zones) l ∙ same-list (f .hour .counts .zones) _ _ price-is ∙ ap (λ (k : ℕ). listTo k (λ z. zonePrice (caseOf s) (pricesOf s t) z)) (h .zones-are valued)
 
       -- they pass 81 to 83
       pub pass : (exports prices : List ℤ) → exports ≡ hourExports s t → prices ≡ hourPrices s t → ListsPass exports prices

@@ -59,7 +59,7 @@ is-zero : (e : tie.Else1) → found e .find .result .verdict .number ≡ 0
 is-zero e = omega (arith, e .if1 .left)
 
 abbrev k : tie.Else1 → Counts
-k e = found e .find .result .counts
+k e = found e .find .result .hour .counts
 
 accepted : (e : tie.Else1) → Accepted (file (found e)) (plan (found e)) reportRoom
 accepted e = let f = found e in found-accepted (file f) (plan f) (out f) (f .find .result) (f .find .ensures) (is-zero e)
@@ -101,7 +101,7 @@ put-all-requires c κs =
     let f = found e in
     let h = f .find .ensures in
     let v = valued (file f) (plan f) (out f) (f .find .result) h (is-zero e) in
-    (hour e, (h .opening-is v, (h .parts-are v, (h .prices-are v, c .before .if2 .left))))
+    (hour e, ((h .hour-is v) .opening-is, ((h .cleared-is v) .parts-are, (h .prices-are v, c .before .if2 .left))))
 
 same-length : tie.Need-same-length
 same-length c = search needs

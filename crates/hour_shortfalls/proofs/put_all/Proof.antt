@@ -31,20 +31,20 @@ abbrev rates : tie.Start → Prices
 rates a = pricesOf (now (a .args .«case»)) (now (a .args .proposal))
 
 abbrev of-orders : tie.Start → List ℤ
-of-orders a = pairsTo (a .args .found .counts .orders) (orderShortfall (hour a) (plan a) (rates a))
+of-orders a = pairsTo (a .args .found .hour .counts .orders) (orderShortfall (hour a) (plan a) (rates a))
 
 abbrev of-branches : tie.Start → List ℤ
-of-branches a = pairsTo (a .args .found .counts .branches) (branchShortfall (hour a) (plan a) (rates a))
+of-branches a = pairsTo (a .args .found .hour .counts .branches) (branchShortfall (hour a) (plan a) (rates a))
 
 abbrev of-links : tie.Start → List ℤ
-of-links a = pairsTo (a .args .found .counts .links) (linkShortfall (hour a) (plan a) (rates a))
+of-links a = pairsTo (a .args .found .hour .counts .links) (linkShortfall (hour a) (plan a) (rates a))
 
 -- where the branches and the links stand
 abbrev branches-at : tie.Start → ℕ
-branches-at a = 2 * a .args .found .counts .orders
+branches-at a = 2 * a .args .found .hour .counts .orders
 
 abbrev links-at : tie.Start → ℕ
-links-at a = 2 * (a .args .found .counts .orders + a .args .found .counts .branches)
+links-at a = 2 * (a .args .found .hour .counts .orders + a .args .found .hour .counts .branches)
 
 -- the output keeps its length
 long-1 : (a : tie.Start) → length (sets (now (a .args .out)) 0 (of-orders a)) ≡ length (now (a .args .out))
@@ -56,7 +56,7 @@ long-2 a = length-sets (sets (now (a .args .out)) 0 (of-orders a)) (branches-at 
 long-3 : (a : tie.Start) → length (sets (sets (sets (now (a .args .out)) 0 (of-orders a)) (branches-at a) (of-branches a)) (links-at a) (of-links a)) ≡ length (now (a .args .out))
 long-3 a = length-sets (sets (sets (now (a .args .out)) 0 (of-orders a)) (branches-at a) (of-branches a)) (links-at a) (of-links a) ∙ long-2 a
 
-share-is : (a : tie.Start) → a .args .found .opening .share .0 ≡ pos (plan a .share)
+share-is : (a : tie.Start) → a .args .found .hour .opening .share .0 ≡ pos (plan a .share)
 unfolding planOf
 share-is a = ap (λ (o : Opening). o .share .0) (a .pre .1 .0)
 
@@ -89,7 +89,7 @@ put-branches-requires c κs =
           a .pre .1 .1 .0,
           (
             c .before .rest .ensures ∙ ap (λ (x : ℤ). pos partsInOne -ℤ x) (share-is a),
-            subst (λ (n : ℕ). 2 * (a .args .found .counts .orders + a .args .found .counts .branches) ≤ n) (sym (ap length (o .put-orders .ensures) ∙ long-1 a)) (omega (arith, a .pre .1 .1 .1 .1)),
+            subst (λ (n : ℕ). 2 * (a .args .found .hour .counts .orders + a .args .found .hour .counts .branches) ≤ n) (sym (ap length (o .put-orders .ensures) ∙ long-1 a)) (omega (arith, a .pre .1 .1 .1 .1)),
           ),
         ),
       ),
@@ -108,7 +108,7 @@ put-links-requires c κs =
         a .pre .1 .1 .1 .0,
         (
           share-is a,
-          subst (λ (n : ℕ). 2 * countOf (a .args .found .counts) ≤ n) (sym (ap length (b .put-branches .ensures ∙ (λ i. sets (o .put-orders .ensures i) (branches-at a) (of-branches a))) ∙ long-2 a)) (a .pre .1 .1 .1 .1),
+          subst (λ (n : ℕ). 2 * countOf (a .args .found .hour .counts) ≤ n) (sym (ap length (b .put-branches .ensures ∙ (λ i. sets (o .put-orders .ensures i) (branches-at a) (of-branches a))) ∙ long-2 a)) (a .pre .1 .1 .1 .1),
         ),
       ),
     )
@@ -126,7 +126,7 @@ returns c =
     let b = c .before .before .before .before in
     let o = orders b in
     let a = start (table o) in
-    let k = a .args .found .counts in
+    let k = a .args .found .hour .counts in
     let j = a .pre .0 in
     let f = orderShortfall (hour a) (plan a) (rates a) in
     let g = branchShortfall (hour a) (plan a) (rates a) in

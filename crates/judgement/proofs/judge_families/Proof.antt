@@ -1,18 +1,17 @@
--- `judgement::judge_families` meets its contract: what is judged with the list keeps the promises. Assumes nothing.
+-- `judgement::judge_families` meets its contract: it is judged by the table with the list. Assumes nothing.
 use borrow.Author.Needs.{needs}
-use denote.Ref.{now}
-use Rattle.judgement.specs.Promises.{family-promises}
+use Rattle.judgement.specs.Judged.{family-hour-judged}
 use Rattle.judgement.proofs.judge_families.Statement.{statement}
 use Rattle.judgement.proofs.judge_families.Tie as tie
 
-judge-listed-requires : tie.Need-judge-listed-requires
-judge-listed-requires c κs = search needs
+judge-with-families-requires : tie.Need-judge-with-families-requires
+judge-with-families-requires c κs = search needs
 
 same-length : tie.Need-same-length
 same-length c = search needs
 
 returns : tie.Need-returns
-returns c = let a = c .before .before .before .before .before .before .before .before in family-promises (now (a .args .«case»)) (now (a .args .proposal)) (now (a .args .families)) (now (a .args .report)) _ _ (c .before .before .judge-listed .ensures)
+returns c = family-hour-judged (c .before .before .judge-with-families .ensures)
 
 pub judge-families-spec : {M : Type 1} → statement M
-judge-families-spec = tie.close (tie.spec judge-listed-requires same-length returns)
+judge-families-spec = tie.close (tie.spec judge-with-families-requires same-length returns)

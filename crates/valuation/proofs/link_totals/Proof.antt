@@ -9,8 +9,7 @@ use mir.Syntax.{w64}
 use mir.Val.{SFits}
 use Rattle.integers.specs.Sums.{sumTo}
 use Rattle.integers.specs.Machine.{SumsFit, step, step-fits, sfits-by}
-use Rattle.rules.specs.Steps.Passed.{CaseSound, case-sound, proposal-sound}
-use Rattle.case_header.specs.declared.Counts.{Counts}
+use Rattle.clearing.specs.Read.{case-opened, sound, links-is, shadow-in}
 use Rattle.integers.specs.Order.{positive, times-positive}
 use Rattle.integers.specs.Size.{near-fits, near-mul, near-unsigned}
 use Rattle.rules.specs.Meaning.Hour.{Case, Prices, caseOf, pricesOf, zonePrice, spread, linkValue, linkTotal, linkOwed, owed}
@@ -21,11 +20,11 @@ use Rattle.valuation.proofs.link_totals.Statement.{statement}
 use Rattle.valuation.proofs.link_totals.Tie as tie
 
 abbrev Inv-loop : tie.InvT-loop
-Inv-loop s k t prices links total₀ owed₀ l₀ total owed l =
+Inv-loop s t prices k links total₀ owed₀ l₀ total owed l =
     (l ≤ k .links) × (total .0 ≡ sumTo l (λ j. linkValue (caseOf s) (pricesOf s t) j)) × (owed .0 ≡ sumTo l (λ j. linkOwed (caseOf s) (pricesOf s t) j))
 
 abbrev μ-loop : tie.MeasureT-loop
-μ-loop s k t prices links total₀ owed₀ l₀ total owed l = k .links - l
+μ-loop s t prices k links total₀ owed₀ l₀ total owed l = k .links - l
 
 loop-holds : tie.Need-loop-holds Inv-loop μ-loop
 unfolding sumTo
@@ -38,33 +37,30 @@ hour a = caseOf (now (a .args .«case»))
 abbrev prices : tie.Start Inv-loop μ-loop → Prices
 prices a = pricesOf (now (a .args .«case»)) (now (a .args .proposal))
 
-sound : (a : tie.Start Inv-loop μ-loop) → CaseSound (hour a)
-sound a = case-sound _ (a .pre .0 .opened .readable)
-
 totals-fit : (a : tie.Start Inv-loop μ-loop) → SumsFit (λ j. linkValue (hour a) (prices a) j) (hour a .links)
-totals-fit a = linkTotal-sums _ (sound a) _ (system-near _ _) ((proposal-sound _ _ (a .pre .0 .passed)) .shadow-in) (a .pre .1 .1 .within)
+totals-fit a = linkTotal-sums _ (sound (a .pre .0)) _ (system-near _ _) (shadow-in (a .pre .0)) (a .pre .1 .1 .within)
 
 owed-fit : (a : tie.Start Inv-loop μ-loop) → SumsFit (λ j. linkOwed (hour a) (prices a) j) (hour a .links)
-owed-fit a = owed-sums _ (sound a) _ (system-near _ _) ((proposal-sound _ _ (a .pre .0 .passed)) .shadow-in) (a .pre .1 .1 .within)
+owed-fit a = owed-sums _ (sound (a .pre .0)) _ (system-near _ _) (shadow-in (a .pre .0)) (a .pre .1 .1 .within)
 
 -- THE LINK OF A TURN
 abbrev start : tie.In-loop Inv-loop μ-loop → tie.Start Inv-loop μ-loop
-start c = c .before .before .before .before
+start c = c .before .before .before .before .before
 
 abbrev turn : tie.In-loop Inv-loop μ-loop → ℕ
 turn c = c .before .loop .l
 
 inside : (c : tie.In-loop Inv-loop μ-loop) → turn c < hour (start c) .links
 unfolding caseOf
-inside c = omega (arith, ap (λ (k : Counts). k .links) (start c .pre .0 .opened .counts), c .loop-test .taken)
+inside c = omega (arith, links-is (start c .pre .0), c .loop-test .taken)
 
 link-at-requires : tie.Need-link-at-requires Inv-loop μ-loop
-link-at-requires c κs = (start c .pre .0 .opened, c .loop-test .taken)
+link-at-requires c κs = (case-opened (start c .pre .0), c .loop-test .taken)
 
 contracted-at-requires : tie.Need-contracted-at-requires Inv-loop μ-loop
 contracted-at-requires c κs =
     let i = c .before .before in
-    (start i .pre .0 .opened, (i .loop-test .taken, ap (λ (k : Link). k .capacity .0) (c .before .link-at .ensures)))
+    (case-opened (start i .pre .0), (i .loop-test .taken, ap (λ (k : Link). k .capacity .0) (c .before .link-at .ensures)))
 
 -- the zone that this link enters, and its price
 to-is : (c : tie.After-link-at Inv-loop μ-loop) → c .link-at .result .to ≡ hour (start (c .before)) .to (turn (c .before))
@@ -72,10 +68,10 @@ unfolding caseOf
 to-is c = ap (λ (k : Link). k .to) (c .link-at .ensures)
 
 to-known : (c : tie.After-link-at Inv-loop μ-loop) → hour (start (c .before)) .to (turn (c .before)) < hour (start (c .before)) .zones
-to-known c = (sound (start (c .before))) .placed .to-in (turn (c .before)) (inside (c .before))
+to-known c = (sound (start (c .before) .pre .0)) .placed .to-in (turn (c .before)) (inside (c .before))
 
 to-in : (c : tie.After-link-at Inv-loop μ-loop) → c .link-at .result .to < 16
-to-in c = omega (arith, to-is c, to-known c, (sound (start (c .before))) .zones-in .1)
+to-in c = omega (arith, to-is c, to-known c, (sound (start (c .before) .pre .0)) .zones-in .1)
 
 to-price : (c : tie.After-link-at Inv-loop μ-loop) → let a = start (c .before) in grainsAt (a .args .t4) (c .link-at .result .to) ≡ zonePrice (hour a) (prices a) (hour a .to (turn (c .before)))
 to-price c = let a = start (c .before) in ap (grainsAt (a .args .t4)) (to-is c) ∙ a .pre .1 .0 .each _ (to-known c)
@@ -86,10 +82,10 @@ unfolding caseOf
 from-is c = ap (λ (k : Link). k .from) (c .link-at .ensures)
 
 from-known : (c : tie.After-link-at Inv-loop μ-loop) → hour (start (c .before)) .from (turn (c .before)) < hour (start (c .before)) .zones
-from-known c = (sound (start (c .before))) .placed .from-in (turn (c .before)) (inside (c .before))
+from-known c = (sound (start (c .before) .pre .0)) .placed .from-in (turn (c .before)) (inside (c .before))
 
 from-in : (c : tie.After-link-at Inv-loop μ-loop) → c .link-at .result .from < 16
-from-in c = omega (arith, from-is c, from-known c, (sound (start (c .before))) .zones-in .1)
+from-in c = omega (arith, from-is c, from-known c, (sound (start (c .before) .pre .0)) .zones-in .1)
 
 from-price : (c : tie.After-link-at Inv-loop μ-loop) → let a = start (c .before) in grainsAt (a .args .t4) (c .link-at .result .from) ≡ zonePrice (hour a) (prices a) (hour a .from (turn (c .before)))
 from-price c = let a = start (c .before) in ap (grainsAt (a .args .t4)) (from-is c) ∙ a .pre .1 .0 .each _ (from-known c)
@@ -142,7 +138,7 @@ unfolding caseOf
 capacity-is c = ap (λ (k : Link). k .capacity .0) (link c .link-at .ensures)
 
 cost-requires : tie.Need-cost-requires Inv-loop μ-loop
-cost-requires c κs = volume-fits c (capacity-is c) ((sound (start (of-link c))) .capacity-in (turn (of-link c)) (inside (of-link c)))
+cost-requires c κs = volume-fits c (capacity-is c) ((sound (start (of-link c) .pre .0)) .capacity-in (turn (of-link c)) (inside (of-link c)))
 
 positive-requires : tie.Need-positive-requires Inv-loop μ-loop
 positive-requires c κs = search needs
@@ -166,7 +162,7 @@ contracted-is c = minus c .before .before .before .contracted-at .ensures
 cost-requires-2 : tie.Need-cost-requires-2 Inv-loop μ-loop
 cost-requires-2 c κs =
     let l = of-link (minus c) in
-    let cs = sound (start l) in
+    let cs = sound (start l .pre .0) in
     volume-fits (minus c) (contracted-is c) (omega (arith, cs .contracted-in (turn l) (inside l), cs .capacity-in (turn l) (inside l)))
 
 positive-requires-2 : tie.Need-positive-requires-2 Inv-loop μ-loop
@@ -189,7 +185,7 @@ abbrev of-turn : tie.After-plus2 Inv-loop μ-loop → tie.In-loop Inv-loop μ-lo
 of-turn c = of-link (minus (plus (c .before)))
 
 add-l : tie.Need-add-l Inv-loop μ-loop
-add-l c = let l = of-turn c in omega (arith, inside l, (sound (start l)) .links-in)
+add-l c = let l = of-turn c in omega (arith, inside l, (sound (start l .pre .0)) .links-in)
 
 loop-less : tie.Need-loop-less Inv-loop μ-loop
 loop-less c = omega (arith, of-turn c .loop-test .taken)
@@ -207,8 +203,8 @@ returns : tie.Need-returns Inv-loop μ-loop
 unfolding linkTotal owed caseOf
 returns c =
     let l = c .before in
-    let a = l .before .before .before in
-    let e : l .loop .l ≡ hour a .links = omega (arith, ap (λ (k : Counts). k .links) (a .pre .0 .opened .counts)) in
+    let a = l .before .before .before .before in
+    let e : l .loop .l ≡ hour a .links = omega (arith, links-is (a .pre .0)) in
     (l .loop .inv .1 ∙ ap (λ (n : ℕ). sumTo n (λ j. linkValue (hour a) (prices a) j)) e, l .loop .inv .2 ∙ ap (λ (n : ℕ). sumTo n (λ j. linkOwed (hour a) (prices a) j)) e)
 
 pub link-totals-spec : {M : Type 1} → statement M

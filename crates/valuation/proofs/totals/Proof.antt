@@ -1,7 +1,7 @@
 -- `valuation::totals` meets its contract: each total is its rule's, and none leaves 64 bits. Assumes nothing.
 use mathlib.Core.Path.{_≡_, ap, _∙_}
 use mathlib.Core.Bool.{cond}
-use Prim.Native.Nat.{ℕ, _≤_, _<_}
+use Prim.Native.Nat.{ℕ}
 use native.Mathlib.Omega.{arith}
 use denote.Ref.{now}
 use lib.Dec.{eqb}
@@ -9,12 +9,11 @@ use lib.IntN.{ℤ, _+ℤ_, _-ℤ_}
 use mir.Syntax.{w64}
 use Rattle.integers.specs.Size.{near-fits}
 use Rattle.integers.specs.Machine.{sfits-by}
-use Rattle.rules.specs.Steps.Passed.{case-sound, proposal-sound, CaseSound}
+use Rattle.clearing.specs.Read.{sound, links-is, shadow-in}
 use Rattle.rules.specs.Promised.Fits.{system-near, bound-near, gap-near}
 use Rattle.integers.specs.Order.{larger}
 use Rattle.rules.specs.Meaning.Hour.{caseOf, planOf, pricesOf, noLink, networkBound, bound, gap}
 use Rattle.rules.specs.Meaning.Report.{totalsOf}
-use Rattle.case_header.specs.declared.Counts.{Counts}
 use borrow.Author.Needs.{needs}
 use Rattle.valuation.proofs.totals.Statement.{statement}
 use Rattle.valuation.proofs.totals.Tie as tie
@@ -28,12 +27,6 @@ network-bound-requires c κs = search needs
 surpluses-requires : tie.Need-surpluses-requires
 surpluses-requires c κs = search needs
 
-cs : (a : tie.Start) → CaseSound (caseOf (now (a .args .«case»)))
-cs a = case-sound _ (a .pre .0 .opened .readable)
-
-shadows : (a : tie.Start) → (m : ℕ) → m < (caseOf (now (a .args .«case»))) .branches → (pricesOf (now (a .args .«case»)) (now (a .args .proposal))) .shadow m ≤ 1000000
-shadows a = (proposal-sound _ _ (a .pre .0 .passed)) .shadow-in
-
 abbrev links : tie.After-network-bound → tie.After-link-totals
 links c = c .before .before .before
 
@@ -44,14 +37,10 @@ start c = links c .before .before .before
 abbrev taken : ℕ → ℤ → ℤ → ℤ
 taken n x y = cond (eqb n 0) x (larger x y)
 
-links-are : (a : tie.Start) → a .args .k .links ≡ (caseOf (now (a .args .«case»))) .links
-unfolding caseOf
-links-are a = ap (λ (k : Counts). k .links) (a .pre .0 .opened .counts)
-
 -- the bound and the gap as the machine adds them
 bound-of : (c : tie.After-surpluses) → let a = start (c .before) in c .surpluses .result .0 +ℤ c .before .network-bound .result .0 ≡ bound (caseOf (now (a .args .«case»))) (pricesOf (now (a .args .«case»)) (now (a .args .proposal)))
 unfolding bound networkBound noLink
-bound-of c = λ j. c .surpluses .ensures j +ℤ (c .before .network-bound .ensures ∙ (λ i. taken (links-are (start (c .before)) i) (start (c .before) .pre .1 .1 .1 .1 .0 i) (links (c .before) .link-totals .ensures .0 i))) j
+bound-of c = λ j. c .surpluses .ensures j +ℤ (c .before .network-bound .ensures ∙ (λ i. taken (links-is (start (c .before) .pre .0) i) (start (c .before) .pre .1 .1 .1 .1 .0 i) (links (c .before) .link-totals .ensures .0 i))) j
 
 gap-of : (c : tie.After-plus) → let a = start (c .before .before) in
     c .plus .result .0 -ℤ a .args .total-welfare .0 ≡ gap (caseOf (now (a .args .«case»))) (planOf (now (a .args .«case»)) (now (a .args .proposal))) (pricesOf (now (a .args .«case»)) (now (a .args .proposal)))
@@ -59,10 +48,10 @@ unfolding gap
 gap-of c = λ j. (c .plus .ensures ∙ bound-of (c .before)) j -ℤ start (c .before .before) .pre .1 .1 .1 .1 .1 .0 j
 
 plus-requires : tie.Need-plus-requires
-plus-requires c κs = let a = start (c .before) in sfits-by w64 (bound-of c) (near-fits w64 (omega arith) (bound-near _ (cs a) _ (system-near _ _) (shadows a) (a .pre .1 .1 .1 .0 .within)))
+plus-requires c κs = let a = start (c .before) in sfits-by w64 (bound-of c) (near-fits w64 (omega arith) (bound-near _ (sound (a .pre .0)) _ (system-near _ _) (shadow-in (a .pre .0)) (a .pre .1 .1 .1 .0 .within)))
 
 minus-requires : tie.Need-minus-requires
-minus-requires c κs = let a = start (c .before .before) in sfits-by w64 (gap-of c) (near-fits w64 (omega arith) (gap-near _ (cs a) _ (system-near _ _) (shadows a) (a .pre .1 .1 .1 .0 .within) _ (a .pre .1 .0 .within)))
+minus-requires c κs = let a = start (c .before .before) in sfits-by w64 (gap-of c) (near-fits w64 (omega arith) (gap-near _ (sound (a .pre .0)) _ (system-near _ _) (shadow-in (a .pre .0)) (a .pre .1 .1 .1 .0 .within) _ (a .pre .1 .0 .within)))
 
 returns : tie.Need-returns
 unfolding totalsOf

@@ -1,4 +1,4 @@
--- `host::shortfall_hours::lta_shortfalls` meets its contract: it is that of `hour_shortfalls`, word for word. Assumes nothing.
+-- `host::shortfall_hours::lta_shortfalls` meets its contract: its clauses are the fields of what `hour_shortfalls` answers. Assumes nothing.
 use borrow.Author.Needs.{needs}
 use Rattle.host.proofs.shortfall_hours.lta_shortfalls.Statement.{statement}
 use Rattle.host.proofs.shortfall_hours.lta_shortfalls.Tie as tie
@@ -10,7 +10,7 @@ same-length : tie.Need-same-length
 same-length c = search needs
 
 returns : tie.Need-returns
-returns c = c .before .hour-shortfalls .ensures
+returns c = let h = c .before .hour-shortfalls .ensures in (h .outcome-is, (h .length-is, (h .output-is, h .answers)))
 
 pub lta-shortfalls-spec : {M : Type 1} → statement M
 lta-shortfalls-spec = tie.close (tie.spec hour-shortfalls-requires same-length returns)

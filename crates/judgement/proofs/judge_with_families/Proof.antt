@@ -1,4 +1,4 @@
--- `judgement::judge_listed` meets its contract: row 30, and what is found behind it. Assumes nothing.
+-- `judgement::judge_with_families` meets its contract: row 30, and what is found behind it. Assumes nothing.
 use mathlib.Core.Path.{_≡_, refl}
 use mathlib.Core.List.{List}
 use mathlib.Core.Option.{Option}
@@ -14,8 +14,8 @@ use Rattle.rows.specs.Meaning.Rows.{Row, refusal}
 use Rattle.rows.specs.Promised.RowLaws.{field-fails, field-passes}
 use Rattle.findings.specs.Found.{listOf, hourRows}
 use Rattle.judgement.specs.Judged.{refused, same-rows, judged}
-use Rattle.judgement.proofs.judge_listed.Statement.{statement}
-use Rattle.judgement.proofs.judge_listed.Tie as tie
+use Rattle.judgement.proofs.judge_with_families.Statement.{statement}
+use Rattle.judgement.proofs.judge_with_families.Tie as tie
 
 -- the files, the buffer and the table
 abbrev file : tie.Start → List ℕ
@@ -25,7 +25,7 @@ abbrev plan : tie.Start → List ℕ
 plan a = now (a .args .proposal)
 
 abbrev list : tie.Start → Option (List ℕ)
-list a = listOf (a .args .listed) (now (a .args .families))
+list a = listOf (a .args .list) (now (a .args .families))
 
 abbrev buffer : tie.Start → List ℕ
 buffer a = now (a .args .report)
@@ -45,8 +45,8 @@ unfolding table roomRows
 past-room c = let a = c .before .before .before .before .before in field-passes 30 0 (hourRows (list a) (file a) (plan a)) (le-ltb (length (buffer a)) 176 (c .if1 .left))
 
 -- THE HOUR
-find-listed-requires : tie.Need-find-listed-requires
-find-listed-requires c κs = search needs
+find-with-families-requires : tie.Need-find-with-families-requires
+find-with-families-requires c κs = search needs
 
 conclude-requires : tie.Need-conclude-requires
 conclude-requires c κs = search needs
@@ -59,7 +59,7 @@ returns-2 c =
     let q = c .before .before in
     let f = q .before .before in
     let a = c .before .before .before .before .before .before .before .before .before .before in
-    same-rows (past-room (f .before)) (judged (hourRows (list a) (file a) (plan a)) (file a) (plan a) (buffer a) (f .find-listed .result) (f .find-listed .ensures) (q .conclude .ensures .0) (q .conclude .ensures .1))
+    same-rows (past-room (f .before)) (judged (hourRows (list a) (file a) (plan a)) (file a) (plan a) (buffer a) (f .find-with-families .result) (f .find-with-families .ensures) (q .conclude .ensures .0) (q .conclude .ensures .1))
 
-pub judge-listed-spec : {M : Type 1} → statement M
-judge-listed-spec = tie.close (tie.spec returns find-listed-requires conclude-requires same-length returns-2)
+pub judge-with-families-spec : {M : Type 1} → statement M
+judge-with-families-spec = tie.close (tie.spec returns find-with-families-requires conclude-requires same-length returns-2)

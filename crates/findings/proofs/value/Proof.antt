@@ -1,4 +1,4 @@
--- `findings::value_hour` meets its contract: a row of the table for each stage, in the table's order, past each that passes to the one that fails.
+-- `findings::value` meets its contract: a row of the table for each stage, in the table's order, past each that passes to the one that fails.
 -- A stage reaches what it rests on through the stage before it, so that a row put between two others is met by the one that follows it. Assumes nothing.
 use mathlib.Core.Path.{_≡_, refl, ap, sym, subst, _∙_}
 use mathlib.Core.Bool.{Bool, not, cond}
@@ -8,13 +8,10 @@ use native.Mathlib.Omega.{arith}
 use borrow.Author.Needs.{needs}
 use denote.Ref.{now}
 use lib.Dec.{T}
-use lib.IntN.{ℤ, pos, _-ℤ_, _*ℤ_}
+use lib.IntN.{ℤ, pos, _*ℤ_}
 use lib.Signed.{ltZ}
-use mir.Syntax.{w64}
 use Rattle.integers.specs.Ranges.{outside, within}
 use Rattle.integers.specs.Sums.{sumTo, sum-ext}
-use Rattle.integers.specs.Size.{near-fits, near-sub, near-pos, near-unsigned}
-use Rattle.integers.specs.Machine.{sfits-by}
 use Rattle.measures.specs.Meaning.Limits as limits
 use Rattle.measures.specs.Meaning.Limits.{microcentsOf}
 use Rattle.rules.specs.Meaning.Hour.{Case, Plan, Prices, caseOf, planOf, pricesOf, net, zonePrice, gap, rent}
@@ -23,18 +20,17 @@ use Rattle.rows.specs.Meaning.Rows.{verdict, failing, firstBelow, answer}
 use Rattle.rows.specs.Meaning.Place.{placeOf}
 use Rattle.rows.specs.Promised.RowLaws.{Comes, clear, fails-at, behind, not-below, at-place, at-none, first-ext, place-below}
 use Rattle.rules.specs.Meaning.Verdict.{over, overZ, overloadedBranch, priceOutside}
-use Rattle.rules.specs.Steps.Passed.{proposal-sound}
 use Rattle.rules.specs.Promised.Fits.{rent-sums, system-near}
 use Rattle.rules.specs.Meaning.Report as rules
 use Rattle.rules.specs.Meaning.Report.{totalsOf, reports}
 use Rattle.case_header.specs.declared.Counts.{Counts}
 use Rattle.clearing.specs.Held.{tenthsAt, Holds}
+use Rattle.clearing.specs.Read.{case-opened, sound, zones-is, few-zones, shadow-in}
 use Rattle.clearing.specs.Stages.{VolumesIn, fit-ext}
 use Rattle.network.specs.Prices.{grainsAt, Priced}
-use Rattle.findings.specs.Found.{networkRows, refusedAs, finds-refused, gap-answers, gap-reports}
-use Rattle.findings.specs.Facts.{HourFacts, hour-facts}
-use Rattle.findings.proofs.value_hour.Statement.{statement}
-use Rattle.findings.proofs.value_hour.Tie as tie
+use Rattle.findings.specs.Found.{valueRows, refusedAs, finds-refused, gap-answers, gap-reports}
+use Rattle.findings.proofs.value.Statement.{statement}
+use Rattle.findings.proofs.value.Tie as tie
 
 -- the hour that is judged, what is known of it, and its rows
 abbrev hour : tie.Start → Case
@@ -46,22 +42,19 @@ plan a = planOf (now (a .args .«case»)) (now (a .args .proposal))
 abbrev rates : tie.Start → Prices
 rates a = pricesOf (now (a .args .«case»)) (now (a .args .proposal))
 
-facts : (a : tie.Start) → HourFacts (now (a .args .«case»)) (a .args .k) (now (a .args .proposal)) (a .args .opening)
-facts a = hour-facts _ _ _ _ (a .pre .0) (a .pre .1 .0)
-
 -- the rows up to that of a number pass
 abbrev Past : tie.Start → ℕ → Type 0
-Past a n = (o : Option Outcome) → Comes (behind n (networkRows (hour a) (plan a) (rates a))) o → Comes (networkRows (hour a) (plan a) (rates a)) o
+Past a n = (o : Option Outcome) → Comes (behind n (valueRows (hour a) (plan a) (rates a))) o → Comes (valueRows (hour a) (plan a) (rates a)) o
 
 volumes : (a : tie.Start) → VolumesIn (hour a) (plan a)
-volumes a = a .pre .1 .1 .0
+volumes a = a .pre .1 .volumes-in
 
-nets : (a : tie.Start) → Holds (net (hour a) (plan a)) (a .args .nets)
-nets a = a .pre .1 .1 .1 .1 .0
+nets : (a : tie.Start) → Holds (net (hour a) (plan a)) (a .args .cleared .nets)
+nets a = a .pre .1 .nets-are
 
 -- 24, THE BRANCHES
 abbrev branches-asked : tie.After-branch-sums → tie.Start
-branches-asked c = c .before .before .before .before .before .before
+branches-asked c = c .before .before .before .before .before .before .before
 
 abbrev branches : tie.After-enum-told → tie.After-branch-sums
 branches c = c .before .before
@@ -69,30 +62,10 @@ branches c = c .before .before
 ptdf-table-requires : tie.Need-ptdf-table-requires
 ptdf-table-requires c κs = search needs
 
-rest-requires : tie.Need-rest-requires
-rest-requires c κs =
-    let a = c .before .before .before .before in
-    sfits-by w64 (ap (λ (x : ℤ). pos 100000 -ℤ x) ((facts a) .share-is)) (near-fits w64 (omega arith) (near-sub (near-pos 100000) (near-unsigned _ 100000 ((facts a) .share-in))))
-
 branch-sums-requires : tie.Need-branch-sums-requires
-unfolding planOf pricesOf
 branch-sums-requires c κs =
-    let a = c .before .before .before .before .before in (
-      a .pre .0,
-      (
-        volumes a,
-        (
-          a .pre .1 .1 .1 .0,
-          (
-            c .before .ptdf-table .ensures,
-            (
-              a .pre .1 .1 .1 .1 .1 .0,
-              (c .rest .ensures ∙ ap (λ (x : ℤ). pos 100000 -ℤ x) ((facts a) .share-is), (facts a) .system-is),
-            ),
-          ),
-        ),
-      ),
-    )
+    let a = c .before .before .before .before .before .before in
+    (a .pre .0, (volumes a, (a .pre .1 .flows-in, (c .ptdf-table .ensures, a .pre .1 .parts-are))))
 
 enum-known-overloaded : tie.Need-enum-known-overloaded
 enum-known-overloaded c = search needs
@@ -101,7 +74,7 @@ overloaded-at : (c : tie.After-overloaded) → failing (overloadedBranch (hour (
 overloaded-at c = at-place _ _ _ (c .before .before .branch-sums .ensures .0) (c .overloaded .given .1)
 
 outcome-requires : tie.Need-outcome-requires
-outcome-requires c κs = let o = c .before in place-below _ _ _ 4294967296 (overloaded-at o) (omega (arith, ((facts (branches-asked (o .before .before))) .sound) .branches-in))
+outcome-requires c κs = let o = c .before in place-below _ _ _ 4294967296 (overloaded-at o) (omega (arith, (sound (branches-asked (o .before .before) .pre .0)) .branches-in))
 
 refused-by-requires : tie.Need-refused-by-requires
 refused-by-requires c κs = search needs
@@ -136,28 +109,28 @@ prices c = c .before .before
 
 -- a zone's part of the rent
 rent-term : (c : tie.After-enum-told) (z : ℕ) → z < hour (branches-asked (branches c)) .zones
-    → tenthsAt (branches-asked (branches c) .args .nets) z *ℤ grainsAt (branches c .branch-sums .result .prices) z
+    → tenthsAt (branches-asked (branches c) .args .cleared .nets) z *ℤ grainsAt (branches c .branch-sums .result .prices) z
     ≡ net (hour (branches-asked (branches c))) (plan (branches-asked (branches c))) z *ℤ zonePrice (hour (branches-asked (branches c))) (rates (branches-asked (branches c))) z
-rent-term c z h = λ j. (nets (branches-asked (branches c))) .each z (omega (arith, (facts (branches-asked (branches c))) .few-zones, (facts (branches-asked (branches c))) .zones-is)) j *ℤ (priced c) .each z h j
+rent-term c z h = λ j. (nets (branches-asked (branches c))) .each z (omega (arith, few-zones (branches-asked (branches c) .pre .0), zones-is (branches-asked (branches c) .pre .0))) j *ℤ (priced c) .each z h j
 
 zone-sums-requires : tie.Need-zone-sums-requires
 zone-sums-requires c κs =
     let b = c .before in
     let a = branches-asked (branches b) in (
-      (facts a) .few-zones,
+      few-zones (a .pre .0),
       record {
-        sums = λ n h e. fit-ext _ _ n (λ z l. rent-term b z (omega (arith, (facts a) .zones-is)))
-            (rent-sums _ ((facts a) .sound) _ (system-near _ _) ((proposal-sound _ _ (a .pre .0 .passed)) .shadow-in) _ ((volumes a) .within) n (omega (arith, (facts a) .zones-is))
-            (λ z l. within limits.zonePrice _ (subst (λ (x : ℤ). T (not (outside limits.zonePrice x))) ((priced b) .each z (omega (arith, (facts a) .zones-is))) (not-below _ _ e z l))));
+        sums = λ n h e. fit-ext _ _ n (λ z l. rent-term b z (omega (arith, zones-is (a .pre .0))))
+            (rent-sums _ (sound (a .pre .0)) _ (system-near _ _) (shadow-in (a .pre .0)) _ ((volumes a) .within) n (omega (arith, zones-is (a .pre .0)))
+            (λ z l. within limits.zonePrice _ (subst (λ (x : ℤ). T (not (outside limits.zonePrice x))) ((priced b) .each z (omega (arith, zones-is (a .pre .0)))) (not-below _ _ e z l))));
       },
     )
 
 -- the search over the computed prices is the table's over the zone prices
 searched : (c : tie.After-zone-sums)
-    → firstBelow (prices-asked c .args .k .zones) (λ z. outside limits.zonePrice (grainsAt (branches (before-prices c) .branch-sums .result .prices) z)) ≡ failing (priceOutside (hour (prices-asked c)) (rates (prices-asked c)))
+    → firstBelow (prices-asked c .args .hour .counts .zones) (λ z. outside limits.zonePrice (grainsAt (branches (before-prices c) .branch-sums .result .prices) z)) ≡ failing (priceOutside (hour (prices-asked c)) (rates (prices-asked c)))
 searched c =
     let a = prices-asked c in
-    ap (λ (n : ℕ). firstBelow n (λ z. outside limits.zonePrice (grainsAt (branches (before-prices c) .branch-sums .result .prices) z))) ((facts a) .zones-is)
+    ap (λ (n : ℕ). firstBelow n (λ z. outside limits.zonePrice (grainsAt (branches (before-prices c) .branch-sums .result .prices) z))) (zones-is (a .pre .0))
     ∙ first-ext (hour a .zones) _ _ (λ z h. ap (outside limits.zonePrice) ((priced (before-prices c)) .each z h))
 
 enum-known-outside : tie.Need-enum-known-outside
@@ -167,7 +140,7 @@ outside-at : (c : tie.After-outside) → failing (priceOutside (hour (prices-ask
 outside-at c = let f = c .before .before in sym (searched f) ∙ at-place _ _ _ (f .zone-sums .ensures .0) (c .outside .given .1)
 
 outcome-requires-2 : tie.Need-outcome-requires-2
-outcome-requires-2 c κs = let o = c .before in let a = prices-asked (o .before .before) in place-below _ _ _ 4294967296 (outside-at o) (omega (arith, ((facts a) .sound) .zones-in .1))
+outcome-requires-2 c κs = let o = c .before in let a = prices-asked (o .before .before) in place-below _ _ _ 4294967296 (outside-at o) (omega (arith, (sound (a .pre .0)) .zones-in .1))
 
 refused-by-requires-2 : tie.Need-refused-by-requires-2
 refused-by-requires-2 c κs = search needs
@@ -193,8 +166,8 @@ unfolding rent
 rent-is c =
     let a = prices-asked (prices c) in
     prices c .zone-sums .ensures .1 (ap placeOf (c .enum-told2 .given .1))
-    ∙ sum-ext _ _ _ (λ z h. rent-term (before-prices (prices c)) z (omega (arith, (facts a) .zones-is)))
-    ∙ ap (λ (n : ℕ). sumTo n (λ z. net (hour a) (plan a) z *ℤ zonePrice (hour a) (rates a) z)) ((facts a) .zones-is)
+    ∙ sum-ext _ _ _ (λ z h. rent-term (before-prices (prices c)) z (omega (arith, zones-is (a .pre .0))))
+    ∙ ap (λ (n : ℕ). sumTo n (λ z. net (hour a) (plan a) z *ℤ zonePrice (hour a) (rates a) z)) (zones-is (a .pre .0))
 
 totals-requires : tie.Need-totals-requires
 totals-requires c κs =
@@ -209,7 +182,7 @@ totals-requires c κs =
             record { within = λ z h. within limits.zonePrice _ (not-below _ _ (none-outside c) z h) },
             (
               branches b .branch-sums .ensures .1 .1 (ap placeOf (b .enum-told .given .1)),
-              (a .pre .1 .1 .1 .1 .1 .1, rent-is c),
+              (a .pre .1 .welfare-is, rent-is c),
             ),
           ),
         ),
@@ -233,7 +206,7 @@ number-is : (c : tie.After-gap-verdict) → c .gap-verdict .result ≡ cond (wid
 unfolding totalsOf caseOf
 number-is c =
     c .gap-verdict .ensures
-    ∙ (λ j. cond (ltZ (ap (λ (k : Counts). k .tolerance .0) (gap-asked c .pre .0 .opened .counts) j) (ap (λ (x : rules.Totals). x .gap) (c .before .before .totals .ensures) j)) 26 0)
+    ∙ (λ j. cond (ltZ (ap (λ (k : Counts). k .tolerance .0) ((case-opened (gap-asked c .pre .0)) .counts) j) (ap (λ (x : rules.Totals). x .gap) (c .before .before .totals .ensures) j)) 26 0)
 
 returns-3 : tie.Need-returns-3
 returns-3 c =
@@ -242,22 +215,19 @@ returns-3 c =
     record {
       verdict-is = ap (λ (n : ℕ). verdict n 0) (number-is c) ∙ gap-answers (wide c) ∙ sym (ap answer ((past-prices e _ (record { is = refl })) .is));
       valued-is = sym (ap reports (number-is c) ∙ gap-reports (wide c));
-      few-zones = (facts a) .few-zones;
-      zones-are = λ f. (facts a) .zones-is;
-      counts-are = λ f. a .pre .0;
-      opening-is = λ f. a .pre .1 .0;
-      nets-are = λ f. nets a;
-      parts-are = λ f. a .pre .1 .1 .1 .1 .1 .0;
+      few-zones = few-zones (a .pre .0);
+      zones-are = λ f. zones-is (a .pre .0);
+      hour-is = λ f. a .pre .0;
+      cleared-is = λ f. a .pre .1;
       prices-are = λ f. priced (before-prices (prices e));
       totals-are = λ f. c .before .before .totals .ensures;
     }
 
-pub value-hour-spec : {M : Type 1} → statement M
-value-hour-spec =
+pub value-spec : {M : Type 1} → statement M
+value-spec =
     tie.close
     (tie.spec
     ptdf-table-requires
-    rest-requires
     branch-sums-requires
     enum-known-overloaded
     outcome-requires

@@ -1,8 +1,7 @@
--- `findings::read_files` meets its contract: rows 1 to 8, 9 to 14, and 15 to 18. Assumes nothing.
+-- `findings::read` meets its contract: rows 1 to 8, 9 to 14, and 15 to 18. Assumes nothing.
 use mathlib.Core.Path.{_≡_, sym, ap, _∙_}
 use mathlib.Core.List.{List, _++_}
 use mathlib.Core.Option.{Option, none, some}
-use mathlib.Core.Bool.{Bool, true}
 use Prim.Native.Nat.{ℕ}
 use borrow.Author.Needs.{needs}
 use denote.Ref.{now}
@@ -16,14 +15,17 @@ use Rattle.case_file.specs.Answer.{opened-of}
 use Rattle.case_file.specs.Answer as case-answer
 use Rattle.proposal_file.specs.Proposed.{Proposed, opening-is, proposed-of}
 use Rattle.proposal_file.specs.Proposed as proposal-answer
-use Rattle.proposal_file.specs.Meaning.Answer.{openingOf, proposalAnswer}
+use Rattle.proposal_file.specs.Meaning.Answer.{proposalAnswer}
 use Rattle.proposal_file.specs.declared.ProposalAnswer.the-variants as proposal
+use Rattle.clearing.specs.Read.{HourReadFrom}
 use Rattle.family_list.specs.Steps.Answer.{Known}
-use Rattle.findings.specs.declared.Files.{Files}
-use Rattle.findings.specs.Found.{listOf, admittedRows, fileRows, unreadAs, files-silent, first-refuses, first-passes}
+use Rattle.findings.specs.declared.FamilyList.{FamilyList}
+use Rattle.findings.specs.declared.FamilyList.the-variants.{Given}
+use Rattle.findings.specs.declared.Reading.{Reading}
+use Rattle.findings.specs.Found.{listOf, admittedRows, readRows, unreadAs, read-silent, first-refuses, first-passes}
 use Rattle.findings.specs.Facts.{counted, few-orders}
-use Rattle.findings.proofs.read_files.Statement.{statement}
-use Rattle.findings.proofs.read_files.Tie as tie
+use Rattle.findings.proofs.read.Statement.{statement}
+use Rattle.findings.proofs.read.Tie as tie
 
 -- the files, and their rows
 abbrev file : tie.Start → List ℕ
@@ -39,19 +41,19 @@ abbrev of-proposal : tie.Start → List Row
 of-proposal a = proposalRows (file a) (plan a) (caseOf (file a)) (planOf (file a) (plan a)) (pricesOf (file a) (plan a))
 
 abbrev list : tie.Start → Option (List ℕ)
-list a = listOf (a .args .listed) (now (a .args .families))
+list a = listOf (a .args .list) (now (a .args .families))
 
 abbrev of-lists : tie.Start → List Row
 of-lists a = admittedRows (list a) (caseOf (file a))
 
 -- A REFUSAL, whose number is not 0
-module _ (s t f : List ℕ) (listed : Bool) {o : Outcome} (q : refusal (fileRows (listOf listed f) s t) ≡ some o) where
+module _ (s t f : List ℕ) (list : FamilyList) {o : Outcome} (q : refusal (readRows (listOf list f) s t) ≡ some o) where
   never : {X : Type 0} {v : Outcome} → v ≡ o → v .number ≡ 0 → X
-  never e z = absurd (not-refused 0 (fileRows (listOf listed f) s t) ((files-silent (listOf listed f) s t) .not-0) o q (sym (ap (λ (x : Outcome). x .number) e) ∙ z))
+  never e z = absurd (not-refused 0 (readRows (listOf list f) s t) ((read-silent (listOf list f) s t) .not-0) o q (sym (ap (λ (x : Outcome). x .number) e) ∙ z))
 
-  refused : {r : Files} → r ≡ unreadAs o → (r .verdict ≡ answer (refusal (fileRows (listOf listed f) s t)))
-      × ((r .verdict .number ≡ 0 → Proposed s (r .counts) t) × ((r .verdict .number ≡ 0 → r .opening ≡ openingOf t) × (r .verdict .number ≡ 0 → listed ≡ true → Known f (r .counts .orders))))
-  refused e = let v = ap (λ (f : Files). f .verdict) e in (v ∙ sym (ap answer q), (never v, (never v, never v)))
+  refused : {r : Reading} → r ≡ unreadAs o → (r .verdict ≡ answer (refusal (readRows (listOf list f) s t)))
+      × ((r .verdict .number ≡ 0 → HourReadFrom s t (r .hour)) × (r .verdict .number ≡ 0 → list ≡ Given → Known f (r .hour .counts .orders)))
+  refused e = let v = ap (λ (f : Reading). f .verdict) e in (v ∙ sym (ap answer q), (never v, never v))
 
 -- 1 TO 8
 read-case-after-requires : tie.Need-read-case-after-requires
@@ -69,7 +71,7 @@ returns c =
     let o = c .before .before in
     let p = o .before .before in
     let a = p .before .before .before .before in
-    refused (file a) (plan a) (now (a .args .families)) (a .args .listed) (first-refuses (of-case a) (of-proposal a ++ of-lists a) _ (case-answer.refused-of (file a) (sym (p .read-case-after .ensures) ∙ o .refusal .given .1))) (c .not-read .ensures)
+    refused (file a) (plan a) (now (a .args .families)) (a .args .list) (first-refuses (of-case a) (of-proposal a ++ of-lists a) _ (case-answer.refused-of (file a) (sym (p .read-case-after .ensures) ∙ o .refusal .given .1))) (c .not-read .ensures)
 
 enum-known-counts : tie.Need-enum-known-counts
 enum-known-counts c = search needs
@@ -80,7 +82,7 @@ case-entry c = c .before .before .before .before .before .before
 opened : (c : tie.After-counts) → Opened (file (case-entry c)) (c .counts .given .0 .0)
 opened c = opened-of (file (case-entry c)) (sym (c .before .before .read-case-after .ensures) ∙ c .counts .given .1)
 
-past-case : (c : tie.After-counts) → let a = case-entry c in refusal (fileRows (list a) (file a) (plan a)) ≡ refusal (of-proposal a ++ of-lists a)
+past-case : (c : tie.After-counts) → let a = case-entry c in refusal (readRows (list a) (file a) (plan a)) ≡ refusal (of-proposal a ++ of-lists a)
 unfolding caseRefusal
 past-case c = let a = case-entry c in first-passes (of-case a) (of-proposal a ++ of-lists a) ((opened c) .readable .none-holds)
 
@@ -103,7 +105,7 @@ returns-2 c =
     let o = c .before .before in
     let p = o .before .before in
     let a = case-entry (case-of p) in
-    refused (file a) (plan a) (now (a .args .families)) (a .args .listed)
+    refused (file a) (plan a) (now (a .args .families)) (a .args .list)
     (past-case (case-of p) ∙ first-refuses (of-proposal a) (of-lists a) _ (proposal-answer.refused-of (file a) (plan a) (sym (p .read-proposal .ensures) ∙ o .refusal2 .given .1)))
     (c .not-read2 .ensures)
 
@@ -134,11 +136,11 @@ returns-3 c =
     let w = proposed o in
     let h = counted w in (
       c .admit .ensures .verdict-is (caseOf (file a)) h ∙ sym (ap answer (past-case (case-of (read o)) ∙ first-passes (of-proposal a) (of-lists a) (w .passed))),
-      (λ z. w, (λ z. opening-is (file a) (plan a) (sound o), c .admit .ensures .known (caseOf (file a)) h)),
+      (λ z. record { proposed = w; opening-is = opening-is (file a) (plan a) (sound o) }, c .admit .ensures .known (caseOf (file a)) h),
     )
 
-pub read-files-spec : {M : Type 1} → statement M
-read-files-spec =
+pub read-spec : {M : Type 1} → statement M
+read-spec =
     tie.close
     (tie.spec
     read-case-after-requires

@@ -1,0 +1,15 @@
+-- `findings::refused_by` meets its contract: nothing is read and nothing is cleared. Assumes nothing.
+use mathlib.Core.Path.{ap}
+use borrow.Author.Needs.{needs}
+use Rattle.findings.specs.Found.{refusedWith}
+use Rattle.findings.proofs.refused_by.Statement.{statement}
+use Rattle.findings.proofs.refused_by.Tie as tie
+
+uncleared-requires : tie.Need-uncleared-requires
+uncleared-requires c κs = search needs
+
+returns : tie.Need-returns
+returns c = ap (refusedWith (c .before .args .verdict)) (c .uncleared .ensures)
+
+pub refused-by-spec : {M : Type 1} → statement M
+refused-by-spec = tie.close (tie.spec uncleared-requires returns)

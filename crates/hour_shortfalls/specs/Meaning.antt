@@ -1,0 +1,2 @@
+-- What the shortfalls' entry answers
+pub mod HourShortfalls
