@@ -50,7 +50,7 @@ module _ {s t : List ℕ} {f : Found} (h : Finds (hourRows none s t) s t f) wher
   pub line-found : f .valued ≡ false → verdictLine (f .verdict) ≡ hourText s t
   line-found v = ap verdictLine verdict-found ∙ sym (one-line s t (reports-found v))
 
-  pub lines-found : f .valued ≡ true → verdictLine (f .verdict) ++ hourLines (f .counts .zones) (totalsIn (f .totals)) (priceIn (f .prices)) ≡ hourText s t
+  pub lines-found : f .valued ≡ true → verdictLine (f .verdict) ++ hourLines (f .hour .counts .zones) (totalsIn (f .totals)) (priceIn (f .prices)) ≡ hourText s t
   unfolding hourLines
   lines-found v =
       (λ i. verdictLine (verdict-found i) ++ (totalLines (h .totals-are v i) ++ priceLines (h .zones-are v i) (priceIn (f .prices))))
