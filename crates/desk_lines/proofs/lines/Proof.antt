@@ -1,5 +1,5 @@
--- `desk_lines::lines` meets its contract: the cut lies within the input, and the two parts' lines are the desk's text for it, at the start of the output.
--- Assumes nothing.
+-- `desk_lines::lines` meets its contract: the cut lies within the input, and the two parts' lines are the desk's text
+-- for it, at the start of the output. Assumes nothing.
 use mathlib.Core.Path.{_≡_, sym, ap, _∙_}
 use mathlib.Core.List.{List}
 use Prim.Native.Nat.{ℕ, _-_, _≤_}

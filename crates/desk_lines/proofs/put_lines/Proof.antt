@@ -1,4 +1,5 @@
--- `desk_lines::put_lines` meets its contract: the verdict's line, and of an hour that is valued the lines of what was found. Assumes nothing.
+-- `desk_lines::put_lines` meets its contract: the verdict's line, and of an hour that is valued the lines of what was
+-- found. Assumes nothing.
 use mathlib.Core.Path.{_≡_, sym, ap}
 use mathlib.Core.List.{List}
 use mathlib.Core.Option.{none}

@@ -1,4 +1,5 @@
--- `desk_lines::put_named` meets its contract: name, count and space stand one after another, each where the one before ends. Assumes nothing.
+-- `desk_lines::put_named` meets its contract: name, count and space stand one after another, each where the one
+-- before ends. Assumes nothing.
 use native.Mathlib.Omega.{arith}
 use lib.ListN.{length-append}
 use Rattle.decimal.specs.Steps.Put.{put-length, put-then}

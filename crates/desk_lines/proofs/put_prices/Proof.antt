@@ -1,5 +1,5 @@
--- `desk_lines::put_prices` meets its contract. The loop's invariant: the lines of the zones below z stand at `at`. The measure is the zones left.
--- Assumes nothing.
+-- `desk_lines::put_prices` meets its contract. The loop's invariant: the lines of the zones below z stand at `at`.
+-- The measure is the zones left. Assumes nothing.
 use mathlib.Core.Path.{_≡_, refl, ap}
 use Prim.Native.Nat.{ℕ, _-_, _≤_}
 use native.Mathlib.Omega.{arith}

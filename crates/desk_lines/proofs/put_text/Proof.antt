@@ -1,5 +1,5 @@
--- `desk_lines::put_text` meets its contract. The loop's invariant: the first i bytes of the text stand at `at`, and all else is as it was.
--- The measure is what is left of the text. Assumes nothing.
+-- `desk_lines::put_text` meets its contract. The loop's invariant: the first i bytes of the text stand at `at`, and
+-- all else is as it was. The measure is what is left of the text. Assumes nothing.
 use mathlib.Core.Path.{_≡_, refl, sym, ap, _∙_}
 use mathlib.Core.List.{[], _∷_, _++_}
 use Prim.Native.Nat.{ℕ, _+_, _-_, _≤_, _<_}

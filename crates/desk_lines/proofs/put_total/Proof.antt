@@ -1,4 +1,5 @@
--- `desk_lines::put_total` meets its contract: name, amount and newline stand one after another, each where the one before ends. Assumes nothing.
+-- `desk_lines::put_total` meets its contract: name, amount and newline stand one after another, each where the one
+-- before ends. Assumes nothing.
 use mathlib.Core.Path.{_≡_, ap}
 use mathlib.Core.List.{_++_}
 use native.Mathlib.Omega.{arith}

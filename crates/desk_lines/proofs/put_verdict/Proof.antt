@@ -1,5 +1,5 @@
--- `desk_lines::put_verdict` meets its contract: name and number, index and newline stand one after another, each where the one before ends.
--- Assumes nothing.
+-- `desk_lines::put_verdict` meets its contract: name and number, index and newline stand one after another, each
+-- where the one before ends. Assumes nothing.
 use native.Mathlib.Omega.{arith}
 use lib.ListN.{length-append}
 use Rattle.decimal.specs.Steps.Put.{put-length, put-then}

@@ -1,4 +1,5 @@
--- `desk_lines::put_zone` meets its contract: name and zone, price and newline stand one after another, each where the one before ends. Assumes nothing.
+-- `desk_lines::put_zone` meets its contract: name and zone, price and newline stand one after another, each where the
+-- one before ends. Assumes nothing.
 use mathlib.Core.Path.{_≡_, ap}
 use mathlib.Core.List.{_++_}
 use native.Mathlib.Omega.{arith}

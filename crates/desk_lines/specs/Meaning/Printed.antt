@@ -1,5 +1,5 @@
--- The desk's text in a lent output: its lines where the output has the room that the lines of every input have (`Room.desk-room`), else the refusal by 31.
--- Assumes nothing.
+-- The desk's text in a lent output: its lines where the output has the room that the lines of every input have
+-- (`Room.desk-room`), else the refusal by 31. Assumes nothing.
 use mathlib.Core.List.{List, [], _∷_}
 use mathlib.Core.Option.{Option}
 use Prim.Native.Nat.{ℕ}

@@ -29,7 +29,8 @@ use Rattle.desk_lines.specs.Steps.Header.{headerRows, laterRows, outcome
 use Rattle.rules.specs.Meaning.Lines.{verdictLine, totalLine, totalLines, priceLine, priceLines, hourLines, linesOf, hourText, deskText}
 use Rattle.desk_lines.specs.Meaning.Printed.{deskRoom}
 
--- AN OUTCOME's number has at most three digits, and its index at most five: an offset in a file (S-2) is below 100,000, in a case of version 2 (S-4) perhaps above 10,000
+-- AN OUTCOME's number has at most three digits, and its index at most five: an offset in a file (S-2) is below
+-- 100,000, in a case of version 2 (S-4) perhaps above 10,000
 pub record Short (o : Outcome) : Type 0 where
   pub number-in : o .number < 1000
   pub index-in : o .index < 100000
