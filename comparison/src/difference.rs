@@ -1,17 +1,18 @@
-//! The first difference of a run as files that `lta explain` opens: difference.case with difference.proposal next to
-//! it, or difference.joined, and whatever else the entry was lent; difference.about says what differs.
+//! The first difference of a run as files that `lta` opens, by the suffixes that it knows: difference.case,
+//! difference.proposal, difference.families and so on. difference.about says what differs.
 
 use std::fs;
 use std::io;
-use std::path::{Path, PathBuf};
+use std::path::Path;
 
 /// An input's files: each with the suffix that `lta` knows it by.
 pub type Files<'a> = [(&'a str, &'a [u8])];
 
 const NAME: &str = "difference";
 
-/// Writes the files, and none of an earlier run is left. The first is the one to be opened.
-pub fn write(folder: &Path, files: &Files, about: &str) -> io::Result<PathBuf> {
+/// Writes the files, and none of an earlier run is left. What comes back is the command that shows them, or the path
+/// of difference.about where they are no hour's.
+pub fn write(folder: &Path, files: &Files, about: &str) -> io::Result<String> {
     fs::create_dir_all(folder)?;
     for entry in fs::read_dir(folder)? {
         let path = entry?.path();
@@ -24,7 +25,15 @@ pub fn write(folder: &Path, files: &Files, about: &str) -> io::Result<PathBuf> {
     for (suffix, bytes) in files {
         fs::write(path(suffix), bytes)?;
     }
-    Ok(path(files.first().map_or("about", |(suffix, _)| suffix)))
+    let suffixes: Vec<&str> = files.iter().map(|(suffix, _)| *suffix).collect();
+    let (command, opened) = match suffixes[..] {
+        ["case", "proposal"] | ["case", "proposal", "families"] | ["joined"] => ("lta explain ", &suffixes[..]),
+        ["case"] | ["case", "dump"] => ("lta show ", &suffixes[..]),
+        ["columned"] => ("lta restore ", &suffixes[..]),
+        _ => ("", &["about"][..]),
+    };
+    let paths: Vec<String> = opened.iter().map(|suffix| path(suffix).display().to_string()).collect();
+    Ok(format!("{command}{}", paths.join(" ")))
 }
 
 /// A line for each file: its name and its bytes in hexadecimal digits, unless they are too many to be read.
@@ -47,12 +56,31 @@ mod tests {
     fn only_the_last_difference_is_left() {
         let folder = std::env::temp_dir().join(format!("comparison-{}", std::process::id()));
         write(&folder, &[("case", b"LTC"), ("proposal", b"LTP")], "first").unwrap();
-        let opened = write(&folder, &[("joined", b"LTC")], "second").unwrap();
+        write(&folder, &[("joined", b"LTC")], "second").unwrap();
         let mut names: Vec<_> = fs::read_dir(&folder).unwrap().map(|entry| entry.unwrap().file_name()).collect();
         names.sort();
         assert_eq!(names, ["difference.about", "difference.joined"]);
-        assert_eq!(fs::read(opened).unwrap(), b"LTC");
+        assert_eq!(fs::read(folder.join("difference.joined")).unwrap(), b"LTC");
         assert_eq!(fs::read(folder.join("difference.about")).unwrap(), b"second\n");
+        fs::remove_dir_all(folder).unwrap();
+    }
+
+    #[test]
+    fn the_command_names_every_file() {
+        let folder = std::env::temp_dir().join(format!("comparison-commands-{}", std::process::id()));
+        let shown = folder.display();
+        let command = |suffixes: &[&str]| {
+            let files: Vec<(&str, &[u8])> = suffixes.iter().map(|suffix| (*suffix, &b"LT"[..])).collect();
+            write(&folder, &files, "").unwrap()
+        };
+        let due =
+            format!("lta explain {shown}/difference.case {shown}/difference.proposal {shown}/difference.families");
+        assert_eq!(command(&["case", "proposal", "families"]), due);
+        assert_eq!(command(&["joined"]), format!("lta explain {shown}/difference.joined"));
+        let due = format!("lta show {shown}/difference.case {shown}/difference.dump");
+        assert_eq!(command(&["case", "dump"]), due);
+        assert_eq!(command(&["sheet"]), format!("{shown}/difference.about"));
+        assert_eq!(command(&[]), format!("{shown}/difference.about"));
         fs::remove_dir_all(folder).unwrap();
     }
 }

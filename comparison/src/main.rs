@@ -19,7 +19,7 @@ const USAGE: &str = "usage: comparison [--seed S] [--inputs N] [--seconds N] [--
   --seed S        the first seed, 1
   --inputs N      made inputs for the judgement, 260000
   --seconds N     a long run: further rounds, each with the next seed, until so many seconds are over
-  --files FOLDER  where the first difference is written, target/comparison: lta explain opens it";
+  --files FOLDER  where the first difference is written, target/comparison, for lta explain";
 
 struct Options {
     seed: u64,

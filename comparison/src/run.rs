@@ -225,7 +225,7 @@ impl Run {
     pub fn write_difference(&mut self, files: &Files, text: &str) {
         let Some(folder) = self.difference_folder.take() else { return };
         match difference::write(&folder, files, text) {
-            Ok(path) => println!("written: lta explain {}", path.display()),
+            Ok(command) => println!("written: {command}"),
             Err(fault) => println!("{} is not written: {fault}", folder.display()),
         }
     }

@@ -4,7 +4,7 @@
 //! The scratch is room for a host that has no other. It is not needed here, and only asked for and zeroed.
 
 use crate::files::Hour;
-use crate::judgement::{hour_in_order, judge};
+use crate::judgement::{hour_in_order, judge, Judgement};
 use crate::limits::*;
 use crate::Papers;
 
@@ -191,14 +191,9 @@ pub trait IntuitiveHours: Sized {
         number == 0
     }
 
-    /// Our net positions turned: export positive.
+    /// Our net positions turned: export positive. They fit 64 bits, as 512 orders come to 51,200,000 at most.
     fn net_exports(&self, hour: &Hour) -> Vec<i64> {
-        let mut net = vec![0; hour.case.zones];
-        for o in 0..hour.case.orders {
-            let (order, volume) = (hour.case.order(o), hour.proposal.volume(o) as i64);
-            net[usize::from(order.zone)] += if order.side == SELLS { volume } else { -volume };
-        }
-        net
+        Papers.net_positions(hour)[..hour.case.zones].iter().map(|net| -net as i64).collect()
     }
 
     /// The entry over an hour, which must be accepted: else the judgement's number and index.

@@ -162,8 +162,8 @@ pub trait Judgement: Sized {
     }
 
     /// Rule 11. Gap: bound minus welfare.
-    fn gap(&self, hour: &Hour, prices: &PerZone) -> i128 {
-        self.bound(hour, prices) - self.welfare(hour)
+    fn gap(&self, bound: i128, welfare: i128) -> i128 {
+        bound - welfare
     }
 
     /// Rule 11. Rent: the sum of net position times zone price.
@@ -221,11 +221,10 @@ pub trait Judgement: Sized {
 
     fn branch_fields(&self, case: &Case, b: usize) -> Vec<Field> {
         let at = case.branch_at(b);
-        let mut fields = vec![(at, RAM.contains(&case.ram(b)))];
-        for (zone, ptdf) in case.ptdfs(b).enumerate() {
-            fields.push((at + 4 + 4 * zone, PTDF.contains(&ptdf)));
-        }
-        fields
+        let margin = (at, RAM.contains(&case.ram(b)));
+        let ptdfs = case.ptdfs(b).enumerate();
+        let ptdfs = ptdfs.map(|(zone, ptdf)| (at + 4 + 4 * zone, PTDF.contains(&ptdf)));
+        std::iter::once(margin).chain(ptdfs).collect()
     }
 
     /// 7: Link with an unknown zone, equal zones, a capacity out of range, a repeated pair, or more contracted than
@@ -372,8 +371,8 @@ pub trait Judgement: Sized {
 
     /// 26: Gap above tolerance, in microcents.
     fn gap_is_above_tolerance(&self, hour: &Hour) -> Option<usize> {
-        let gap = self.gap(hour, &self.zone_prices(hour));
-        holds(gap > MICROCENTS * hour.case.tolerance)
+        let bound = self.bound(hour, &self.zone_prices(hour));
+        holds(self.gap(bound, self.welfare(hour)) > MICROCENTS * hour.case.tolerance)
     }
 
     // The entries.
@@ -426,13 +425,8 @@ pub trait Judgement: Sized {
 
     /// Welfare, bound, gap, rent and owed, as the report has them.
     fn totals(&self, hour: &Hour, prices: &PerZone) -> [i128; REPORT_TOTALS] {
-        [
-            self.welfare(hour),
-            self.bound(hour, prices),
-            self.gap(hour, prices),
-            self.rent(hour, prices),
-            self.owed(hour, prices),
-        ]
+        let (welfare, bound) = (self.welfare(hour), self.bound(hour, prices));
+        [welfare, bound, self.gap(bound, welfare), self.rent(hour, prices), self.owed(hour, prices)]
     }
 
     /// The report: LTR, version 1, number, zones and a zero byte, then the totals, then each zone price. What lies

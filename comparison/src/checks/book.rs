@@ -16,8 +16,11 @@ fn feed_as(run: &mut Run, rows: &[Row], prices: &[i64], null: bool) -> BookAnswe
     let theirs = library::book_surplus(rows, prices, null);
     let ours = book_surplus(rows, prices);
     if theirs != ours {
-        let (rows, prices) = (rows.len(), prices.len());
-        run.fault(|| format!("{rows} rows, {prices} prices: library {theirs:?}, second judge {ours:?}"));
+        let rows = match rows.len() {
+            0..=16 => format!("rows {rows:?}"),
+            count => format!("{count} rows"),
+        };
+        run.fault(|| format!("library {theirs:?}, second judge {ours:?}\n  {rows}, prices {prices:?}"));
     }
     run.books[ours.number as usize] += 1;
     ours
