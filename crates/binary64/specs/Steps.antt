@@ -3,5 +3,6 @@ pub mod Machine
 pub mod Cutting
 pub mod Half
 pub mod Whole
+pub mod WholePart
 pub mod Patterns
 pub mod Products

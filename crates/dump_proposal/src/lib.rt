@@ -1,4 +1,5 @@
-// A proposal from a solver's dump (S-5): the dump is held to rows 56 to 60, and each of its values becomes the field of the proposal that stands in its place.
+// A proposal from a solver's dump (S-5): the dump is held to rows 56 to 60, and each of its values becomes the field
+// of the proposal that stands in its place.
 ghost use mathlib.Core.Path.{_≡_};
 ghost use mathlib.Core.Bool.{true, not};
 ghost use mathlib.Core.List.{_++_};
@@ -41,8 +42,8 @@ const FIELDS_AT: usize = 5;
 
 const REST_AT: usize = 13;
 
-// The entries of the table of converted fields: as many as the largest case has orders, links and branches, and few for
-// a small case, since clearing the large table takes longer than converting a small dump.
+// The entries of the table of converted fields: as many as the largest case has orders, links and branches, and few
+// for a small case, since clearing the large table takes longer than converting a small dump.
 const TABLE: usize = 640;
 
 const SMALL_TABLE: usize = 64;
@@ -117,8 +118,8 @@ fn low32(x: Bits) -> u32
     (x.0 % WORD_END) as u32
 }
 
-// Row 59, after the opening: each value's field into the table, up to the first that has none. A value is taken over its
-// own eight bytes: their length is known, so that the compiler drops the test for a missing field from the loop.
+// Row 59, after the opening: each value's field into the table, up to the first that has none. A value is taken over
+// its own eight bytes: their length is known, so that the compiler drops the test for a missing field from the loop.
 fn convert_rest(case: &[u8], k: Counts, dump: &[u8], start: Cursor, table: &mut [u32]) -> Place
     requires { ⌜ FiniteDump (now «case») k (now dump) ⌝ }
     requires { ⌜ start .at ≡ 16 ⌝ }

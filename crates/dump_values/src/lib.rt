@@ -1,4 +1,5 @@
-// What each value of a solver's dump becomes (S-5): the field of the proposal that stands in its place, or that it has none.
+// What each value of a solver's dump becomes (S-5): the field of the proposal that stands in its place, or that it
+// has none.
 ghost use mathlib.Core.Path.{_≡_};
 ghost use mathlib.Core.Bool.{true};
 ghost use Prim.Native.Nat.{_+_, _≤_, _<_};
@@ -121,7 +122,8 @@ pub fn opening_fields(o: DumpOpening) -> OpeningFields
     OpeningFields { share, system }
 }
 
-// The field of the i-th value after the opening: the orders' shares, then the links' flows, then the branches' shadow prices.
+// The field of the i-th value after the opening: the orders' shares, then the links' flows, then the branches' shadow
+// prices.
 pub fn field_of(case: &[u8], k: Counts, i: usize, bits: u64) -> FieldAnswer
     requires { ⌜ Opened (now «case») k ⌝ }
     requires { ⌜ i < k .orders + k .links + k .branches ⌝ }

@@ -49,7 +49,7 @@ unfoldable pub nearest : Float → ℕ
 nearest p = (2 * num p + den p) / (2 * den p)
 
 -- THE EXACT PRODUCT of the share b and the whole q is the fraction units b * q / 2 ^ 1074: v is at most the whole, and differs from it by less than one
-pub record Within (b q v : ℕ) : Type 0 where
+pub record ShareWithin (b q v : ℕ) : Type 0 where
   pub most : v ≤ q
   pub over : v * 2 ^ 1074 < units b * q + 2 ^ 1074
   pub under : units b * q < v * 2 ^ 1074 + 2 ^ 1074

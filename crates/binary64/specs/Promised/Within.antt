@@ -11,7 +11,7 @@ use lib.Ieee.Exact.{HasValue}
 use lib.Ieee.Positive.{num, den, den-pos}
 use lib.Ieee.Scale as float
 use Rattle.integers.specs.Ranges.{is-true}
-use Rattle.binary64.specs.Meaning.Value.{minus, finite, units, negative, aboveOne, product, cut, Within}
+use Rattle.binary64.specs.Meaning.Value.{minus, finite, units, negative, aboveOne, product, cut, ShareWithin}
 use Rattle.binary64.specs.Steps.Machine.{zero64, one64, times}
 use Rattle.binary64.specs.Steps.Cutting.{Part, share-part, share-of, share-in-range}
 use Rattle.binary64.specs.Steps.Patterns.{bits-value}
@@ -54,7 +54,7 @@ share-finite b q f n o l =
     let u = share-unit b f n o in
     ap float.finite (sym (product-is b q f l)) ∙ ranged-finite (times (ofBits binary64 b) q) (share-in-range (ofBits binary64 b) q (share-of (ofBits binary64 b) (u .0) (u .1)) l)
 
-pub share-within : (b q : ℕ) → finite b ≡ true → negative b ≡ false → aboveOne b ≡ false → q < 2 ^ 53 → Within b q (cut (product b q))
+pub share-within : (b q : ℕ) → finite b ≡ true → negative b ≡ false → aboveOne b ≡ false → q < 2 ^ 53 → ShareWithin b q (cut (product b q))
 share-within b q f n o l =
     let x = ofBits binary64 b in
     let u = share-unit b f n o in

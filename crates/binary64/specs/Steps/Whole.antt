@@ -1,15 +1,15 @@
 -- Products that are not negative against the whole numbers that a field holds: the code's tests, and what they leave. Assumes nothing.
 use mathlib.Core.Path.{_≡_, refl, sym, ap, _∙_, subst}
-use Prim.Native.Nat.{ℕ, _+_, _-_, _*_, _/_, _^_, _≤_, _<_, min}
+use Prim.Native.Nat.{ℕ, _+_, _-_, _*_, _/_, _^_, _≤_, _<_}
 use native.Mathlib.Nat.{le-trans, le-of-eq, lt-of-le-of-lt, lt-of-not-le, mul-one, mul-left-comm, mul-pos, le-div-iff-mul-le, div-lt-iff-lt-mul}
 use native.Mathlib.Omega.{arith}
 use native.Mathlib.Decide.{decLt}
 use borrow.Author.Tests.{lt-ltb, le-ltb, lt-leb, le-leb}
 use mathlib.Core.Bool.{Bool, true, false, _&&_, _||_}
 use lib.IntN.{pos}
-use lib.Dec.{T, ltb, eqb, leb, ltb→lt, lt→ltb, lit<}
+use lib.Dec.{T, ltb, eqb, leb, lt→ltb, lit<}
 use lib.Pow.{pow-pos}
-use lib.Ieee.{Float, nan, inf, fin, binary64, up, down, le, lt, eq, ofBits, toUnsigned}
+use lib.Ieee.{Float, nan, inf, fin, binary64, up, down, le, lt, eq, ofBits}
 use lib.Ieee.Fits.{down-pos}
 use lib.Ieee.Order.{le-of-values}
 use lib.Ieee.Scale.{finite}
@@ -50,21 +50,9 @@ pub halves-end-bits : ofBits binary64 0x4320_0000_0000_0000 ≡ halves-end
 unfolding ofBits
 halves-end-bits = refl
 
--- BELOW 2 ^ 32: in the cast's range, and the cast fits 32 bits
+-- BELOW 2 ^ 32: in the cast's range
 pub word-ranged : (p : Float) → T (le zero64 p) → T (lt p word-end) → Ranged p
 word-ranged p g h = in-range p zero64 word-end (2 ^ 32) (lit< tt) (refl, refl) (refl, refl) g (unfold le in or-left (lt p word-end) (eq p word-end) h)
-
-pub word-cast : (p : Float) → T (lt p word-end) → toUnsigned 64 p < 2 ^ 32
-unfolding lt toUnsigned
-word-cast nan t = absurd t
-word-cast (inf true) t = pow-pos 32
-word-cast (inf false) t = absurd t
-word-cast (fin true m e) t = pow-pos 32
-word-cast (fin false m e) t =
-    under (m * up e / down e) (2 ^ 64 - 1) (2 ^ 32) (div-lt-iff-lt-mul (down-pos e) .1 (lt-of-le-of-lt (le-of-eq (sym (mul-one (m * up e)))) (ltb→lt (m * up e * 1) (2 ^ 32 * down e) t)))
-  where
-    under : (a b c : ℕ) → a < c → min a b < c
-    under a b c h = omega arith
 
 -- and the test is of the cut
 pub word-test : (p : Float) → T (le zero64 p) → lt p word-end ≡ finite p && leb (cut p) 4294967295

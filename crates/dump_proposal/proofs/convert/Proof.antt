@@ -1,4 +1,5 @@
--- `dump_proposal::convert` meets its contract: rows 57 and 58, past each that passes; the rest is `convert_finite`'s. Assumes nothing.
+-- `dump_proposal::convert` meets its contract: rows 57 and 58, past each that passes; the rest is `convert_finite`'s.
+-- Assumes nothing.
 use mathlib.Core.Path.{_≡_, sym, ap, _∙_}
 use mathlib.Core.List.{List}
 use Prim.Native.Nat.{ℕ, _+_, _*_, _≤_}

@@ -1,7 +1,8 @@
--- `dump_proposal::convert_by` meets its contract: row 59 after the opening, then row 60, then the proposal from the table. Assumes nothing.
+-- `dump_proposal::convert_by` meets its contract: row 59 after the opening, then row 60, then the proposal from the
+-- table. Assumes nothing.
 use mathlib.Core.Path.{_≡_, sym, ap, _∙_}
 use mathlib.Core.List.{List}
-use Prim.Native.Nat.{ℕ, _+_, _*_}
+use Prim.Native.Nat.{ℕ}
 use native.Mathlib.Omega.{arith}
 use borrow.Author.Needs.{needs}
 use denote.Ref.{now}

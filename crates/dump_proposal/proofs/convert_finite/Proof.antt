@@ -1,5 +1,5 @@
--- `dump_proposal::convert_finite` meets its contract: row 59 at the LTA share and at the system price; the rest is `convert_by`'s,
--- with a table that has room for it. Assumes nothing.
+-- `dump_proposal::convert_finite` meets its contract: row 59 at the LTA share and at the system price; the rest is
+-- `convert_by`'s, with a table that has room for it. Assumes nothing.
 use mathlib.Core.Path.{_≡_, sym, _∙_}
 use mathlib.Core.List.{List}
 use Prim.Native.Nat.{ℕ}

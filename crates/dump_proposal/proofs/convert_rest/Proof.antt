@@ -1,5 +1,6 @@
--- `dump_proposal::convert_rest` meets its contract. The loop's invariant: the cursor stands at the value of this turn, every
--- value before it has its field, and the table has those fields. The measure is what is left of the values. Assumes nothing.
+-- `dump_proposal::convert_rest` meets its contract. The loop's invariant: the cursor stands at the value of this
+-- turn, every value before it has its field, and the table has those fields. The measure is what is left of the
+-- values. Assumes nothing.
 use mathlib.Core.Path.{_≡_, refl, sym, ap, _∙_, subst}
 use mathlib.Core.List.{List}
 use mathlib.Core.Option.{none, Option·some-ne-none}

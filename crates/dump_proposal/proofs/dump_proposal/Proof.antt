@@ -1,4 +1,5 @@
--- `dump_proposal::dump_proposal` meets its contract: a case that is refused, or the dump held to the other rows. Assumes nothing.
+-- `dump_proposal::dump_proposal` meets its contract: a case that is refused, or the dump held to the other rows.
+-- Assumes nothing.
 use mathlib.Core.Path.{sym, _∙_}
 use borrow.Author.Needs.{needs}
 use denote.Ref.{now}

@@ -1,8 +1,8 @@
--- `dump_proposal::write_rest` meets its contract. The loop's invariant: the entries before this turn's are written. Assumes nothing.
+-- `dump_proposal::write_rest` meets its contract. The loop's invariant: the entries before this turn's are written.
+-- Assumes nothing.
 use mathlib.Core.Path.{_≡_, refl, ap, _∙_}
 use Prim.Native.Nat.{ℕ, _+_, _-_, _*_, _≤_}
 use native.Mathlib.Omega.{arith}
-use borrow.Author.Needs.{needs}
 use denote.Ref.{now}
 use lib.ListN.{length, getD}
 use lib.Seq.{sets, length-sets}

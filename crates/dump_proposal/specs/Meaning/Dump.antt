@@ -16,7 +16,7 @@ use Rattle.rules.specs.Meaning.Layout.{ordersIn, linksIn, branchesIn, quantityI
 use Rattle.rules.specs.Meaning.Verdict.{under, differ, caseRefusal, proposalRefusal}
 use Rattle.output.specs.declared.Written.{Written}
 use Rattle.output.specs.Meaning.Output.{writtenBy, outputAfter}
-use Rattle.binary64.specs.Meaning.Value.{bitsAt, finite, Within}
+use Rattle.binary64.specs.Meaning.Value.{bitsAt, finite, ShareWithin}
 use Rattle.dump_values.specs.Meaning.Field.{kindOf, converted, fault}
 
 -- how many values a dump for the case s has, eight bytes each, nothing after
@@ -103,4 +103,4 @@ pub record ProposalHolds (s d t : List ℕ) : Type 0 where
 
 -- THE VOLUMES of an answer: each is at most its order's quantity, and differs from the exact product of share and quantity by less than one tenth
 pub record VolumesWithin (s d t : List ℕ) : Type 0 where
-  pub volume-within : (i : ℕ) → i < ordersIn s → Within (bitsAt d (2 + i)) (quantityIn s i) (volumeIn s t i)
+  pub volume-within : (i : ℕ) → i < ordersIn s → ShareWithin (bitsAt d (2 + i)) (quantityIn s i) (volumeIn s t i)

@@ -38,8 +38,8 @@ modulo32 (pos n) = n % 4294967296
 modulo32 (negsuc n) = 4294967295 - n % 4294967296
 
 -- the four bytes from place k on are the number's, the lowest first
-abbrev pub Stands : List ℕ → ℕ → ℤ → Type 0
-Stands b k z = (i : ℕ) → i < 4 → getD b (k + i) 0 ≡ modulo32 z / 256 ^ i % 256
+abbrev pub FieldStands : List ℕ → ℕ → ℤ → Type 0
+FieldStands b k z = (i : ℕ) → i < 4 → getD b (k + i) 0 ≡ modulo32 z / 256 ^ i % 256
 
 -- WHAT STANDS in an output after an answer for the case s and the dump d, where `before` stood in it
 pub record WrittenProposal (s d before after : List ℕ) : Type 0 where
@@ -48,7 +48,7 @@ pub record WrittenProposal (s d before after : List ℕ) : Type 0 where
   pub version-at : (getD after 3 0 ≡ 1) × (getD after 4 0 ≡ 0)
   -- what value n became, and where it stands
   pub number : ℕ → ℤ
-  pub number-at : (n : ℕ) → n < 2 + (orders s + links s + branches s) → Stands after (5 + 4 * n) (number n)
+  pub number-at : (n : ℕ) → n < 2 + (orders s + links s + branches s) → FieldStands after (5 + 4 * n) (number n)
   pub share-is : ShareTaken (bits d 0) 100000 (number 0)
   pub system-is : SystemTaken (bits d 1) (number 1)
   pub volume-is : (i : ℕ) → i < orders s → ShareTaken (bits d (2 + i)) (quantityIn s i) (number (2 + i))
@@ -125,7 +125,7 @@ module _ (s d : List ℕ) (room : ℕ) (answered : (dumpOutcome s d room) .numbe
   unfolding proposalLength ordersIn linksIn branchesIn u8At u16At
   written-length = bytes-are s d
 
-  number-stands : (n : ℕ) → n < values s → Stands (proposalBytes s d) (5 + 4 * n) (number n)
+  number-stands : (n : ℕ) → n < values s → FieldStands (proposalBytes s d) (5 + 4 * n) (number n)
   unfolding valueCount ordersIn linksIn branchesIn u8At u16At
   number-stands n h i l =
       sym (getD-drop (5 + 4 * n) (proposalBytes s d) i 0) ∙ sym (getD-take 4 (drop (5 + 4 * n) (proposalBytes s d)) i 0 l) ∙ ap (λ (b : List ℕ). getD b i 0) (field-at s d n h)
@@ -145,7 +145,7 @@ module _ (s d before : List ℕ) (answered : (dumpOutcome s d (length before)) .
   room-for-it : size s d (length before) answered ≤ length before
   room-for-it = (answered-0 s d (length before) answered) .1 .1
 
-  number-there : (n : ℕ) → n < values s → Stands after (5 + 4 * n) (number s d (length before) answered n)
+  number-there : (n : ℕ) → n < values s → FieldStands after (5 + 4 * n) (number s d (length before) answered n)
   number-there n h i l = (let k : 5 + 4 * n + i < 13 + 4 * (orders s + links s + branches s) = omega (arith, h, l) in in-proposal (5 + 4 * n + i) k) ∙ number-stands s d (length before) answered n h i l
 
   -- THE THEOREM

@@ -39,13 +39,13 @@ abbrev pub bits : List ℕ → ℕ → ℕ
 bits d n = sumNat 8 (λ i. getD d (8 * n + i) 0 * 256 ^ i)
 
 -- 58: a value whose eleven bits of the exponent are all ones
-abbrev pub NotFinite : List ℕ → ℕ → Type 0
-NotFinite d n = bits d n / 2 ^ 52 % 2048 ≡ 2047
+abbrev pub ValueNotFinite : List ℕ → ℕ → Type 0
+ValueNotFinite d n = bits d n / 2 ^ 52 % 2048 ≡ 2047
 
 -- 59: value 0 is the LTA share, value 1 the system price; then come the orders' shares, the links' flows, the
 -- branches' shadow prices
-abbrev pub Refused : List ℕ → List ℕ → ℕ → Type 0
-Refused s d n =
+abbrev pub ValueRefused : List ℕ → List ℕ → ℕ → Type 0
+ValueRefused s d n =
     ((n ≡ 0) × ShareRefused (bits d n))
     ⊎ (((n ≡ 1) × SystemRefused (bits d n))
     ⊎ (((2 ≤ n) × ((n < 2 + orders s) × ShareRefused (bits d n)))
@@ -59,27 +59,27 @@ pub record FirstValue (s : List ℕ) (P : ℕ → Type 0) (n : ℕ) : Type 0 whe
   pub none-before : (j : ℕ) → j < n → P j → ⊥
 
 -- WHAT PASSES: the case alone; its dump's length too; every value finite; every value taken
-pub record Sized (s d : List ℕ) : Type 0 where
+pub record DumpSized (s d : List ℕ) : Type 0 where
   pub case-is : CaseFacts s
   pub length-is : length d ≡ 8 * (2 + (orders s + links s + branches s))
 
-pub record AllFinite (s d : List ℕ) : Type 0 where
-  pub sized : Sized s d
-  pub finite : (n : ℕ) → n < 2 + (orders s + links s + branches s) → NotFinite d n → ⊥
+pub record ValuesFinite (s d : List ℕ) : Type 0 where
+  pub sized : DumpSized s d
+  pub finite : (n : ℕ) → n < 2 + (orders s + links s + branches s) → ValueNotFinite d n → ⊥
 
-pub record AllTaken (s d : List ℕ) : Type 0 where
-  pub all-finite : AllFinite s d
-  pub taken : (n : ℕ) → n < 2 + (orders s + links s + branches s) → Refused s d n → ⊥
+pub record ValuesConvertible (s d : List ℕ) : Type 0 where
+  pub all-finite : ValuesFinite s d
+  pub taken : (n : ℕ) → n < 2 + (orders s + links s + branches s) → ValueRefused s d n → ⊥
 
 -- A VALUE'S TESTS
 module _ (d : List ℕ) (n : ℕ) where
   bits-are : bitsAt d n ≡ bits d n
   bits-are = bits-are-bytes d n
 
-  finite-test : T (not (finite (bitsAt d n))) ↔ NotFinite d n
-  finite-test = subst (λ (b : ℕ). T (not (finite b)) ↔ NotFinite d n) (sym bits-are) (λ t. not-finite (bits d n) .0 (not-is _ t), λ e. is-false (not-finite (bits d n) .1 e))
+  finite-test : T (not (finite (bitsAt d n))) ↔ ValueNotFinite d n
+  finite-test = subst (λ (b : ℕ). T (not (finite b)) ↔ ValueNotFinite d n) (sym bits-are) (λ t. not-finite (bits d n) .0 (not-is _ t), λ e. is-false (not-finite (bits d n) .1 e))
 
-module _ (s d : List ℕ) (f : AllFinite s d) where
+module _ (s d : List ℕ) (f : ValuesFinite s d) where
   is-finite : (n : ℕ) → n < values s → finite (bits d n) ≡ true
   is-finite n h = by (finite (bits d n)) refl
     where
@@ -121,7 +121,7 @@ module _ (s d : List ℕ) (f : AllFinite s d) where
     branch-test : 2 + (orders s + links s) ≤ n → Fault ↔ ShadowRefused (bits d n)
     branch-test l = test-as n shadow-price (branch-at s n l) (shadow-refused (bits d n))
 
-    fault-refused : Fault → Refused s d n
+    fault-refused : Fault → ValueRefused s d n
     fault-refused t = elim (decLt n 1) [
       | yes a ↦ let e : n ≡ 0 = omega arith in inl (e, first-test e .0 t)
       | no a ↦ elim (decLt n 2) [
@@ -136,7 +136,7 @@ module _ (s d : List ℕ) (f : AllFinite s d) where
       ]
     ]
 
-    refused-fault : Refused s d n → Fault
+    refused-fault : ValueRefused s d n → Fault
     refused-fault (inl x) = first-test (x .0) .1 (x .1)
     refused-fault (inr (inl x)) = second-test (x .0) .1 (x .1)
     refused-fault (inr (inr (inl x))) = order-test (x .0) (x .1 .0) .1 (x .1 .1)
@@ -154,27 +154,27 @@ passes-case s p = case-facts s (record { none-holds = by (caseRefusal s) (p .pas
     by (some x) t = absurd t
     by none t = refl
 
-length-passes : (s d : List ℕ) → Sized s d → Pass (wrongLength s d)
+length-passes : (s d : List ℕ) → DumpSized s d → Pass (wrongLength s d)
 unfolding dumpLength valueCount ordersIn linksIn branchesIn u8At u16At
 length-passes s d f = record { pass = λ k h. is-false (ap not (eq-eqb (length d) (8 * values s) (f .length-is))) }
 
-passes-length : (s d : List ℕ) → CaseFacts s → Pass (wrongLength s d) → Sized s d
+passes-length : (s d : List ℕ) → CaseFacts s → Pass (wrongLength s d) → DumpSized s d
 unfolding dumpLength valueCount ordersIn linksIn branchesIn u8At u16At
 passes-length s d f p = record { case-is = f; length-is = eqb-true (length d) (8 * values s) (not-false _ (not-is _ (p .pass 0 (omega arith)))) }
 
-finite-passes : (s d : List ℕ) → AllFinite s d → Pass (notFinite s d)
+finite-passes : (s d : List ℕ) → ValuesFinite s d → Pass (notFinite s d)
 unfolding valueCount ordersIn linksIn branchesIn u8At u16At
 finite-passes s d f = record { pass = λ n h. not-T (not (finite (bitsAt d n))) (λ t. f .finite n h (finite-test d n .0 t)) }
 
-passes-finite : (s d : List ℕ) → Sized s d → Pass (notFinite s d) → AllFinite s d
+passes-finite : (s d : List ℕ) → DumpSized s d → Pass (notFinite s d) → ValuesFinite s d
 unfolding valueCount ordersIn linksIn branchesIn u8At u16At
 passes-finite s d f p = record { sized = f; finite = λ n h x. T-not (not (finite (bitsAt d n))) (p .pass n h) (finite-test d n .1 x) }
 
-taken-passes : (s d : List ℕ) → AllTaken s d → Pass (outOfField s d)
+taken-passes : (s d : List ℕ) → ValuesConvertible s d → Pass (outOfField s d)
 unfolding valueCount ordersIn linksIn branchesIn u8At u16At
 taken-passes s d f = record { pass = λ n h. not-T (fault (kindOf s n) (bitsAt d n)) (λ t. f .taken n h (fault-refused s d (f .all-finite) n h t)) }
 
-passes-taken : (s d : List ℕ) → AllFinite s d → Pass (outOfField s d) → AllTaken s d
+passes-taken : (s d : List ℕ) → ValuesFinite s d → Pass (outOfField s d) → ValuesConvertible s d
 unfolding valueCount ordersIn linksIn branchesIn u8At u16At
 passes-taken s d f p = record { all-finite = f; taken = λ n h x. T-not (fault (kindOf s n) (bitsAt d n)) (p .pass n h) (refused-fault s d f n h x) }
 
@@ -227,7 +227,7 @@ module _ (s d : List ℕ) (room : ℕ) where
       row-answers 57 (dumpRows s d room) tt (rows .is) 0 (record { place-in = omega arith; holds = is-true (ap not (ne-eqb (length d) (8 * values s) q)); none-before = nothing-before _ })
 
   -- 58 IF AND ONLY IF the length is right and a value is not finite; its index is the first such value
-  pub refused-58 : (dumpOutcome s d room) .number ≡ 58 → (dumpOutcome s d room ≡ verdict 58 ((dumpOutcome s d room) .index)) × (Sized s d × FirstValue s (NotFinite d) ((dumpOutcome s d room) .index))
+  pub refused-58 : (dumpOutcome s d room) .number ≡ 58 → (dumpOutcome s d room ≡ verdict 58 ((dumpOutcome s d room) .index)) × (DumpSized s d × FirstValue s (ValueNotFinite d) ((dumpOutcome s d room) .index))
   unfolding dumpOutcome dumpRefusal dumpRows lacks before rowNumbered valueCount ordersIn linksIn branchesIn u8At u16At
   refused-58 e =
       let row = row-by-number 58 (dumpRows s d room) (omega arith) tt tt e in
@@ -236,7 +236,7 @@ module _ (s d : List ℕ) (room : ℕ) where
         row .is ∙ ap (verdict 58) place,
         (
           passes-length s d (passes-case s (passed 56)) (passed 57),
-          subst (λ (k : ℕ). FirstValue s (NotFinite d) k) place (record {
+          subst (λ (k : ℕ). FirstValue s (ValueNotFinite d) k) place (record {
             value-in = row .first-place .place-in;
             holds = finite-test d (row .place) .0 (row .first-place .holds);
             none-before = λ j h x. T-not (not (finite (bitsAt d j))) (row .first-place .none-before j h) (finite-test d j .1 x);
@@ -244,7 +244,7 @@ module _ (s d : List ℕ) (room : ℕ) where
         ),
       )
 
-  pub is-58 : Sized s d → (n : ℕ) → FirstValue s (NotFinite d) n → dumpOutcome s d room ≡ verdict 58 n
+  pub is-58 : DumpSized s d → (n : ℕ) → FirstValue s (ValueNotFinite d) n → dumpOutcome s d room ≡ verdict 58 n
   unfolding dumpOutcome dumpRefusal dumpRows lacks before rowNumbered valueCount ordersIn linksIn branchesIn u8At u16At
   is-58 f n w =
       let rows : Comes (refusedCase s ∷ wrongLength s d ∷ []) none = past (case-passes s (f .case-is)) (past (length-passes s d f) none-left) in
@@ -255,7 +255,7 @@ module _ (s d : List ℕ) (room : ℕ) where
       })
 
   -- 59 IF AND ONLY IF every value is finite and one has no field; its index is the first such value
-  pub refused-59 : (dumpOutcome s d room) .number ≡ 59 → (dumpOutcome s d room ≡ verdict 59 ((dumpOutcome s d room) .index)) × (AllFinite s d × FirstValue s (Refused s d) ((dumpOutcome s d room) .index))
+  pub refused-59 : (dumpOutcome s d room) .number ≡ 59 → (dumpOutcome s d room ≡ verdict 59 ((dumpOutcome s d room) .index)) × (ValuesFinite s d × FirstValue s (ValueRefused s d) ((dumpOutcome s d room) .index))
   unfolding dumpOutcome dumpRefusal dumpRows lacks before rowNumbered valueCount ordersIn linksIn branchesIn u8At u16At
   refused-59 e =
       let row = row-by-number 59 (dumpRows s d room) (omega arith) tt tt e in
@@ -265,7 +265,7 @@ module _ (s d : List ℕ) (room : ℕ) where
         row .is ∙ ap (verdict 59) place,
         (
           f,
-          subst (λ (k : ℕ). FirstValue s (Refused s d) k) place (record {
+          subst (λ (k : ℕ). FirstValue s (ValueRefused s d) k) place (record {
             value-in = row .first-place .place-in;
             holds = fault-refused s d f (row .place) (row .first-place .place-in) (row .first-place .holds);
             none-before = λ j h x. T-not (fault (kindOf s j) (bitsAt d j)) (row .first-place .none-before j h) (refused-fault s d f j (lt-trans h (row .first-place .place-in)) x);
@@ -273,7 +273,7 @@ module _ (s d : List ℕ) (room : ℕ) where
         ),
       )
 
-  pub is-59 : AllFinite s d → (n : ℕ) → FirstValue s (Refused s d) n → dumpOutcome s d room ≡ verdict 59 n
+  pub is-59 : ValuesFinite s d → (n : ℕ) → FirstValue s (ValueRefused s d) n → dumpOutcome s d room ≡ verdict 59 n
   unfolding dumpOutcome dumpRefusal dumpRows lacks before rowNumbered valueCount ordersIn linksIn branchesIn u8At u16At
   is-59 f n w =
       let rows : Comes (refusedCase s ∷ wrongLength s d ∷ notFinite s d ∷ []) none = past (case-passes s (f .sized .case-is)) (past (length-passes s d (f .sized)) (past (finite-passes s d f) none-left)) in
@@ -284,21 +284,21 @@ module _ (s d : List ℕ) (room : ℕ) where
       })
 
   -- 60 IF AND ONLY IF every value is taken and the output is shorter than the proposal; its index is 0
-  all-passed : AllTaken s d → Pass (shortOutput s room) → dumpRefusal s d room ≡ none
+  all-passed : ValuesConvertible s d → Pass (shortOutput s room) → dumpRefusal s d room ≡ none
   unfolding dumpRefusal dumpRows
   all-passed f p =
       let rows : Comes (dumpRows s d room) none =
       past (case-passes s (f .all-finite .sized .case-is)) (past (length-passes s d (f .all-finite .sized)) (past (finite-passes s d (f .all-finite)) (past (taken-passes s d f) (past p none-left)))) in
       rows .is
 
-  pub refused-60 : (dumpOutcome s d room) .number ≡ 60 → (dumpOutcome s d room ≡ verdict 60 0) × (AllTaken s d × (room < 13 + 4 * (orders s + links s + branches s)))
+  pub refused-60 : (dumpOutcome s d room) .number ≡ 60 → (dumpOutcome s d room ≡ verdict 60 0) × (ValuesConvertible s d × (room < 13 + 4 * (orders s + links s + branches s)))
   unfolding dumpOutcome dumpRefusal dumpRows lacks before rowNumbered proposalLength ordersIn linksIn branchesIn u8At u16At
   refused-60 e =
       let row = row-by-number 60 (dumpRows s d room) (omega arith) tt tt e in
       let passed = number-passes (refusedCase s ∷ wrongLength s d ∷ notFinite s d ∷ outOfField s d ∷ []) (row .earlier) in
       (row .is, (passes-taken s d (passes-finite s d (passes-length s d (passes-case s (passed 56)) (passed 57)) (passed 58)) (passed 59), ltb→lt room (13 + 4 * (orders s + links s + branches s)) (row .first-place .holds)))
 
-  pub is-60 : AllTaken s d → room < 13 + 4 * (orders s + links s + branches s) → dumpOutcome s d room ≡ verdict 60 0
+  pub is-60 : ValuesConvertible s d → room < 13 + 4 * (orders s + links s + branches s) → dumpOutcome s d room ≡ verdict 60 0
   unfolding dumpOutcome dumpRefusal dumpRows lacks before rowNumbered proposalLength ordersIn linksIn branchesIn u8At u16At
   is-60 f h =
       let rows : Comes (refusedCase s ∷ wrongLength s d ∷ notFinite s d ∷ outOfField s d ∷ []) none =
@@ -306,7 +306,7 @@ module _ (s d : List ℕ) (room : ℕ) where
       row-answers 60 (dumpRows s d room) tt (rows .is) 0 (record { place-in = omega arith; holds = lt→ltb room (13 + 4 * (orders s + links s + branches s)) h; none-before = nothing-before _ })
 
   -- 0 IF AND ONLY IF every value is taken and the proposal has room; its index is 0
-  pub answered-0 : (dumpOutcome s d room) .number ≡ 0 → (dumpOutcome s d room ≡ verdict 0 0) × (AllTaken s d × (13 + 4 * (orders s + links s + branches s) ≤ room))
+  pub answered-0 : (dumpOutcome s d room) .number ≡ 0 → (dumpOutcome s d room ≡ verdict 0 0) × (ValuesConvertible s d × (13 + 4 * (orders s + links s + branches s) ≤ room))
   unfolding dumpOutcome dumpRefusal dumpRows lacks rowNumbered proposalLength ordersIn linksIn branchesIn u8At u16At
   answered-0 e =
       let passed = number-passes (dumpRows s d room) (zero-none (dumpRows s d room) tt e) in (
@@ -317,6 +317,6 @@ module _ (s d : List ℕ) (room : ℕ) where
         ),
       )
 
-  pub is-0 : AllTaken s d → 13 + 4 * (orders s + links s + branches s) ≤ room → dumpOutcome s d room ≡ verdict 0 0
+  pub is-0 : ValuesConvertible s d → 13 + 4 * (orders s + links s + branches s) ≤ room → dumpOutcome s d room ≡ verdict 0 0
   unfolding dumpOutcome proposalLength ordersIn linksIn branchesIn u8At u16At
   is-0 f h = ap answer (all-passed f (record { pass = λ k l. is-false (le-ltb room (13 + 4 * (orders s + links s + branches s)) h) }))

@@ -27,7 +27,7 @@ use Rattle.rules.specs.Meaning.Verdict.{caseRefusal, Readable, notMark, proposa
 use Rattle.rules.specs.Steps.LayoutLaws.{word-there, signed-there}
 use Rattle.rules.specs.Steps.Passed.{case-sound}
 use Rattle.words.specs.Halves.{low-half, low-bits}
-use Rattle.binary64.specs.Meaning.Value.{bitsAt, finite, negative, aboveOne, cut, nearest, Within}
+use Rattle.binary64.specs.Meaning.Value.{bitsAt, finite, negative, aboveOne, cut, nearest, ShareWithin}
 use Rattle.binary64.specs.Promised.Within.{share-within}
 use Rattle.dump_values.specs.Meaning.Field.{Kind, share-of, flow, shadow-price, kindOf, productOf, converted, forbidden, fieldRange, fault}
 use Rattle.dump_values.specs.Promised.PlainPlaces.{after-kind, order-kind, flow-kind, shadow-kind}
@@ -175,7 +175,7 @@ module _ (s d : List ℕ) (room : ℕ) (answered : (dumpOutcome s d room) .numbe
     unfolding volumeIn converted
     volume-back = back-of (2 + i) volume-in volume-kind (quantityIn s i) volume (13 + 4 * i) refl refl (omega (arith, quantity-most)) (omega arith)
 
-    volume-exact : Within (bitsAt d (2 + i)) (quantityIn s i) volume
+    volume-exact : ShareWithin (bitsAt d (2 + i)) (quantityIn s i) volume
     unfolding productOf
     volume-exact =
         let a = allowed (2 + i) volume-in volume-kind in
@@ -262,7 +262,7 @@ module _ (s d : List ℕ) (room : ℕ) (answered : (dumpOutcome s d room) .numbe
   }
 
   pub volumes : VolumesWithin s d t
-  volumes = record { volume-within = λ i h. subst (λ (v : ℕ). Within (bitsAt d (2 + i)) (quantityIn s i) v) (sym (volume-back i h)) (volume-exact i h) }
+  volumes = record { volume-within = λ i h. subst (λ (v : ℕ). ShareWithin (bitsAt d (2 + i)) (quantityIn s i) v) (sym (volume-back i h)) (volume-exact i h) }
 
 -- the same of the bytes that the entry says it wrote, as they then stand in its output
 stands : (s d out : List ℕ) → (dumpOutcome s d (length out)) .number ≡ 0 → take (length (dumpWritten s d (length out))) (dumpOutput s d out) ≡ proposalBytes s d

@@ -54,8 +54,8 @@ module _ (s d : List ℕ) (rest : ℕ) where
   pub share-first : outOfFieldAt s d 0 ≡ true → firstBelow (2 + rest) (outOfFieldAt s d) ≡ some 0
   share-first e = first-some (2 + rest) (outOfFieldAt s d) 0 (record { place-in = omega arith; holds = is-true e; none-before = λ i h. absurd (omega arith) })
 
-  pub price-first : outOfFieldAt s d 0 ≡ false → outOfFieldAt s d 1 ≡ true → firstBelow (2 + rest) (outOfFieldAt s d) ≡ some 1
-  price-first z e = first-some (2 + rest) (outOfFieldAt s d) 1 (record { place-in = omega arith; holds = is-true e; none-before = before })
+  pub system-first : outOfFieldAt s d 0 ≡ false → outOfFieldAt s d 1 ≡ true → firstBelow (2 + rest) (outOfFieldAt s d) ≡ some 1
+  system-first z e = first-some (2 + rest) (outOfFieldAt s d) 1 (record { place-in = omega arith; holds = is-true e; none-before = before })
     where
       before : (i : ℕ) → i < 1 → T (not (outOfFieldAt s d i))
       before zero h = is-false z
@@ -85,49 +85,49 @@ module _ (s d : List ℕ) (rest : ℕ) where
 -- ROW BY ROW
 module _ (s d : List ℕ) (room : ℕ) where
   -- the rows from the n-th on are left
-  abbrev pub From : ℕ → Type 0
-  From n = dumpRefusal s d room ≡ refusal (drop n (dumpRows s d room))
+  abbrev pub RowsFrom : ℕ → Type 0
+  RowsFrom n = dumpRefusal s d room ≡ refusal (drop n (dumpRows s d room))
 
-  abbrev pub Refused : ℕ → ℕ → Type 0
-  Refused n k = dumpRefusal s d room ≡ some (verdict n k)
+  abbrev pub RefusedBy : ℕ → ℕ → Type 0
+  RefusedBy n k = dumpRefusal s d room ≡ some (verdict n k)
 
-  pub refused-56 : {o : Outcome} → caseRefusal s ≡ some o → Refused 56 (o .number)
+  pub refused-56 : {o : Outcome} → caseRefusal s ≡ some o → RefusedBy 56 (o .number)
   unfolding dumpRefusal dumpRows
   refused-56 {o} e = field-fails 56 (numberIn (caseRefusal s)) _ (ap refuses e) ∙ ap (λ (c : Option Outcome). some (verdict 56 (numberIn c))) e
 
-  pub past-56 : caseRefusal s ≡ none → From 1
+  pub past-56 : caseRefusal s ≡ none → RowsFrom 1
   unfolding dumpRefusal dumpRows
   past-56 e = field-passes 56 (numberIn (caseRefusal s)) _ (ap refuses e)
 
-  pub refused-57 : From 1 → (length d ≡ dumpLength s → ⊥) → Refused 57 0
+  pub refused-57 : RowsFrom 1 → (length d ≡ dumpLength s → ⊥) → RefusedBy 57 0
   unfolding dumpRefusal dumpRows
   refused-57 p h = p ∙ field-fails 57 0 _ (ap not (ne-eqb (length d) (dumpLength s) h))
 
-  pub past-57 : From 1 → length d ≡ dumpLength s → From 2
+  pub past-57 : RowsFrom 1 → length d ≡ dumpLength s → RowsFrom 2
   unfolding dumpRefusal dumpRows
   past-57 p h = p ∙ field-passes 57 0 _ (ap not (eq-eqb (length d) (dumpLength s) h))
 
-  pub refused-58 : {n : ℕ} → From 2 → firstBelow (valueCount s) (notFiniteAt d) ≡ some n → Refused 58 n
+  pub refused-58 : {n : ℕ} → RowsFrom 2 → firstBelow (valueCount s) (notFiniteAt d) ≡ some n → RefusedBy 58 n
   unfolding dumpRefusal dumpRows
   refused-58 {n} p e = p ∙ row-found (each 58 (valueCount s) (notFiniteAt d)) _ n e
 
-  pub past-58 : From 2 → firstBelow (valueCount s) (notFiniteAt d) ≡ none → From 3
+  pub past-58 : RowsFrom 2 → firstBelow (valueCount s) (notFiniteAt d) ≡ none → RowsFrom 3
   unfolding dumpRefusal dumpRows
   past-58 p e = p ∙ row-clear (each 58 (valueCount s) (notFiniteAt d)) _ e
 
-  pub refused-59 : {n : ℕ} → From 3 → firstBelow (valueCount s) (outOfFieldAt s d) ≡ some n → Refused 59 n
+  pub refused-59 : {n : ℕ} → RowsFrom 3 → firstBelow (valueCount s) (outOfFieldAt s d) ≡ some n → RefusedBy 59 n
   unfolding dumpRefusal dumpRows
   refused-59 {n} p e = p ∙ row-found (each 59 (valueCount s) (outOfFieldAt s d)) _ n e
 
-  pub past-59 : From 3 → firstBelow (valueCount s) (outOfFieldAt s d) ≡ none → From 4
+  pub past-59 : RowsFrom 3 → firstBelow (valueCount s) (outOfFieldAt s d) ≡ none → RowsFrom 4
   unfolding dumpRefusal dumpRows
   past-59 p e = p ∙ row-clear (each 59 (valueCount s) (outOfFieldAt s d)) _ e
 
-  pub refused-60 : From 4 → room < proposalLength s → Refused 60 0
+  pub refused-60 : RowsFrom 4 → room < proposalLength s → RefusedBy 60 0
   unfolding dumpRefusal dumpRows
   refused-60 p h = p ∙ field-fails 60 0 _ (lt-ltb room (proposalLength s) h)
 
-  pub all-passed : From 4 → proposalLength s ≤ room → dumpRefusal s d room ≡ none
+  pub all-passed : RowsFrom 4 → proposalLength s ≤ room → dumpRefusal s d room ≡ none
   unfolding dumpRefusal dumpRows refusal
   all-passed p h = p ∙ field-passes 60 0 [] (le-ltb room (proposalLength s) h)
 
@@ -171,7 +171,7 @@ module _ (s d out : List ℕ) {k : Counts} where
   pub met-57 : {r : Written} → Opened s k → (length d ≡ 8 * countOf k → ⊥) → r ≡ record { number = 57; index = 0; length = 0 } → DumpAnswered s d out r out
   met-57 o h q = met-refusal s d out (refused-57 s d (length out) (past-56 s d (length out) (o .readable .none-holds)) (λ e. h (e ∙ sym (length-due o)))) q
 
-  from-2 : Opened s k → length d ≡ 8 * countOf k → From s d (length out) 2
+  from-2 : Opened s k → length d ≡ 8 * countOf k → RowsFrom s d (length out) 2
   from-2 o h = past-57 s d (length out) (past-56 s d (length out) (o .readable .none-holds)) (h ∙ length-due o)
 
   pub met-58 : {n : ℕ} {r : Written} → Opened s k → length d ≡ 8 * countOf k → firstBelow (countOf k) (notFiniteAt d) ≡ some n
@@ -182,7 +182,7 @@ module _ (s d out : List ℕ) {k : Counts} where
   finite-dump o h e = record { opened = o; long = h; is-finite = λ n l. not-false _ (not-is _ (not-below (countOf k) (notFiniteAt d) e n l)) }
 
   module _ (f : FiniteDump s k d) where
-    from-3 : From s d (length out) 3
+    from-3 : RowsFrom s d (length out) 3
     from-3 = past-58 s d (length out) (from-2 (f .opened) (f .long)) (first-none (valueCount s) (notFiniteAt d) (λ n h. is-false (ap not (f .is-finite n (subst (λ (m : ℕ). n < m) (sym (count-is (f .opened))) h)))))
 
     counted : {n : Option ℕ} → firstBelow (countOf k) (outOfFieldAt s d) ≡ n → firstBelow (valueCount s) (outOfFieldAt s d) ≡ n
@@ -197,7 +197,7 @@ module _ (s d out : List ℕ) {k : Counts} where
 
     pub met-system : {x : Bits} {r : Written} → fieldOf (kindOf s 0) (bitsAt d 0) ≡ answer.Held x → fieldOf (kindOf s 1) (bitsAt d 1) ≡ answer.Outside
         → r ≡ record { number = 59; index = 1; length = 0 } → DumpAnswered s d out r out
-    met-system z e q = met-59 (price-first s d (restOf k) (field-held (kindOf s 0) (bitsAt d 0) z) (field-outside (kindOf s 1) (bitsAt d 1) e)) q
+    met-system z e q = met-59 (system-first s d (restOf k) (field-held (kindOf s 0) (bitsAt d 0) z) (field-outside (kindOf s 1) (bitsAt d 1) e)) q
 
     -- both have, and another value has none
     module _ {o : OpeningNumbers} (h : OpeningHeld s d o) where
@@ -212,7 +212,7 @@ module _ (s d out : List ℕ) {k : Counts} where
 
       -- every value has its field
       module _ (e : firstBelow (restOf k) (faultAfter s d) ≡ none) where
-        from-4 : From s d (length out) 4
+        from-4 : RowsFrom s d (length out) 4
         from-4 = past-59 s d (length out) from-3 (counted (none-first s d (restOf k) share-in system-in e))
 
         pub met-60 : {r : Written} → length out < 13 + 4 * restOf k → r ≡ record { number = 60; index = 0; length = 0 } → DumpAnswered s d out r out

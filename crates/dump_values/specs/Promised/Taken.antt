@@ -13,7 +13,7 @@ use lib.Ieee.Scale as float
 use Rattle.integers.specs.Difference.{at, ⊝_, le-fact}
 use Rattle.measures.specs.Meaning.Limits as limits
 use Rattle.integers.specs.Ranges.{outside, within, is-false, not-is, nor-left, nor-right, nat-within}
-use Rattle.binary64.specs.Meaning.Value.{finite, minus, negative, aboveOne, product, cut, nearest, Within}
+use Rattle.binary64.specs.Meaning.Value.{finite, minus, negative, aboveOne, product, cut, nearest, ShareWithin}
 use Rattle.binary64.specs.Promised.Within.{share-within}
 use Rattle.binary64.specs.Promised.Taken.{CutOf, NearestOf, WithinOne, cut-of, nearest-of, within-one, nearest-within-one}
 use Rattle.dump_values.specs.Meaning.Field.{Kind, share-of, flow, system-price, shadow-price, productOf, converted, forbidden, fieldRange, fault}
@@ -23,7 +23,7 @@ pub record ShareTaken (b q : ℕ) (z : ℤ) : Type 0 where
   pub parts : ℕ
   pub is : z ≡ pos parts
   pub cut-of-product : CutOf b q parts
-  pub within : Within b q parts
+  pub within : ShareWithin b q parts
 
 -- a flow in MW, as tenths
 pub record FlowTaken (b : ℕ) (z : ℤ) : Type 0 where

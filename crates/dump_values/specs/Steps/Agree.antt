@@ -7,7 +7,7 @@ use native.Mathlib.Decide.{decLt}
 use native.Mathlib.Omega.{arith}
 use borrow.Author.Tests.{lt-ltb, le-ltb, lt-leb, le-leb}
 use lib.Dec.{T, leb, ltb, lit≤}
-use lib.IntN.{ℤ, pos, negℤ}
+use lib.IntN.{pos, negℤ}
 use lib.Ieee.{Float, nan, inf, fin, binary64, neg, le, lt, ofBits, ofInt, round}
 use lib.Ieee.Scale as float
 use Rattle.integers.specs.Ranges.{range, outside, is-true, not-is, nat-inside}
