@@ -9,33 +9,46 @@ use native.Mathlib.Decide.{ℕ-discrete}
 use lib.Dec.{eqb}
 use borrow.Author.Tests.{eq-eqb, ne-eqb}
 use Rattle.integers.specs.NaturalSums.{sumNat, only, sum-ext, sum-one, only-add}
-use Rattle.transports.specs.Meaning.Network.{Network, Transport, inflow, outflow, Carries, carried}
-use Rattle.flow_scratch.specs.Scratch.{FlowSet, SentSet, GotSet}
+use Rattle.transports.specs.Meaning.Network.{Network, Flow, inflow, outflow, Feasible, carried}
+use Rattle.flow_scratch.specs.Scratch.{FlowSet, ExportUsedSet, ImportUsedSet}
 
--- flows in which zone z lacks d: with d more it would be even
-pub record Lacking (c : Network) (b : Transport) (total d z : ℕ) : Type 0 where
-  pub sent-le : (y : ℕ) → y < c .zones → b .sent y ≤ c .exports y
-  pub got-le : (y : ℕ) → y < c .zones → b .got y ≤ c .imports y
+-- flows in which zone z lacks d: with d more its flow would be conserved
+pub record Lacking (c : Network) (b : Flow) (total d z : ℕ) : Type 0 where
+  pub export-used-le : (y : ℕ) → y < c .zones → b .export-used y ≤ c .exports y
+  pub import-used-le : (y : ℕ) → y < c .zones → b .import-used y ≤ c .imports y
   pub along : (k : ℕ) → k < c .pairs → c .counted k ≡ false → b .flow k ≡ 0
-  pub even : (y : ℕ) → y < c .zones → (b .sent y + inflow c b y) + only (eqb z y) d ≡ b .got y + outflow c b y
+  pub conserved : (y : ℕ) → y < c .zones → (b .export-used y + inflow c b y) + only (eqb z y) d ≡ b .import-used y + outflow c b y
   pub sum : carried c b ≡ total
   pub flows : (k : ℕ) → k < c .pairs → b .flow k ≤ total + d
 
--- a transport that carries a total, with no flow above it
-pub record State (c : Network) (b : Transport) (total : ℕ) : Type 0 where
-  pub carries : Carries c b
+-- a flow that carries a total, with no flow above it
+pub record State (c : Network) (b : Flow) (total : ℕ) : Type 0 where
+  pub feasible : Feasible c b
   pub sum : carried c b ≡ total
   pub flows : (k : ℕ) → k < c .pairs → b .flow k ≤ total
 
 clash : {A : Type 0} → true ≡ false → A
 clash e = let z : _≡_ {A = ℕ} 0 1 = cc in absurd (omega arith)
 
--- a sum over the pairs with one flow changed
-picked : (n k : ℕ) (q : ℕ → Bool) (f g : ℕ → ℕ) → k < n → ((j : ℕ) → j < n → (j ≡ k → ⊥) → g j ≡ f j)
-    → sumNat n (λ j. only (q j) (g j)) + only (q k) (f k) ≡ sumNat n (λ j. only (q j) (f j)) + only (q k) (g k)
-picked n k q f g h e = sum-one n k (λ j. only (q j) (f j)) (λ j. only (q j) (g j)) h (λ j l w. ap (only (q j)) (e j l w))
+-- a sum over the pairs of which pair k has d more
+picked : (n k d : ℕ) (q : ℕ → Bool) (f g : ℕ → ℕ) → k < n → g k ≡ f k + d → ((j : ℕ) → j < n → (j ≡ k → ⊥) → g j ≡ f j)
+    → sumNat n (λ j. only (q j) (g j)) ≡ sumNat n (λ j. only (q j) (f j)) + only (q k) d
+picked n k d q f g h more e =
+    omega (
+      arith,
+      sum-one n k (λ j. only (q j) (f j)) (λ j. only (q j) (g j)) h (λ j l w. ap (only (q j)) (e j l w)),
+      ap (only (q k)) more,
+      only-add (q k) (f k) d,
+    )
 
-module _ (c : Network) (b b' : Transport) (total d : ℕ) where
+-- an amount of zone t that is used for d more
+used-more : (n t d : ℕ) (f g : ℕ → ℕ) → g t ≡ f t + d → ((y : ℕ) → y < n → (y ≡ t → ⊥) → g y ≡ f y) → (y : ℕ) → y < n → g y ≡ f y + only (eqb t y) d
+used-more n t d f g at rest y p = elim (ℕ-discrete t y) [
+  | yes e ↦ omega (arith, at, ap f e, ap g e, ap (λ (q : Bool). only q d) (eq-eqb t y e))
+  | no e ↦ omega (arith, rest y p (λ w. e (sym w)), ap (λ (q : Bool). only q d) (ne-eqb t y e))
+]
+
+module _ (c : Network) (b b' : Flow) (total d : ℕ) where
   same-in : ((j : ℕ) → j < c .pairs → b' .flow j ≡ b .flow j) → (y : ℕ) → inflow c b' y ≡ inflow c b y
   same-in h y = sum-ext (c .pairs) _ _ (λ j l. ap (only (eqb (c .to j) y)) (h j l))
 
@@ -43,67 +56,39 @@ module _ (c : Network) (b b' : Transport) (total d : ℕ) where
   same-out h y = sum-ext (c .pairs) _ _ (λ j l. ap (only (eqb (c .from j) y)) (h j l))
 
   -- the import of a zone is used for d more: it lacks d
-  pub use-got : (t : ℕ) → State c b total → t < c .zones → GotSet c b b' t (b .got t + d) → b .got t + d ≤ c .imports t → Lacking c b' total d t
-  use-got t st l g h =
+  pub use-import : (t : ℕ) → State c b total → t < c .zones → ImportUsedSet c b b' t (b .import-used t + d) → b .import-used t + d ≤ c .imports t → Lacking c b' total d t
+  use-import t st l g h =
       record {
-        sent-le = λ y p. omega (arith, g .sent y p, st .carries .sent-le y p);
-        got-le = λ y p. by-got y p (ℕ-discrete y t);
-        along = λ k p e. g .flow k p ∙ st .carries .along k p e;
-        even = λ y p. by-even y p (ℕ-discrete t y);
-        sum = sum-ext (c .zones) (b' .sent) (b .sent) (g .sent) ∙ st .sum;
+        export-used-le = λ y p. omega (arith, g .export-used y p, st .feasible .export-used-le y p);
+        import-used-le = λ y p. by-import-used y p (ℕ-discrete y t);
+        along = λ k p e. g .flow k p ∙ st .feasible .along k p e;
+        conserved = λ y p. omega (arith, st .feasible .conserved y p, g .export-used y p, same-in (g .flow) y, same-out (g .flow) y, used-more (c .zones) t d (b .import-used) (b' .import-used) (g .at) (g .rest) y p);
+        sum = sum-ext (c .zones) (b' .export-used) (b .export-used) (g .export-used) ∙ st .sum;
         flows = λ k p. omega (arith, g .flow k p, st .flows k p);
       }
     where
-      by-got : (y : ℕ) → y < c .zones → Dec (y ≡ t) → b' .got y ≤ c .imports y
-      by-got y p (yes e) = omega (arith, ap (b' .got) e, ap (c .imports) e, g .at)
-      by-got y p (no e) = omega (arith, g .rest y p e, st .carries .got-le y p)
-
-      by-even : (y : ℕ) → y < c .zones → Dec (t ≡ y) → (b' .sent y + inflow c b' y) + only (eqb t y) d ≡ b' .got y + outflow c b' y
-      by-even y p (yes e) =
-          omega (
-            arith,
-            st .carries .even y p,
-            g .sent y p,
-            same-in (g .flow) y,
-            same-out (g .flow) y,
-            ap (λ (q : Bool). only q d) (eq-eqb t y e),
-            g .at,
-            ap (b' .got) e,
-            ap (b .got) e,
-          )
-      by-even y p (no e) =
-          omega (
-            arith,
-            st .carries .even y p,
-            g .sent y p,
-            same-in (g .flow) y,
-            same-out (g .flow) y,
-            ap (λ (q : Bool). only q d) (ne-eqb t y e),
-            g .rest y p (λ w. e (sym w)),
-          )
+      by-import-used : (y : ℕ) → y < c .zones → Dec (y ≡ t) → b' .import-used y ≤ c .imports y
+      by-import-used y p (yes e) = omega (arith, ap (b' .import-used) e, ap (c .imports) e, g .at)
+      by-import-used y p (no e) = omega (arith, g .rest y p e, st .feasible .import-used-le y p)
 
   -- a pair that leads to the zone that lacks it carries d more: its first zone lacks d
   pub more-along : (k z : ℕ) → Lacking c b total d z → k < c .pairs → c .to k ≡ z → c .counted k ≡ true → b .flow k ≤ total → FlowSet c b b' k (b .flow k + d)
       → Lacking c b' total d (c .from k)
   more-along k z sh l e t r g =
       record {
-        sent-le = λ y p. omega (arith, g .sent y p, sh .sent-le y p);
-        got-le = λ y p. omega (arith, g .got y p, sh .got-le y p);
+        export-used-le = λ y p. omega (arith, g .export-used y p, sh .export-used-le y p);
+        import-used-le = λ y p. omega (arith, g .import-used y p, sh .import-used-le y p);
         along = λ j p w. by-along j p w (ℕ-discrete j k);
-        even = λ y p. omega (
+        conserved = λ y p. omega (
           arith,
-          sh .even y p,
-          g .sent y p,
-          g .got y p,
-          picked (c .pairs) k (λ j. eqb (c .to j) y) (b .flow) (b' .flow) l (g .rest),
-          picked (c .pairs) k (λ j. eqb (c .from j) y) (b .flow) (b' .flow) l (g .rest),
-          ap (only (eqb (c .to k) y)) (g .at),
-          ap (only (eqb (c .from k) y)) (g .at),
-          only-add (eqb (c .to k) y) (b .flow k) d,
-          only-add (eqb (c .from k) y) (b .flow k) d,
+          sh .conserved y p,
+          g .export-used y p,
+          g .import-used y p,
+          picked (c .pairs) k d (λ j. eqb (c .to j) y) (b .flow) (b' .flow) l (g .at) (g .rest),
+          picked (c .pairs) k d (λ j. eqb (c .from j) y) (b .flow) (b' .flow) l (g .at) (g .rest),
           ap (λ (x : ℕ). only (eqb x y) d) e,
         );
-        sum = sum-ext (c .zones) (b' .sent) (b .sent) (g .sent) ∙ sh .sum;
+        sum = sum-ext (c .zones) (b' .export-used) (b .export-used) (g .export-used) ∙ sh .sum;
         flows = λ j p. by-flows j p (ℕ-discrete j k);
       }
     where
@@ -120,23 +105,19 @@ module _ (c : Network) (b b' : Transport) (total d : ℕ) where
       → Lacking c b' total d (c .to k)
   less-along k z sh l e r g =
       record {
-        sent-le = λ y p. omega (arith, g .sent y p, sh .sent-le y p);
-        got-le = λ y p. omega (arith, g .got y p, sh .got-le y p);
+        export-used-le = λ y p. omega (arith, g .export-used y p, sh .export-used-le y p);
+        import-used-le = λ y p. omega (arith, g .import-used y p, sh .import-used-le y p);
         along = λ j p w. by-along j p w (ℕ-discrete j k);
-        even = λ y p. omega (
+        conserved = λ y p. omega (
           arith,
-          sh .even y p,
-          g .sent y p,
-          g .got y p,
-          picked (c .pairs) k (λ j. eqb (c .to j) y) (b .flow) (b' .flow) l (g .rest),
-          picked (c .pairs) k (λ j. eqb (c .from j) y) (b .flow) (b' .flow) l (g .rest),
-          ap (only (eqb (c .to k) y)) back,
-          ap (only (eqb (c .from k) y)) back,
-          only-add (eqb (c .to k) y) (b' .flow k) d,
-          only-add (eqb (c .from k) y) (b' .flow k) d,
+          sh .conserved y p,
+          g .export-used y p,
+          g .import-used y p,
+          picked (c .pairs) k d (λ j. eqb (c .to j) y) (b' .flow) (b .flow) l back (λ j p w. sym (g .rest j p w)),
+          picked (c .pairs) k d (λ j. eqb (c .from j) y) (b' .flow) (b .flow) l back (λ j p w. sym (g .rest j p w)),
           ap (λ (x : ℕ). only (eqb x y) d) e,
         );
-        sum = sum-ext (c .zones) (b' .sent) (b .sent) (g .sent) ∙ sh .sum;
+        sum = sum-ext (c .zones) (b' .export-used) (b .export-used) (g .export-used) ∙ sh .sum;
         flows = λ j p. by-flows j p (ℕ-discrete j k);
       }
     where
@@ -151,44 +132,20 @@ module _ (c : Network) (b b' : Transport) (total d : ℕ) where
       by-flows j p (yes q) = omega (arith, ap (b' .flow) q, back, sh .flows k l)
       by-flows j p (no q) = omega (arith, g .rest j p q, sh .flows j p)
 
-  -- the export of the zone that lacks it is used for d more: all zones are even, and d more is carried
-  pub use-sent : (z : ℕ) → Lacking c b total d z → z < c .zones → SentSet c b b' z (b .sent z + d) → b .sent z + d ≤ c .exports z → State c b' (total + d)
-  use-sent z sh l g h =
+  -- the export of the zone that lacks it is used for d more: flow is conserved in all zones, and d more is carried
+  pub use-export : (z : ℕ) → Lacking c b total d z → z < c .zones → ExportUsedSet c b b' z (b .export-used z + d) → b .export-used z + d ≤ c .exports z → State c b' (total + d)
+  use-export z sh l g h =
       record {
-        carries = record {
-          sent-le = λ y p. by-sent y p (ℕ-discrete y z);
-          got-le = λ y p. omega (arith, g .got y p, sh .got-le y p);
+        feasible = record {
+          export-used-le = λ y p. by-export-used y p (ℕ-discrete y z);
+          import-used-le = λ y p. omega (arith, g .import-used y p, sh .import-used-le y p);
           along = λ k p e. g .flow k p ∙ sh .along k p e;
-          even = λ y p. by-even y p (ℕ-discrete z y);
+          conserved = λ y p. omega (arith, sh .conserved y p, g .import-used y p, same-in (g .flow) y, same-out (g .flow) y, used-more (c .zones) z d (b .export-used) (b' .export-used) (g .at) (g .rest) y p);
         };
-        sum = omega (arith, sum-one (c .zones) z (b .sent) (b' .sent) l (g .rest), g .at, sh .sum);
+        sum = omega (arith, sum-one (c .zones) z (b .export-used) (b' .export-used) l (g .rest), g .at, sh .sum);
         flows = λ k p. omega (arith, g .flow k p, sh .flows k p);
       }
     where
-      by-sent : (y : ℕ) → y < c .zones → Dec (y ≡ z) → b' .sent y ≤ c .exports y
-      by-sent y p (yes e) = omega (arith, ap (b' .sent) e, ap (c .exports) e, g .at)
-      by-sent y p (no e) = omega (arith, g .rest y p e, sh .sent-le y p)
-
-      by-even : (y : ℕ) → y < c .zones → Dec (z ≡ y) → b' .sent y + inflow c b' y ≡ b' .got y + outflow c b' y
-      by-even y p (yes e) =
-          omega (
-            arith,
-            sh .even y p,
-            g .got y p,
-            same-in (g .flow) y,
-            same-out (g .flow) y,
-            ap (λ (q : Bool). only q d) (eq-eqb z y e),
-            g .at,
-            ap (b' .sent) e,
-            ap (b .sent) e,
-          )
-      by-even y p (no e) =
-          omega (
-            arith,
-            sh .even y p,
-            g .got y p,
-            same-in (g .flow) y,
-            same-out (g .flow) y,
-            ap (λ (q : Bool). only q d) (ne-eqb z y e),
-            g .rest y p (λ w. e (sym w)),
-          )
+      by-export-used : (y : ℕ) → y < c .zones → Dec (y ≡ z) → b' .export-used y ≤ c .exports y
+      by-export-used y p (yes e) = omega (arith, ap (b' .export-used) e, ap (c .exports) e, g .at)
+      by-export-used y p (no e) = omega (arith, g .rest y p e, sh .export-used-le y p)

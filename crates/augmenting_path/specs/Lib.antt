@@ -1,4 +1,4 @@
--- Augmenting paths: what one step changes, the marks that lead back, and both over the lent lists
+-- Augmenting paths: what one step changes, the labels that lead back, and both over the lent lists
 pub mod Lacking
 pub mod Links
 pub mod Path

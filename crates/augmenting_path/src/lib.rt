@@ -5,8 +5,8 @@ ghost use lib.ListN.{length};
 ghost use Rattle.zone_pairs.specs.Meaning.Pairs.{secondZone};
 ghost use Rattle.flow_scratch.specs.Meaning.Places.{amountAt};
 ghost use Rattle.augmenting_path.specs.Path.{trailOf, Shifted, SomePath, Walked, SomeAugment, Augmented};
-use flow_scratch::GOT;
-use flow_scratch::SENT;
+use flow_scratch::EXPORT_USED;
+use flow_scratch::IMPORT_USED;
 use flow_scratch::amount;
 use flow_scratch::store;
 use zone_pairs::zone_at;
@@ -26,7 +26,7 @@ pub struct Labels {
     pub sink: usize,
 }
 
-// Zone z lacks d: pair k makes it even, and its other zone lacks d. Flow back along a used pair is less of it.
+// Zone z lacks d: pair k makes up for it, and its other zone lacks d. Flow back along a used pair is less of it.
 fn shift(pairs: &[u8], s: &mut [i64], k: usize, z: usize, d: u64) -> usize
     requires { ⌜ (2 * k + 1 < length (now pairs)) × (k < 64) ⌝ }
     requires { ⌜ 96 ≤ length (now s) ⌝ }
@@ -64,9 +64,9 @@ pub fn augment(pairs: &[u8], s: &mut [i64], labels: Labels, t: usize, d: u64)
     requires { ⌜ SomeAugment (now pairs) (now s) (trailOf labels) d t ⌝ }
     ensures { λ _. ⌜ Augmented (now (pairs .entry)) (now (s .entry)) (now (s .exit)) (trailOf labels) d t ⌝ }
 {
-    let got = amount(s, GOT + t);
-    store(s, GOT + t, got + d);
+    let import_used = amount(s, IMPORT_USED + t);
+    store(s, IMPORT_USED + t, import_used + d);
     let z = walk_back(pairs, s, labels, t, d);
-    let sent = amount(s, SENT + z);
-    store(s, SENT + z, sent + d);
+    let export_used = amount(s, EXPORT_USED + z);
+    store(s, EXPORT_USED + z, export_used + d);
 }

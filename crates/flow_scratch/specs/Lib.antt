@@ -1,4 +1,4 @@
--- The 96 numbers of a transport in a lent scratch, and the numbers above and below zero as the machine has them
+-- The 96 numbers of a flow in a lent scratch, and the numbers above and below zero as the machine has them
 pub mod Meaning
 pub mod Amounts
 pub mod Scratch

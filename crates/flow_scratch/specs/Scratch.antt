@@ -1,4 +1,4 @@
--- What one store changes in the 96 numbers of a transport. Assumes nothing.
+-- What one store changes in the 96 numbers of a flow. Assumes nothing.
 use mathlib.Core.Path.{_≡_, refl, ap, _∙_}
 use mathlib.Core.List.{List}
 use Prim.Native.Nat.{ℕ, _+_, _≤_, _<_}
@@ -7,8 +7,8 @@ use lib.ListN.{length, getD, set, length-set}
 use lib.Seq.{getD-set-same, getD-set-other}
 use lib.IntN.{ℤ, pos}
 use Rattle.integers.specs.Difference.{up}
-use Rattle.transports.specs.Meaning.Network.{Network, Transport}
-use Rattle.flow_scratch.specs.Meaning.Places.{amountAt, transportOf}
+use Rattle.transports.specs.Meaning.Network.{Network, Flow}
+use Rattle.flow_scratch.specs.Meaning.Places.{amountAt, flowOf}
 
 -- the same list but for its first 96 numbers
 pub record Rest (s s' : List ℤ) : Type 0 where
@@ -28,48 +28,48 @@ pub rest-to : (s s' : List ℤ) (k : ℕ) (v : ℤ) → k < 96 → s' ≡ set s 
 rest-to s s' k v h e = rw e (rest-set s k v h)
 
 -- ONE NUMBER CHANGES: a flow, an export used, an import used
-pub record FlowSet (c : Network) (b b' : Transport) (k v : ℕ) : Type 0 where
+pub record FlowSet (c : Network) (b b' : Flow) (k v : ℕ) : Type 0 where
   pub at : b' .flow k ≡ v
   pub rest : (j : ℕ) → j < c .pairs → (j ≡ k → ⊥) → b' .flow j ≡ b .flow j
-  pub sent : (z : ℕ) → z < c .zones → b' .sent z ≡ b .sent z
-  pub got : (z : ℕ) → z < c .zones → b' .got z ≡ b .got z
+  pub export-used : (z : ℕ) → z < c .zones → b' .export-used z ≡ b .export-used z
+  pub import-used : (z : ℕ) → z < c .zones → b' .import-used z ≡ b .import-used z
 
-pub record SentSet (c : Network) (b b' : Transport) (k v : ℕ) : Type 0 where
-  pub at : b' .sent k ≡ v
-  pub rest : (z : ℕ) → z < c .zones → (z ≡ k → ⊥) → b' .sent z ≡ b .sent z
+pub record ExportUsedSet (c : Network) (b b' : Flow) (k v : ℕ) : Type 0 where
+  pub at : b' .export-used k ≡ v
+  pub rest : (z : ℕ) → z < c .zones → (z ≡ k → ⊥) → b' .export-used z ≡ b .export-used z
   pub flow : (j : ℕ) → j < c .pairs → b' .flow j ≡ b .flow j
-  pub got : (z : ℕ) → z < c .zones → b' .got z ≡ b .got z
+  pub import-used : (z : ℕ) → z < c .zones → b' .import-used z ≡ b .import-used z
 
-pub record GotSet (c : Network) (b b' : Transport) (k v : ℕ) : Type 0 where
-  pub at : b' .got k ≡ v
-  pub rest : (z : ℕ) → z < c .zones → (z ≡ k → ⊥) → b' .got z ≡ b .got z
+pub record ImportUsedSet (c : Network) (b b' : Flow) (k v : ℕ) : Type 0 where
+  pub at : b' .import-used k ≡ v
+  pub rest : (z : ℕ) → z < c .zones → (z ≡ k → ⊥) → b' .import-used z ≡ b .import-used z
   pub flow : (j : ℕ) → j < c .pairs → b' .flow j ≡ b .flow j
-  pub sent : (z : ℕ) → z < c .zones → b' .sent z ≡ b .sent z
+  pub export-used : (z : ℕ) → z < c .zones → b' .export-used z ≡ b .export-used z
 
 module _ (c : Network) (s : List ℤ) (k v : ℕ) (zones : c .zones ≤ 16) (pairs : c .pairs ≤ 64) (room : 96 ≤ length s) where
   other : (i j : ℕ) → (j ≡ i → ⊥) → amountAt (set s i (pos v)) j ≡ amountAt s j
   other i j h = ap up (getD-set-other s i j (pos v) (pos 0) h)
 
-  pub set-flow : k < c .pairs → FlowSet c (transportOf s) (transportOf (set s k (pos v))) k v
+  pub set-flow : k < c .pairs → FlowSet c (flowOf s) (flowOf (set s k (pos v))) k v
   set-flow h = record {
     at = ap up (getD-set-same s k (pos v) (pos 0) (omega arith));
     rest = λ j l e. other k j e;
-    sent = λ z l. other k (64 + z) (λ e. omega arith);
-    got = λ z l. other k (80 + z) (λ e. omega arith);
+    export-used = λ z l. other k (64 + z) (λ e. omega arith);
+    import-used = λ z l. other k (80 + z) (λ e. omega arith);
   }
 
-  pub set-sent : k < c .zones → SentSet c (transportOf s) (transportOf (set s (64 + k) (pos v))) k v
-  set-sent h = record {
+  pub set-export-used : k < c .zones → ExportUsedSet c (flowOf s) (flowOf (set s (64 + k) (pos v))) k v
+  set-export-used h = record {
     at = ap up (getD-set-same s (64 + k) (pos v) (pos 0) (omega arith));
     rest = λ z l e. other (64 + k) (64 + z) (λ w. e (omega arith));
     flow = λ j l. other (64 + k) j (λ e. omega arith);
-    got = λ z l. other (64 + k) (80 + z) (λ e. omega arith);
+    import-used = λ z l. other (64 + k) (80 + z) (λ e. omega arith);
   }
 
-  pub set-got : k < c .zones → GotSet c (transportOf s) (transportOf (set s (80 + k) (pos v))) k v
-  set-got h = record {
+  pub set-import-used : k < c .zones → ImportUsedSet c (flowOf s) (flowOf (set s (80 + k) (pos v))) k v
+  set-import-used h = record {
     at = ap up (getD-set-same s (80 + k) (pos v) (pos 0) (omega arith));
     rest = λ z l e. other (80 + k) (80 + z) (λ w. e (omega arith));
     flow = λ j l. other (80 + k) j (λ e. omega arith);
-    sent = λ z l. other (80 + k) (64 + z) (λ e. omega arith);
+    export-used = λ z l. other (80 + k) (64 + z) (λ e. omega arith);
   }

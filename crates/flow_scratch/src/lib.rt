@@ -1,4 +1,4 @@
-// A transport in a lent scratch (requests S-3 and S-13): 96 amounts, one per pair for what flows along it, one per zone for export used, one per zone for
+// A flow in a lent scratch (requests S-3 and S-13): 96 amounts, one per pair for what flows along it, one per zone for export used, one per zone for
 // import used. They are tenths, and bare numbers here since a lent list holds no measure.
 ghost use mathlib.Core.Path.{_≡_};
 ghost use Prim.Native.Nat.{_+_, _-_, _≤_, _<_};
@@ -12,9 +12,9 @@ ghost use Rattle.flow_scratch.specs.Cleared.{Cleared};
 // So many amounts, and where the zones' own begin.
 pub const AMOUNTS: usize = 96;
 
-pub const SENT: usize = 64;
+pub const EXPORT_USED: usize = 64;
 
-pub const GOT: usize = 80;
+pub const IMPORT_USED: usize = 80;
 
 // The part of a number above zero.
 fn positive(x: i64) -> u64
@@ -38,12 +38,12 @@ pub fn amount(s: &[i64], k: usize) -> u64
     positive(s[k])
 }
 
-pub fn import_of(net: &[i64], z: usize) -> u64
-    requires { ⌜ z < length (now net) ⌝ }
-    requires { ⌜ dn (getD (now net) z (pos 0)) ≤ 51200000 ⌝ }
-    ensures { λ r. ⌜ r ≡ dn (getD (now (net .entry)) z (pos 0)) ⌝ }
+pub fn import_of(net_exports: &[i64], z: usize) -> u64
+    requires { ⌜ z < length (now «net_exports») ⌝ }
+    requires { ⌜ dn (getD (now «net_exports») z (pos 0)) ≤ 51200000 ⌝ }
+    ensures { λ r. ⌜ r ≡ dn (getD (now («net_exports» .entry)) z (pos 0)) ⌝ }
 {
-    negative(net[z])
+    negative(net_exports[z])
 }
 
 pub fn store(s: &mut [i64], k: usize, v: u64)
@@ -64,27 +64,27 @@ pub fn counts(prices: &[i64], a: usize, b: usize) -> bool
 }
 
 // What is left of a zone's export.
-pub fn export_left(net: &[i64], s: &[i64], z: usize) -> u64
-    requires { ⌜ z < length (now net) ⌝ }
-    requires { ⌜ length (now net) ≤ 16 ⌝ }
+pub fn export_left(net_exports: &[i64], s: &[i64], z: usize) -> u64
+    requires { ⌜ z < length (now «net_exports») ⌝ }
+    requires { ⌜ length (now «net_exports») ≤ 16 ⌝ }
     requires { ⌜ 96 ≤ length (now s) ⌝ }
-    ensures { λ r. ⌜ r ≡ up (getD (now (net .entry)) z (pos 0)) - amountAt (now (s .entry)) (64 + z) ⌝ }
+    ensures { λ r. ⌜ r ≡ up (getD (now («net_exports» .entry)) z (pos 0)) - amountAt (now (s .entry)) (64 + z) ⌝ }
 {
-    let all = amount(net, z);
-    let used = amount(s, SENT + z);
+    let all = amount(net_exports, z);
+    let used = amount(s, EXPORT_USED + z);
     if used < all { all - used } else { 0 }
 }
 
 // What is left of a zone's import.
-pub fn import_left(net: &[i64], s: &[i64], z: usize) -> u64
-    requires { ⌜ z < length (now net) ⌝ }
-    requires { ⌜ length (now net) ≤ 16 ⌝ }
+pub fn import_left(net_exports: &[i64], s: &[i64], z: usize) -> u64
+    requires { ⌜ z < length (now «net_exports») ⌝ }
+    requires { ⌜ length (now «net_exports») ≤ 16 ⌝ }
     requires { ⌜ 96 ≤ length (now s) ⌝ }
-    requires { ⌜ dn (getD (now net) z (pos 0)) ≤ 51200000 ⌝ }
-    ensures { λ r. ⌜ r ≡ dn (getD (now (net .entry)) z (pos 0)) - amountAt (now (s .entry)) (80 + z) ⌝ }
+    requires { ⌜ dn (getD (now «net_exports») z (pos 0)) ≤ 51200000 ⌝ }
+    ensures { λ r. ⌜ r ≡ dn (getD (now («net_exports» .entry)) z (pos 0)) - amountAt (now (s .entry)) (80 + z) ⌝ }
 {
-    let all = import_of(net, z);
-    let used = amount(s, GOT + z);
+    let all = import_of(net_exports, z);
+    let used = amount(s, IMPORT_USED + z);
     if used < all { all - used } else { 0 }
 }
 

@@ -6,7 +6,7 @@ ghost use lib.IntN.{pos};
 ghost use lib.Signed.{_≤ℤ_};
 ghost use Rattle.rows.specs.Meaning.Rows.{verdict};
 ghost use Rattle.zone_pairs.specs.Meaning.Pairs.{importsWorth, networkOf};
-ghost use Rattle.transports.specs.Meaning.Network.{CarriesAll, Excess};
+ghost use Rattle.transports.specs.Meaning.Network.{FeasibleAll, DeficientSet};
 ghost use Rattle.intuitive.specs.Meaning.Intuitive.{scratchRoom, intuitiveOutcome, LargestTotal, intuitiveScratch};
 ghost use Rattle.intuitive.specs.Meaning.SmallScratch.{smallRoom};
 ghost use Rattle.hour_intuitive.specs.Meaning.Hour.{hourOutcome, hourNetwork, hourRent, hourScratch};
@@ -29,8 +29,8 @@ pub extern "C" fn lta_intuitive(
     scratch: &mut [i64],
 ) -> Carried
     ensures outcome { λ r. ⌜ verdict (r .number) (r .index) ≡ intuitiveOutcome (now («net_exports» .entry)) (now («zone_prices» .entry)) (now (pairs .entry)) scratchRoom (length (now (scratch .entry))) ⌝ }
-    ensures yes { λ r. ⌜ (r .number ≡ 0 → r .intuitive ≡ 1 → CarriesAll (networkOf (now («net_exports» .entry)) (now («zone_prices» .entry)) (now (pairs .entry)))) ⌝ }
-    ensures no { λ r. ⌜ (r .number ≡ 0 → r .intuitive ≡ 0 → Excess (networkOf (now («net_exports» .entry)) (now («zone_prices» .entry)) (now (pairs .entry)))) ⌝ }
+    ensures yes { λ r. ⌜ (r .number ≡ 0 → r .intuitive ≡ 1 → FeasibleAll (networkOf (now («net_exports» .entry)) (now («zone_prices» .entry)) (now (pairs .entry)))) ⌝ }
+    ensures no { λ r. ⌜ (r .number ≡ 0 → r .intuitive ≡ 0 → DeficientSet (networkOf (now («net_exports» .entry)) (now («zone_prices» .entry)) (now (pairs .entry)))) ⌝ }
     ensures yes_or_no { λ r. ⌜ r .intuitive < 2 ⌝ }
     ensures largest { λ r. ⌜ (r .number ≡ 0 → LargestTotal (networkOf (now («net_exports» .entry)) (now («zone_prices» .entry)) (now (pairs .entry))) (r .total .0)) ⌝ }
     ensures scratch { λ r. ⌜ now (scratch .exit) ≡ intuitiveScratch (now («net_exports» .entry)) (now («zone_prices» .entry)) (now (pairs .entry)) scratchRoom (now (scratch .entry)) ⌝ }
@@ -51,8 +51,8 @@ pub extern "C" fn lta_hour_intuitive(
     scratch: &mut [i64],
 ) -> Carried
     ensures outcome { λ r. ⌜ verdict (r .number) (r .index) ≡ hourOutcome (now («case» .entry)) (now (proposal .entry)) (now (pairs .entry)) scratchRoom (length (now (scratch .entry))) ⌝ }
-    ensures yes { λ r. ⌜ (r .number ≡ 0 → r .intuitive ≡ 1 → CarriesAll (hourNetwork (now («case» .entry)) (now (proposal .entry)) (now (pairs .entry)))) ⌝ }
-    ensures no { λ r. ⌜ (r .number ≡ 0 → r .intuitive ≡ 0 → Excess (hourNetwork (now («case» .entry)) (now (proposal .entry)) (now (pairs .entry)))) ⌝ }
+    ensures yes { λ r. ⌜ (r .number ≡ 0 → r .intuitive ≡ 1 → FeasibleAll (hourNetwork (now («case» .entry)) (now (proposal .entry)) (now (pairs .entry)))) ⌝ }
+    ensures no { λ r. ⌜ (r .number ≡ 0 → r .intuitive ≡ 0 → DeficientSet (hourNetwork (now («case» .entry)) (now (proposal .entry)) (now (pairs .entry)))) ⌝ }
     ensures yes_or_no { λ r. ⌜ r .intuitive < 2 ⌝ }
     ensures largest { λ r. ⌜ (r .number ≡ 0 → LargestTotal (hourNetwork (now («case» .entry)) (now (proposal .entry)) (now (pairs .entry))) (r .total .0)) ⌝ }
     ensures scratch { λ r. ⌜ now (scratch .exit) ≡ hourScratch (now («case» .entry)) (now (proposal .entry)) (now (pairs .entry)) scratchRoom (now (scratch .entry)) ⌝ }
@@ -72,8 +72,8 @@ pub extern "C" fn lta_intuitive_small(
     scratch: &mut [i64],
 ) -> Carried
     ensures outcome { λ r. ⌜ verdict (r .number) (r .index) ≡ intuitiveOutcome (now («net_exports» .entry)) (now («zone_prices» .entry)) (now (pairs .entry)) smallRoom (length (now (scratch .entry))) ⌝ }
-    ensures yes { λ r. ⌜ (r .number ≡ 0 → r .intuitive ≡ 1 → CarriesAll (networkOf (now («net_exports» .entry)) (now («zone_prices» .entry)) (now (pairs .entry)))) ⌝ }
-    ensures no { λ r. ⌜ (r .number ≡ 0 → r .intuitive ≡ 0 → Excess (networkOf (now («net_exports» .entry)) (now («zone_prices» .entry)) (now (pairs .entry)))) ⌝ }
+    ensures yes { λ r. ⌜ (r .number ≡ 0 → r .intuitive ≡ 1 → FeasibleAll (networkOf (now («net_exports» .entry)) (now («zone_prices» .entry)) (now (pairs .entry)))) ⌝ }
+    ensures no { λ r. ⌜ (r .number ≡ 0 → r .intuitive ≡ 0 → DeficientSet (networkOf (now («net_exports» .entry)) (now («zone_prices» .entry)) (now (pairs .entry)))) ⌝ }
     ensures yes_or_no { λ r. ⌜ r .intuitive < 2 ⌝ }
     ensures largest { λ r. ⌜ (r .number ≡ 0 → LargestTotal (networkOf (now («net_exports» .entry)) (now («zone_prices» .entry)) (now (pairs .entry))) (r .total .0)) ⌝ }
     ensures scratch { λ r. ⌜ now (scratch .exit) ≡ intuitiveScratch (now («net_exports» .entry)) (now («zone_prices» .entry)) (now (pairs .entry)) smallRoom (now (scratch .entry)) ⌝ }
@@ -92,8 +92,8 @@ pub extern "C" fn lta_hour_intuitive_small(
     scratch: &mut [i64],
 ) -> Carried
     ensures outcome { λ r. ⌜ verdict (r .number) (r .index) ≡ hourOutcome (now («case» .entry)) (now (proposal .entry)) (now (pairs .entry)) smallRoom (length (now (scratch .entry))) ⌝ }
-    ensures yes { λ r. ⌜ (r .number ≡ 0 → r .intuitive ≡ 1 → CarriesAll (hourNetwork (now («case» .entry)) (now (proposal .entry)) (now (pairs .entry)))) ⌝ }
-    ensures no { λ r. ⌜ (r .number ≡ 0 → r .intuitive ≡ 0 → Excess (hourNetwork (now («case» .entry)) (now (proposal .entry)) (now (pairs .entry)))) ⌝ }
+    ensures yes { λ r. ⌜ (r .number ≡ 0 → r .intuitive ≡ 1 → FeasibleAll (hourNetwork (now («case» .entry)) (now (proposal .entry)) (now (pairs .entry)))) ⌝ }
+    ensures no { λ r. ⌜ (r .number ≡ 0 → r .intuitive ≡ 0 → DeficientSet (hourNetwork (now («case» .entry)) (now (proposal .entry)) (now (pairs .entry)))) ⌝ }
     ensures yes_or_no { λ r. ⌜ r .intuitive < 2 ⌝ }
     ensures largest { λ r. ⌜ (r .number ≡ 0 → LargestTotal (hourNetwork (now («case» .entry)) (now (proposal .entry)) (now (pairs .entry))) (r .total .0)) ⌝ }
     ensures scratch { λ r. ⌜ now (scratch .exit) ≡ hourScratch (now («case» .entry)) (now (proposal .entry)) (now (pairs .entry)) smallRoom (now (scratch .entry)) ⌝ }

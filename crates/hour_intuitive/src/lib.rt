@@ -93,14 +93,14 @@ fn hour_intuitive_in(
     intuitive_of(&exports[..zones], &list[..zones], pairs, scratch, n)
 }
 
-// The judgement's number and index where the hour is not accepted; else the answer for its exports, its prices and these pairs. As `host` exports it.
+// The judgement's number and index where the hour is not accepted; else the answer for its exports, its prices and these pairs.
 pub fn hour_intuitive(case: &[u8], proposal: &[u8], pairs: &[u8], scratch: &mut [i64]) -> Carried
     ensures { λ r. ⌜ HourAnswer (now («case» .entry)) (now (proposal .entry)) (now (pairs .entry)) scratchRoom (now (scratch .entry)) r (now (scratch .exit)) ⌝ }
 {
     hour_intuitive_in(case, proposal, pairs, scratch, SCRATCH)
 }
 
-// The same from 96 numbers of scratch (S-13), as `host` exports it.
+// The same from 96 numbers of scratch (S-13).
 pub fn hour_intuitive_small(
     case: &[u8],
     proposal: &[u8],

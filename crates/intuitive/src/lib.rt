@@ -7,7 +7,7 @@ ghost use Rattle.rows.specs.Meaning.Rows.{verdict, refusal, answer};
 ghost use Rattle.intuitive.specs.Meaning.Intuitive.{scratchRoom, intuitiveOutcome, IntuitiveAnswer};
 ghost use Rattle.intuitive.specs.Meaning.SmallScratch.{smallRoom};
 ghost use Rattle.intuitive.specs.Steps.Answers.{restRows, ListsPass, flagOf};
-use largest_transport::largest_transport;
+use largest_transport::max_flow;
 use measures::Tenths;
 use net_positions::first_position_outside;
 use net_positions::is_unbalanced;
@@ -59,27 +59,27 @@ fn examine_rest(pairs: &[u8], zones: usize, n: usize, room: usize) -> Outcome
 }
 
 // 81 to 85.
-fn examine(net: &[i64], prices: &[i64], pairs: &[u8], n: usize, room: usize) -> Outcome
-    ensures { λ r. ⌜ r ≡ intuitiveOutcome (now (net .entry)) (now (prices .entry)) (now (pairs .entry)) n room ⌝ }
+fn examine(net_exports: &[i64], prices: &[i64], pairs: &[u8], n: usize, room: usize) -> Outcome
+    ensures { λ r. ⌜ r ≡ intuitiveOutcome (now («net_exports» .entry)) (now (prices .entry)) (now (pairs .entry)) n room ⌝ }
 {
-    if count_outside(PRICES_LEAST, PRICES_GREATEST, net.len()) {
+    if count_outside(PRICES_LEAST, PRICES_GREATEST, net_exports.len()) {
         return outcome(81, 0);
     }
-    if prices.len() != net.len() {
+    if prices.len() != net_exports.len() {
         return outcome(81, 0);
     }
-    let position = first_position_outside(net);
+    let position = first_position_outside(net_exports);
     if let Place::At(zone) = position {
         return outcome(82, zone);
     }
-    if is_unbalanced(net) {
+    if is_unbalanced(net_exports) {
         return outcome(82, 0);
     }
     let price = first_price_outside(prices);
     if let Place::At(zone) = price {
         return outcome(83, zone);
     }
-    examine_rest(pairs, net.len(), n, room)
+    examine_rest(pairs, net_exports.len(), n, room)
 }
 
 fn flag(all: bool) -> u32
@@ -88,7 +88,7 @@ fn flag(all: bool) -> u32
     if all { 1 } else { 0 }
 }
 
-// The largest transport's volume, which 32 bits hold.
+// The max flow's volume, which 32 bits hold.
 fn volume(total: u64) -> Tenths
     requires { ⌜ total ≤ 819200000 ⌝ }
     ensures { λ r. ⌜ r .0 ≡ pos total ⌝ }
@@ -96,9 +96,9 @@ fn volume(total: u64) -> Tenths
     Tenths::volume(total as u32)
 }
 
-// The refusal that was found, or the answer. A transport takes 96 of the n numbers of scratch.
+// The refusal that was found, or the answer. A flow takes 96 of the n numbers of scratch.
 fn answered(
-    net: &[i64],
+    net_exports: &[i64],
     prices: &[i64],
     pairs: &[u8],
     scratch: &mut [i64],
@@ -106,8 +106,8 @@ fn answered(
     o: Outcome,
 ) -> Carried
     requires { ⌜ 96 ≤ n ⌝ }
-    requires { ⌜ o ≡ intuitiveOutcome (now net) (now prices) (now pairs) n (length (now scratch)) ⌝ }
-    ensures { λ r. ⌜ IntuitiveAnswer (now (net .entry)) (now (prices .entry)) (now (pairs .entry)) n (now (scratch .entry)) r (now (scratch .exit)) ⌝ }
+    requires { ⌜ o ≡ intuitiveOutcome (now «net_exports») (now prices) (now pairs) n (length (now scratch)) ⌝ }
+    ensures { λ r. ⌜ IntuitiveAnswer (now («net_exports» .entry)) (now (prices .entry)) (now (pairs .entry)) n (now (scratch .entry)) r (now (scratch .exit)) ⌝ }
 {
     let number = o.number;
     if number != 0 {
@@ -118,7 +118,7 @@ fn answered(
             total: Tenths::ZERO,
         };
     }
-    let r = largest_transport(net, prices, pairs, scratch, n);
+    let r = max_flow(net_exports, prices, pairs, scratch, n);
     Carried {
         number: 0,
         index: 0,
@@ -129,55 +129,50 @@ fn answered(
 
 // With n numbers of scratch.
 pub fn intuitive_in(
-    net: &[i64],
+    net_exports: &[i64],
     prices: &[i64],
     pairs: &[u8],
     scratch: &mut [i64],
     n: usize,
 ) -> Carried
     requires { ⌜ 96 ≤ n ⌝ }
-    ensures { λ r. ⌜ IntuitiveAnswer (now (net .entry)) (now (prices .entry)) (now (pairs .entry)) n (now (scratch .entry)) r (now (scratch .exit)) ⌝ }
+    ensures { λ r. ⌜ IntuitiveAnswer (now («net_exports» .entry)) (now (prices .entry)) (now (pairs .entry)) n (now (scratch .entry)) r (now (scratch .exit)) ⌝ }
 {
-    let o = examine(net, prices, pairs, n, scratch.len());
-    answered(net, prices, pairs, scratch, n, o)
+    let o = examine(net_exports, prices, pairs, n, scratch.len());
+    answered(net_exports, prices, pairs, scratch, n, o)
 }
 
 // The same of lists that 81 to 83 pass, as those of an accepted hour do.
 pub fn intuitive_of(
-    net: &[i64],
+    net_exports: &[i64],
     prices: &[i64],
     pairs: &[u8],
     scratch: &mut [i64],
     n: usize,
 ) -> Carried
     requires { ⌜ 96 ≤ n ⌝ }
-    requires { ⌜ ListsPass (now net) (now prices) ⌝ }
-    ensures { λ r. ⌜ IntuitiveAnswer (now (net .entry)) (now (prices .entry)) (now (pairs .entry)) n (now (scratch .entry)) r (now (scratch .exit)) ⌝ }
+    requires { ⌜ ListsPass (now «net_exports») (now prices) ⌝ }
+    ensures { λ r. ⌜ IntuitiveAnswer (now («net_exports» .entry)) (now (prices .entry)) (now (pairs .entry)) n (now (scratch .entry)) r (now (scratch .exit)) ⌝ }
 {
-    let o = examine_rest(pairs, net.len(), n, scratch.len());
-    answered(net, prices, pairs, scratch, n, o)
+    let o = examine_rest(pairs, net_exports.len(), n, scratch.len());
+    answered(net_exports, prices, pairs, scratch, n, o)
 }
 
-// Net positions with export positive, zone prices in grains and pairs of zones, two bytes to a pair; as `host` exports it.
-pub fn intuitive(
-    net_exports: &[i64],
-    zone_prices: &[i64],
-    pairs: &[u8],
-    scratch: &mut [i64],
-) -> Carried
-    ensures { λ r. ⌜ IntuitiveAnswer (now («net_exports» .entry)) (now («zone_prices» .entry)) (now (pairs .entry)) scratchRoom (now (scratch .entry)) r (now (scratch .exit)) ⌝ }
+// Net positions with export positive, zone prices in grains and pairs of zones, two bytes to a pair.
+pub fn intuitive(net_exports: &[i64], prices: &[i64], pairs: &[u8], scratch: &mut [i64]) -> Carried
+    ensures { λ r. ⌜ IntuitiveAnswer (now («net_exports» .entry)) (now (prices .entry)) (now (pairs .entry)) scratchRoom (now (scratch .entry)) r (now (scratch .exit)) ⌝ }
 {
-    intuitive_in(net_exports, zone_prices, pairs, scratch, SCRATCH)
+    intuitive_in(net_exports, prices, pairs, scratch, SCRATCH)
 }
 
-// The same from 96 numbers of scratch (S-13), as `host` exports it.
+// The same from 96 numbers of scratch (S-13).
 pub fn intuitive_small(
     net_exports: &[i64],
-    zone_prices: &[i64],
+    prices: &[i64],
     pairs: &[u8],
     scratch: &mut [i64],
 ) -> Carried
-    ensures { λ r. ⌜ IntuitiveAnswer (now («net_exports» .entry)) (now («zone_prices» .entry)) (now (pairs .entry)) smallRoom (now (scratch .entry)) r (now (scratch .exit)) ⌝ }
+    ensures { λ r. ⌜ IntuitiveAnswer (now («net_exports» .entry)) (now (prices .entry)) (now (pairs .entry)) smallRoom (now (scratch .entry)) r (now (scratch .exit)) ⌝ }
 {
-    intuitive_in(net_exports, zone_prices, pairs, scratch, SMALL_SCRATCH)
+    intuitive_in(net_exports, prices, pairs, scratch, SMALL_SCRATCH)
 }

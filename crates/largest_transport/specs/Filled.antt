@@ -1,4 +1,4 @@
--- A transport is augmented until no augmenting path is left: its total is then the largest, and with it comes the yes or the no. Assumes nothing.
+-- A flow is augmented until no augmenting path is left: its total is then the largest, and with it comes the yes or the no. Assumes nothing.
 use mathlib.Core.Path.{_≡_, ap, _∙_}
 use mathlib.Core.Bool.{Bool, true, false}
 use mathlib.Core.List.{List}
@@ -12,12 +12,12 @@ use lib.ListN.{length, getD}
 use lib.IntN.{ℤ, pos}
 use Rattle.integers.specs.Difference.{up, dn}
 use Rattle.integers.specs.NaturalSums.{sumNat, only, sum-le, sum-zero, sum-ext, sum-bound, only-zero}
-use Rattle.transports.specs.Meaning.Network.{Network, Placed, Transport, Carries, carried, allExports, Largest, Excess, CarriesAll}
+use Rattle.transports.specs.Meaning.Network.{Network, Placed, Flow, Feasible, carried, allExports, Largest, DeficientSet, FeasibleAll}
 use Rattle.transports.specs.Steps.Saturated.{Saturated, largest-of, yes-of, no-of}
 use Rattle.net_positions.specs.Meaning.Positions.{positionAt}
 use Rattle.zone_pairs.specs.Meaning.Pairs.{networkOf}
 use Rattle.zone_pairs.specs.Steps.Table.{Distinct}
-use Rattle.flow_scratch.specs.Meaning.Places.{amountAt, transportOf}
+use Rattle.flow_scratch.specs.Meaning.Places.{amountAt, flowOf}
 use Rattle.flow_scratch.specs.Cleared.{Cleared}
 use Rattle.augmenting_path.specs.declared.Labels.{Labels}
 use Rattle.augmenting_path.specs.Lacking.{State}
@@ -25,17 +25,17 @@ use Rattle.augmenting_path.specs.Path.{trailOf, Sized, Augment}
 use Rattle.residual_search.specs.Searched.{Searched}
 
 -- flows that leave no augmenting path, and carry the total
-pub record Filled (c : Network) (b : Transport) (total : ℕ) : Type 0 where
+pub record Filled (c : Network) (b : Flow) (total : ℕ) : Type 0 where
   pub state : State c b total
   pub set : ℕ → Bool
   pub saturated : Saturated c b set
 
-pub total-le : (c : Network) (b : Transport) (total : ℕ) → State c b total → total ≤ allExports c
-total-le c b total st = omega (arith, st .sum, sum-le (c .zones) (b .sent) (c .exports) (st .carries .sent-le))
+pub total-le : (c : Network) (b : Flow) (total : ℕ) → State c b total → total ≤ allExports c
+total-le c b total st = omega (arith, st .sum, sum-le (c .zones) (b .export-used) (c .exports) (st .feasible .export-used-le))
 
-module _ (net prices : List ℤ) (bytes : List ℕ) (z : Sized net prices bytes) where
+module _ (netExports prices : List ℤ) (bytes : List ℕ) (z : Sized netExports prices bytes) where
   abbrev c : Network
-  c = networkOf net prices bytes
+  c = networkOf netExports prices bytes
 
   -- its pairs can stand in a table
   pub distinct : Distinct bytes
@@ -48,11 +48,11 @@ module _ (net prices : List ℤ) (bytes : List ℕ) (z : Sized net prices bytes)
   }
 
   pub exports-few : allExports c ≤ 819200000
-  exports-few = omega (arith, sum-bound (length net) 51200000 (λ y. up (positionAt net y)) (z .exports-le), mul-le-mul-right 51200000 (z .zones))
+  exports-few = omega (arith, sum-bound (length netExports) 51200000 (λ y. up (positionAt netExports y)) (z .exports-le), mul-le-mul-right 51200000 (z .zones))
 
-  module _ (s : List ℤ) (total : ℕ) (room : 96 ≤ length s) (st : State c (transportOf s) total) (m : Labels) (r : Searched net prices bytes s m) where
+  module _ (s : List ℤ) (total : ℕ) (room : 96 ≤ length s) (st : State c (flowOf s) total) (m : Labels) (r : Searched netExports prices bytes s m) where
     -- a zone was found: d more can be brought to it
-    pub augment-of : (d : ℕ) → m .sink < length net → 0 < d → d ≤ getD (m .label) (m .sink) 0 → d ≤ dn (positionAt net (m .sink)) - amountAt s (80 + m .sink) → Augment net prices total bytes s (trailOf m) d (m .sink)
+    pub augment-of : (d : ℕ) → m .sink < length netExports → 0 < d → d ≤ getD (m .label) (m .sink) 0 → d ≤ dn (positionAt netExports (m .sink)) - amountAt s (80 + m .sink) → Augment netExports prices total bytes s (trailOf m) d (m .sink)
     augment-of d h some l i = record {
       sized = z;
       room = room;
@@ -62,44 +62,44 @@ module _ (net prices : List ℤ) (bytes : List ℕ) (z : Sized net prices bytes)
       some = some;
       lab = l;
       left = omega (arith, some, i);
-      few = omega (arith, total-le c (transportOf s) total st, exports-few, i, z .imports-le (m .sink) h);
+      few = omega (arith, total-le c (flowOf s) total st, exports-few, i, z .imports-le (m .sink) h);
     }
 
-    pub filled : length net ≤ m .sink → Filled c (transportOf s) total
-    filled h = record { state = st; set = _; saturated = r .none h (st .carries) }
+    pub filled : length netExports ≤ m .sink → Filled c (flowOf s) total
+    filled h = record { state = st; set = _; saturated = r .none h (st .feasible) }
 
--- AN EMPTY TRANSPORT
+-- AN EMPTY FLOW
 none-sum : (n : ℕ) (q : ℕ → Bool) (f : ℕ → ℕ) → ((k : ℕ) → k < n → f k ≡ 0) → sumNat n (λ k. only (q k) (f k)) ≡ 0
 none-sum n q f h = sum-ext n _ (λ k. 0) (λ k l. ap (only (q k)) (h k l) ∙ only-zero (q k)) ∙ sum-zero n
 
-empty-state : (c : Network) (b : Transport) → ((k : ℕ) → k < c .pairs → b .flow k ≡ 0) → ((z : ℕ) → z < c .zones → b .sent z ≡ 0) → ((z : ℕ) → z < c .zones → b .got z ≡ 0) → State c b 0
+empty-state : (c : Network) (b : Flow) → ((k : ℕ) → k < c .pairs → b .flow k ≡ 0) → ((z : ℕ) → z < c .zones → b .export-used z ≡ 0) → ((z : ℕ) → z < c .zones → b .import-used z ≡ 0) → State c b 0
 empty-state c b f e i = record {
-  carries = record {
-    sent-le = λ z l. omega (arith, e z l);
-    got-le = λ z l. omega (arith, i z l);
+  feasible = record {
+    export-used-le = λ z l. omega (arith, e z l);
+    import-used-le = λ z l. omega (arith, i z l);
     along = λ k l t. f k l;
-    even = λ z l. omega (arith, e z l, i z l, none-sum (c .pairs) (λ k. eqb (c .to k) z) (b .flow) f, none-sum (c .pairs) (λ k. eqb (c .from k) z) (b .flow) f);
+    conserved = λ z l. omega (arith, e z l, i z l, none-sum (c .pairs) (λ k. eqb (c .to k) z) (b .flow) f, none-sum (c .pairs) (λ k. eqb (c .from k) z) (b .flow) f);
   };
-  sum = sum-ext (c .zones) (b .sent) (λ z. 0) e ∙ sum-zero (c .zones);
+  sum = sum-ext (c .zones) (b .export-used) (λ z. 0) e ∙ sum-zero (c .zones);
   flows = λ k l. omega (arith, f k l);
 }
 
-pub cleared-state : (net prices : List ℤ) (bytes : List ℕ) (n : ℕ) (s s' : List ℤ) → Sized net prices bytes → 96 ≤ n → Cleared n s s' → State (networkOf net prices bytes) (transportOf s') 0
-cleared-state net prices bytes n s s' z h w =
-    empty-state (networkOf net prices bytes) (transportOf s') (λ k l. ap up (w .zeros k (omega (arith, z .pairs)))) (λ y l. ap up (w .zeros (64 + y) (omega (arith, z .zones))))
+pub cleared-state : (netExports prices : List ℤ) (bytes : List ℕ) (n : ℕ) (s s' : List ℤ) → Sized netExports prices bytes → 96 ≤ n → Cleared n s s' → State (networkOf netExports prices bytes) (flowOf s') 0
+cleared-state netExports prices bytes n s s' z h w =
+    empty-state (networkOf netExports prices bytes) (flowOf s') (λ k l. ap up (w .zeros k (omega (arith, z .pairs)))) (λ y l. ap up (w .zeros (64 + y) (omega (arith, z .zones))))
     (λ y l. ap up (w .zeros (80 + y) (omega (arith, z .zones))))
 
--- THE ANSWER: the largest total, a transport of every export for a yes, and an excess for a no
+-- THE ANSWER: the largest total, a flow of every export for a yes, and a deficient set for a no
 pub record Answer (c : Network) (all : Bool) (t : ℕ) : Type 0 where
   pub largest : Largest c t
-  pub carries-all : all ≡ true → CarriesAll c
-  pub excess : all ≡ false → Excess c
+  pub feasible-all : all ≡ true → FeasibleAll c
+  pub deficient : all ≡ false → DeficientSet c
 
-pub answer-of : (c : Network) (b : Transport) (total : ℕ) → Placed c → Filled c b total → Answer c (eqb total (allExports c)) total
+pub answer-of : (c : Network) (b : Flow) (total : ℕ) → Placed c → Filled c b total → Answer c (eqb total (allExports c)) total
 answer-of c b total ok d = record {
-  largest = rw (d .state .sum) at (largest-of c ok b (d .state .carries) (d .set) (d .saturated));
-  carries-all = λ e. yes-of c b (d .state .carries) (d .state .sum ∙ eqb-true total (allExports c) e);
-  excess = λ e. no-of c ok b (d .state .carries) (d .set) (d .saturated) (less (eqb-false total (allExports c) e));
+  largest = rw (d .state .sum) at (largest-of c ok b (d .state .feasible) (d .set) (d .saturated));
+  feasible-all = λ e. yes-of c b (d .state .feasible) (d .state .sum ∙ eqb-true total (allExports c) e);
+  deficient = λ e. no-of c ok b (d .state .feasible) (d .set) (d .saturated) (less (eqb-false total (allExports c) e));
 }
   where
     less : (total ≡ allExports c → ⊥) → carried c b < allExports c

@@ -1,4 +1,4 @@
-// The largest transport of an hour (requests S-3 and S-13), by augmenting paths, in a lent scratch.
+// The max flow of an hour (requests S-3 and S-13), by augmenting paths, in a lent scratch.
 ghost use mathlib.Core.Path.{_≡_};
 ghost use Prim.Native.Nat.{ℕ, _≤_, _<_};
 ghost use lib.ListN.{length, getD};
@@ -6,7 +6,7 @@ ghost use lib.IntN.{pos};
 ghost use Rattle.integers.specs.Difference.{up};
 ghost use Rattle.integers.specs.NaturalSums.{sumNat};
 ghost use Rattle.zone_pairs.specs.Meaning.Pairs.{networkOf};
-ghost use Rattle.flow_scratch.specs.Meaning.Places.{transportOf};
+ghost use Rattle.flow_scratch.specs.Meaning.Places.{flowOf};
 ghost use Rattle.flow_scratch.specs.Scratch.{Rest};
 ghost use Rattle.flow_scratch.specs.Cleared.{Cleared};
 ghost use Rattle.augmenting_path.specs.Lacking.{State};
@@ -22,65 +22,65 @@ use residual_search::search;
 use zone_pairs::pair_table;
 
 // Whether every export is carried to imports, and the largest total that is, in tenths.
-pub struct LargestTransport {
+pub struct MaxFlow {
     pub all: bool,
     pub total: u64,
 }
 
-// Augments as long as a zone with import left is reached. The transport is empty at first.
-fn fill(net: &[i64], prices: &[i64], pairs: &[u8], s: &mut [i64]) -> u64
-    requires { ⌜ Sized (now net) (now prices) (now pairs) ⌝ }
+// Augments as long as a zone with import left is reached. The flow is empty at first.
+fn fill(net_exports: &[i64], prices: &[i64], pairs: &[u8], s: &mut [i64]) -> u64
+    requires { ⌜ Sized (now «net_exports») (now prices) (now pairs) ⌝ }
     requires { ⌜ 96 ≤ length (now s) ⌝ }
-    requires { ⌜ State (networkOf (now net) (now prices) (now pairs)) (transportOf (now s)) 0 ⌝ }
-    ensures filled { λ r. ⌜ Filled (networkOf (now (net .entry)) (now (prices .entry)) (now (pairs .entry))) (transportOf (now (s .exit))) r ⌝ }
+    requires { ⌜ State (networkOf (now «net_exports») (now prices) (now pairs)) (flowOf (now s)) 0 ⌝ }
+    ensures filled { λ r. ⌜ Filled (networkOf (now («net_exports» .entry)) (now (prices .entry)) (now (pairs .entry))) (flowOf (now (s .exit))) r ⌝ }
     ensures rest { λ r. ⌜ Rest (now (s .entry)) (now (s .exit)) ⌝ }
 {
     let table = pair_table(pairs);
     let mut total = 0;
     loop {
-        let labels = search(net, prices, pairs, &table, s);
+        let labels = search(net_exports, prices, pairs, &table, s);
         let t = labels.sink;
-        if net.len() <= t {
+        if net_exports.len() <= t {
             return total;
         }
-        let d = min(labels.label[t], import_left(net, s, t));
+        let d = min(labels.label[t], import_left(net_exports, s, t));
         augment(pairs, s, labels, t, d);
         total += d;
     }
 }
 
-fn all_exports(net: &[i64]) -> u64
-    requires { ⌜ (length (now net) ≤ 16) × ((z : ℕ) → z < length (now net) → up (getD (now net) z (pos 0)) ≤ 51200000) ⌝ }
-    ensures { λ r. ⌜ r ≡ sumNat (length (now (net .entry))) (λ z. up (getD (now (net .entry)) z (pos 0))) ⌝ }
+fn all_exports(net_exports: &[i64]) -> u64
+    requires { ⌜ (length (now «net_exports») ≤ 16) × ((z : ℕ) → z < length (now «net_exports») → up (getD (now «net_exports») z (pos 0)) ≤ 51200000) ⌝ }
+    ensures { λ r. ⌜ r ≡ sumNat (length (now («net_exports» .entry))) (λ z. up (getD (now («net_exports» .entry)) z (pos 0))) ⌝ }
 {
     let mut sum = 0;
     let mut z = 0;
-    while z < net.len() {
-        sum += amount(net, z);
+    while z < net_exports.len() {
+        sum += amount(net_exports, z);
         z += 1;
     }
     sum
 }
 
-// With a scratch of at least n numbers, whose first n are zero afterwards. A transport takes 96.
-pub fn largest_transport(
-    net: &[i64],
+// With a scratch of at least n numbers, whose first n are zero afterwards. A flow takes 96.
+pub fn max_flow(
+    net_exports: &[i64],
     prices: &[i64],
     pairs: &[u8],
     s: &mut [i64],
     n: usize,
-) -> LargestTransport
-    requires { ⌜ Sized (now net) (now prices) (now pairs) ⌝ }
+) -> MaxFlow
+    requires { ⌜ Sized (now «net_exports») (now prices) (now pairs) ⌝ }
     requires { ⌜ (96 ≤ n) × (n ≤ length (now s)) ⌝ }
-    ensures answer { λ r. ⌜ Answer (networkOf (now (net .entry)) (now (prices .entry)) (now (pairs .entry))) (r .all) (r .total) ⌝ }
+    ensures answer { λ r. ⌜ Answer (networkOf (now («net_exports» .entry)) (now (prices .entry)) (now (pairs .entry))) (r .all) (r .total) ⌝ }
     ensures total { λ r. ⌜ r .total ≤ 819200000 ⌝ }
     ensures scratch { λ r. ⌜ Cleared n (now (s .entry)) (now (s .exit)) ⌝ }
 {
     clear(s, AMOUNTS);
-    let carried = fill(net, prices, pairs, s);
+    let carried = fill(net_exports, prices, pairs, s);
     clear(s, n);
-    let exports = all_exports(net);
-    LargestTransport {
+    let exports = all_exports(net_exports);
+    MaxFlow {
         all: carried == exports,
         total: carried,
     }

@@ -15,30 +15,30 @@ use measures::TenthsAnswer;
 use rows::Place;
 
 // The position of a zone, held to its limits.
-fn position(net: &[i64], zone: usize) -> TenthsAnswer
-    requires { ⌜ zone < length (now net) ⌝ }
-    ensures { λ r. ⌜ r ≡ tenthsIn limits.netPosition (positionAt (now (net .entry)) zone) ⌝ }
+fn position(net_exports: &[i64], zone: usize) -> TenthsAnswer
+    requires { ⌜ zone < length (now «net_exports») ⌝ }
+    ensures { λ r. ⌜ r ≡ tenthsIn limits.netPosition (positionAt (now («net_exports» .entry)) zone) ⌝ }
 {
-    Tenths::lent_position(Raw::lent(net[zone]))
+    Tenths::lent_position(Raw::lent(net_exports[zone]))
 }
 
-fn position_outside(net: &[i64], zone: usize) -> bool
-    requires { ⌜ zone < length (now net) ⌝ }
-    ensures { λ r. ⌜ r ≡ positionOutside (now (net .entry)) zone ⌝ }
+fn position_outside(net_exports: &[i64], zone: usize) -> bool
+    requires { ⌜ zone < length (now «net_exports») ⌝ }
+    ensures { λ r. ⌜ r ≡ positionOutside (now («net_exports» .entry)) zone ⌝ }
 {
-    let TenthsAnswer::Held(_position) = position(net, zone) else {
+    let TenthsAnswer::Held(_position) = position(net_exports, zone) else {
         return true;
     };
     false
 }
 
 // The first zone whose position is out of range.
-pub fn first_position_outside(net: &[i64]) -> Place
-    ensures { λ r. ⌜ placeOf r ≡ firstBelow (length (now (net .entry))) (positionOutside (now (net .entry))) ⌝ }
+pub fn first_position_outside(net_exports: &[i64]) -> Place
+    ensures { λ r. ⌜ placeOf r ≡ firstBelow (length (now («net_exports» .entry))) (positionOutside (now («net_exports» .entry))) ⌝ }
 {
     let mut zone = 0;
-    while zone < net.len() {
-        if position_outside(net, zone) {
+    while zone < net_exports.len() {
+        if position_outside(net_exports, zone) {
             return Place::At(zone);
         }
         zone += 1;
@@ -47,36 +47,36 @@ pub fn first_position_outside(net: &[i64]) -> Place
 }
 
 // A position within its limits.
-fn position_held(net: &[i64], zone: usize) -> Tenths
-    requires { ⌜ zone < length (now net) ⌝ }
-    requires { ⌜ positionOutside (now net) zone ≡ false ⌝ }
-    ensures { λ r. ⌜ r .0 ≡ positionAt (now (net .entry)) zone ⌝ }
+fn position_held(net_exports: &[i64], zone: usize) -> Tenths
+    requires { ⌜ zone < length (now «net_exports») ⌝ }
+    requires { ⌜ positionOutside (now «net_exports») zone ≡ false ⌝ }
+    ensures { λ r. ⌜ r .0 ≡ positionAt (now («net_exports» .entry)) zone ⌝ }
 {
-    let TenthsAnswer::Held(tenths) = position(net, zone) else {
+    let TenthsAnswer::Held(tenths) = position(net_exports, zone) else {
         return Tenths::ZERO;
     };
     tenths
 }
 
 // The sum of up to 16 positions within their limits.
-fn position_sum(net: &[i64]) -> Tenths
-    requires { ⌜ (length (now net) ≤ 16) × ((z : ℕ) → z < length (now net) → positionOutside (now net) z ≡ false) ⌝ }
-    ensures { λ r. ⌜ r .0 ≡ sumTo (length (now (net .entry))) (positionAt (now (net .entry))) ⌝ }
+fn position_sum(net_exports: &[i64]) -> Tenths
+    requires { ⌜ (length (now «net_exports») ≤ 16) × ((z : ℕ) → z < length (now «net_exports») → positionOutside (now «net_exports») z ≡ false) ⌝ }
+    ensures { λ r. ⌜ r .0 ≡ sumTo (length (now («net_exports» .entry))) (positionAt (now («net_exports» .entry))) ⌝ }
 {
     let mut sum = Tenths::ZERO;
     let mut zone = 0;
-    while zone < net.len() {
-        sum = sum.plus(position_held(net, zone));
+    while zone < net_exports.len() {
+        sum = sum.plus(position_held(net_exports, zone));
         zone += 1;
     }
     sum
 }
 
 // Whether the sum is not zero.
-pub fn is_unbalanced(net: &[i64]) -> bool
-    requires { ⌜ (length (now net) ≤ 16) × ((z : ℕ) → z < length (now net) → positionOutside (now net) z ≡ false) ⌝ }
-    ensures { λ r. ⌜ r ≡ unbalanced (now (net .entry)) ⌝ }
+pub fn is_unbalanced(net_exports: &[i64]) -> bool
+    requires { ⌜ (length (now «net_exports») ≤ 16) × ((z : ℕ) → z < length (now «net_exports») → positionOutside (now «net_exports») z ≡ false) ⌝ }
+    ensures { λ r. ⌜ r ≡ unbalanced (now («net_exports» .entry)) ⌝ }
 {
-    let sum = position_sum(net);
+    let sum = position_sum(net_exports);
     !sum.is_zero()
 }

@@ -1,4 +1,5 @@
--- ARCS of the residual network over the lent lists: along a pair that counts, or back along one that carries something. Assumes nothing.
+-- ARCS of the residual network over the lent lists: along a pair that counts, or back along one that carries
+-- something. Assumes nothing.
 use mathlib.Core.Path.{_≡_, refl, sym, ap, subst, _∙_}
 use mathlib.Core.Bool.{true, false}
 use mathlib.Core.List.{List}

@@ -56,11 +56,11 @@ module _ (m : Labels) (z v d k : ℕ) (wide : Wide m) (zin : z < 16) (room : m .
   labelled-queue i h = getD-set-other (m .queue) (m .count) i z 0 (λ e. omega arith)
 
 -- THE ZONES WITH EXPORT LEFT among the first z
-pub record Seeded (net s : List ℤ) (m : Labels) (z : ℕ) : Type 0 where
+pub record Seeded (netExports s : List ℤ) (m : Labels) (z : ℕ) : Type 0 where
   pub wide : Wide m
   pub no-sink : m .sink ≡ 16
   pub listing : Listing z (trailOf m) (queueOf m) (m .count)
-  pub left : (y : ℕ) → y < z → getD (m .label) y 0 ≡ up (positionAt net y) - amountAt s (64 + y)
+  pub left : (y : ℕ) → y < z → getD (m .label) y 0 ≡ up (positionAt netExports y) - amountAt s (64 + y)
   pub blank : (y : ℕ) → z ≤ y → getD (m .label) y 0 ≡ 0
   pub flat : (y : ℕ) → getD (m .depth) y 0 ≡ 0
 
@@ -71,8 +71,8 @@ noLabels = record { label = replicate 16 0; depth = replicate 16 0; via = replic
 zeros : (n y : ℕ) → _≡_ {A = ℕ} (getD (replicate n 0) y 0) 0
 zeros n y = elim (decLt y n) [ yes l ↦ getD-replicate n y 0 0 l | no l ↦ List·getD-eq-default (replicate n 0) 0 (omega (arith, length-replicate {A = ℕ} n 0)) ]
 
-pub seeded-none : (net s : List ℤ) → Seeded net s noLabels 0
-seeded-none net s = record {
+pub seeded-none : (netExports s : List ℤ) → Seeded netExports s noLabels 0
+seeded-none netExports s = record {
   wide = record { label = refl; depth = refl; via = refl; queue = refl };
   no-sink = refl;
   listing = listing-none (trailOf noLabels) (queueOf noLabels);
@@ -82,7 +82,7 @@ seeded-none net s = record {
 }
 
 -- one zone more
-module _ (net s : List ℤ) (m : Labels) (z v : ℕ) (r : Seeded net s m z) (zin : z < 16) (is : v ≡ up (positionAt net z) - amountAt s (64 + z)) where
+module _ (netExports s : List ℤ) (m : Labels) (z v : ℕ) (r : Seeded netExports s m z) (zin : z < 16) (is : v ≡ up (positionAt netExports z) - amountAt s (64 + z)) where
   longer : Listing (z + 1) (trailOf m) (queueOf m) (m .count)
   longer =
       listing-extend z (trailOf m) (trailOf m) (queueOf m) (queueOf m) (m .count) (r .listing)
@@ -91,7 +91,7 @@ module _ (net s : List ℤ) (m : Labels) (z v : ℕ) (r : Seeded net s m z) (zin
   pub count-low : m .count < 16
   count-low = omega (arith, few (r .listing))
 
-  pub seeded-not : v ≤ 0 → Seeded net s m (z + 1)
+  pub seeded-not : v ≤ 0 → Seeded netExports s m (z + 1)
   seeded-not h = record {
     wide = r .wide;
     no-sink = r .no-sink;
@@ -101,14 +101,14 @@ module _ (net s : List ℤ) (m : Labels) (z v : ℕ) (r : Seeded net s m z) (zin
     flat = r .flat;
   }
     where
-      by : (y : ℕ) → y < z + 1 → Dec (y ≡ z) → getD (m .label) y 0 ≡ up (positionAt net y) - amountAt s (64 + y)
+      by : (y : ℕ) → y < z + 1 → Dec (y ≡ z) → getD (m .label) y 0 ≡ up (positionAt netExports y) - amountAt s (64 + y)
       by y p (yes e) = rw e (r .blank z (omega arith) ∙ omega (arith, is))
       by y p (no e) = r .left y (omega arith)
 
   abbrev m' : Labels
   m' = labelled m z v 0 0
 
-  pub seeded-zone : 0 < v → Seeded net s m' (z + 1)
+  pub seeded-zone : 0 < v → Seeded netExports s m' (z + 1)
   seeded-zone h =
       let mk = labelled-trail m z v 0 0 (r .wide) zin count-low in
       record {
@@ -122,7 +122,7 @@ module _ (net s : List ℤ) (m : Labels) (z v : ℕ) (r : Seeded net s m z) (zin
         flat = λ y. flat mk y (ℕ-discrete y z);
       }
     where
-      by : Marked (trailOf m) (trailOf m') z v 0 0 → (y : ℕ) → y < z + 1 → Dec (y ≡ z) → getD (m' .label) y 0 ≡ up (positionAt net y) - amountAt s (64 + y)
+      by : Marked (trailOf m) (trailOf m') z v 0 0 → (y : ℕ) → y < z + 1 → Dec (y ≡ z) → getD (m' .label) y 0 ≡ up (positionAt netExports y) - amountAt s (64 + y)
       by mk y p (yes e) = rw e (mk .lab ∙ is)
       by mk y p (no e) = mk .lab-rest y e ∙ r .left y (omega arith)
 

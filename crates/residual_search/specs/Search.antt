@@ -7,49 +7,49 @@ use native.Mathlib.Omega.{arith}
 use native.Mathlib.Decide.{ℕ-discrete, decLt}
 use borrow.Author.Tests.{lt-ltb, ltb-true, ltb-false}
 use lib.Dec.{ltb}
-use Rattle.transports.specs.Meaning.Network.{Network, Placed, Transport, Carries}
+use Rattle.transports.specs.Meaning.Network.{Network, Placed, Flow, Feasible}
 use Rattle.transports.specs.Steps.Saturated.{Saturated}
 use Rattle.augmenting_path.specs.Links.{Trail, Link, Links}
 use Rattle.residual_search.specs.Listing.{Listed, Listing, Marked, listing-mark, fewer}
 
 -- no flow is above a number
-abbrev pub Low : Network → Transport → ℕ → Type 0
+abbrev pub Low : Network → Flow → ℕ → Type 0
 Low c b total = (k : ℕ) → k < c .pairs → b .flow k ≤ total
 
 -- pair j leads on from zone y
-pub record DoneAt (c : Network) (b : Transport) (m : Trail) (y j : ℕ) : Type 0 where
+pub record DoneAt (c : Network) (b : Flow) (m : Trail) (y j : ℕ) : Type 0 where
   pub on : c .from j ≡ y → c .counted j ≡ true → 0 < m .lab (c .to j)
   pub back : c .to j ≡ y → 0 < b .flow j → 0 < m .lab (c .from j)
 
 -- what leads on from zone u to zone v
-pub record DoneTo (c : Network) (b : Transport) (m : Trail) (u v : ℕ) : Type 0 where
+pub record DoneTo (c : Network) (b : Flow) (m : Trail) (u v : ℕ) : Type 0 where
   pub on : (j : ℕ) → j < c .pairs → c .from j ≡ u → c .to j ≡ v → c .counted j ≡ true → 0 < m .lab v
   pub back : (j : ℕ) → j < c .pairs → c .to j ≡ u → c .from j ≡ v → 0 < b .flow j → 0 < m .lab v
 
 -- the first h of the zones reached are done, and none that is reached has import left
-pub record Searching (c : Network) (b : Transport) (m : Trail) (q : ℕ → ℕ) (e h : ℕ) : Type 0 where
+pub record Searching (c : Network) (b : Flow) (m : Trail) (q : ℕ → ℕ) (e h : ℕ) : Type 0 where
   pub listing : Listing (c .zones) m q e
   pub links : (total : ℕ) → Low c b total → (n : ℕ) → Links c b total m n
-  pub roots : (y : ℕ) → y < c .zones → b .sent y < c .exports y → 0 < m .lab y
-  pub idle : (y : ℕ) → y < c .zones → 0 < m .lab y → c .imports y ≤ b .got y
+  pub roots : (y : ℕ) → y < c .zones → b .export-used y < c .exports y → 0 < m .lab y
+  pub idle : (y : ℕ) → y < c .zones → 0 < m .lab y → c .imports y ≤ b .import-used y
   pub done : (i : ℕ) → i < h → (j : ℕ) → j < c .pairs → DoneAt c b m (q i) j
 
 -- and from zone u, which is at h in the order, what leads to the first w zones
-pub record Scanning (c : Network) (b : Transport) (m : Trail) (q : ℕ → ℕ) (e h u w : ℕ) : Type 0 where
+pub record Scanning (c : Network) (b : Flow) (m : Trail) (q : ℕ → ℕ) (e h u w : ℕ) : Type 0 where
   pub search : Searching c b m q e h
   pub here : h < e
   pub is : q h ≡ u
   pub part : (v : ℕ) → v < w → DoneTo c b m u v
 
 -- a zone that is reached and has import left
-pub record Found (c : Network) (b : Transport) (m : Trail) (t : ℕ) : Type 0 where
+pub record Found (c : Network) (b : Flow) (m : Trail) (t : ℕ) : Type 0 where
   pub inside : t < c .zones
   pub reached : 0 < m .lab t
-  pub left : b .got t < c .imports t
+  pub left : b .import-used t < c .imports t
   pub links : (total : ℕ) → Low c b total → (n : ℕ) → Links c b total m n
 
 -- THE NEXT PAIR AND THE NEXT ZONE
-module _ (c : Network) (b : Transport) (m : Trail) (q : ℕ → ℕ) (e h : ℕ) where
+module _ (c : Network) (b : Flow) (m : Trail) (q : ℕ → ℕ) (e h : ℕ) where
   pub scan-start : (u : ℕ) → Searching c b m q e h → h < e → q h ≡ u → Scanning c b m q e h u 0
   scan-start u s l w = record { search = s; here = l; is = w; part = λ j p. absurd (omega arith) }
 
@@ -72,7 +72,7 @@ module _ (c : Network) (b : Transport) (m : Trail) (q : ℕ → ℕ) (e h : ℕ)
       by i p j l (yes x) = let g : u ≡ q i = sym (s .is) ∙ ap q x in rw g at here j l
       by i p j l (no x) = s .search .done i (omega arith) j l
 
-module _ (c : Network) (b : Transport) (m : Trail) (q : ℕ → ℕ) (e h u w : ℕ) (s : Scanning c b m q e h u w) where
+module _ (c : Network) (b : Flow) (m : Trail) (q : ℕ → ℕ) (e h u w : ℕ) (s : Scanning c b m q e h u w) where
   -- zone u is reached, and its depth is below the count
   pub of-scan : (u < c .zones) × ((0 < m .lab u) × (m .dep u < e))
   of-scan =
@@ -140,10 +140,10 @@ module _ (c : Network) (b : Transport) (m : Trail) (q : ℕ → ℕ) (e h u w : 
           by (no w) =
               let g : 0 < m .lab y = omega (arith, mk .lab-rest y w) in link-stays total y g (s .search .links total low (m .dep y) y p g (omega arith))
 
-      pub pair-found : b .got z < c .imports z → Found c b m' z
+      pub pair-found : b .import-used z < c .imports z → Found c b m' z
       pair-found left = record { inside = zin; reached = omega (arith, mk .lab); left = left; links = all-links }
 
-      pub pair-reaches : c .imports z ≤ b .got z → Scanning c b m' q' (e + 1) h u (w + 1)
+      pub pair-reaches : c .imports z ≤ b .import-used z → Scanning c b m' q' (e + 1) h u (w + 1)
       pair-reaches none = record {
         search = record {
           listing = listing-mark (c .zones) m m' q q' e z v e k (s .search .listing) mk new some zin (omega arith) last same;
@@ -157,7 +157,7 @@ module _ (c : Network) (b : Transport) (m : Trail) (q : ℕ → ℕ) (e h u w : 
         part = λ x p. by-part x p (ℕ-discrete z x);
       }
         where
-          by-idle : (y : ℕ) → y < c .zones → 0 < m' .lab y → Dec (y ≡ z) → c .imports y ≤ b .got y
+          by-idle : (y : ℕ) → y < c .zones → 0 < m' .lab y → Dec (y ≡ z) → c .imports y ≤ b .import-used y
           by-idle y p r (yes w) = rw w none
           by-idle y p r (no w) = s .search .idle y p (omega (arith, mk .lab-rest y w))
 
@@ -203,7 +203,7 @@ module _ (c : Network) (b : Transport) (m : Trail) (q : ℕ → ℕ) (e h u w : 
         }
 
 -- AS THE SEARCH BEGINS: the zones with export left, none of which imports
-pub search-start : (c : Network) (b : Transport) (m : Trail) (q : ℕ → ℕ) (e : ℕ) → Listing (c .zones) m q e → ((y : ℕ) → y < c .zones → m .lab y ≡ c .exports y - b .sent y) → ((y : ℕ) → y < c .zones → 0 < m .lab y → m .dep y ≡ 0)
+pub search-start : (c : Network) (b : Flow) (m : Trail) (q : ℕ → ℕ) (e : ℕ) → Listing (c .zones) m q e → ((y : ℕ) → y < c .zones → m .lab y ≡ c .exports y - b .export-used y) → ((y : ℕ) → y < c .zones → 0 < m .lab y → m .dep y ≡ 0)
     → ((y : ℕ) → y < c .zones → 0 < c .exports y → c .imports y ≡ 0) → Searching c b m q e 0
 search-start c b m q e l left flat one-way = record {
   listing = l;
@@ -219,12 +219,12 @@ search-start c b m q e l left flat one-way = record {
 }
 
 -- AS IT ENDS: all that is reached is done
-pub saturated : (c : Network) → Placed c → (b : Transport) → Carries c b → (m : Trail) (q : ℕ → ℕ) (e h : ℕ) → Searching c b m q e h → e ≤ h → Saturated c b (λ z. ltb 0 (m .lab z))
+pub saturated : (c : Network) → Placed c → (b : Flow) → Feasible c b → (m : Trail) (q : ℕ → ℕ) (e h : ℕ) → Searching c b m q e h → e ≤ h → Saturated c b (λ z. ltb 0 (m .lab z))
 saturated c ok b ca m q e h s all = record {
-  shut = λ k p t r. lt-ltb 0 (m .lab (c .to k)) (done (c .from k) k p (ok .from-in k p) (ltb-true 0 (m .lab (c .from k)) r) .on refl t);
+  closed = λ k p t r. lt-ltb 0 (m .lab (c .to k)) (done (c .from k) k p (ok .from-in k p) (ltb-true 0 (m .lab (c .from k)) r) .on refl t);
   back = λ k p r f. none k p (ltb-true 0 (m .lab (c .to k)) r) (ltb-false 0 (m .lab (c .from k)) f) (decLt 0 (b .flow k));
-  inside = λ z p r. omega (arith, s .idle z p (ltb-true 0 (m .lab z) r), ca .got-le z p);
-  outside = λ z p r. used z p (ltb-false 0 (m .lab z) r) (decLt (b .sent z) (c .exports z));
+  inside = λ z p r. omega (arith, s .idle z p (ltb-true 0 (m .lab z) r), ca .import-used-le z p);
+  outside = λ z p r. used z p (ltb-false 0 (m .lab z) r) (decLt (b .export-used z) (c .exports z));
 }
   where
     done : (y k : ℕ) → k < c .pairs → y < c .zones → 0 < m .lab y → DoneAt c b m y k
@@ -234,6 +234,6 @@ saturated c ok b ca m q e h s all = record {
     none k p r f (yes x) = absurd (omega (arith, done (c .to k) k p (ok .to-in k p) r .back refl x))
     none k p r f (no x) = omega arith
 
-    used : (z : ℕ) → z < c .zones → m .lab z ≤ 0 → Dec (b .sent z < c .exports z) → b .sent z ≡ c .exports z
+    used : (z : ℕ) → z < c .zones → m .lab z ≤ 0 → Dec (b .export-used z < c .exports z) → b .export-used z ≡ c .exports z
     used z p r (yes x) = absurd (omega (arith, s .roots z p x))
-    used z p r (no x) = omega (arith, ca .sent-le z p)
+    used z p r (no x) = omega (arith, ca .export-used-le z p)

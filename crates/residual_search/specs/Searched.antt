@@ -1,4 +1,5 @@
--- The search over the lent lists: zones are reached and gone on from in the order of the queue, until one has import left. Assumes nothing.
+-- The search over the lent lists: zones are reached and gone on from in the order of the queue, until one has import
+-- left. Assumes nothing.
 use mathlib.Core.Path.{_≡_, refl, sym, ap, _∙_}
 use mathlib.Core.List.{List}
 use Prim.Native.Nat.{ℕ, _+_, _-_, _≤_, _<_}
@@ -8,11 +9,11 @@ use lib.Dec.{ltb}
 use lib.ListN.{length, getD}
 use lib.IntN.{ℤ, pos, negsuc}
 use Rattle.integers.specs.Difference.{up, dn}
-use Rattle.transports.specs.Meaning.Network.{Network, Transport, Carries}
+use Rattle.transports.specs.Meaning.Network.{Network, Flow, Feasible}
 use Rattle.transports.specs.Steps.Saturated.{Saturated}
 use Rattle.net_positions.specs.Meaning.Positions.{positionAt}
 use Rattle.zone_pairs.specs.Meaning.Pairs.{networkOf}
-use Rattle.flow_scratch.specs.Meaning.Places.{amountAt, transportOf}
+use Rattle.flow_scratch.specs.Meaning.Places.{amountAt, flowOf}
 use Rattle.augmenting_path.specs.declared.Labels.{Labels}
 use Rattle.augmenting_path.specs.Links.{Link}
 use Rattle.augmenting_path.specs.Path.{trailOf, Sized}
@@ -22,52 +23,53 @@ use Rattle.residual_search.specs.Search.{Low, DoneTo, Searching, Scannin
 use Rattle.residual_search.specs.Labelling.{queueOf, Wide, labelled, labelled-wide, labelled-trail, labelled-last, labelled-queue, Seeded}
 use Rattle.residual_search.specs.Arcs.{NoArc, Residual, along, against, NextArc}
 
--- HOW FAR IT IS: the zones before h in the queue are done, of the zone at h what leads to the first w zones, and no zone that is reached has import left
-pub record Progress (net prices : List ℤ) (bytes : List ℕ) (s : List ℤ) (m : Labels) (h w : ℕ) : Type 0 where
+-- HOW FAR IT IS: the zones before h in the queue are done, of the zone at h what leads to the first w zones, and no
+-- zone that is reached has import left
+pub record Progress (netExports prices : List ℤ) (bytes : List ℕ) (s : List ℤ) (m : Labels) (h w : ℕ) : Type 0 where
   pub wide : Wide m
   pub no-sink : m .sink ≡ 16
-  pub search : Searching (networkOf net prices bytes) (transportOf s) (trailOf m) (queueOf m) (m .count) h
-  pub part : (v : ℕ) → v < w → DoneTo (networkOf net prices bytes) (transportOf s) (trailOf m) (queueOf m h) v
+  pub search : Searching (networkOf netExports prices bytes) (flowOf s) (trailOf m) (queueOf m) (m .count) h
+  pub part : (v : ℕ) → v < w → DoneTo (networkOf netExports prices bytes) (flowOf s) (trailOf m) (queueOf m h) v
 
 -- WHAT IS FOUND: a zone to bring more to, or that no augmenting path is left
-pub record Searched (net prices : List ℤ) (bytes : List ℕ) (s : List ℤ) (m : Labels) : Type 0 where
-  pub found : m .sink < length net → Found (networkOf net prices bytes) (transportOf s) (trailOf m) (m .sink)
-  pub none : length net ≤ m .sink → Carries (networkOf net prices bytes) (transportOf s) → Saturated (networkOf net prices bytes) (transportOf s) (λ z. ltb 0 (getD (m .label) z 0))
+pub record Searched (netExports prices : List ℤ) (bytes : List ℕ) (s : List ℤ) (m : Labels) : Type 0 where
+  pub found : m .sink < length netExports → Found (networkOf netExports prices bytes) (flowOf s) (trailOf m) (m .sink)
+  pub none : length netExports ≤ m .sink → Feasible (networkOf netExports prices bytes) (flowOf s) → Saturated (networkOf netExports prices bytes) (flowOf s) (λ z. ltb 0 (getD (m .label) z 0))
 
 -- AS THE SEARCH BEGINS
 one-way : (x : ℤ) → 0 < up x → dn x ≡ 0
 one-way (pos n) h = refl
 one-way (negsuc n) h = absurd (omega arith)
 
-pub progress-start : (net prices : List ℤ) (bytes : List ℕ) (s : List ℤ) (m : Labels) → Seeded net s m (length net) → Progress net prices bytes s m 0 0
-progress-start net prices bytes s m r = record {
+pub progress-start : (netExports prices : List ℤ) (bytes : List ℕ) (s : List ℤ) (m : Labels) → Seeded netExports s m (length netExports) → Progress netExports prices bytes s m 0 0
+progress-start netExports prices bytes s m r = record {
   wide = r .wide;
   no-sink = r .no-sink;
-  search = search-start (networkOf net prices bytes) (transportOf s) (trailOf m) (queueOf m) (m .count) (r .listing) (r .left) (λ y p l. r .flat y) (λ y p l. one-way (positionAt net y) l);
+  search = search-start (networkOf netExports prices bytes) (flowOf s) (trailOf m) (queueOf m) (m .count) (r .listing) (r .left) (λ y p l. r .flat y) (λ y p l. one-way (positionAt netExports y) l);
   part = λ v p. absurd (omega arith);
 }
 
 -- a zone that is reached, or to which no arc leads
-done-to : (net prices : List ℤ) (bytes : List ℕ) (s : List ℤ) (m : Labels) (u y : ℕ) → (getD (m .label) y 0 ≡ 0 → NoArc prices bytes s u y) → DoneTo (networkOf net prices bytes) (transportOf s) (trailOf m) u y
-done-to net prices bytes s m u y h = by (decLt 0 (getD (m .label) y 0))
+done-to : (netExports prices : List ℤ) (bytes : List ℕ) (s : List ℤ) (m : Labels) (u y : ℕ) → (getD (m .label) y 0 ≡ 0 → NoArc prices bytes s u y) → DoneTo (networkOf netExports prices bytes) (flowOf s) (trailOf m) u y
+done-to netExports prices bytes s m u y h = by (decLt 0 (getD (m .label) y 0))
   where
-    by : Dec (0 < getD (m .label) y 0) → DoneTo (networkOf net prices bytes) (transportOf s) (trailOf m) u y
+    by : Dec (0 < getD (m .label) y 0) → DoneTo (networkOf netExports prices bytes) (flowOf s) (trailOf m) u y
     by (yes l) = record { on = λ j p f g t. l; back = λ j p f g t. l }
     by (no l) = let n = h (omega arith) in record { on = λ j p f g t. absurd (n .on j p f g t); back = λ j p f g t. absurd (n .back j p f g t) }
 
 -- ONE ARC ON, from the zone at h in the queue
-module _ (net prices : List ℤ) (bytes : List ℕ) (s : List ℤ) (z : Sized net prices bytes) (m : Labels) (h w : ℕ) (p : Progress net prices bytes s m h w) (here : h < m .count) where
+module _ (netExports prices : List ℤ) (bytes : List ℕ) (s : List ℤ) (z : Sized netExports prices bytes) (m : Labels) (h w : ℕ) (p : Progress netExports prices bytes s m h w) (here : h < m .count) where
   abbrev c : Network
-  c = networkOf net prices bytes
+  c = networkOf netExports prices bytes
 
-  abbrev b : Transport
-  b = transportOf s
+  abbrev b : Flow
+  b = flowOf s
 
   abbrev u : ℕ
   u = queueOf m h
 
   -- the zone that it starts from
-  pub from-in : u < length net
+  pub from-in : u < length netExports
   from-in = p .search .listing .inside h here
 
   pub from-reached : 0 < getD (m .label) u 0
@@ -82,10 +84,10 @@ module _ (net prices : List ℤ) (bytes : List ℕ) (s : List ℤ) (z : Sized ne
       where
         by : (v : ℕ) → v < a .zone → Dec (v < w) → DoneTo c b (trailOf m) u v
         by v l (yes q) = p .part v q
-        by v l (no q) = done-to net prices bytes s m u v (n .passed .none v (omega arith) l)
+        by v l (no q) = done-to netExports prices bytes s m u v (n .passed .none v (omega arith) l)
 
     -- there is none: the zone is done
-    pub progress-next : length net ≤ a .zone → Progress net prices bytes s m (h + 1) 0
+    pub progress-next : length netExports ≤ a .zone → Progress netExports prices bytes s m (h + 1) 0
     progress-next g = record {
       wide = p .wide;
       no-sink = p .no-sink;
@@ -94,7 +96,7 @@ module _ (net prices : List ℤ) (bytes : List ℕ) (s : List ℤ) (z : Sized ne
     }
 
     -- it leads to a zone with a label
-    module _ (l : a .zone < length net) where
+    module _ (l : a .zone < length netExports) where
       in-prices : a .zone < length prices
       in-prices = omega (arith, z .prices-too)
 
@@ -130,7 +132,7 @@ module _ (net prices : List ℤ) (bytes : List ℕ) (s : List ℤ) (z : Sized ne
           by (against f g e t) = link-back c b (trailOf m) (queueOf m) (m .count) h u (a .zone) scanned (trailOf m') (queueOf m') (a .zone) (a .amount) (a .pair) refl mk new (n .some in-prices) l (n .arc in-prices .pair (n .some in-prices)) last same f g e t
 
       -- with no import left the search goes on
-      pub progress-label : dn (positionAt net (a .zone)) - amountAt s (80 + a .zone) ≤ 0 → Progress net prices bytes s m' h (a .zone)
+      pub progress-label : dn (positionAt netExports (a .zone)) - amountAt s (80 + a .zone) ≤ 0 → Progress netExports prices bytes s m' h (a .zone)
       progress-label e =
           let o = pair-reaches c b (trailOf m) (queueOf m) (m .count) h u (a .zone) scanned (trailOf m') (queueOf m') (a .zone) (a .amount) (a .pair) refl mk new (n .some in-prices) l (n .arc in-prices .pair (n .some in-prices)) last same own (omega arith) in
           record {
@@ -141,16 +143,16 @@ module _ (net prices : List ℤ) (bytes : List ℕ) (s : List ℤ) (z : Sized ne
           }
 
       -- with import left it is the sink
-      pub searched-sink : 0 < dn (positionAt net (a .zone)) - amountAt s (80 + a .zone)
-          → Searched net prices bytes s (record { label = m' .label; depth = m' .depth; via = m' .via; queue = m' .queue; count = m' .count; sink = a .zone })
+      pub searched-sink : 0 < dn (positionAt netExports (a .zone)) - amountAt s (80 + a .zone)
+          → Searched netExports prices bytes s (record { label = m' .label; depth = m' .depth; via = m' .via; queue = m' .queue; count = m' .count; sink = a .zone })
       searched-sink e = record {
         found = λ g. pair-found c b (trailOf m) (queueOf m) (m .count) h u (a .zone) scanned (trailOf m') (queueOf m') (a .zone) (a .amount) (a .pair) refl mk new (n .some in-prices) l (n .arc in-prices .pair (n .some in-prices)) last same own (omega arith);
         none = λ g. absurd (omega arith);
       }
 
 -- AS IT ENDS: all that is reached is done
-pub searched-none : (net prices : List ℤ) (bytes : List ℕ) (s : List ℤ) (m : Labels) (h w : ℕ) → Sized net prices bytes → Progress net prices bytes s m h w → m .count ≤ h → Searched net prices bytes s m
-searched-none net prices bytes s m h w z p all = record {
+pub searched-none : (netExports prices : List ℤ) (bytes : List ℕ) (s : List ℤ) (m : Labels) (h w : ℕ) → Sized netExports prices bytes → Progress netExports prices bytes s m h w → m .count ≤ h → Searched netExports prices bytes s m
+searched-none netExports prices bytes s m h w z p all = record {
   found = λ l. absurd (omega (arith, p .no-sink, z .zones));
-  none = λ l ca. saturated (networkOf net prices bytes) (z .placed) (transportOf s) ca (trailOf m) (queueOf m) (m .count) h (p .search) all;
+  none = λ l ca. saturated (networkOf netExports prices bytes) (z .placed) (flowOf s) ca (trailOf m) (queueOf m) (m .count) h (p .search) all;
 }

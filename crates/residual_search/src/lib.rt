@@ -24,7 +24,7 @@ pub fn min(a: u64, b: u64) -> u64
     if a < b { a } else { b }
 }
 
-// A zone that can be reached next, the pair that leads there or back from there, and how much can be brought to it. Amount 0: no arc leads to the zone.
+// An arc of the residual network: the zone that it leads to, its pair, and how much it brings. Amount 0: none leads there.
 pub struct Arc {
     pub zone: usize,
     pub pair: usize,
@@ -32,9 +32,9 @@ pub struct Arc {
 }
 
 // The zones with export left are reached first.
-fn seed_zones(net: &[i64], s: &[i64]) -> Labels
-    requires { ⌜ (length (now net) ≤ 16) × (96 ≤ length (now s)) ⌝ }
-    ensures { λ r. ⌜ Seeded (now (net .entry)) (now (s .entry)) r (length (now (net .entry))) ⌝ }
+fn seed_zones(net_exports: &[i64], s: &[i64]) -> Labels
+    requires { ⌜ (length (now «net_exports») ≤ 16) × (96 ≤ length (now s)) ⌝ }
+    ensures { λ r. ⌜ Seeded (now («net_exports» .entry)) (now (s .entry)) r (length (now («net_exports» .entry))) ⌝ }
 {
     let mut labels = Labels {
         label: [0u64; 16],
@@ -45,8 +45,8 @@ fn seed_zones(net: &[i64], s: &[i64]) -> Labels
         sink: 16,
     };
     let mut z = 0;
-    while z < net.len() {
-        let v = export_left(net, s, z);
+    while z < net_exports.len() {
+        let v = export_left(net_exports, s, z);
         if 0 < v {
             let place = labels.count;
             labels.label[z] = v;
@@ -77,7 +77,8 @@ fn pair_on(prices: &[i64], pairs: &[u8], table: &[u8; TABLE], u: usize, w: usize
     count
 }
 
-// The arc from zone u to zone w, where w is not reached yet: along a pair that counts, or back along one that carries something.
+// The arc from zone u to zone w, where w is not reached yet: along a pair that counts, or back along one that
+// carries something.
 fn try_arc(
     prices: &[i64],
     pairs: &[u8],
@@ -159,22 +160,28 @@ fn wide(x: u8) -> usize
     x as usize
 }
 
-// Reaches zone after zone, from each in the order of the queue, until one has import left: the sink. Labels are stored in place: returned by a function of
-// their own they would be copied for every zone.
-pub fn search(net: &[i64], prices: &[i64], pairs: &[u8], table: &[u8; TABLE], s: &[i64]) -> Labels
-    requires { ⌜ Sized (now net) (now prices) (now pairs) ⌝ }
+// Reaches zone after zone, from each in the order of the queue, until one has import left: the sink. Labels are stored
+// in place: returned by a function of their own they would be copied for every zone.
+pub fn search(
+    net_exports: &[i64],
+    prices: &[i64],
+    pairs: &[u8],
+    table: &[u8; TABLE],
+    s: &[i64],
+) -> Labels
+    requires { ⌜ Sized (now «net_exports») (now prices) (now pairs) ⌝ }
     requires { ⌜ Tabled (now pairs) (pairCount (now pairs)) (now table) ⌝ }
     requires { ⌜ 96 ≤ length (now s) ⌝ }
-    ensures { λ r. ⌜ Searched (now (net .entry)) (now (prices .entry)) (now (pairs .entry)) (now (s .entry)) r ⌝ }
+    ensures { λ r. ⌜ Searched (now («net_exports» .entry)) (now (prices .entry)) (now (pairs .entry)) (now (s .entry)) r ⌝ }
 {
-    let mut labels = seed_zones(net, s);
+    let mut labels = seed_zones(net_exports, s);
     let mut h = 0;
     let mut w = 0;
     while h < labels.count {
         let u = wide(labels.queue[h]);
         let arc = next_arc(prices, pairs, table, s, &labels.label, u, w);
         w = arc.zone;
-        if net.len() <= w {
+        if net_exports.len() <= w {
             h += 1;
             w = 0;
         } else {
@@ -184,7 +191,7 @@ pub fn search(net: &[i64], prices: &[i64], pairs: &[u8], table: &[u8; TABLE], s:
             labels.via[w] = arc.pair as u8;
             labels.queue[place] = w as u8;
             labels.count = place + 1;
-            if 0 < import_left(net, s, w) {
+            if 0 < import_left(net_exports, s, w) {
                 labels.sink = w;
                 return labels;
             }

@@ -1,1 +1,1 @@
-// Transports along ordered pairs of zones: what they are and what holds of them. It stands in specs/; there is no code.
+// Flows along ordered pairs of zones: what they are and what holds of them. It stands in specs/; there is no code.

@@ -21,18 +21,18 @@ amount-requires c κs = search needs
 add-store : tie.Need-add-store
 add-store c = search needs
 
-got-fits : (c : tie.After-store-arg) → c .before .amount .result + c .before .before .before .before .args .d ≤ 51200000
-got-fits c =
+import-used-fits : (c : tie.After-store-arg) → c .before .amount .result + c .before .before .before .before .args .d ≤ 51200000
+import-used-fits c =
     let p = c .before .before .before .before .pre .augment in
     omega (arith, c .before .amount .ensures, p .left, p .sized .imports-le (c .before .before .before .before .args .t) (p .inside))
 
 add-store-2 : tie.Need-add-store-2
-add-store-2 c = omega (arith, got-fits c)
+add-store-2 c = omega (arith, import-used-fits c)
 
 store-requires : tie.Need-store-requires
 store-requires c κs =
     let p = c .before .before .before .before .pre .augment in
-    (omega (arith, p .room, p .inside, p .sized .zones), omega (arith, got-fits c))
+    (omega (arith, p .room, p .inside, p .sized .zones), omega (arith, import-used-fits c))
 
 -- the path where the walk begins
 module _ (c : tie.After-store) where
@@ -42,16 +42,16 @@ module _ (c : tie.After-store) where
   abbrev trail : Trail
   trail = trailOf (start .args .labels)
 
-  opened : (net prices : List ℤ) (total : ℕ) → Augment net prices total (now (start .args .pairs)) (now (start .args .s)) trail (start .args .d) (start .args .t)
-      → PathBack net prices total (now (start .args .pairs)) (c .store .last .0) trail (start .args .d) (start .args .t)
-  opened net prices total p =
-      path-start-at net prices total _ (now (start .args .s)) _ _ _ (c .before .before .amount .result) (c .store .last .0) (c .before .before .amount .ensures) (c .store .ensures) p
+  opened : (netExports prices : List ℤ) (total : ℕ) → Augment netExports prices total (now (start .args .pairs)) (now (start .args .s)) trail (start .args .d) (start .args .t)
+      → PathBack netExports prices total (now (start .args .pairs)) (c .store .last .0) trail (start .args .d) (start .args .t)
+  opened netExports prices total p =
+      path-start-at netExports prices total _ (now (start .args .s)) _ _ _ (c .before .before .amount .result) (c .store .last .0) (c .before .before .amount .ensures) (c .store .ensures) p
 
 walk-back-requires : tie.Need-walk-back-requires
 walk-back-requires c κs =
     let o = c .before .before in
     let p = start o .pre in
-    record { net = p .net; prices = p .prices; total = p .total; path = opened o (p .net) (p .prices) (p .total) (p .augment) }
+    record { netExports = p .netExports; prices = p .prices; total = p .total; path = opened o (p .netExports) (p .prices) (p .total) (p .augment) }
 
 -- and where it ends
 module _ (c : tie.After-walk-back) where
@@ -61,12 +61,12 @@ module _ (c : tie.After-walk-back) where
   abbrev st : tie.Start
   st = start o
 
-  walked : (net prices : List ℤ) (total : ℕ) → Augment net prices total (now (st .args .pairs)) (now (st .args .s)) (trail o) (st .args .d) (st .args .t)
-      → PathBack net prices total (now (st .args .pairs)) (c .walk-back .last .1 .0) (trail o) (st .args .d) (c .walk-back .result)
-  walked net prices total p = c .walk-back .ensures .path net prices total (opened o net prices total p)
+  walked : (netExports prices : List ℤ) (total : ℕ) → Augment netExports prices total (now (st .args .pairs)) (now (st .args .s)) (trail o) (st .args .d) (st .args .t)
+      → PathBack netExports prices total (now (st .args .pairs)) (c .walk-back .last .1 .0) (trail o) (st .args .d) (c .walk-back .result)
+  walked netExports prices total p = c .walk-back .ensures .path netExports prices total (opened o netExports prices total p)
 
-  at : PathBack (st .pre .net) (st .pre .prices) (st .pre .total) (now (st .args .pairs)) (c .walk-back .last .1 .0) (trail o) (st .args .d) (c .walk-back .result)
-  at = walked (st .pre .net) (st .pre .prices) (st .pre .total) (st .pre .augment)
+  at : PathBack (st .pre .netExports) (st .pre .prices) (st .pre .total) (now (st .args .pairs)) (c .walk-back .last .1 .0) (trail o) (st .args .d) (c .walk-back .result)
+  at = walked (st .pre .netExports) (st .pre .prices) (st .pre .total) (st .pre .augment)
 
   low : c .walk-back .result < 16
   low = omega (arith, at .inside, at .sized .zones)
@@ -80,8 +80,8 @@ amount-requires-2 c κs = omega (arith, low (c .before .before), at (c .before .
 add-store-3 : tie.Need-add-store-3
 add-store-3 c = omega (arith, low (c .before .before .before .before))
 
-sent-fits : (c : tie.After-store-arg2) → c .before .amount2 .result + st (c .before .before .before .before) .args .d ≤ 51200000
-sent-fits c =
+export-used-fits : (c : tie.After-store-arg2) → c .before .amount2 .result + st (c .before .before .before .before) .args .d ≤ 51200000
+export-used-fits c =
     let w = c .before .before .before .before in
     omega (
       arith,
@@ -91,11 +91,11 @@ sent-fits c =
     )
 
 add-store-4 : tie.Need-add-store-4
-add-store-4 c = omega (arith, sent-fits c)
+add-store-4 c = omega (arith, export-used-fits c)
 
 store-requires-2 : tie.Need-store-requires-2
 store-requires-2 c κs =
-    let w = c .before .before .before .before in (omega (arith, low w, at w .room), omega (arith, sent-fits c))
+    let w = c .before .before .before .before in (omega (arith, low w, at w .room), omega (arith, export-used-fits c))
 
 same-length : tie.Need-same-length
 same-length c = search needs
@@ -105,8 +105,8 @@ returns c =
     let w = c .before .before .before .before .before .before in
     let a = c .before .before .before .amount2 in
     record {
-      state = λ net prices total p.
-          path-end-at net prices total _ (w .walk-back .last .1 .0) _ _ _ (a .result) (c .before .store2 .last .0) (a .ensures) (c .before .store2 .ensures) (walked w net prices total p)
+      state = λ netExports prices total p.
+          path-end-at netExports prices total _ (w .walk-back .last .1 .0) _ _ _ (a .result) (c .before .store2 .last .0) (a .ensures) (c .before .store2 .ensures) (walked w netExports prices total p)
           (w .walk-back .ensures .root);
       rest =
           rest-trans

@@ -14,13 +14,13 @@ use Rattle.augmenting_path.proofs.walk_back.Tie as tie
 
 abbrev Inv-loop : tie.InvT-loop
 Inv-loop pairs s₀ t d labels z₀ s z =
-    ((net prices : List ℤ) (total : ℕ) → PathBack net prices total pairs s₀ (trailOf labels) d z₀ → PathBack net prices total pairs s (trailOf labels) d z) × Rest s₀ s
+    ((netExports prices : List ℤ) (total : ℕ) → PathBack netExports prices total pairs s₀ (trailOf labels) d z₀ → PathBack netExports prices total pairs s (trailOf labels) d z) × Rest s₀ s
 
 abbrev μ-loop : tie.MeasureT-loop
 μ-loop pairs s₀ t d labels z₀ s z = getD (labels .depth) z 0
 
 loop-holds : tie.Need-loop-holds Inv-loop μ-loop
-loop-holds c = (λ net prices total h. h, rest-refl (now (c .before .args .s)))
+loop-holds c = (λ netExports prices total h. h, rest-refl (now (c .before .args .s)))
 
 -- the path as it is at the loop's head
 module _ (c : tie.At-loop Inv-loop μ-loop) where
@@ -30,8 +30,8 @@ module _ (c : tie.At-loop Inv-loop μ-loop) where
   abbrev some : SomePath (now (st .args .pairs)) (now (st .args .s)) (trailOf (st .args .t3)) (st .args .d) (st .args .t)
   some = st .pre
 
-  at : PathBack (some .net) (some .prices) (some .total) (now (st .args .pairs)) (c .loop .s) (trailOf (st .args .t3)) (st .args .d) (c .loop .z)
-  at = c .loop .inv .0 (some .net) (some .prices) (some .total) (some .path)
+  at : PathBack (some .netExports) (some .prices) (some .total) (now (st .args .pairs)) (c .loop .s) (trailOf (st .args .t3)) (st .args .d) (c .loop .z)
+  at = c .loop .inv .0 (some .netExports) (some .prices) (some .total) (some .path)
 
   low : c .loop .z < 16
   low = omega (arith, at .inside, at .sized .zones)
@@ -60,19 +60,19 @@ module _ (c : tie.After-s Inv-loop μ-loop) where
   abbrev h : tie.At-loop Inv-loop μ-loop
   h = c .before .before .before .before .before .before
 
-  stepped : (net prices : List ℤ) (total : ℕ) → PathBack net prices total (now (st h .args .pairs)) (h .loop .s) (trailOf (st h .args .t3)) (st h .args .d) (h .loop .z)
-      → PathBack net prices total (now (st h .args .pairs)) (c .before .shift .last .1 .0) (trailOf (st h .args .t3)) (st h .args .d) (c .before .shift .result)
+  stepped : (netExports prices : List ℤ) (total : ℕ) → PathBack netExports prices total (now (st h .args .pairs)) (h .loop .s) (trailOf (st h .args .t3)) (st h .args .d) (h .loop .z)
+      → PathBack netExports prices total (now (st h .args .pairs)) (c .before .shift .last .1 .0) (trailOf (st h .args .t3)) (st h .args .d) (c .before .shift .result)
       × ((getD (st h .args .t3 .depth) (c .before .shift .result) 0 < getD (st h .args .t3 .depth) (h .loop .z) 0) × Rest (h .loop .s) (c .before .shift .last .1 .0))
-  stepped net prices total p = path-step net prices total _ _ _ _ _ p (c .before .before .before .before .if1 .taken) (c .before .shift .last .1 .0) (c .before .shift .result) (c .before .shift .ensures)
+  stepped netExports prices total p = path-step netExports prices total _ _ _ _ _ p (c .before .before .before .before .if1 .taken) (c .before .shift .last .1 .0) (c .before .shift .result) (c .before .shift .ensures)
 
 loop-less : tie.Need-loop-less Inv-loop μ-loop
-loop-less c = let o = some (h c) in stepped c (o .net) (o .prices) (o .total) (at (h c)) .1 .0
+loop-less c = let o = some (h c) in stepped c (o .netExports) (o .prices) (o .total) (at (h c)) .1 .0
 
 loop-again : tie.Need-loop-again Inv-loop μ-loop
 loop-again c =
     let o = some (h c) in (
-      λ net prices total w. stepped c net prices total (h c .loop .inv .0 net prices total w) .0,
-      rest-trans (h c .loop .inv .1) (stepped c (o .net) (o .prices) (o .total) (at (h c)) .1 .1),
+      λ netExports prices total w. stepped c netExports prices total (h c .loop .inv .0 netExports prices total w) .0,
+      rest-trans (h c .loop .inv .1) (stepped c (o .netExports) (o .prices) (o .total) (at (h c)) .1 .1),
     )
 
 same-length : tie.Need-same-length Inv-loop μ-loop
@@ -80,7 +80,7 @@ same-length c = c .before .before .loop .inv .1 .len
 
 returns : tie.Need-returns Inv-loop μ-loop
 returns c = record {
-  path = λ net prices total h. c .before .before .loop .inv .0 net prices total h;
+  path = λ netExports prices total h. c .before .before .loop .inv .0 netExports prices total h;
   root = omega arith;
   rest = c .before .before .loop .inv .1;
 }

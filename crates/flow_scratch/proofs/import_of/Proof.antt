@@ -20,7 +20,7 @@ negative-requires : tie.Need-negative-requires
 negative-requires c κs = search needs
 
 returns : tie.Need-returns
-returns c = c .negative .ensures ∙ ap dn (toZ-ofZ {w = w64} {z = getD (now (c .before .before .args .net)) (c .before .before .args .z) (pos 0)} (record { sfits = c .before .negative-arg .given }))
+returns c = c .negative .ensures ∙ ap dn (toZ-ofZ {w = w64} {z = getD (now (c .before .before .args .net-exports)) (c .before .before .args .z) (pos 0)} (record { sfits = c .before .negative-arg .given }))
 
 pub import-of-spec : {M : Type 1} → statement M
 import-of-spec =

@@ -45,6 +45,7 @@ hourOutcome s t pairs n room = answer (refusal (askedRows s t pairs n room))
 unfoldable pub hourScratch : List ℕ → List ℕ → List ℕ → ℕ → List ℤ → List ℤ
 hourScratch s t pairs n scratch = scratchBy (refusal (askedRows s t pairs n (length scratch))) n scratch
 
--- WHAT AN ENTRY ANSWERS of an hour, with n = 324 or 96, for the scratch that is lent, the result and the scratch afterwards
+-- WHAT AN ENTRY ANSWERS of an hour, with n = 324 or 96, for the scratch that is lent, the result and the scratch
+-- afterwards
 abbrev pub HourAnswer : List ℕ → List ℕ → List ℕ → ℕ → List ℤ → Carried → List ℤ → Type 0
 HourAnswer s t pairs n scratch = EntryAnswer (hourOutcome s t pairs n (length scratch)) (hourNetwork s t pairs) (hourScratch s t pairs n scratch)

@@ -32,7 +32,7 @@ use Rattle.rules.specs.Promised.Fits.{Fit, fits}
 use Rattle.rules.specs.Promised.PlainReport.{modulo64, Stands, reports-of, report-written}
 use Rattle.zone_pairs.specs.Meaning.Pairs.{pairCount}
 use Rattle.zone_pairs.specs.Promised.PlainPairs.{is-pair, pair-leads, GoodPair}
-use Rattle.transports.specs.Meaning.Network.{CarriesAll}
+use Rattle.transports.specs.Meaning.Network.{FeasibleAll}
 use Rattle.findings.specs.Found.{hourRows}
 use Rattle.intuitive.specs.declared.Carried.{Carried}
 use Rattle.intuitive.specs.Meaning.Intuitive.{intuitiveRefusal}
@@ -106,7 +106,7 @@ module _ (s t pairs : List ℕ) (n : ℕ) (scratch : List ℤ) (r : Carried) (af
   passed : intuitiveRefusal (hourExports s t) (hourPrices s t) pairs n (length scratch) ≡ none
   passed = answered s t pairs n (length scratch) number-is
 
-  i : CarriesAll (hourNetwork s t pairs)
+  i : FeasibleAll (hourNetwork s t pairs)
   i = met .a-yes taken yes-said
 
   good : (k : ℕ) → k < pairCount pairs → GoodPair (getD s 5 0) pairs k
@@ -114,15 +114,15 @@ module _ (s t pairs : List ℕ) (n : ℕ) (scratch : List ℤ) (r : Carried) (af
 
   pub reported-rent : (buffer : List ℕ) → 176 ≤ length buffer → RentOfFlows pairs (bufferAfter s t buffer)
   reported-rent buffer enough = record {
-    flow = i .transport .flow;
+    flow = i .flows .flow;
     rises = λ k h l. let p = is-pair pairs k .1 h in
         rw (← price (getD pairs (2 * k) 0) (good k p .first-known), ← price (getD pairs (2 * k + 1) 0) (good k p .second-known))
-        (counted (hourExports s t) (hourPrices s t) pairs n (length scratch) passed (i .transport .flow) .0 (i .carries .along) k h l);
+        (counted (hourExports s t) (hourPrices s t) pairs n (length scratch) passed (i .flows .flow) .0 (i .feasible .along) k h l);
     rent-is = rent-there ∙ rent-of-flows s t pairs n (length scratch) number-is i
-        ∙ sum-ext (pairCount pairs) _ _ (λ k h. let leads = pair-leads (hourExports s t) (hourPrices s t) pairs k (good k h .two-bytes) in λ j. pos (i .transport .flow k)
+        ∙ sum-ext (pairCount pairs) _ _ (λ k h. let leads = pair-leads (hourExports s t) (hourPrices s t) pairs k (good k h .two-bytes) in λ j. pos (i .flows .flow k)
         *ℤ ((ap (λ (z : ℕ). getD (hourPrices s t) z (pos 0)) (leads .1) ∙ price (getD pairs (2 * k + 1) 0) (good k h .second-known)) j
         -ℤ (ap (λ (z : ℕ). getD (hourPrices s t) z (pos 0)) (leads .0) ∙ price (getD pairs (2 * k) 0) (good k h .first-known)) j))
-        ∙ ap (λ (m : ℕ). sumTo m (λ k. pos (i .transport .flow k) *ℤ (signedAt b (48 + 8 * getD pairs (2 * k + 1) 0) -ℤ signedAt b (48 + 8 * getD pairs (2 * k) 0)))) (count-is (hourExports s t) (hourPrices s t) pairs n (length scratch) passed);
+        ∙ ap (λ (m : ℕ). sumTo m (λ k. pos (i .flows .flow k) *ℤ (signedAt b (48 + 8 * getD pairs (2 * k + 1) 0) -ℤ signedAt b (48 + 8 * getD pairs (2 * k) 0)))) (count-is (hourExports s t) (hourPrices s t) pairs n (length scratch) passed);
     rent-nonneg = rw rent-there (rent-nonneg s t pairs n (length scratch) number-is i);
   }
     where

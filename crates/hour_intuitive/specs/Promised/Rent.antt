@@ -17,7 +17,7 @@ use Rattle.rules.specs.Meaning.Hour.{caseOf, planOf, pricesOf, net, zonePrice, 
 use Rattle.zone_pairs.specs.Meaning.Pairs.{pairCount, priceAt, importsWorth}
 use Rattle.net_positions.specs.Meaning.Positions.{positionAt}
 use Rattle.zone_pairs.specs.Promised.Worth.{pairGain, flows-gain, worth-nonneg}
-use Rattle.transports.specs.Meaning.Network.{CarriesAll}
+use Rattle.transports.specs.Meaning.Network.{FeasibleAll}
 use Rattle.intuitive.specs.declared.Carried.{Carried}
 use Rattle.intuitive.specs.Meaning.Intuitive.{intuitiveRefusal}
 use Rattle.intuitive.specs.Steps.Sizes.{placed, balanced}
@@ -37,11 +37,11 @@ module _ (s t pairs : List ℕ) where
       ∙ sum-ext ((caseOf s) .zones) _ _ (λ z l. λ j. (ap negℤ (list-at _ (λ z. pos 0 -ℤ net (caseOf s) (planOf s t) z) z l) ∙ turned-back (net (caseOf s) (planOf s t) z)) j *ℤ list-at _ (λ z. zonePrice (caseOf s) (pricesOf s t) z) z l j)
 
   -- OF AN HOUR THAT IS TAKEN AND HAS SUCH FLOWS, with either scratch
-  module _ (n room : ℕ) (e : (hourOutcome s t pairs n room) .number ≡ 0) (i : CarriesAll (hourNetwork s t pairs)) where
+  module _ (n room : ℕ) (e : (hourOutcome s t pairs n room) .number ≡ 0) (i : FeasibleAll (hourNetwork s t pairs)) where
     passed : intuitiveRefusal (hourExports s t) (hourPrices s t) pairs n room ≡ none
     passed = answered s t pairs n room e
 
-    pub rent-of-flows : hourRent s t ≡ sumTo (pairCount pairs) (λ k. pairGain (hourPrices s t) pairs (i .transport .flow k) k)
+    pub rent-of-flows : hourRent s t ≡ sumTo (pairCount pairs) (λ k. pairGain (hourPrices s t) pairs (i .flows .flow k) k)
     rent-of-flows = sym rent-is ∙ flows-gain (hourExports s t) (hourPrices s t) pairs (placed _ _ pairs n room passed) (balanced _ _ pairs n room passed) i
 
     pub rent-nonneg : pos 0 ≤ℤ hourRent s t

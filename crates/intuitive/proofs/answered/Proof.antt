@@ -1,4 +1,4 @@
--- `intuitive::answered` meets its contract: what no row refuses is answered by the largest transport. Assumes nothing.
+-- `intuitive::answered` meets its contract: what no row refuses is answered by the max flow. Assumes nothing.
 use mathlib.Core.Path.{refl}
 use lib.ListN.{length}
 use denote.Ref.{now}
@@ -12,15 +12,15 @@ returns : tie.Need-returns
 returns c =
     let t = c .before .before in
     let a = t .args in
-    answer-refused (now (a .net)) (now (a .prices)) (now (a .pairs)) (a .n) (now (a .scratch)) (a .o) (t .pre .1) (c .if1 .taken) _ refl
+    answer-refused (now (a .net-exports)) (now (a .prices)) (now (a .pairs)) (a .n) (now (a .scratch)) (a .o) (t .pre .1) (c .if1 .taken) _ refl
 
-largest-transport-requires : tie.Need-largest-transport-requires
-largest-transport-requires c κs =
+max-flow-requires : tie.Need-max-flow-requires
+max-flow-requires c κs =
     let x = c .before in
     let t = x .before .before in
     let a = t .args in
-    let p = passed (now (a .net)) (now (a .prices)) (now (a .pairs)) (a .n) (now (a .scratch)) (a .o) (t .pre .1) (x .if1 .left) in
-    (sized (now (a .net)) (now (a .prices)) (now (a .pairs)) (a .n) (length (now (a .scratch))) p, (t .pre .0, room-in (now (a .net)) (now (a .prices)) (now (a .pairs)) (a .n) (length (now (a .scratch))) p))
+    let p = passed (now (a .net-exports)) (now (a .prices)) (now (a .pairs)) (a .n) (now (a .scratch)) (a .o) (t .pre .1) (x .if1 .left) in
+    (sized (now (a .net-exports)) (now (a .prices)) (now (a .pairs)) (a .n) (length (now (a .scratch))) p, (t .pre .0, room-in (now (a .net-exports)) (now (a .prices)) (now (a .pairs)) (a .n) (length (now (a .scratch))) p))
 
 flag-requires : tie.Need-flag-requires
 flag-requires c κs = search needs
@@ -37,17 +37,17 @@ returns-2 c =
     let x = l .before .before in
     let t = x .before .before in
     let a = t .args in
-    let p = passed (now (a .net)) (now (a .prices)) (now (a .pairs)) (a .n) (now (a .scratch)) (a .o) (t .pre .1) (x .if1 .left) in
-    answer-given (now (a .net)) (now (a .prices)) (now (a .pairs)) (a .n) (now (a .scratch)) (a .o) (t .pre .1) (x .if1 .left) (l .largest-transport .last .1 .1 .1 .0)
-    (l .largest-transport .result .all) (l .largest-transport .result .total) (c .before .flag .result) (c .volume .result .0) (l .largest-transport .ensures .0)
-    (room-in (now (a .net)) (now (a .prices)) (now (a .pairs)) (a .n) (length (now (a .scratch))) p) (l .largest-transport .ensures .1 .1) (c .before .flag .ensures) (c .volume .ensures)
+    let p = passed (now (a .net-exports)) (now (a .prices)) (now (a .pairs)) (a .n) (now (a .scratch)) (a .o) (t .pre .1) (x .if1 .left) in
+    answer-given (now (a .net-exports)) (now (a .prices)) (now (a .pairs)) (a .n) (now (a .scratch)) (a .o) (t .pre .1) (x .if1 .left) (l .max-flow .last .1 .1 .1 .0)
+    (l .max-flow .result .all) (l .max-flow .result .total) (c .before .flag .result) (c .volume .result .0) (l .max-flow .ensures .0)
+    (room-in (now (a .net-exports)) (now (a .prices)) (now (a .pairs)) (a .n) (length (now (a .scratch))) p) (l .max-flow .ensures .1 .1) (c .before .flag .ensures) (c .volume .ensures)
 
 pub answered-spec : {M : Type 1} → statement M
 answered-spec =
     tie.close
     (tie.spec
     returns
-    largest-transport-requires
+    max-flow-requires
     flag-requires
     volume-requires
     same-length

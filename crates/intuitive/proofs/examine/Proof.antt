@@ -25,12 +25,12 @@ count-outside-requires c κs = search needs
 
 -- the lists at entry
 abbrev L : tie.Start → (ℕ → Type 0)
-L t = From (now (t .args .net)) (now (t .args .prices)) (now (t .args .pairs)) (t .args .n) (t .args .room)
+L t = From (now (t .args .net-exports)) (now (t .args .prices)) (now (t .args .pairs)) (t .args .n) (t .args .room)
 
-zones-pass : (e : tie.Else1) → outside zoneCounts (pos (length (now (e .before .before .before .args .net)))) ≡ false
+zones-pass : (e : tie.Else1) → outside zoneCounts (pos (length (now (e .before .before .before .args .net-exports)))) ≡ false
 zones-pass e = sym (e .before .count-outside .ensures) ∙ e .if1 .left
 
-few : (e : tie.Else1) → length (now (e .before .before .before .args .net)) ≤ 16
+few : (e : tie.Else1) → length (now (e .before .before .before .args .net-exports)) ≤ 16
 few e = nat-within 1 16 _ (is-false (zones-pass e)) .1
 
 abbrev start : tie.Else2 → tie.Start
@@ -43,7 +43,7 @@ from-1 e = past-81 _ _ _ _ _ (zones-pass (e .before)) (e .if2 .left)
 abbrev of-position : tie.After-enum-told → tie.Else2
 of-position t = t .before .before .before
 
-no-position : (t : tie.After-enum-told) → let n = now (start (of-position t) .args .net) in firstBelow (length n) (positionOutside n) ≡ none
+no-position : (t : tie.After-enum-told) → let n = now (start (of-position t) .args .net-exports) in firstBelow (length n) (positionOutside n) ≡ none
 no-position t = sym (t .before .before .first-position-outside .ensures) ∙ ap placeOf (t .enum-told .given .1)
 
 from-2 : (t : tie.After-enum-told) → L (start (of-position t)) 2
@@ -75,7 +75,7 @@ outcome-requires c κs = search needs
 returns : tie.Need-returns
 returns c =
     let t = c .before .before .before .before in
-    c .outcome .ensures ∙ outcome-by _ _ _ (t .args .n) (t .args .room) (refused-count (now (t .args .net)) (now (t .args .prices)) (now (t .args .pairs)) _ _ (sym (c .before .before .count-outside .ensures) ∙ c .before .if1 .taken))
+    c .outcome .ensures ∙ outcome-by _ _ _ (t .args .n) (t .args .room) (refused-count (now (t .args .net-exports)) (now (t .args .prices)) (now (t .args .pairs)) _ _ (sym (c .before .before .count-outside .ensures) ∙ c .before .if1 .taken))
 
 outcome-requires-2 : tie.Need-outcome-requires-2
 outcome-requires-2 c κs = search needs
@@ -83,7 +83,7 @@ outcome-requires-2 c κs = search needs
 returns-2 : tie.Need-returns-2
 returns-2 c =
     let t = c .before .before .before .before .before in
-    c .outcome2 .ensures ∙ outcome-by _ _ _ (t .args .n) (t .args .room) (refused-lengths (now (t .args .net)) (now (t .args .prices)) (now (t .args .pairs)) _ _ (zones-pass (c .before .before)) (c .before .if2 .taken))
+    c .outcome2 .ensures ∙ outcome-by _ _ _ (t .args .n) (t .args .room) (refused-lengths (now (t .args .net-exports)) (now (t .args .prices)) (now (t .args .pairs)) _ _ (zones-pass (c .before .before)) (c .before .if2 .taken))
 
 first-position-outside-requires : tie.Need-first-position-outside-requires
 first-position-outside-requires c κs = search needs
@@ -95,7 +95,7 @@ outcome-requires-3 : tie.Need-outcome-requires-3
 outcome-requires-3 c κs =
     let p = c .before in
     let f = p .before .before in
-    let n = now (start (f .before) .args .net) in
+    let n = now (start (f .before) .args .net-exports) in
     place-below (length n) (positionOutside n) _ 4294967296 (sym (f .first-position-outside .ensures) ∙ ap placeOf (p .position .given .1)) (omega (arith, few (f .before .before)))
 
 returns-3 : tie.Need-returns-3
@@ -103,13 +103,13 @@ returns-3 c =
     let p = c .before .before in
     let f = p .before .before in
     let t = start (f .before) in
-    c .outcome3 .ensures ∙ outcome-by _ _ _ (t .args .n) (t .args .room) (refused-82 (now (t .args .net)) (now (t .args .prices)) (now (t .args .pairs)) _ _ (from-1 (f .before)) (sym (f .first-position-outside .ensures) ∙ ap placeOf (p .position .given .1)))
+    c .outcome3 .ensures ∙ outcome-by _ _ _ (t .args .n) (t .args .room) (refused-82 (now (t .args .net-exports)) (now (t .args .prices)) (now (t .args .pairs)) _ _ (from-1 (f .before)) (sym (f .first-position-outside .ensures) ∙ ap placeOf (p .position .given .1)))
 
 enum-told : tie.Need-enum-told
 enum-told c = search needs
 
 is-unbalanced-requires : tie.Need-is-unbalanced-requires
-is-unbalanced-requires c κs = (few (of-position c .before), λ z h. not-is _ (not-below _ (positionOutside (now (start (of-position c) .args .net))) (no-position c) z h))
+is-unbalanced-requires c κs = (few (of-position c .before), λ z h. not-is _ (not-below _ (positionOutside (now (start (of-position c) .args .net-exports))) (no-position c) z h))
 
 outcome-requires-4 : tie.Need-outcome-requires-4
 outcome-requires-4 c κs = search needs
@@ -119,7 +119,7 @@ returns-4 c =
     let e = c .before in
     let o = e .before .before in
     let t = start (of-position o) in
-    c .outcome4 .ensures ∙ outcome-by _ _ _ (t .args .n) (t .args .room) (refused-sum (now (t .args .net)) (now (t .args .prices)) (now (t .args .pairs)) _ _ (from-2 o) (sym (e .before .is-unbalanced .ensures) ∙ e .if3 .taken))
+    c .outcome4 .ensures ∙ outcome-by _ _ _ (t .args .n) (t .args .room) (refused-sum (now (t .args .net-exports)) (now (t .args .prices)) (now (t .args .pairs)) _ _ (from-2 o) (sym (e .before .is-unbalanced .ensures) ∙ e .if3 .taken))
 
 first-price-outside-requires : tie.Need-first-price-outside-requires
 first-price-outside-requires c κs = search needs
@@ -144,7 +144,7 @@ returns-5 c =
     let p = c .before .before in
     let f = p .before .before in
     let t = start-2 (f .before) in
-    c .outcome5 .ensures ∙ outcome-by _ _ _ (t .args .n) (t .args .room) (refused-83 (now (t .args .net)) (now (t .args .prices)) (now (t .args .pairs)) _ _ (from-3 (f .before)) (price-found p))
+    c .outcome5 .ensures ∙ outcome-by _ _ _ (t .args .n) (t .args .room) (refused-83 (now (t .args .net-exports)) (now (t .args .prices)) (now (t .args .pairs)) _ _ (from-3 (f .before)) (price-found p))
 
 enum-told-2 : tie.Need-enum-told-2
 enum-told-2 c = search needs
@@ -154,7 +154,7 @@ examine-rest-requires : tie.Need-examine-rest-requires
 examine-rest-requires c κs = few (of-position (of-price c .before .before) .before)
 
 returns-6 : tie.Need-returns-6
-returns-6 c = let t = c .before in let a = start-3 t in c .examine-rest .ensures ∙ by-rest (now (a .args .net)) (now (a .args .prices)) (now (a .args .pairs)) (a .args .n) (a .args .room) (from-4 t)
+returns-6 c = let t = c .before in let a = start-3 t in c .examine-rest .ensures ∙ by-rest (now (a .args .net-exports)) (now (a .args .prices)) (now (a .args .pairs)) (a .args .n) (a .args .room) (from-4 t)
 
 pub examine-spec : {M : Type 1} → statement M
 examine-spec =

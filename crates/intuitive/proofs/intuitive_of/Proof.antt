@@ -15,10 +15,10 @@ answered-requires c κs =
     let e = c .before in
     let t = e .before .before in
     let a = t .args in
-    let net = now (a .net) in
+    let netExports = now (a .net-exports) in
     let prices = now (a .prices) in
     let room = length (now (a .scratch)) in
-    (t .pre .0, e .examine-rest .ensures ∙ by-rest net prices (now (a .pairs)) (a .n) room (lists-past net prices (now (a .pairs)) (a .n) room (t .pre .1)))
+    (t .pre .0, e .examine-rest .ensures ∙ by-rest netExports prices (now (a .pairs)) (a .n) room (lists-past netExports prices (now (a .pairs)) (a .n) room (t .pre .1)))
 
 same-length : tie.Need-same-length
 same-length c = search needs

@@ -1,5 +1,5 @@
 -- REQUEST S-3: whether an hour's exchanges can all go from lower or equal price to higher, by 001's annex 5.1: its causes 81 to 85, what a yes, a no and the
--- largest total mean, and the scratch afterwards. The network of an hour stands in `zone_pairs`, its transports in `transports`. Assumes nothing.
+-- largest total mean, and the scratch afterwards. The network of an hour stands in `zone_pairs`, its flows in `transports`. Assumes nothing.
 use mathlib.Core.Path.{_≡_}
 use mathlib.Core.Bool.{Bool, _||_}
 use mathlib.Core.List.{List, [], _∷_, _++_}
@@ -15,7 +15,7 @@ use Rattle.rules.specs.Meaning.Layout.{zoneCounts}
 use Rattle.rules.specs.Meaning.Verdict.{under, differ}
 use Rattle.net_positions.specs.Meaning.Positions.{positionOutside, unbalanced}
 use Rattle.zone_pairs.specs.Meaning.Pairs.{pairCount, badPair, priceAt, networkOf}
-use Rattle.transports.specs.Meaning.Network.{Network, Largest, CarriesAll, Excess}
+use Rattle.transports.specs.Meaning.Network.{Network, Largest, FeasibleAll, DeficientSet}
 use Rattle.intuitive.specs.declared.Carried.{Carried}
 
 -- so many numbers of scratch are lent; in S-13 `SmallScratch.smallRoom`
@@ -24,29 +24,29 @@ scratchRoom = 324
 
 -- no zone or over 16, or lists of two lengths
 abbrev pub unfit : List ℤ → List ℤ → Bool
-unfit net prices = outside zoneCounts (pos (length net)) || differ (length prices) (length net)
+unfit netExports prices = outside zoneCounts (pos (length netExports)) || differ (length prices) (length netExports)
 
 abbrev pub priceOutside : List ℤ → ℕ → Bool
 priceOutside prices z = outside limits.zonePrice (priceAt prices z)
 
 -- THE TABLE, for a scratch of `room` numbers of which n are asked for, 324 or 96: each row is asked over its whole list before the next
 unfoldable pub intuitiveRows : List ℤ → List ℤ → List ℕ → ℕ → ℕ → List Row
-intuitiveRows net prices pairs n room =
-    once 81 (unfit net prices)
-    ∷ each 82 (length net) (positionOutside net)
-    ∷ once 82 (unbalanced net)
+intuitiveRows netExports prices pairs n room =
+    once 81 (unfit netExports prices)
+    ∷ each 82 (length netExports) (positionOutside netExports)
+    ∷ once 82 (unbalanced netExports)
     ∷ each 83 (length prices) (priceOutside prices)
-    ∷ each 84 (pairCount pairs) (badPair (length net) pairs)
+    ∷ each 84 (pairCount pairs) (badPair (length netExports) pairs)
     ∷ once 85 (under n room)
     ∷ []
 
 unfoldable pub intuitiveRefusal : List ℤ → List ℤ → List ℕ → ℕ → ℕ → Option Outcome
-intuitiveRefusal net prices pairs n room = refusal (intuitiveRows net prices pairs n room)
+intuitiveRefusal netExports prices pairs n room = refusal (intuitiveRows netExports prices pairs n room)
 
 unfoldable pub intuitiveOutcome : List ℤ → List ℤ → List ℕ → ℕ → ℕ → Outcome
-intuitiveOutcome net prices pairs n room = answer (intuitiveRefusal net prices pairs n room)
+intuitiveOutcome netExports prices pairs n room = answer (intuitiveRefusal netExports prices pairs n room)
 
--- THE LARGEST TOTAL in tenths; a yes and a no are `CarriesAll` and `Excess`
+-- THE LARGEST TOTAL in tenths; a yes and a no are `FeasibleAll` and `DeficientSet`
 pub record LargestTotal (c : Network) (total : ℤ) : Type 0 where
   pub volume : ℕ
   pub is : total ≡ pos volume
@@ -58,19 +58,20 @@ scratchBy (some o) n s = s
 scratchBy none n s = replicate n (pos 0) ++ drop n s
 
 unfoldable pub intuitiveScratch : List ℤ → List ℤ → List ℕ → ℕ → List ℤ → List ℤ
-intuitiveScratch net prices pairs n s = scratchBy (intuitiveRefusal net prices pairs n (length s)) n s
+intuitiveScratch netExports prices pairs n s = scratchBy (intuitiveRefusal netExports prices pairs n (length s)) n s
 
--- WHAT AN ENTRY ANSWERS, where its outcome is o, its network c and the scratch afterwards b′: the clauses of its contract, which `host` spells out. The eighth,
--- `yes_rent`, follows from them
+-- WHAT AN ENTRY ANSWERS, where its outcome is o, its network c and the scratch afterwards b′: the clauses of its
+-- contract, which `host` spells out. The eighth, `yes_rent`, follows from them
 pub record EntryAnswer (o : Outcome) (c : Network) (b′ : List ℤ) (r : Carried) (b : List ℤ) : Type 0 where
   pub outcome : verdict (r .number) (r .index) ≡ o
-  pub a-yes : r .number ≡ 0 → r .intuitive ≡ 1 → CarriesAll c
-  pub a-no : r .number ≡ 0 → r .intuitive ≡ 0 → Excess c
+  pub a-yes : r .number ≡ 0 → r .intuitive ≡ 1 → FeasibleAll c
+  pub a-no : r .number ≡ 0 → r .intuitive ≡ 0 → DeficientSet c
   pub yes-or-no : r .intuitive < 2
   pub largest : r .number ≡ 0 → LargestTotal c (r .total .0)
   pub scratch : b ≡ b′
   pub refused : 0 < r .number → (r .intuitive ≡ 0) × (r .total .0 ≡ pos 0)
 
--- of net positions, prices and pairs, with n = 324 or 96, for the scratch s that is lent, the result and the scratch afterwards
+-- of net positions, prices and pairs, with n = 324 or 96, for the scratch s that is lent, the result and the scratch
+-- afterwards
 abbrev pub IntuitiveAnswer : List ℤ → List ℤ → List ℕ → ℕ → List ℤ → Carried → List ℤ → Type 0
-IntuitiveAnswer net prices pairs n s = EntryAnswer (intuitiveOutcome net prices pairs n (length s)) (networkOf net prices pairs) (intuitiveScratch net prices pairs n s)
+IntuitiveAnswer netExports prices pairs n s = EntryAnswer (intuitiveOutcome netExports prices pairs n (length s)) (networkOf netExports prices pairs) (intuitiveScratch netExports prices pairs n s)

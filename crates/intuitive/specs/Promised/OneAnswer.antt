@@ -5,7 +5,7 @@ use Prim.Native.Nat.{ℕ, zero, suc, _<_}
 use native.Mathlib.Omega.{arith}
 use native.Mathlib.Decide.{ℕ-discrete}
 use lib.IntN.{ℤ, pos}
-use Rattle.transports.specs.Meaning.Network.{Network, Placed, allExports, CarriesAll, Excess}
+use Rattle.transports.specs.Meaning.Network.{Network, Placed, allExports, FeasibleAll, DeficientSet}
 use Rattle.transports.specs.Promised.Duality.{not-both, one-largest, yes-total, no-total}
 use Rattle.zone_pairs.specs.Meaning.Pairs.{networkOf}
 use Rattle.intuitive.specs.Meaning.Intuitive.{LargestTotal, intuitiveOutcome}
@@ -15,8 +15,8 @@ use Rattle.intuitive.specs.Steps.Sizes.{placed}
 -- what the contract says of an answer: 1 for a yes and 0 for a no, and the total
 pub record Answers (c : Network) (flag : ℕ) (total : ℤ) : Type 0 where
   pub yes-or-no : flag < 2
-  pub a-yes : flag ≡ 1 → CarriesAll c
-  pub a-no : flag ≡ 0 → Excess c
+  pub a-yes : flag ≡ 1 → FeasibleAll c
+  pub a-no : flag ≡ 0 → DeficientSet c
   pub most : LargestTotal c total
 
 -- a yes and a no exclude each other, and the total is unique
@@ -34,9 +34,9 @@ one-answer c ok i j x y a b = (flags (ℕ-discrete i j), a .most .is ∙ ap pos 
     flags (no e) = absurd (by i j e a b)
 
 -- of one input that two sizes of scratch take, as S-13 asks
-pub same-answer : (net prices : List ℤ) (pairs : List ℕ) (n room : ℕ) → (intuitiveOutcome net prices pairs n room) .number ≡ 0
-    → (i j : ℕ) (x y : ℤ) → Answers (networkOf net prices pairs) i x → Answers (networkOf net prices pairs) j y → (i ≡ j) × (x ≡ y)
-same-answer net prices pairs n room e = one-answer (networkOf net prices pairs) (placed net prices pairs n room (intuitive-none net prices pairs n room e))
+pub same-answer : (netExports prices : List ℤ) (pairs : List ℕ) (n room : ℕ) → (intuitiveOutcome netExports prices pairs n room) .number ≡ 0
+    → (i j : ℕ) (x y : ℤ) → Answers (networkOf netExports prices pairs) i x → Answers (networkOf netExports prices pairs) j y → (i ≡ j) × (x ≡ y)
+same-answer netExports prices pairs n room e = one-answer (networkOf netExports prices pairs) (placed netExports prices pairs n room (intuitive-none netExports prices pairs n room e))
 
 -- a yes carries all exports, a no less
 pub yes-carries-all : (c : Network) (x : ℤ) → Answers c 1 x → x ≡ pos (allExports c)

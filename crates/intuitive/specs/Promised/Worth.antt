@@ -13,24 +13,24 @@ use Rattle.rows.specs.declared.Outcome.{Outcome}
 use Rattle.zone_pairs.specs.Meaning.Pairs.{pairCount, importsWorth, networkOf}
 use Rattle.zone_pairs.specs.Promised.Worth as pairs-worth
 use Rattle.zone_pairs.specs.Promised.Worth.{pairGain}
-use Rattle.transports.specs.Meaning.Network.{CarriesAll}
+use Rattle.transports.specs.Meaning.Network.{FeasibleAll}
 use Rattle.intuitive.specs.declared.Carried.{Carried}
 use Rattle.intuitive.specs.Meaning.Intuitive.{intuitiveRefusal, intuitiveOutcome, IntuitiveAnswer}
 use Rattle.intuitive.specs.Promised.Causes.{intuitive-none}
 use Rattle.intuitive.specs.Steps.Sizes.{placed, balanced}
 
-module _ (net prices : List ℤ) (pairs : List ℕ) where
+module _ (netExports prices : List ℤ) (pairs : List ℕ) where
   -- OF AN INPUT THAT IS TAKEN, with either scratch, and has such flows
-  module _ (n room : ℕ) (e : (intuitiveOutcome net prices pairs n room) .number ≡ 0) (i : CarriesAll (networkOf net prices pairs)) where
-    passed : intuitiveRefusal net prices pairs n room ≡ none
-    passed = intuitive-none net prices pairs n room e
+  module _ (n room : ℕ) (e : (intuitiveOutcome netExports prices pairs n room) .number ≡ 0) (i : FeasibleAll (networkOf netExports prices pairs)) where
+    passed : intuitiveRefusal netExports prices pairs n room ≡ none
+    passed = intuitive-none netExports prices pairs n room e
 
-    pub flows-gain : importsWorth net prices ≡ sumTo (pairCount pairs) (λ k. pairGain prices pairs (i .transport .flow k) k)
-    flows-gain = pairs-worth.flows-gain net prices pairs (placed net prices pairs n room passed) (balanced net prices pairs n room passed) i
+    pub flows-gain : importsWorth netExports prices ≡ sumTo (pairCount pairs) (λ k. pairGain prices pairs (i .flows .flow k) k)
+    flows-gain = pairs-worth.flows-gain netExports prices pairs (placed netExports prices pairs n room passed) (balanced netExports prices pairs n room passed) i
 
-    pub worth-nonneg : pos 0 ≤ℤ importsWorth net prices
-    worth-nonneg = pairs-worth.worth-nonneg net prices pairs (placed net prices pairs n room passed) (balanced net prices pairs n room passed) i
+    pub worth-nonneg : pos 0 ≤ℤ importsWorth netExports prices
+    worth-nonneg = pairs-worth.worth-nonneg netExports prices pairs (placed netExports prices pairs n room passed) (balanced netExports prices pairs n room passed) i
 
   -- OF THE ENTRY: what it answers yes
-  pub yes-worth-nonneg : (n : ℕ) (s : List ℤ) (r : Carried) (s' : List ℤ) → IntuitiveAnswer net prices pairs n s r s' → r .number ≡ 0 → r .intuitive ≡ 1 → pos 0 ≤ℤ importsWorth net prices
+  pub yes-worth-nonneg : (n : ℕ) (s : List ℤ) (r : Carried) (s' : List ℤ) → IntuitiveAnswer netExports prices pairs n s r s' → r .number ≡ 0 → r .intuitive ≡ 1 → pos 0 ≤ℤ importsWorth netExports prices
   yes-worth-nonneg n s r s' a e y = worth-nonneg n (length s) (sym (ap (λ (o : Outcome). o .number) (a .outcome)) ∙ e) (a .a-yes e y)

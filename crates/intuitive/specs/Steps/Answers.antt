@@ -20,7 +20,7 @@ use Rattle.rules.specs.Meaning.Verdict.{under}
 use Rattle.net_positions.specs.Meaning.Positions.{positionOutside, unbalanced}
 use Rattle.zone_pairs.specs.Meaning.Pairs.{pairCount, badPair, networkOf}
 use Rattle.zone_pairs.specs.Steps.Tests.{pair-past}
-use Rattle.transports.specs.Meaning.Network.{Network, CarriesAll, Excess}
+use Rattle.transports.specs.Meaning.Network.{Network, FeasibleAll, DeficientSet}
 use Rattle.flow_scratch.specs.Cleared.{Cleared}
 use Rattle.largest_transport.specs.Filled.{Answer}
 use Rattle.intuitive.specs.declared.Carried.{Carried}
@@ -32,47 +32,47 @@ abbrev pub restRows : ℕ → List ℕ → ℕ → ℕ → List Row
 restRows zones pairs n room = each 84 (pairCount pairs) (badPair zones pairs) ∷ once 85 (under n room) ∷ []
 
 -- lists that 81 to 83 pass
-pub record ListsPass (net prices : List ℤ) : Type 0 where
-  pub count-in : outside zoneCounts (pos (length net)) ≡ false
-  pub lengths : length prices ≡ length net
-  pub positions-in : firstBelow (length net) (positionOutside net) ≡ none
-  pub balanced : unbalanced net ≡ false
+pub record ListsPass (netExports prices : List ℤ) : Type 0 where
+  pub count-in : outside zoneCounts (pos (length netExports)) ≡ false
+  pub lengths : length prices ≡ length netExports
+  pub positions-in : firstBelow (length netExports) (positionOutside netExports) ≡ none
+  pub balanced : unbalanced netExports ≡ false
   pub prices-in : firstBelow (length prices) (priceOutside prices) ≡ none
 
-module _ (net prices : List ℤ) (pairs : List ℕ) (n room : ℕ) where
+module _ (netExports prices : List ℤ) (pairs : List ℕ) (n room : ℕ) where
   abbrev pub From : ℕ → Type 0
-  From k = intuitiveRefusal net prices pairs n room ≡ refusal (drop k (intuitiveRows net prices pairs n room))
+  From k = intuitiveRefusal netExports prices pairs n room ≡ refusal (drop k (intuitiveRows netExports prices pairs n room))
 
   abbrev pub Refused : ℕ → ℕ → Type 0
-  Refused m k = intuitiveRefusal net prices pairs n room ≡ some (verdict m k)
+  Refused m k = intuitiveRefusal netExports prices pairs n room ≡ some (verdict m k)
 
   -- 81, by the count and then by the lengths
-  pub refused-count : outside zoneCounts (pos (length net)) ≡ true → Refused 81 0
+  pub refused-count : outside zoneCounts (pos (length netExports)) ≡ true → Refused 81 0
   unfolding intuitiveRefusal intuitiveRows
-  refused-count e = field-fails 81 0 _ (ap (λ (b : Bool). b || not (eqb (length prices) (length net))) e)
+  refused-count e = field-fails 81 0 _ (ap (λ (b : Bool). b || not (eqb (length prices) (length netExports))) e)
 
-  pub refused-lengths : outside zoneCounts (pos (length net)) ≡ false → (length prices ≡ length net → ⊥) → Refused 81 0
+  pub refused-lengths : outside zoneCounts (pos (length netExports)) ≡ false → (length prices ≡ length netExports → ⊥) → Refused 81 0
   unfolding intuitiveRefusal intuitiveRows
-  refused-lengths e h = field-fails 81 0 _ ((λ i. e i || not (ne-eqb (length prices) (length net) h i)))
+  refused-lengths e h = field-fails 81 0 _ ((λ i. e i || not (ne-eqb (length prices) (length netExports) h i)))
 
-  pub past-81 : outside zoneCounts (pos (length net)) ≡ false → length prices ≡ length net → From 1
+  pub past-81 : outside zoneCounts (pos (length netExports)) ≡ false → length prices ≡ length netExports → From 1
   unfolding intuitiveRefusal intuitiveRows
-  past-81 e h = field-passes 81 0 _ ((λ i. e i || not (eq-eqb (length prices) (length net) h i)))
+  past-81 e h = field-passes 81 0 _ ((λ i. e i || not (eq-eqb (length prices) (length netExports) h i)))
 
   -- 82, at its first zone and then by the sum
-  pub refused-82 : {k : ℕ} → From 1 → firstBelow (length net) (positionOutside net) ≡ some k → Refused 82 k
+  pub refused-82 : {k : ℕ} → From 1 → firstBelow (length netExports) (positionOutside netExports) ≡ some k → Refused 82 k
   unfolding intuitiveRefusal intuitiveRows
-  refused-82 {k} p e = p ∙ row-found (each 82 (length net) (positionOutside net)) _ k e
+  refused-82 {k} p e = p ∙ row-found (each 82 (length netExports) (positionOutside netExports)) _ k e
 
-  pub past-82 : From 1 → firstBelow (length net) (positionOutside net) ≡ none → From 2
+  pub past-82 : From 1 → firstBelow (length netExports) (positionOutside netExports) ≡ none → From 2
   unfolding intuitiveRefusal intuitiveRows
-  past-82 p e = p ∙ row-clear (each 82 (length net) (positionOutside net)) _ e
+  past-82 p e = p ∙ row-clear (each 82 (length netExports) (positionOutside netExports)) _ e
 
-  pub refused-sum : From 2 → unbalanced net ≡ true → Refused 82 0
+  pub refused-sum : From 2 → unbalanced netExports ≡ true → Refused 82 0
   unfolding intuitiveRefusal intuitiveRows
   refused-sum p e = p ∙ field-fails 82 0 _ e
 
-  pub past-sum : From 2 → unbalanced net ≡ false → From 3
+  pub past-sum : From 2 → unbalanced netExports ≡ false → From 3
   unfolding intuitiveRefusal intuitiveRows
   past-sum p e = p ∙ field-passes 82 0 _ e
 
@@ -86,20 +86,20 @@ module _ (net prices : List ℤ) (pairs : List ℕ) (n room : ℕ) where
   past-83 p e = p ∙ row-clear (each 83 (length prices) (priceOutside prices)) _ e
 
   -- as the outcome
-  pub outcome-by : {x : Option Outcome} → intuitiveRefusal net prices pairs n room ≡ x → answer x ≡ intuitiveOutcome net prices pairs n room
+  pub outcome-by : {x : Option Outcome} → intuitiveRefusal netExports prices pairs n room ≡ x → answer x ≡ intuitiveOutcome netExports prices pairs n room
   unfolding intuitiveOutcome
   outcome-by e = sym (ap answer e)
 
   -- the rest, behind 83
-  pub by-rest : From 4 → answer (refusal (restRows (length net) pairs n room)) ≡ intuitiveOutcome net prices pairs n room
+  pub by-rest : From 4 → answer (refusal (restRows (length netExports) pairs n room)) ≡ intuitiveOutcome netExports prices pairs n room
   unfolding intuitiveOutcome intuitiveRows
   by-rest p = sym (ap answer p)
 
-  pub lists-past : ListsPass net prices → From 4
+  pub lists-past : ListsPass netExports prices → From 4
   lists-past l = past-83 (past-sum (past-82 (past-81 (l .count-in) (l .lengths)) (l .positions-in)) (l .balanced)) (l .prices-in)
 
-pub few-listed : {net prices : List ℤ} → ListsPass net prices → length net ≤ 16
-few-listed {net} l = nat-within 1 16 (length net) (is-false (l .count-in)) .1
+pub few-listed : {netExports prices : List ℤ} → ListsPass netExports prices → length netExports ≤ 16
+few-listed {netExports} l = nat-within 1 16 (length netExports) (is-false (l .count-in)) .1
 
 -- a pair that is named is at most the 65th
 pub pair-named : (zones : ℕ) (pairs : List ℕ) (k : ℕ) → firstBelow (pairCount pairs) (badPair zones pairs) ≡ some k → k ≤ 64
@@ -148,45 +148,45 @@ flag-low false = omega arith
 -- an answer and the eighth clause as the clauses of a contract
 pub clauses : {o : Outcome} {c : Network} {b′ : List ℤ} {r : Carried} {b : List ℤ} {H : Type 0} → EntryAnswer o c b′ r b → H
     → (verdict (r .number) (r .index) ≡ o)
-    × ((r .number ≡ 0 → r .intuitive ≡ 1 → CarriesAll c)
-    × ((r .number ≡ 0 → r .intuitive ≡ 0 → Excess c)
+    × ((r .number ≡ 0 → r .intuitive ≡ 1 → FeasibleAll c)
+    × ((r .number ≡ 0 → r .intuitive ≡ 0 → DeficientSet c)
     × ((r .intuitive < 2)
     × ((r .number ≡ 0 → LargestTotal c (r .total .0))
     × ((b ≡ b′)
     × ((0 < r .number → (r .intuitive ≡ 0) × (r .total .0 ≡ pos 0)) × H))))))
 clauses m h = (m .outcome, (m .a-yes, (m .a-no, (m .yes-or-no, (m .largest, (m .scratch, (m .refused, h)))))))
 
-module _ (net prices : List ℤ) (pairs : List ℕ) (n : ℕ) (s : List ℤ) (o : Outcome) (said : o ≡ intuitiveOutcome net prices pairs n (length s)) where
-  number-is : o .number ≡ (intuitiveOutcome net prices pairs n (length s)) .number
+module _ (netExports prices : List ℤ) (pairs : List ℕ) (n : ℕ) (s : List ℤ) (o : Outcome) (said : o ≡ intuitiveOutcome netExports prices pairs n (length s)) where
+  number-is : o .number ≡ (intuitiveOutcome netExports prices pairs n (length s)) .number
   number-is = ap (λ (x : Outcome). x .number) said
 
-  pub answer-refused : (o .number ≡ 0 → ⊥) → (r : Carried) → r ≡ record { number = o .number; index = o .index; intuitive = 0; total = record { 0 = pos 0 } } → IntuitiveAnswer net prices pairs n s r s
+  pub answer-refused : (o .number ≡ 0 → ⊥) → (r : Carried) → r ≡ record { number = o .number; index = o .index; intuitive = 0; total = record { 0 = pos 0 } } → IntuitiveAnswer netExports prices pairs n s r s
   answer-refused h r e = rw e (record {
     outcome = said;
     a-yes = λ z. absurd (h z);
     a-no = λ z. absurd (h z);
     yes-or-no = omega arith;
     largest = λ z. absurd (h z);
-    scratch = sym (scratch-refused net prices pairs n s (positive (decLt 0 ((intuitiveOutcome net prices pairs n (length s)) .number))));
+    scratch = sym (scratch-refused netExports prices pairs n s (positive (decLt 0 ((intuitiveOutcome netExports prices pairs n (length s)) .number))));
     refused = λ l. (refl, refl);
   })
     where
-      positive : Dec (0 < (intuitiveOutcome net prices pairs n (length s)) .number) → 0 < (intuitiveOutcome net prices pairs n (length s)) .number
+      positive : Dec (0 < (intuitiveOutcome netExports prices pairs n (length s)) .number) → 0 < (intuitiveOutcome netExports prices pairs n (length s)) .number
       positive (yes l) = l
       positive (no l) = absurd (h (omega (arith, number-is)))
 
   -- no row refuses
-  pub passed : o .number ≡ 0 → intuitiveRefusal net prices pairs n (length s) ≡ none
-  passed z = intuitive-none net prices pairs n (length s) (sym number-is ∙ z)
+  pub passed : o .number ≡ 0 → intuitiveRefusal netExports prices pairs n (length s) ≡ none
+  passed z = intuitive-none netExports prices pairs n (length s) (sym number-is ∙ z)
 
-  pub answer-given : o .number ≡ 0 → (s' : List ℤ) (all : Bool) (volume flag : ℕ) (total : ℤ) → Answer (networkOf net prices pairs) all volume → n ≤ length s → Cleared n s s' → flag ≡ flagOf all → total ≡ pos volume
-      → IntuitiveAnswer net prices pairs n s (record { number = 0; index = 0; intuitive = flag; total = record { 0 = total } }) s'
+  pub answer-given : o .number ≡ 0 → (s' : List ℤ) (all : Bool) (volume flag : ℕ) (total : ℤ) → Answer (networkOf netExports prices pairs) all volume → n ≤ length s → Cleared n s s' → flag ≡ flagOf all → total ≡ pos volume
+      → IntuitiveAnswer netExports prices pairs n s (record { number = 0; index = 0; intuitive = flag; total = record { 0 = total } }) s'
   answer-given z s' all volume flag total a h w f t = record {
-    outcome = outcome-by net prices pairs n (length s) (passed z);
-    a-yes = λ e x. a .carries-all (flag-yes all (sym f ∙ x));
-    a-no = λ e x. a .excess (flag-no all (sym f ∙ x));
+    outcome = outcome-by netExports prices pairs n (length s) (passed z);
+    a-yes = λ e x. a .feasible-all (flag-yes all (sym f ∙ x));
+    a-no = λ e x. a .deficient (flag-no all (sym f ∙ x));
     yes-or-no = rw f (flag-low all);
     largest = λ e. record { volume = volume; is = t; largest = a .largest };
-    scratch = cleared-is n s s' h w ∙ sym (scratch-answered net prices pairs n s (sym number-is ∙ z));
+    scratch = cleared-is n s s' h w ∙ sym (scratch-answered netExports prices pairs n s (sym number-is ∙ z));
     refused = λ l. absurd (omega arith);
   }

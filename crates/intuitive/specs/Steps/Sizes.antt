@@ -35,32 +35,32 @@ near x t =
     parts (pos n) a b = (omega arith, omega arith)
     parts (negsuc n) a b = (omega arith, omega arith)
 
-module _ (net prices : List ℤ) (pairs : List ℕ) (n room : ℕ) (passed : intuitiveRefusal net prices pairs n room ≡ none) where
-  row : (i : ℕ) → Pass (getD (intuitiveRows net prices pairs n room) i empty)
+module _ (netExports prices : List ℤ) (pairs : List ℕ) (n room : ℕ) (passed : intuitiveRefusal netExports prices pairs n room ≡ none) where
+  row : (i : ℕ) → Pass (getD (intuitiveRows netExports prices pairs n room) i empty)
   unfolding intuitiveRefusal
-  row i = all-pass (intuitiveRows net prices pairs n room) passed i
+  row i = all-pass (intuitiveRows netExports prices pairs n room) passed i
 
-  fits : T (not (unfit net prices))
+  fits : T (not (unfit netExports prices))
   unfolding intuitiveRows
   fits = (row 0) .pass 0 (omega arith)
 
-  pub zones-in : (1 ≤ length net) × (length net ≤ 16)
-  zones-in = nat-within 1 16 (length net) (nor-left (outside _ (pos (length net))) _ fits)
+  pub zones-in : (1 ≤ length netExports) × (length netExports ≤ 16)
+  zones-in = nat-within 1 16 (length netExports) (nor-left (outside _ (pos (length netExports))) _ fits)
 
-  pub one-length : length prices ≡ length net
-  one-length = eqb-true (length prices) (length net) (not-false _ (not-is _ (nor-right (outside _ (pos (length net))) _ fits)))
+  pub one-length : length prices ≡ length netExports
+  one-length = eqb-true (length prices) (length netExports) (not-false _ (not-is _ (nor-right (outside _ (pos (length netExports))) _ fits)))
 
-  pub position-in : (z : ℕ) → z < length net → (up (positionAt net z) ≤ 51200000) × (dn (positionAt net z) ≤ 51200000)
+  pub position-in : (z : ℕ) → z < length netExports → (up (positionAt netExports z) ≤ 51200000) × (dn (positionAt netExports z) ≤ 51200000)
   unfolding intuitiveRows
-  position-in z h = near (positionAt net z) ((row 1) .pass z h)
+  position-in z h = near (positionAt netExports z) ((row 1) .pass z h)
 
-  pub balanced : sumTo (length net) (positionAt net) ≡ pos 0
+  pub balanced : sumTo (length netExports) (positionAt netExports) ≡ pos 0
   unfolding intuitiveRows
-  balanced = zero-is _ (is-true (not-false (isZero (sumTo (length net) (positionAt net))) (not-is (unbalanced net) ((row 2) .pass 0 (omega arith)))))
+  balanced = zero-is _ (is-true (not-false (isZero (sumTo (length netExports) (positionAt netExports))) (not-is (unbalanced netExports) ((row 2) .pass 0 (omega arith)))))
 
-  pub pair-good : (k : ℕ) → k < pairCount pairs → Good (length net) pairs k
+  pub pair-good : (k : ℕ) → k < pairCount pairs → Good (length netExports) pairs k
   unfolding intuitiveRows
-  pair-good k h = good (length net) pairs k (not-is _ ((row 4) .pass k h))
+  pair-good k h = good (length netExports) pairs k (not-is _ ((row 4) .pass k h))
 
   pub room-in : n ≤ room
   unfolding intuitiveRows
@@ -91,10 +91,10 @@ module _ (net prices : List ℤ) (pairs : List ℕ) (n room : ℕ) (passed : int
       by (yes h) = absurd (lone h)
       by (no h) = omega arith
 
-  pub placed : Placed (networkOf net prices pairs)
+  pub placed : Placed (networkOf netExports prices pairs)
   placed = record { from-in = λ k h. pair-good k h .first-in; to-in = λ k h. pair-good k h .second-in }
 
-  pub sized : Sized net prices pairs
+  pub sized : Sized netExports prices pairs
   sized = record {
     zones = zones-in .1;
     prices-too = one-length;

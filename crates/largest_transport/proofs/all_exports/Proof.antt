@@ -12,10 +12,10 @@ use Rattle.largest_transport.proofs.all_exports.Statement.{statement}
 use Rattle.largest_transport.proofs.all_exports.Tie as tie
 
 abbrev Inv-loop : tie.InvT-loop
-Inv-loop net sum₀ z₀ sum z = (z ≤ length net) × (sum ≡ sumNat z (λ y. up (getD net y (pos 0))))
+Inv-loop netExports sum₀ z₀ sum z = (z ≤ length netExports) × (sum ≡ sumNat z (λ y. up (getD netExports y (pos 0))))
 
 abbrev μ-loop : tie.MeasureT-loop
-μ-loop net sum₀ z₀ sum z = length net - z
+μ-loop netExports sum₀ z₀ sum z = length netExports - z
 
 loop-holds : tie.Need-loop-holds Inv-loop μ-loop
 unfolding sumNat
@@ -28,7 +28,7 @@ add-sum : tie.Need-add-sum Inv-loop μ-loop
 add-sum c =
     let l = c .before .before .loop in
     let st = c .before .before .before in
-    let n = now (st .args .net) in
+    let n = now (st .args .net-exports) in
     omega (
       arith,
       c .amount .ensures,
@@ -45,12 +45,12 @@ loop-less c = omega arith
 loop-again : tie.Need-loop-again Inv-loop μ-loop
 loop-again c =
     let l = c .before .before .loop in
-    let n = now (c .before .before .before .args .net) in
+    let n = now (c .before .before .before .args .net-exports) in
     (omega arith, (λ i. l .inv .1 i + c .amount .ensures i) ∙ sym (sum-more (l .z) (λ y. up (getD n y (pos 0)))))
 
 returns : tie.Need-returns Inv-loop μ-loop
 returns c =
-    let n = now (c .before .before .args .net) in
+    let n = now (c .before .before .args .net-exports) in
     let e : c .before .loop .z ≡ length n = omega arith in
     c .before .loop .inv .1 ∙ ap (λ (k : ℕ). sumNat k (λ y. up (getD n y (pos 0)))) e
 

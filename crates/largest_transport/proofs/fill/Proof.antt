@@ -1,4 +1,4 @@
--- `largest_transport::fill` meets its contract. The loop's invariant: the transport carries the total, and past it the scratch is as it was. The measure is what
+-- `largest_transport::fill` meets its contract. The loop's invariant: the flow carries the total, and past it the scratch is as it was. The measure is what
 -- is left of all exports. Assumes nothing.
 use mathlib.Core.List.{List}
 use Prim.Native.Nat.{ℕ, _+_, _*_, _-_, _≤_, _<_}
@@ -9,7 +9,7 @@ use denote.Ref.{now}
 use borrow.Author.Needs.{needs}
 use Rattle.transports.specs.Meaning.Network.{allExports}
 use Rattle.zone_pairs.specs.Meaning.Pairs.{networkOf}
-use Rattle.flow_scratch.specs.Meaning.Places.{transportOf}
+use Rattle.flow_scratch.specs.Meaning.Places.{flowOf}
 use Rattle.flow_scratch.specs.Scratch.{Rest, rest-refl, rest-trans}
 use Rattle.augmenting_path.specs.declared.Labels.{Labels}
 use Rattle.augmenting_path.specs.Lacking.{State}
@@ -19,13 +19,13 @@ use Rattle.largest_transport.proofs.fill.Statement.{statement}
 use Rattle.largest_transport.proofs.fill.Tie as tie
 
 abbrev Inv-loop : tie.InvT-loop
-Inv-loop net prices pairs s₀ table total₀ s total = State (networkOf net prices pairs) (transportOf s) total × Rest s₀ s
+Inv-loop netExports prices pairs s₀ table total₀ s total = State (networkOf netExports prices pairs) (flowOf s) total × Rest s₀ s
 
 abbrev μ-loop : tie.MeasureT-loop
-μ-loop net prices pairs s₀ table total₀ s total = allExports (networkOf net prices pairs) - total
+μ-loop netExports prices pairs s₀ table total₀ s total = allExports (networkOf netExports prices pairs) - total
 
 pair-table-requires : tie.Need-pair-table-requires Inv-loop μ-loop
-pair-table-requires c κs = let t = c .before in distinct (now (t .args .net)) (now (t .args .prices)) (now (t .args .pairs)) (t .pre .0)
+pair-table-requires c κs = let t = c .before in distinct (now (t .args .net-exports)) (now (t .args .prices)) (now (t .args .pairs)) (t .pre .0)
 
 loop-holds : tie.Need-loop-holds Inv-loop μ-loop
 loop-holds c = (c .before .before .pre .1 .1, rest-refl (now (c .before .before .args .s)))
@@ -34,8 +34,8 @@ module _ (h : tie.At-loop Inv-loop μ-loop) where
   abbrev st : tie.Start Inv-loop μ-loop
   st = h .before .before .before
 
-  abbrev net : List ℤ
-  net = now (st .args .net)
+  abbrev netExports : List ℤ
+  netExports = now (st .args .net-exports)
 
   abbrev prices : List ℤ
   prices = now (st .args .prices)
@@ -56,7 +56,7 @@ returns : tie.Need-returns Inv-loop μ-loop
 returns c =
     let r = c .before in
     let h = r .before .before .before in
-    (filled (net h) (prices h) (bytes h) (st h .pre .0) (h .loop .s) (h .loop .total) (room h) (h .loop .inv .0) (r .search .result) (r .search .ensures) (c .if1 .taken), h .loop .inv .1)
+    (filled (netExports h) (prices h) (bytes h) (st h .pre .0) (h .loop .s) (h .loop .total) (room h) (h .loop .inv .0) (r .search .result) (r .search .ensures) (c .if1 .taken), h .loop .inv .1)
 
 low : (c : tie.Else1 Inv-loop μ-loop) → c .before .search .result .sink < 16
 low c = omega (arith, c .if1 .left, st (c .before .before .before .before) .pre .0 .zones)
@@ -91,10 +91,10 @@ module _ (c : tie.After-min Inv-loop μ-loop) where
   abbrev labels : Labels
   labels = r .search .result
 
-  bringing : Augment (net h) (prices h) (h .loop .total) (bytes h) (h .loop .s) (trailOf labels) (c .min .result) (labels .sink)
+  bringing : Augment (netExports h) (prices h) (h .loop .total) (bytes h) (h .loop .s) (trailOf labels) (c .min .result) (labels .sink)
   bringing =
       let f = r .search .ensures .found (e .if1 .left) in
-      augment-of (net h) (prices h) (bytes h) (st h .pre .0) (h .loop .s) (h .loop .total) (room h) (h .loop .inv .0) labels (r .search .ensures) (c .min .result) (e .if1 .left)
+      augment-of (netExports h) (prices h) (bytes h) (st h .pre .0) (h .loop .s) (h .loop .total) (room h) (h .loop .inv .0) labels (r .search .ensures) (c .min .result) (e .if1 .left)
       (c .min .ensures .1 .1 (f .reached) (omega (arith, f .left, c .before .import-left .ensures)))
       (c .min .ensures .0)
       (omega (arith, c .min .ensures .1 .0, c .before .import-left .ensures))
@@ -102,20 +102,20 @@ module _ (c : tie.After-min Inv-loop μ-loop) where
 augment-requires : tie.Need-augment-requires Inv-loop μ-loop
 augment-requires c κs =
     let l = c .before in
-    record { net = net (h l); prices = prices (h l); total = h l .loop .total; augment = bringing l }
+    record { netExports = netExports (h l); prices = prices (h l); total = h l .loop .total; augment = bringing l }
 
 module _ (c : tie.After-s Inv-loop μ-loop) where
   abbrev l : tie.After-min Inv-loop μ-loop
   l = c .before .before .before
 
-  next : State (networkOf (net (h l)) (prices (h l)) (bytes (h l))) (transportOf (c .before .augment .last .1 .0)) (h l .loop .total + l .min .result)
-  next = c .before .augment .ensures .state (net (h l)) (prices (h l)) (h l .loop .total) (bringing l)
+  next : State (networkOf (netExports (h l)) (prices (h l)) (bytes (h l))) (flowOf (c .before .augment .last .1 .0)) (h l .loop .total + l .min .result)
+  next = c .before .augment .ensures .state (netExports (h l)) (prices (h l)) (h l .loop .total) (bringing l)
 
-  next-le : h l .loop .total + l .min .result ≤ allExports (networkOf (net (h l)) (prices (h l)) (bytes (h l)))
+  next-le : h l .loop .total + l .min .result ≤ allExports (networkOf (netExports (h l)) (prices (h l)) (bytes (h l)))
   next-le = total-le _ _ _ next
 
 add-total : tie.Need-add-total Inv-loop μ-loop
-add-total c = omega (arith, next-le c, exports-few (net (h (l c))) (prices (h (l c))) (bytes (h (l c))) (st (h (l c)) .pre .0))
+add-total c = omega (arith, next-le c, exports-few (netExports (h (l c))) (prices (h (l c))) (bytes (h (l c))) (st (h (l c)) .pre .0))
 
 loop-less : tie.Need-loop-less Inv-loop μ-loop
 loop-less c = omega (arith, next-le c, bringing (l c) .some)

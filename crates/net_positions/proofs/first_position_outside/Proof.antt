@@ -11,10 +11,10 @@ use Rattle.net_positions.proofs.first_position_outside.Statement.{state
 use Rattle.net_positions.proofs.first_position_outside.Tie as tie
 
 abbrev Inv-loop : tie.InvT-loop
-Inv-loop net zone₀ zone = (zone ≤ length net) × (firstBelow zone (positionOutside net) ≡ none)
+Inv-loop netExports zone₀ zone = (zone ≤ length netExports) × (firstBelow zone (positionOutside netExports) ≡ none)
 
 abbrev μ-loop : tie.MeasureT-loop
-μ-loop net zone₀ zone = length net - zone
+μ-loop netExports zone₀ zone = length netExports - zone
 
 loop-holds : tie.Need-loop-holds Inv-loop μ-loop
 unfolding firstBelow

@@ -26,7 +26,7 @@ returns : tie.Need-returns
 returns c = clash (sym (tenths-outside _ _ (sym (c .before .before .position .ensures) ∙ c .enum-told .given .1)) ∙ c .before .before .before .pre .1)
 
 returns-2 : tie.Need-returns-2
-returns-2 c = (tenths-held _ (positionOutside (now (c .before .before .before .before .args .net)) (c .before .before .before .before .args .zone)) _ (sym (c .before .before .before .position .ensures) ∙ c .before .tenths .given .1)) .1
+returns-2 c = (tenths-held _ (positionOutside (now (c .before .before .before .before .args .net-exports)) (c .before .before .before .before .args .zone)) _ (sym (c .before .before .before .position .ensures) ∙ c .before .tenths .given .1)) .1
 
 pub position-held-spec : {M : Type 1} → statement M
 position-held-spec =

@@ -17,14 +17,14 @@ use Rattle.net_positions.proofs.position_sum.Statement.{statement}
 use Rattle.net_positions.proofs.position_sum.Tie as tie
 
 abbrev Inv-loop : tie.InvT-loop
-Inv-loop net sum₀ zone₀ sum zone = (zone ≤ length net) × (sum .0 ≡ sumTo zone (positionAt net))
+Inv-loop netExports sum₀ zone₀ sum zone = (zone ≤ length netExports) × (sum .0 ≡ sumTo zone (positionAt netExports))
 
 abbrev μ-loop : tie.MeasureT-loop
-μ-loop net sum₀ zone₀ sum zone = length net - zone
+μ-loop netExports sum₀ zone₀ sum zone = length netExports - zone
 
-fit : (t : tie.Start Inv-loop μ-loop) → SumsFit (positionAt (now (t .args .net))) (length (now (t .args .net)))
-fit t = small-sums (positionAt (now (t .args .net))) 51200000 (length (now (t .args .net)))
-    (λ z h. near-within 51200000 limits.netPosition (positionAt (now (t .args .net)) z) (omega arith) (omega arith) (within limits.netPosition _ (is-false (t .pre .1 z h))))
+fit : (t : tie.Start Inv-loop μ-loop) → SumsFit (positionAt (now (t .args .net-exports))) (length (now (t .args .net-exports)))
+fit t = small-sums (positionAt (now (t .args .net-exports))) 51200000 (length (now (t .args .net-exports)))
+    (λ z h. near-within 51200000 limits.netPosition (positionAt (now (t .args .net-exports)) z) (omega arith) (omega arith) (within limits.netPosition _ (is-false (t .pre .1 z h))))
     (omega (arith, mul-le-mul-right 51200000 (t .pre .0)))
 
 loop-holds : tie.Need-loop-holds Inv-loop μ-loop
@@ -51,7 +51,7 @@ loop-again c =
 returns : tie.Need-returns Inv-loop μ-loop
 returns c =
     let l = c .before in
-    let n = now (l .before .args .net) in
+    let n = now (l .before .args .net-exports) in
     let e : l .loop .zone ≡ length n = omega arith in
     l .loop .inv .1 ∙ ap (λ (k : ℕ). sumTo k (positionAt n)) e
 

@@ -9,12 +9,12 @@ use Rattle.integers.specs.Sums.{sumTo}
 use Rattle.measures.specs.Meaning.Limits as limits
 
 abbrev pub positionAt : List ℤ → ℕ → ℤ
-positionAt net z = getD net z (pos 0)
+positionAt netExports z = getD netExports z (pos 0)
 
 -- a position exceeds 51,200,000 either way
 abbrev pub positionOutside : List ℤ → ℕ → Bool
-positionOutside net z = outside limits.netPosition (positionAt net z)
+positionOutside netExports z = outside limits.netPosition (positionAt netExports z)
 
 -- asked next: their sum is not zero
 abbrev pub unbalanced : List ℤ → Bool
-unbalanced net = not (isZero (sumTo (length net) (positionAt net)))
+unbalanced netExports = not (isZero (sumTo (length netExports) (positionAt netExports)))

@@ -57,29 +57,29 @@ module _ (r : Range) (a b : ℤ) (limit : Allows r a b) (xs : List ℤ) where
   all-inside number = (λ p z h. limit (getD xs z (pos 0)) .0 (p .pass z h), λ f. record { pass = λ z h. limit (getD xs z (pos 0)) .1 (f z h) })
 
 -- EVERY POSITION from -51,200,000 to 51,200,000, and the first that is not
-pub positions-inside : (net : List ℤ) (number : ℕ) → Pass (each number (length net) (positionOutside net)) ↔ AllInside (negℤ (pos 51200000)) (pos 51200000) net
-positions-inside net = all-inside _ (negℤ (pos 51200000)) (pos 51200000) net-position-is net
+pub positions-inside : (netExports : List ℤ) (number : ℕ) → Pass (each number (length netExports) (positionOutside netExports)) ↔ AllInside (negℤ (pos 51200000)) (pos 51200000) netExports
+positions-inside netExports = all-inside _ (negℤ (pos 51200000)) (pos 51200000) net-position-is netExports
 
-pub first-position : (net : List ℤ) (z : ℕ) → First (length net) (positionOutside net) z ↔ FirstOutside (negℤ (pos 51200000)) (pos 51200000) net z
-first-position net = first-outside _ (negℤ (pos 51200000)) (pos 51200000) net-position-is net
+pub first-position : (netExports : List ℤ) (z : ℕ) → First (length netExports) (positionOutside netExports) z ↔ FirstOutside (negℤ (pos 51200000)) (pos 51200000) netExports z
+first-position netExports = first-outside _ (negℤ (pos 51200000)) (pos 51200000) net-position-is netExports
 
 -- THEIR SUM IS ZERO
 abbrev pub SumZero : List ℤ → Type 0
-SumZero net = sumTo (length net) (λ z. getD net z (pos 0)) ≡ pos 0
+SumZero netExports = sumTo (length netExports) (λ z. getD netExports z (pos 0)) ≡ pos 0
 
-pub sum-zero : (net : List ℤ) → T (not (unbalanced net)) ↔ SumZero net
+pub sum-zero : (netExports : List ℤ) → T (not (unbalanced netExports)) ↔ SumZero netExports
 unfolding isZero outside
-sum-zero net = (λ t. zero-is (total net) (twice (isZero (total net)) t), λ e. subst (λ (x : ℤ). T (not (not (isZero x)))) (sym e) tt)
+sum-zero netExports = (λ t. zero-is (total netExports) (twice (isZero (total netExports)) t), λ e. subst (λ (x : ℤ). T (not (not (isZero x)))) (sym e) tt)
   where
     total : List ℤ → ℤ
-    total net = sumTo (length net) (λ z. getD net z (pos 0))
+    total netExports = sumTo (length netExports) (λ z. getD netExports z (pos 0))
 
     twice : (b : Bool) → T (not (not b)) → T b
     twice true t = tt
     twice false t = absurd t
 
-pub sum-not-zero : (net : List ℤ) → T (unbalanced net) ↔ (SumZero net → ⊥)
-sum-not-zero net = (λ t e. T-not (unbalanced net) (sum-zero net .1 e) t, λ n. found (unbalanced net) (λ t. n (sum-zero net .0 t)))
+pub sum-not-zero : (netExports : List ℤ) → T (unbalanced netExports) ↔ (SumZero netExports → ⊥)
+sum-not-zero netExports = (λ t e. T-not (unbalanced netExports) (sum-zero netExports .1 e) t, λ n. found (unbalanced netExports) (λ t. n (sum-zero netExports .0 t)))
   where
     found : (t : Bool) → (T (not t) → ⊥) → T t
     found true n = tt

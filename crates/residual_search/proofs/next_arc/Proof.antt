@@ -1,4 +1,5 @@
--- `residual_search::next_arc` meets its contract. The loop's invariant: no arc leads to a zone between w and z. Assumes nothing.
+-- `residual_search::next_arc` meets its contract. The loop's invariant: no arc leads to a zone between w
+-- and z. Assumes nothing.
 use Prim.Native.Nat.{ℕ, _-_, _≤_}
 use native.Mathlib.Omega.{arith}
 use lib.ListN.{length}

@@ -1,5 +1,6 @@
--- `residual_search::search` meets its contract. The loop's invariant: the zones before h in the queue are done, of the zone at h what leads to the zones before
--- w, and no zone that is reached has import left. The measure is what is left of sixteen zones to go on from and of sixteen to reach. Assumes nothing.
+-- `residual_search::search` meets its contract. The loop's invariant: the zones before h in the queue are done, of the
+-- zone at h what leads to the zones before w, and no zone that is reached has import left. The measure is what is left
+-- of sixteen zones to go on from and of sixteen to reach. Assumes nothing.
 use mathlib.Core.Path.{_≡_, refl, sym, ap, subst, _∙_}
 use mathlib.Core.List.{List}
 use Prim.Native.Nat.{ℕ, _+_, _-_, _≤_, _<_}
@@ -16,10 +17,10 @@ use Rattle.residual_search.proofs.search.Statement.{statement}
 use Rattle.residual_search.proofs.search.Tie as tie
 
 abbrev Inv-loop : tie.InvT-loop
-Inv-loop net prices pairs table s labels₀ h₀ w₀ labels h w = ((h ≤ 16) × (w ≤ length prices)) × Progress net prices pairs s labels h w
+Inv-loop netExports prices pairs table s labels₀ h₀ w₀ labels h w = ((h ≤ 16) × (w ≤ length prices)) × Progress netExports prices pairs s labels h w
 
 abbrev μ-loop : tie.MeasureT-loop
-μ-loop net prices pairs table s labels₀ h₀ w₀ labels h w = (16 - h) + (16 - labels .count)
+μ-loop netExports prices pairs table s labels₀ h₀ w₀ labels h w = (16 - h) + (16 - labels .count)
 
 seed-zones-requires : tie.Need-seed-zones-requires Inv-loop μ-loop
 seed-zones-requires c κs = let t = c .before in (t .pre .0 .zones, t .pre .1 .1)
@@ -27,7 +28,7 @@ seed-zones-requires c κs = let t = c .before in (t .pre .0 .zones, t .pre .1 .1
 loop-holds : tie.Need-loop-holds Inv-loop μ-loop
 loop-holds c =
     let t = c .before .before in
-    ((omega arith, omega arith), progress-start (now (t .args .net)) (now (t .args .prices)) (now (t .args .pairs)) (now (t .args .s)) (c .seed-zones .result) (c .seed-zones .ensures))
+    ((omega arith, omega arith), progress-start (now (t .args .net-exports)) (now (t .args .prices)) (now (t .args .pairs)) (now (t .args .s)) (c .seed-zones .result) (c .seed-zones .ensures))
 
 -- the zone at h
 module _ (i : tie.In-loop Inv-loop μ-loop) where
@@ -37,8 +38,8 @@ module _ (i : tie.In-loop Inv-loop μ-loop) where
   abbrev st : tie.Start Inv-loop μ-loop
   st = l .before .before .before
 
-  abbrev net : List ℤ
-  net = now (st .args .net)
+  abbrev netExports : List ℤ
+  netExports = now (st .args .net-exports)
 
   abbrev prices : List ℤ
   prices = now (st .args .prices)
@@ -53,7 +54,7 @@ module _ (i : tie.In-loop Inv-loop μ-loop) where
   here = i .loop-test .taken
 
   low : l .loop .h < 16
-  low = place-low net prices bytes scratch (st .pre .0) (l .loop .labels) (l .loop .h) (l .loop .w) (l .loop .inv .1) here
+  low = place-low netExports prices bytes scratch (st .pre .0) (l .loop .labels) (l .loop .h) (l .loop .w) (l .loop .inv .1) here
 
 element-copy-out-wide : tie.Need-element-copy-out-wide Inv-loop μ-loop
 element-copy-out-wide c = low c
@@ -66,8 +67,8 @@ next-arc-requires c κs =
     let u = c .before .before in
     let i = u .before .before in
     let t = st i in
-    let at = from-in (net i) (prices i) (bytes i) (scratch i) (t .pre .0) (l i .loop .labels) (l i .loop .h) (l i .loop .w) (l i .loop .inv .1) (here i) in
-    let some = from-reached (net i) (prices i) (bytes i) (scratch i) (t .pre .0) (l i .loop .labels) (l i .loop .h) (l i .loop .w) (l i .loop .inv .1) (here i) in
+    let at = from-in (netExports i) (prices i) (bytes i) (scratch i) (t .pre .0) (l i .loop .labels) (l i .loop .h) (l i .loop .w) (l i .loop .inv .1) (here i) in
+    let some = from-reached (netExports i) (prices i) (bytes i) (scratch i) (t .pre .0) (l i .loop .labels) (l i .loop .h) (l i .loop .w) (l i .loop .inv .1) (here i) in
     ((omega (arith, u .wide .ensures, at, t .pre .0 .prices-too), (l i .loop .inv .0 .1, omega (arith, t .pre .0 .prices-too, t .pre .0 .zones))), ((t .pre .0 .pairs, t .pre .1 .0), (t .pre .1 .1, rw (u .wide .ensures) some)))
 
 -- the arc
@@ -84,14 +85,14 @@ module _ (a : tie.After-next-arc Inv-loop μ-loop) where
   next : NextArc (prices i) (bytes i) (scratch i) (at .loop .labels .label) (queueOf (at .loop .labels) (at .loop .h)) (at .loop .w) arc
   next = rw (a .before .before .before .wide .ensures) at (a .next-arc .ensures)
 
-  zone16 : arc .zone < length (net i) → arc .zone < 16
-  zone16 = zone-low (net i) (prices i) (bytes i) (scratch i) (st i .pre .0) (at .loop .labels) (at .loop .h) (at .loop .w) (at .loop .inv .1) (here i) arc next
+  zone16 : arc .zone < length (netExports i) → arc .zone < 16
+  zone16 = zone-low (netExports i) (prices i) (bytes i) (scratch i) (st i .pre .0) (at .loop .labels) (at .loop .h) (at .loop .w) (at .loop .inv .1) (here i) arc next
 
-  pair64 : arc .zone < length (net i) → arc .pair < 64
-  pair64 = pair-low (net i) (prices i) (bytes i) (scratch i) (st i .pre .0) (at .loop .labels) (at .loop .h) (at .loop .w) (at .loop .inv .1) (here i) arc next
+  pair64 : arc .zone < length (netExports i) → arc .pair < 64
+  pair64 = pair-low (netExports i) (prices i) (bytes i) (scratch i) (st i .pre .0) (at .loop .labels) (at .loop .h) (at .loop .w) (at .loop .inv .1) (here i) arc next
 
-  count16 : arc .zone < length (net i) → at .loop .labels .count < 16
-  count16 = count-low (net i) (prices i) (bytes i) (scratch i) (st i .pre .0) (at .loop .labels) (at .loop .h) (at .loop .w) (at .loop .inv .1) (here i) arc next
+  count16 : arc .zone < length (netExports i) → at .loop .labels .count < 16
+  count16 = count-low (netExports i) (prices i) (bytes i) (scratch i) (st i .pre .0) (at .loop .labels) (at .loop .h) (at .loop .w) (at .loop .inv .1) (here i) arc next
 
 add-h : tie.Need-add-h Inv-loop μ-loop
 add-h c = omega (arith, low (i (c .before)))
@@ -103,7 +104,7 @@ loop-again : tie.Need-loop-again Inv-loop μ-loop
 loop-again c =
     let a = c .before in
     let o = i a in
-    ((omega (arith, low o), omega arith), progress-next (net o) (prices o) (bytes o) (scratch o) (st o .pre .0) (at a .loop .labels) (at a .loop .h) (at a .loop .w) (at a .loop .inv .1) (here o) (arc a) (next a) (c .if1 .taken))
+    ((omega (arith, low o), omega arith), progress-next (netExports o) (prices o) (bytes o) (scratch o) (st o .pre .0) (at a .loop .labels) (at a .loop .h) (at a .loop .w) (at a .loop .inv .1) (here o) (arc a) (next a) (c .if1 .taken))
 
 mul-labels : tie.Need-mul-labels Inv-loop μ-loop
 mul-labels c = omega (arith, zone16 (c .before) (c .if1 .left))
@@ -144,7 +145,7 @@ returns c =
     let v = c .before in
     let a = v .before .before .before in
     let o = i a in
-    searched-sink (net o) (prices o) (bytes o) (scratch o) (st o .pre .0) (at a .loop .labels) (at a .loop .h) (at a .loop .w) (at a .loop .inv .1) (here o) (arc a) (next a) (v .before .before .if1 .left)
+    searched-sink (netExports o) (prices o) (bytes o) (scratch o) (st o .pre .0) (at a .loop .labels) (at a .loop .h) (at a .loop .w) (at a .loop .inv .1) (here o) (arc a) (next a) (v .before .before .if1 .left)
     (omega (arith, v .import-left .ensures, c .if2 .taken))
 
 loop-less-2 : tie.Need-loop-less-2 Inv-loop μ-loop
@@ -158,7 +159,7 @@ loop-again-2 c =
     let a = v .before .before .before in
     let o = i a in (
       (at a .loop .inv .0 .0, next a .last),
-      progress-label (net o) (prices o) (bytes o) (scratch o) (st o .pre .0) (at a .loop .labels) (at a .loop .h) (at a .loop .w) (at a .loop .inv .1) (here o) (arc a) (next a) (v .before .before .if1 .left)
+      progress-label (netExports o) (prices o) (bytes o) (scratch o) (st o .pre .0) (at a .loop .labels) (at a .loop .h) (at a .loop .w) (at a .loop .inv .1) (here o) (arc a) (next a) (v .before .before .if1 .left)
           (omega (arith, v .import-left .ensures, c .if2 .left)),
     )
 
@@ -166,7 +167,7 @@ returns-2 : tie.Need-returns-2 Inv-loop μ-loop
 returns-2 c =
     let m = c .before in
     let t = m .before .before .before in
-    searched-none (now (t .args .net)) (now (t .args .prices)) (now (t .args .pairs)) (now (t .args .s)) (m .loop .labels) (m .loop .h) (m .loop .w) (t .pre .0) (m .loop .inv .1) (c .loop-test .left)
+    searched-none (now (t .args .net-exports)) (now (t .args .prices)) (now (t .args .pairs)) (now (t .args .s)) (m .loop .labels) (m .loop .h) (m .loop .w) (t .pre .0) (m .loop .inv .1) (c .loop-test .left)
 
 pub search-spec : {M : Type 1} → statement M
 search-spec =

@@ -1,4 +1,5 @@
--- `residual_search::seed_zones` meets its contract. The loop's invariant: of the zones before z those with export left are reached. Assumes nothing.
+-- `residual_search::seed_zones` meets its contract. The loop's invariant: of the zones before z those with
+-- export left are reached. Assumes nothing.
 use mathlib.Core.Path.{_≡_, subst, sym}
 use mathlib.Core.Logic.{⊎-elim}
 use Prim.Native.Nat.{ℕ, _-_, _≤_, _<_}
@@ -11,10 +12,10 @@ use Rattle.residual_search.proofs.seed_zones.Statement.{statement}
 use Rattle.residual_search.proofs.seed_zones.Tie as tie
 
 abbrev Inv-loop : tie.InvT-loop
-Inv-loop net s labels₀ z₀ labels z = (z ≤ length net) × Seeded net s labels z
+Inv-loop netExports s labels₀ z₀ labels z = (z ≤ length netExports) × Seeded netExports s labels z
 
 abbrev μ-loop : tie.MeasureT-loop
-μ-loop net s labels₀ z₀ labels z = length net - z
+μ-loop netExports s labels₀ z₀ labels z = length netExports - z
 
 loop-holds : tie.Need-loop-holds Inv-loop μ-loop
 loop-holds c = (omega arith, seeded-none _ _)
@@ -74,7 +75,7 @@ loop-again c =
 
 returns : tie.Need-returns Inv-loop μ-loop
 returns c =
-    let e : c .before .loop .z ≡ length (now (c .before .before .args .net)) = omega arith in
+    let e : c .before .loop .z ≡ length (now (c .before .before .args .net-exports)) = omega arith in
     rw e at (c .before .loop .inv .1)
 
 pub seed-zones-spec : {M : Type 1} → statement M

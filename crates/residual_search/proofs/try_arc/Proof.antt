@@ -1,4 +1,5 @@
--- `residual_search::try_arc` meets its contract: the zone is reached already, along a pair, back along one, or by no pair. Assumes nothing.
+-- `residual_search::try_arc` meets its contract: the zone is reached already, along a pair, back along one,
+-- or by no pair. Assumes nothing.
 use mathlib.Core.Path.{_≡_, refl, sym, ap, _∙_}
 use mathlib.Core.List.{List}
 use Prim.Native.Nat.{ℕ, _≤_, _<_}

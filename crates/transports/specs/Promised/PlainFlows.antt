@@ -8,7 +8,7 @@ use Prim.Native.Nat.{ℕ, _+_, _*_, _≤_, _<_}
 use native.Mathlib.Omega.{arith}
 use lib.Dec.{eqb}
 use Rattle.integers.specs.NaturalSums.{sumNat, only}
-use Rattle.transports.specs.Meaning.Network.{Network, Placed, Transport, Carries, carried, allExports, times, Largest, CarriesAll}
+use Rattle.transports.specs.Meaning.Network.{Network, Placed, Flow, Feasible, carried, allExports, times, Largest, FeasibleAll}
 use Rattle.transports.specs.Promised.Duality.{once}
 use Rattle.transports.specs.Promised.Worth.{every-import}
 
@@ -24,18 +24,18 @@ takenFrom c flow z = sumNat (c .pairs) (λ k. only (eqb (c .from k) z) (flow k))
 pub record Routed (c : Network) : Type 0 where
   pub flow : ℕ → ℕ
   pub counted-only : (k : ℕ) → k < c .pairs → c .counted k ≡ false → flow k ≡ 0
-  pub zone-even : (z : ℕ) → z < c .zones → c .exports z + broughtTo c flow z ≡ c .imports z + takenFrom c flow z
+  pub zone-conserved : (z : ℕ) → z < c .zones → c .exports z + broughtTo c flow z ≡ c .imports z + takenFrom c flow z
 
-pub yes-routed : (c : Network) → Placed c → allExports c ≡ sumNat (c .zones) (c .imports) → CarriesAll c ↔ Routed c
+pub yes-routed : (c : Network) → Placed c → allExports c ≡ sumNat (c .zones) (c .imports) → FeasibleAll c ↔ Routed c
 yes-routed c ok e = (
   λ i. record {
-    flow = i .transport .flow;
-    counted-only = i .carries .along;
-    zone-even = λ z l. omega (arith, i .carries .even z l, i .every z l, every-import c ok i e z l);
+    flow = i .flows .flow;
+    counted-only = i .feasible .along;
+    zone-conserved = λ z l. omega (arith, i .feasible .conserved z l, i .every z l, every-import c ok i e z l);
   },
   λ r. record {
-    transport = record { flow = r .flow; sent = c .exports; got = c .imports };
-    carries = record { sent-le = λ z l. omega arith; got-le = λ z l. omega arith; along = r .counted-only; even = r .zone-even };
+    flows = record { flow = r .flow; export-used = c .exports; import-used = c .imports };
+    feasible = record { export-used-le = λ z l. omega arith; import-used-le = λ z l. omega arith; along = r .counted-only; conserved = r .zone-conserved };
     every = λ z l. refl;
   },
 )
@@ -43,43 +43,43 @@ yes-routed c ok e = (
 -- FLOWS THAT CARRY u, in fractions over d: whole ones are those over 1
 pub record Shipped (c : Network) (d u : ℕ) : Type 0 where
   pub flow : ℕ → ℕ
-  pub sent : ℕ → ℕ
-  pub got : ℕ → ℕ
+  pub export-used : ℕ → ℕ
+  pub import-used : ℕ → ℕ
   pub counted-only : (k : ℕ) → k < c .pairs → c .counted k ≡ false → flow k ≡ 0
-  pub sent-within : (z : ℕ) → z < c .zones → sent z ≤ d * c .exports z
-  pub got-within : (z : ℕ) → z < c .zones → got z ≤ d * c .imports z
-  pub zone-even : (z : ℕ) → z < c .zones → sent z + broughtTo c flow z ≡ got z + takenFrom c flow z
-  pub total-is : sumNat (c .zones) sent ≡ u
+  pub export-used-within : (z : ℕ) → z < c .zones → export-used z ≤ d * c .exports z
+  pub import-used-within : (z : ℕ) → z < c .zones → import-used z ≤ d * c .imports z
+  pub zone-conserved : (z : ℕ) → z < c .zones → export-used z + broughtTo c flow z ≡ import-used z + takenFrom c flow z
+  pub total-is : sumNat (c .zones) export-used ≡ u
 
-shipped-of : (c : Network) (d : ℕ) (b : Transport) → Carries (times d c) b → Shipped c d (carried c b)
+shipped-of : (c : Network) (d : ℕ) (b : Flow) → Feasible (times d c) b → Shipped c d (carried c b)
 shipped-of c d b ca = record {
   flow = b .flow;
-  sent = b .sent;
-  got = b .got;
+  export-used = b .export-used;
+  import-used = b .import-used;
   counted-only = ca .along;
-  sent-within = ca .sent-le;
-  got-within = ca .got-le;
-  zone-even = ca .even;
+  export-used-within = ca .export-used-le;
+  import-used-within = ca .import-used-le;
+  zone-conserved = ca .conserved;
   total-is = refl;
 }
 
-carries-of : (c : Network) (d u : ℕ) (f : Shipped c d u) → Carries (times d c) (record { flow = f .flow; sent = f .sent; got = f .got })
-carries-of c d u f = record { sent-le = f .sent-within; got-le = f .got-within; along = f .counted-only; even = f .zone-even }
+feasible-of : (c : Network) (d u : ℕ) (f : Shipped c d u) → Feasible (times d c) (record { flow = f .flow; export-used = f .export-used; import-used = f .import-used })
+feasible-of c d u f = record { export-used-le = f .export-used-within; import-used-le = f .import-used-within; along = f .counted-only; conserved = f .zone-conserved }
 
 -- THE LARGEST TOTAL
 pub largest-is : (c : Network) (t : ℕ) → Largest c t ↔ (Shipped c 1 t × ((d u : ℕ) → Shipped c d u → u ≤ d * t))
 largest-is c t = (
   λ x. (
-    rw (← x .total) (shipped-of c 1 (x .transport) (once c (x .transport) (x .carries))),
-    λ d u f. omega (arith, x .most d _ (carries-of c d u f), f .total-is),
+    rw (← x .total) (shipped-of c 1 (x .flows) (once c (x .flows) (x .feasible))),
+    λ d u f. omega (arith, x .most d _ (feasible-of c d u f), f .total-is),
   ),
   λ w. record {
-    transport = record { flow = w .0 .flow; sent = w .0 .sent; got = w .0 .got };
-    carries = record {
-      sent-le = λ z l. omega (arith, w .0 .sent-within z l);
-      got-le = λ z l. omega (arith, w .0 .got-within z l);
+    flows = record { flow = w .0 .flow; export-used = w .0 .export-used; import-used = w .0 .import-used };
+    feasible = record {
+      export-used-le = λ z l. omega (arith, w .0 .export-used-within z l);
+      import-used-le = λ z l. omega (arith, w .0 .import-used-within z l);
       along = w .0 .counted-only;
-      even = w .0 .zone-even;
+      conserved = w .0 .zone-conserved;
     };
     total = w .0 .total-is;
     most = λ d b ca. w .1 d (carried c b) (shipped-of c d b ca);

@@ -1,28 +1,28 @@
--- Flows that leave no augmenting path carry as much as a shut set lets through: the largest total, and with it the yes or the no. Assumes nothing.
+-- Flows that leave no augmenting path carry as much as a closed set lets through: the largest total, and with it the yes or the no. Assumes nothing.
 use mathlib.Core.Path.{_≡_, refl, sym, ap, _∙_}
 use mathlib.Core.Bool.{Bool, true, false, not}
 use Prim.Native.Nat.{ℕ, _+_, _*_, _≤_, _<_}
 use native.Mathlib.Omega.{arith}
 use Rattle.integers.specs.NaturalSums.{sumNat, only, sum-ext, sum-scale, only-scale, each-equal}
-use Rattle.transports.specs.Meaning.Network.{Network, Placed, Transport, Carries, carried, allExports, Shut, times, Largest, Excess, CarriesAll}
-use Rattle.transports.specs.Promised.Duality.{cut, split, set-even, flow-stays, at-most}
+use Rattle.transports.specs.Meaning.Network.{Network, Placed, Flow, Feasible, carried, allExports, Closed, times, Largest, DeficientSet, FeasibleAll}
+use Rattle.transports.specs.Promised.Duality.{cut, split, set-conserved, flow-stays, at-most}
 
 -- flows that leave no way on: a set that no counted pair leaves, that no flow enters, whose imports are used up and outside of which all exports are used up
-pub record Saturated (c : Network) (b : Transport) (s : ℕ → Bool) : Type 0 where
-  pub shut : Shut c s
+pub record Saturated (c : Network) (b : Flow) (s : ℕ → Bool) : Type 0 where
+  pub closed : Closed c s
   pub back : (k : ℕ) → k < c .pairs → s (c .to k) ≡ true → s (c .from k) ≡ false → b .flow k ≡ 0
-  pub inside : (z : ℕ) → z < c .zones → s z ≡ true → b .got z ≡ c .imports z
-  pub outside : (z : ℕ) → z < c .zones → s z ≡ false → b .sent z ≡ c .exports z
+  pub inside : (z : ℕ) → z < c .zones → s z ≡ true → b .import-used z ≡ c .imports z
+  pub outside : (z : ℕ) → z < c .zones → s z ≡ false → b .export-used z ≡ c .exports z
 
-pub as-much : (c : Network) → Placed c → (b : Transport) → Carries c b → (s : ℕ → Bool) → Saturated c b s → carried c b ≡ cut c s
+pub as-much : (c : Network) → Placed c → (b : Flow) → Feasible c b → (s : ℕ → Bool) → Saturated c b s → carried c b ≡ cut c s
 as-much c ok b ca s f =
     omega (
       arith,
-      set-even c ok b (ca .even) s,
+      set-conserved c ok b (ca .conserved) s,
       sum-ext (c .pairs) (λ k. only (s (c .from k)) (b .flow k)) (λ k. only (s (c .to k)) (b .flow k)) same-flow,
-      sum-ext (c .zones) (λ z. only (s z) (b .got z)) (λ z. only (s z) (c .imports z)) (λ z l. in-set (s z) (b .got z) (c .imports z) (f .inside z l)),
-      sum-ext (c .zones) (λ z. only (not (s z)) (b .sent z)) (λ z. only (not (s z)) (c .exports z)) (λ z l. out-set (s z) (b .sent z) (c .exports z) (f .outside z l)),
-      split c s (b .sent),
+      sum-ext (c .zones) (λ z. only (s z) (b .import-used z)) (λ z. only (s z) (c .imports z)) (λ z l. in-set (s z) (b .import-used z) (c .imports z) (f .inside z l)),
+      sum-ext (c .zones) (λ z. only (not (s z)) (b .export-used z)) (λ z. only (not (s z)) (c .exports z)) (λ z l. out-set (s z) (b .export-used z) (c .exports z) (f .outside z l)),
+      split c s (b .export-used),
     )
   where
     in-set : (p : Bool) (x y : ℕ) → (p ≡ true → x ≡ y) → only p x ≡ only p y
@@ -40,7 +40,7 @@ as-much c ok b ca s f =
     both false false x h g = refl
 
     same-flow : (k : ℕ) → k < c .pairs → only (s (c .from k)) (b .flow k) ≡ only (s (c .to k)) (b .flow k)
-    same-flow k l = both (s (c .from k)) (s (c .to k)) (b .flow k) (flow-stays c b ca s (f .shut) k l) (f .back k l)
+    same-flow k l = both (s (c .from k)) (s (c .to k)) (b .flow k) (flow-stays c b ca s (f .closed) k l) (f .back k l)
 
 cut-times : (d : ℕ) (c : Network) (s : ℕ → Bool) → cut (times d c) s ≡ d * cut c s
 cut-times d c s = omega (arith, pull (c .imports) s, pull (c .exports) (λ z. not (s z)))
@@ -51,20 +51,20 @@ cut-times d c s = omega (arith, pull (c .imports) s, pull (c .exports) (λ z. no
         ∙ sum-scale (c .zones) d (λ z. only (q z) (x z))
 
 -- flows that leave no way on carry the largest total
-pub largest-of : (c : Network) → Placed c → (b : Transport) → Carries c b → (s : ℕ → Bool) → Saturated c b s → Largest c (carried c b)
-largest-of c ok b ca s f = record { transport = b; carries = ca; total = refl; most = most }
+pub largest-of : (c : Network) → Placed c → (b : Flow) → Feasible c b → (s : ℕ → Bool) → Saturated c b s → Largest c (carried c b)
+largest-of c ok b ca s f = record { flows = b; feasible = ca; total = refl; most = most }
   where
-    most : (d : ℕ) (y : Transport) → Carries (times d c) y → carried c y ≤ d * carried c b
+    most : (d : ℕ) (y : Flow) → Feasible (times d c) y → carried c y ≤ d * carried c b
     most d y cy =
         omega (
           arith,
-          at-most (times d c) (record { from-in = ok .from-in; to-in = ok .to-in }) y cy s (f .shut),
+          at-most (times d c) (record { from-in = ok .from-in; to-in = ok .to-in }) y cy s (f .closed),
           cut-times d c s,
           ap (λ (k : ℕ). d * k) (as-much c ok b ca s f),
         )
 
-pub yes-of : (c : Network) (b : Transport) → Carries c b → carried c b ≡ allExports c → CarriesAll c
-yes-of c b ca e = record { transport = b; carries = ca; every = each-equal (c .zones) (b .sent) (c .exports) (ca .sent-le) e }
+pub yes-of : (c : Network) (b : Flow) → Feasible c b → carried c b ≡ allExports c → FeasibleAll c
+yes-of c b ca e = record { flows = b; feasible = ca; every = each-equal (c .zones) (b .export-used) (c .exports) (ca .export-used-le) e }
 
-pub no-of : (c : Network) → Placed c → (b : Transport) → Carries c b → (s : ℕ → Bool) → Saturated c b s → carried c b < allExports c → Excess c
-no-of c ok b ca s f h = record { set = s; shut = f .shut; exceeds = omega (arith, as-much c ok b ca s f, split c s (c .exports)) }
+pub no-of : (c : Network) → Placed c → (b : Flow) → Feasible c b → (s : ℕ → Bool) → Saturated c b s → carried c b < allExports c → DeficientSet c
+no-of c ok b ca s f h = record { set = s; closed = f .closed; exceeds = omega (arith, as-much c ok b ca s f, split c s (c .exports)) }

@@ -38,15 +38,15 @@ priceAt prices z = getD prices z (pos 0)
 
 -- what the zones import, each at its price: a position turned is an import
 abbrev pub importsWorth : List ℤ → List ℤ → ℤ
-importsWorth net prices = sumTo (length net) (λ z. negℤ (positionAt net z) *ℤ priceAt prices z)
+importsWorth netExports prices = sumTo (length netExports) (λ z. negℤ (positionAt netExports z) *ℤ priceAt prices z)
 
 abbrev pub networkOf : List ℤ → List ℤ → List ℕ → Network
-networkOf net prices bytes = record {
-  zones = length net;
+networkOf netExports prices bytes = record {
+  zones = length netExports;
   pairs = pairCount bytes;
   from = firstZone bytes;
   to = secondZone bytes;
   counted = λ k. leZ (priceAt prices (firstZone bytes k)) (priceAt prices (secondZone bytes k));
-  exports = λ z. up (positionAt net z);
-  imports = λ z. dn (positionAt net z);
+  exports = λ z. up (positionAt netExports z);
+  imports = λ z. dn (positionAt netExports z);
 }

@@ -122,18 +122,18 @@ module _ (bytes : List ℕ) where
 
 -- THE NETWORK OF AN HOUR: a pair leads from its first byte to its second, and counts if and only if the first zone's
 -- price is at most the second's
-module _ (net prices : List ℤ) (pairs : List ℕ) where
-  pub pair-leads : (k : ℕ) → 2 * k + 1 < length pairs → ((networkOf net prices pairs) .from k ≡ getD pairs (2 * k) 0) × ((networkOf net prices pairs) .to k ≡ getD pairs (2 * k + 1) 0)
+module _ (netExports prices : List ℤ) (pairs : List ℕ) where
+  pub pair-leads : (k : ℕ) → 2 * k + 1 < length pairs → ((networkOf netExports prices pairs) .from k ≡ getD pairs (2 * k) 0) × ((networkOf netExports prices pairs) .to k ≡ getD pairs (2 * k + 1) 0)
   pair-leads k h = (first-is pairs k (omega arith), second-is pairs k h)
 
   pub pair-counts : (k : ℕ) → 2 * k + 1 < length pairs
-      → ((networkOf net prices pairs) .counted k ≡ true) ↔ (getD prices (getD pairs (2 * k) 0) (pos 0) ≤ℤ getD prices (getD pairs (2 * k + 1) 0) (pos 0))
+      → ((networkOf netExports prices pairs) .counted k ≡ true) ↔ (getD prices (getD pairs (2 * k) 0) (pos 0) ≤ℤ getD prices (getD pairs (2 * k + 1) 0) (pos 0))
   pair-counts k h = (
     λ e. leZ-yes (is-true (sym (read k h) ∙ e)),
     λ l. read k h ∙ set-is _ (l .le),
   )
     where
-      read : (k : ℕ) → 2 * k + 1 < length pairs → (networkOf net prices pairs) .counted k ≡ leZ (getD prices (getD pairs (2 * k) 0) (pos 0)) (getD prices (getD pairs (2 * k + 1) 0) (pos 0))
+      read : (k : ℕ) → 2 * k + 1 < length pairs → (networkOf netExports prices pairs) .counted k ≡ leZ (getD prices (getD pairs (2 * k) 0) (pos 0)) (getD prices (getD pairs (2 * k + 1) 0) (pos 0))
       read k h = λ i. leZ (getD prices (first-is pairs k (omega arith) i) (pos 0)) (getD prices (second-is pairs k h i) (pos 0))
 
       set-is : (b : Bool) → T b → b ≡ true
@@ -142,10 +142,10 @@ module _ (net prices : List ℤ) (pairs : List ℕ) where
 
   -- a zone of positive position exports it and imports nothing, one of negative position imports it and exports
   -- nothing
-  pub exports-are : (z n : ℕ) → getD net z (pos 0) ≡ pos n → ((networkOf net prices pairs) .exports z ≡ n) × ((networkOf net prices pairs) .imports z ≡ 0)
+  pub exports-are : (z n : ℕ) → getD netExports z (pos 0) ≡ pos n → ((networkOf netExports prices pairs) .exports z ≡ n) × ((networkOf netExports prices pairs) .imports z ≡ 0)
   exports-are z n e = rw e (refl, refl)
 
-  pub imports-are : (z n : ℕ) → getD net z (pos 0) ≡ negℤ (pos n) → ((networkOf net prices pairs) .exports z ≡ 0) × ((networkOf net prices pairs) .imports z ≡ n)
+  pub imports-are : (z n : ℕ) → getD netExports z (pos 0) ≡ negℤ (pos n) → ((networkOf netExports prices pairs) .exports z ≡ 0) × ((networkOf netExports prices pairs) .imports z ≡ n)
   imports-are z n e = rw e (turned n)
     where
       turned : (n : ℕ) → (up (negℤ (pos n)) ≡ 0) × (dn (negℤ (pos n)) ≡ n)

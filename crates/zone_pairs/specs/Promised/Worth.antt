@@ -14,7 +14,7 @@ use Rattle.integers.specs.Ranges.{is-true}
 use Rattle.integers.specs.Sums.{sumTo, sum-ext}
 use Rattle.integers.specs.NaturalSums.{sumNat, sum-parts}
 use Rattle.net_positions.specs.Meaning.Positions.{positionAt}
-use Rattle.transports.specs.Meaning.Network.{Placed, allExports, CarriesAll}
+use Rattle.transports.specs.Meaning.Network.{Placed, allExports, FeasibleAll}
 use Rattle.transports.specs.Promised.Worth.{Rising, yes-worth, yes-nonneg}
 use Rattle.zone_pairs.specs.Meaning.Pairs.{pairCount, firstZone, secondZone, priceAt, importsWorth, networkOf}
 
@@ -22,9 +22,9 @@ use Rattle.zone_pairs.specs.Meaning.Pairs.{pairCount, firstZone, secondZ
 abbrev pub pairGain : List ℤ → List ℕ → ℕ → ℕ → ℤ
 pairGain prices pairs flow k = pos flow *ℤ (priceAt prices (secondZone pairs k) -ℤ priceAt prices (firstZone pairs k))
 
-module _ (net prices : List ℤ) (pairs : List ℕ) where
+module _ (netExports prices : List ℤ) (pairs : List ℕ) where
   -- A COUNTED PAIR goes from lower or equal price to higher
-  pub counted-rises : Rising (networkOf net prices pairs) (priceAt prices)
+  pub counted-rises : Rising (networkOf netExports prices pairs) (priceAt prices)
   counted-rises k l e = leZ-yes (is-true e)
 
   -- A POSITION is export less import
@@ -32,20 +32,20 @@ module _ (net prices : List ℤ) (pairs : List ℕ) where
   turned (pos n) = eq-by (⊝_ (at (pos n))) (at (pos 0) ⊖ at (pos n)) (omega arith)
   turned (negsuc n) = eq-by (⊝_ (at (negsuc n))) (at (pos (dn (negsuc n))) ⊖ at (pos 0)) (omega arith)
 
-  pub imports-less-exports : (z : ℕ) → pos ((networkOf net prices pairs) .imports z) -ℤ pos ((networkOf net prices pairs) .exports z) ≡ negℤ (positionAt net z)
-  imports-less-exports z = sym (turned (positionAt net z))
+  pub imports-less-exports : (z : ℕ) → pos ((networkOf netExports prices pairs) .imports z) -ℤ pos ((networkOf netExports prices pairs) .exports z) ≡ negℤ (positionAt netExports z)
+  imports-less-exports z = sym (turned (positionAt netExports z))
 
-  worth-parts : importsWorth net prices ≡ sumTo (length net) (λ z. (pos ((networkOf net prices pairs) .imports z) -ℤ pos ((networkOf net prices pairs) .exports z)) *ℤ priceAt prices z)
-  worth-parts = sum-ext (length net) _ _ (λ z l. ap (λ (x : ℤ). x *ℤ priceAt prices z) (sym (imports-less-exports z)))
+  worth-parts : importsWorth netExports prices ≡ sumTo (length netExports) (λ z. (pos ((networkOf netExports prices pairs) .imports z) -ℤ pos ((networkOf netExports prices pairs) .exports z)) *ℤ priceAt prices z)
+  worth-parts = sum-ext (length netExports) _ _ (λ z l. ap (λ (x : ℤ). x *ℤ priceAt prices z) (sym (imports-less-exports z)))
 
   -- AS MUCH TO IMPORT AS TO EXPORT
-  pub as-much-imported : sumTo (length net) (positionAt net) ≡ pos 0 → allExports (networkOf net prices pairs) ≡ sumNat (length net) ((networkOf net prices pairs) .imports)
-  as-much-imported e = omega (arith, sum-parts (positionAt net) (length net), ap up e, ap dn e)
+  pub as-much-imported : sumTo (length netExports) (positionAt netExports) ≡ pos 0 → allExports (networkOf netExports prices pairs) ≡ sumNat (length netExports) ((networkOf netExports prices pairs) .imports)
+  as-much-imported e = omega (arith, sum-parts (positionAt netExports) (length netExports), ap up e, ap dn e)
 
   -- OF A YES, over the flows that it has
-  module _ (ok : Placed (networkOf net prices pairs)) (e : sumTo (length net) (positionAt net) ≡ pos 0) (i : CarriesAll (networkOf net prices pairs)) where
-    pub flows-gain : importsWorth net prices ≡ sumTo (pairCount pairs) (λ k. pairGain prices pairs (i .transport .flow k) k)
-    flows-gain = worth-parts ∙ yes-worth (networkOf net prices pairs) ok i (as-much-imported e) (priceAt prices)
+  module _ (ok : Placed (networkOf netExports prices pairs)) (e : sumTo (length netExports) (positionAt netExports) ≡ pos 0) (i : FeasibleAll (networkOf netExports prices pairs)) where
+    pub flows-gain : importsWorth netExports prices ≡ sumTo (pairCount pairs) (λ k. pairGain prices pairs (i .flows .flow k) k)
+    flows-gain = worth-parts ∙ yes-worth (networkOf netExports prices pairs) ok i (as-much-imported e) (priceAt prices)
 
-    pub worth-nonneg : pos 0 ≤ℤ importsWorth net prices
-    worth-nonneg = rw worth-parts (yes-nonneg (networkOf net prices pairs) ok i (as-much-imported e) (priceAt prices) counted-rises)
+    pub worth-nonneg : pos 0 ≤ℤ importsWorth netExports prices
+    worth-nonneg = rw worth-parts (yes-nonneg (networkOf netExports prices pairs) ok i (as-much-imported e) (priceAt prices) counted-rises)

@@ -1,4 +1,5 @@
--- `host::intuitive_hours::lta_intuitive_small` meets its contract: the clauses of what `intuitive_small` answers, and the eighth, which follows. Assumes nothing.
+-- `host::intuitive_hours::lta_intuitive_small` meets its contract: the clauses of what `intuitive_small` answers,
+-- and the eighth, which follows. Assumes nothing.
 use borrow.Author.Needs.{needs}
 use Rattle.intuitive.specs.Steps.Answers.{clauses}
 use Rattle.intuitive.specs.Promised.Worth.{yes-worth-nonneg}

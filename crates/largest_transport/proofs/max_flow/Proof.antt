@@ -1,4 +1,4 @@
--- `largest_transport::largest_transport` meets its contract: an empty transport, filled until no augmenting path is left, and cleared. Assumes nothing.
+-- `largest_transport::max_flow` meets its contract: an empty flow, filled until no augmenting path is left, and cleared. Assumes nothing.
 use mathlib.Core.Path.{_≡_, sym, subst}
 use Prim.Native.Nat.{ℕ, _≤_}
 use native.Mathlib.Omega.{arith}
@@ -8,8 +8,8 @@ use Rattle.zone_pairs.specs.Meaning.Pairs.{networkOf}
 use Rattle.flow_scratch.specs.Cleared.{cleared-again}
 use Rattle.largest_transport.specs.Filled.{Answer, total-le, exports-few, cleared-state, answer-of}
 use borrow.Author.Needs.{needs}
-use Rattle.largest_transport.proofs.largest_transport.Statement.{statement}
-use Rattle.largest_transport.proofs.largest_transport.Tie as tie
+use Rattle.largest_transport.proofs.max_flow.Statement.{statement}
+use Rattle.largest_transport.proofs.max_flow.Tie as tie
 
 clear-requires : tie.Need-clear-requires
 clear-requires c κs = search needs
@@ -21,7 +21,7 @@ fill-requires c κs =
       st .pre .0,
       (
         omega (arith, e .ensures .len, st .pre .1),
-        cleared-state (now (st .args .net)) (now (st .args .prices)) (now (st .args .pairs)) 96 (now (st .args .s)) (e .last .0) (st .pre .0) (omega arith) (e .ensures),
+        cleared-state (now (st .args .net-exports)) (now (st .args .prices)) (now (st .args .pairs)) 96 (now (st .args .s)) (e .last .0) (st .pre .0) (omega arith) (e .ensures),
       ),
     )
 
@@ -39,7 +39,7 @@ returns c =
     let f = c .before .before .before .before .before in
     let e = f .before .before .before in
     let st = e .before .before .before in
-    let n = now (st .args .net) in
+    let n = now (st .args .net-exports) in
     let p = now (st .args .prices) in
     let b = now (st .args .pairs) in (
       subst (λ (x : ℕ). Answer (networkOf n p b) (eqb (f .fill .result) x) (f .fill .result)) (sym (c .all-exports .ensures)) (answer-of _ _ (f .fill .result) (st .pre .0 .placed) (f .fill .ensures .0)),
@@ -49,8 +49,8 @@ returns c =
       ),
     )
 
-pub largest-transport-spec : {M : Type 1} → statement M
-largest-transport-spec =
+pub max-flow-spec : {M : Type 1} → statement M
+max-flow-spec =
     tie.close
     (tie.spec
     clear-requires
