@@ -2,7 +2,8 @@
 ghost use mathlib.Core.Path.{_≡_};
 ghost use Prim.Native.Nat.{_+_, _*_, _/_, _%_};
 ghost use lib.ListN.{length};
-ghost use Rattle.rules.specs.Meaning.Promise.{TotalsReported, Allowed, Accurate, GapWithin, HasLink, Covered, Best, CoveredInFull, FamilyTotalsReported, FamiliesKept};
+ghost use Rattle.rules.specs.Meaning.Promise.{TotalsReported, Allowed, Accurate, GapWithin, HasLink, Covered};
+ghost use Rattle.rules.specs.Meaning.Promise.{Best, CoveredInFull, FamilyTotalsReported, FamiliesKept};
 ghost use Rattle.rules.specs.Meaning.Report.{bufferAfter, familyBufferAfter};
 ghost use Rattle.rules.specs.Meaning.Verdict.{outcome, familyOutcome};
 ghost use Rattle.rules.specs.Meaning.AnnexPromise.{AnnexDemand3};
@@ -41,8 +42,9 @@ pub extern "C" fn lta_judge(case: &[u8], proposal: &[u8], report: &mut [u8]) -> 
     packed(v.number, v.index)
 }
 
-// THE ENTRY WITH A FAMILY LIST (S-11): the same with rows 16 to 18 and 28, an empty list being 16. An accepted hour keeps what one without a list keeps, the
-// accuracy rule comparing with clearings free of families, and beside it each child is accepted in at most the fraction of its parent.
+// THE ENTRY WITH A FAMILY LIST (S-11): the same with rows 16 to 18 and 28; an empty list is 16. An accepted hour keeps
+// what one without a list keeps, the accuracy rule comparing with clearings free of families. Besides, each child is
+// accepted in at most the fraction of its parent.
 #[no_mangle]
 pub extern "C" fn lta_judge_families(
     case: &[u8],

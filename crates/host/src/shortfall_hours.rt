@@ -7,9 +7,10 @@ ghost use Rattle.shortfalls.specs.Meaning.Answer.{shortfallOutcome, shortfallWr
 use hour_shortfalls::hour_shortfalls;
 use output::Written;
 
-// Two numbers for each order, then each branch, then each link, at the start of `out`: whole microcents and hundred-thousandths of one, below 100,000; and
-// how many numbers that is. An hour that is not accepted is refused by the judgement's number and index, and a short `out` by 86, with length 0 and `out` as
-// it was. Of an answer: each pair is its shortfall, none is negative, all together are at most the gap, and at gap zero each number is zero.
+// Two numbers for each order, then each branch, then each link, at the start of `out`: whole microcents, and
+// hundred-thousandths of one, below 100,000; and how many numbers that is. An hour that is not accepted is refused by
+// the judgement's number and index, and a short `out` by 86, with length 0 and `out` as it was. In an answer each pair
+// is its shortfall, none is negative, all together are at most the gap, and at gap zero each number is zero.
 #[no_mangle]
 pub extern "C" fn lta_shortfalls(case: &[u8], proposal: &[u8], out: &mut [i64]) -> Written
     ensures outcome { λ r. ⌜ verdict (r .number) (r .index) ≡ shortfallOutcome (now («case» .entry)) (now (proposal .entry)) (length (now (out .entry))) ⌝ }

@@ -19,7 +19,6 @@ use Rattle.rules.specs.Meaning.Verdict.{outcome}
 use Rattle.rules.specs.Steps.Passed.{Sound, sound}
 use Rattle.rules.specs.Promised.Guarantee.{Accepted, allowed}
 use Rattle.output.specs.declared.Written.{Written}
-use Rattle.case_header.specs.declared.Counts.{Counts}
 use Rattle.case_header.specs.Opened.{Limited, headed, limited}
 use Rattle.findings.specs.declared.Found.{Found}
 use Rattle.findings.specs.Found.{Finds, hourRows}
@@ -27,7 +26,9 @@ use Rattle.shortfalls.specs.Meaning.Answer.{shortfallNumbers, shortfallCount, s
 use Rattle.shortfalls.specs.Promised.Account.{hour-accounted}
 use Rattle.shortfalls.specs.Promised.Answer.{gap-small, hour-answers}
 use Rattle.shortfalls.specs.Promised.Causes.{room-passes, refused-first}
-use Rattle.single_shortfall.specs.Judged.{Judged}
+use Rattle.clearing.specs.declared.HourRead.{HourRead}
+use Rattle.clearing.specs.Read.{case-opened}
+use Rattle.single_shortfall.specs.Judged.{HourAccepted}
 use Rattle.hour_shortfalls.specs.Meaning.HourShortfalls.{HourShortfalls}
 use Rattle.hour_shortfalls.specs.Pairs.{countOf}
 
@@ -81,9 +82,9 @@ module _ (s t : List ℕ) (out : List ℤ) where
       unfolding reports
       valued = h .valued-is ∙ ap reports e
 
-      pub judged : Judged s (f .hour .counts) t
+      pub judged : HourAccepted s t (f .hour)
       judged = record {
-        proposed = (h .hour-is valued) .proposed;
+        read = h .hour-is valued;
         clearing = allowed s t reportRoom (found-accepted e);
         prices-in = record { within = passed .cleared .zonePrice-in };
         accounted = hour-accounted s t reportRoom (found-accepted e);
@@ -95,5 +96,5 @@ module _ (s t : List ℕ) (out : List ℤ) where
       count-is = ap countOf (((h .hour-is valued) .proposed) .opened .counts)
 
 -- the counts are few
-pub few : {s : List ℕ} {k : Counts} {t : List ℕ} → Judged s k t → Limited k
-few j = limited (headed (j .proposed .opened))
+pub few : {s t : List ℕ} {hour : HourRead} → HourAccepted s t hour → Limited (hour .counts)
+few j = limited (headed (case-opened (j .read)))

@@ -3,25 +3,21 @@ ghost use mathlib.Core.Path.{_≡_};
 ghost use Prim.Native.Nat.{_+_, _*_, _≤_};
 ghost use lib.ListN.{length};
 ghost use lib.Seq.{sets};
-ghost use lib.IntN.{pos, _-ℤ_};
-ghost use Rattle.measures.specs.Meaning.Limits as limits;
 ghost use Rattle.rules.specs.Meaning.Hour.{caseOf, planOf, pricesOf, fbPart};
 ghost use Rattle.case_branches.specs.Table.{tableOf};
-ghost use Rattle.proposal_file.specs.Meaning.Answer.{openingOf};
 ghost use Rattle.clearing.specs.Held.{Holds};
 ghost use Rattle.network.specs.Prices.{Priced};
 ghost use Rattle.shortfalls.specs.Meaning.Shortfalls.{orderShortfall, branchShortfall, linkShortfall};
 ghost use Rattle.shortfalls.specs.Meaning.Answer.{pairsTo, shortfallNumbers};
-ghost use Rattle.single_shortfall.specs.Judged.{Judged};
+ghost use Rattle.single_shortfall.specs.Judged.{HourAccepted};
 ghost use Rattle.hour_shortfalls.specs.Meaning.HourShortfalls.{HourShortfalls};
 ghost use Rattle.hour_shortfalls.specs.Pairs.{numbersIn, Writable, countOf};
 use case_branches::ptdf_table;
-use case_header::Counts;
+use clearing::HourRead;
 use findings::Found;
 use findings::find;
 use measures::ExactMicrocents;
 use measures::Grains;
-use measures::Share;
 use measures::Tenths;
 use output::Written;
 use output::refused;
@@ -40,83 +36,75 @@ fn put(out: &mut [i64], n: usize, x: ExactMicrocents)
     out[2 * n + 1] = x.parts().0 as i64;
 }
 
-fn put_orders(case: &[u8], k: Counts, proposal: &[u8], prices: [Grains; 16], out: &mut [i64])
-    requires { ⌜ Judged (now «case») k (now proposal) ⌝ }
+fn put_orders(case: &[u8], proposal: &[u8], hour: HourRead, prices: [Grains; 16], out: &mut [i64])
+    requires { ⌜ HourAccepted (now «case») (now proposal) hour ⌝ }
     requires { ⌜ Priced (caseOf (now «case»)) (pricesOf (now «case») (now proposal)) prices ⌝ }
-    requires { ⌜ 2 * k .orders ≤ length (now out) ⌝ }
-    ensures { λ _. ⌜ now (out .exit) ≡ sets (now (out .entry)) 0 (pairsTo (k .orders) (orderShortfall (caseOf (now («case» .entry))) (planOf (now («case» .entry)) (now (proposal .entry))) (pricesOf (now («case» .entry)) (now (proposal .entry))))) ⌝ }
+    requires { ⌜ 2 * hour .counts .orders ≤ length (now out) ⌝ }
+    ensures { λ _. ⌜ now (out .exit) ≡ sets (now (out .entry)) 0 (pairsTo (hour .counts .orders)
+        (orderShortfall (caseOf (now («case» .entry))) (planOf (now («case» .entry)) (now (proposal .entry))) (pricesOf (now («case» .entry)) (now (proposal .entry))))) ⌝ }
 {
-    for i in 0..k.orders {
-        put(out, i, order_shortfall(case, k, proposal, prices, i));
+    for i in 0..hour.counts.orders {
+        put(out, i, order_shortfall(case, proposal, hour, prices, i));
     }
 }
 
 fn put_branches(
     case: &[u8],
-    k: Counts,
     proposal: &[u8],
+    hour: HourRead,
     table: [[i32; 16]; 64],
     parts: [Tenths; 16],
-    flow_based: Share,
     out: &mut [i64],
 )
-    requires { ⌜ Judged (now «case») k (now proposal) ⌝ }
+    requires { ⌜ HourAccepted (now «case») (now proposal) hour ⌝ }
     requires { ⌜ table ≡ tableOf (now «case») ⌝ }
     requires { ⌜ Holds (fbPart (caseOf (now «case»)) (planOf (now «case») (now proposal))) parts ⌝ }
-    requires { ⌜ «flow_based» .0 ≡ pos limits.partsInOne -ℤ pos ((planOf (now «case») (now proposal)) .share) ⌝ }
-    requires { ⌜ 2 * (k .orders + k .branches) ≤ length (now out) ⌝ }
-    ensures { λ _. ⌜ now (out .exit) ≡ sets (now (out .entry)) (2 * k .orders) (pairsTo (k .branches) (branchShortfall (caseOf (now («case» .entry))) (planOf (now («case» .entry)) (now (proposal .entry))) (pricesOf (now («case» .entry)) (now (proposal .entry))))) ⌝ }
+    requires { ⌜ 2 * (hour .counts .orders + hour .counts .branches) ≤ length (now out) ⌝ }
+    ensures { λ _. ⌜ now (out .exit) ≡ sets (now (out .entry)) (2 * hour .counts .orders) (pairsTo (hour .counts .branches)
+        (branchShortfall (caseOf (now («case» .entry))) (planOf (now («case» .entry)) (now (proposal .entry))) (pricesOf (now («case» .entry)) (now (proposal .entry))))) ⌝ }
 {
-    for m in 0..k.branches {
+    for m in 0..hour.counts.branches {
         let row = table[m];
         put(
             out,
-            k.orders + m,
-            branch_shortfall(case, k, proposal, row, parts, flow_based, m),
+            hour.counts.orders + m,
+            branch_shortfall(case, proposal, hour, row, parts, m),
         );
     }
 }
 
-fn put_links(
-    case: &[u8],
-    k: Counts,
-    proposal: &[u8],
-    share: Share,
-    prices: [Grains; 16],
-    out: &mut [i64],
-)
-    requires { ⌜ Judged (now «case») k (now proposal) ⌝ }
+fn put_links(case: &[u8], proposal: &[u8], hour: HourRead, prices: [Grains; 16], out: &mut [i64])
+    requires { ⌜ HourAccepted (now «case») (now proposal) hour ⌝ }
     requires { ⌜ Priced (caseOf (now «case»)) (pricesOf (now «case») (now proposal)) prices ⌝ }
-    requires { ⌜ share .0 ≡ pos ((planOf (now «case») (now proposal)) .share) ⌝ }
-    requires { ⌜ 2 * countOf k ≤ length (now out) ⌝ }
-    ensures { λ _. ⌜ now (out .exit) ≡ sets (now (out .entry)) (2 * (k .orders + k .branches)) (pairsTo (k .links) (linkShortfall (caseOf (now («case» .entry))) (planOf (now («case» .entry)) (now (proposal .entry))) (pricesOf (now («case» .entry)) (now (proposal .entry))))) ⌝ }
+    requires { ⌜ 2 * countOf (hour .counts) ≤ length (now out) ⌝ }
+    ensures { λ _. ⌜ now (out .exit) ≡ sets (now (out .entry)) (2 * (hour .counts .orders + hour .counts .branches)) (pairsTo (hour .counts .links)
+        (linkShortfall (caseOf (now («case» .entry))) (planOf (now («case» .entry)) (now (proposal .entry))) (pricesOf (now («case» .entry)) (now (proposal .entry))))) ⌝ }
 {
-    for l in 0..k.links {
+    for l in 0..hour.counts.links {
         put(
             out,
-            k.orders + k.branches + l,
-            link_shortfall(case, k, proposal, share, prices, l),
+            hour.counts.orders + hour.counts.branches + l,
+            link_shortfall(case, proposal, hour, prices, l),
         );
     }
 }
 
 // All of them, of an accepted hour, from what was found in it.
 fn put_all(case: &[u8], proposal: &[u8], found: Found, out: &mut [i64])
-    requires { ⌜ Judged (now «case») (found .hour .counts) (now proposal) ⌝ }
-    requires { ⌜ found .hour .opening ≡ openingOf (now proposal) ⌝ }
+    requires { ⌜ HourAccepted (now «case») (now proposal) (found .hour) ⌝ }
     requires { ⌜ Holds (fbPart (caseOf (now «case»)) (planOf (now «case») (now proposal))) (found .cleared .parts) ⌝ }
     requires { ⌜ Priced (caseOf (now «case»)) (pricesOf (now «case») (now proposal)) (found .prices) ⌝ }
     requires { ⌜ 2 * countOf (found .hour .counts) ≤ length (now out) ⌝ }
     ensures { λ _. ⌜ now (out .exit) ≡ sets (now (out .entry)) 0 (shortfallNumbers (caseOf (now («case» .entry))) (planOf (now («case» .entry)) (now (proposal .entry))) (pricesOf (now («case» .entry)) (now (proposal .entry)))) ⌝ }
 {
-    let k = found.hour.counts;
-    let share = found.hour.opening.share;
+    let hour = found.hour;
+    let k = hour.counts;
     let parts = found.cleared.parts;
     let prices = found.prices;
     let table = ptdf_table(case, k);
-    put_orders(case, k, proposal, prices, out);
-    put_branches(case, k, proposal, table, parts, share.rest(), out);
-    put_links(case, k, proposal, share, prices, out);
+    put_orders(case, proposal, hour, prices, out);
+    put_branches(case, proposal, hour, table, parts, out);
+    put_links(case, proposal, hour, prices, out);
 }
 
 // The judgement's number and index where the hour is not accepted; else its shortfalls, or 86 where the output is too short. As `host` exports it.

@@ -4,7 +4,7 @@ ghost use mathlib.Core.Path.{_≡_};
 ghost use mathlib.Core.List.{[]};
 ghost use Prim.Native.Nat.{ℕ, _≤_, _<_};
 ghost use lib.ListN.{getD};
-ghost use lib.IntN.{pos, _-ℤ_};
+ghost use lib.IntN.{pos};
 ghost use Rattle.integers.specs.Ranges.{Within};
 ghost use Rattle.integers.specs.Machine.{SumsFit};
 ghost use Rattle.integers.specs.Sums.{sumTo};
@@ -15,16 +15,15 @@ ghost use Rattle.clearing.specs.Held.{Holds};
 ghost use Rattle.network.specs.Prices.{Priced};
 ghost use Rattle.shortfalls.specs.Meaning.Shortfalls.{orderShortfall, branchShortfall, linkShortfall};
 ghost use Rattle.single_shortfall.specs.Short.{shortOf, Shortable, Exact};
-ghost use Rattle.single_shortfall.specs.Judged.{Judged, loadOn};
+ghost use Rattle.single_shortfall.specs.Judged.{HourAccepted, loadOn};
 use case_branches::margin_at;
-use case_header::Counts;
 use case_links::link_at;
 use case_orders::order_at;
+use clearing::HourRead;
 use measures::ExactMicrocents;
 use measures::Grains;
 use measures::Load;
 use measures::Ptdf;
-use measures::Share;
 use measures::Tenths;
 use orders::unit_gain;
 use proposal_file::flow_at;
@@ -46,16 +45,17 @@ fn short(room: Load, used: Load, price: Grains) -> ExactMicrocents
 // Order i: its quantity is the room, and its volume is used, at what a unit of it gains.
 pub fn order_shortfall(
     case: &[u8],
-    k: Counts,
     proposal: &[u8],
+    hour: HourRead,
     prices: [Grains; 16],
     i: usize,
 ) -> ExactMicrocents
-    requires { ⌜ Judged (now «case») k (now proposal) ⌝ }
+    requires { ⌜ HourAccepted (now «case») (now proposal) hour ⌝ }
     requires { ⌜ Priced (caseOf (now «case»)) (pricesOf (now «case») (now proposal)) prices ⌝ }
-    requires { ⌜ i < k .orders ⌝ }
+    requires { ⌜ i < hour .counts .orders ⌝ }
     ensures { λ r. ⌜ Exact (orderShortfall (caseOf (now («case» .entry))) (planOf (now («case» .entry)) (now (proposal .entry))) (pricesOf (now («case» .entry)) (now (proposal .entry))) i) r ⌝ }
 {
+    let k = hour.counts;
     let order = order_at(case, k, i);
     let volume = volume_at(case, k, proposal, i);
     let zone = order.zone;
@@ -83,41 +83,41 @@ fn load_of(row: [i32; 16], parts: [Tenths; 16], zones: usize) -> Load
 // Branch m: its margin scaled by the flow-based share is the room, and its load is used, at its shadow price.
 pub fn branch_shortfall(
     case: &[u8],
-    k: Counts,
     proposal: &[u8],
+    hour: HourRead,
     row: [i32; 16],
     parts: [Tenths; 16],
-    flow_based: Share,
     m: usize,
 ) -> ExactMicrocents
-    requires { ⌜ Judged (now «case») k (now proposal) ⌝ }
-    requires { ⌜ m < k .branches ⌝ }
+    requires { ⌜ HourAccepted (now «case») (now proposal) hour ⌝ }
+    requires { ⌜ m < hour .counts .branches ⌝ }
     requires { ⌜ row ≡ getD (tableOf (now «case»)) m [] ⌝ }
     requires { ⌜ Holds (fbPart (caseOf (now «case»)) (planOf (now «case») (now proposal))) parts ⌝ }
-    requires { ⌜ «flow_based» .0 ≡ pos limits.partsInOne -ℤ pos ((planOf (now «case») (now proposal)) .share) ⌝ }
     ensures { λ r. ⌜ Exact (branchShortfall (caseOf (now («case» .entry))) (planOf (now («case» .entry)) (now (proposal .entry))) (pricesOf (now («case» .entry)) (now (proposal .entry))) m) r ⌝ }
 {
+    let k = hour.counts;
+    let share = hour.opening.share;
     let margin = margin_at(case, k, m);
     let shadow = shadow_at(case, k, proposal, m);
     let load = load_of(row, parts, k.zones);
-    short(flow_based.part(margin), load, shadow.in_grains())
+    short(share.rest().part(margin), load, shadow.in_grains())
 }
 
 // Link l: its capacity scaled by the LTA share is the room, and its flow is used, at its spread. Its contracted volume does not enter.
 pub fn link_shortfall(
     case: &[u8],
-    k: Counts,
     proposal: &[u8],
-    share: Share,
+    hour: HourRead,
     prices: [Grains; 16],
     l: usize,
 ) -> ExactMicrocents
-    requires { ⌜ Judged (now «case») k (now proposal) ⌝ }
+    requires { ⌜ HourAccepted (now «case») (now proposal) hour ⌝ }
     requires { ⌜ Priced (caseOf (now «case»)) (pricesOf (now «case») (now proposal)) prices ⌝ }
-    requires { ⌜ share .0 ≡ pos ((planOf (now «case») (now proposal)) .share) ⌝ }
-    requires { ⌜ l < k .links ⌝ }
+    requires { ⌜ l < hour .counts .links ⌝ }
     ensures { λ r. ⌜ Exact (linkShortfall (caseOf (now («case» .entry))) (planOf (now («case» .entry)) (now (proposal .entry))) (pricesOf (now («case» .entry)) (now (proposal .entry))) l) r ⌝ }
 {
+    let k = hour.counts;
+    let share = hour.opening.share;
     let link = link_at(case, k, l);
     let flow = flow_at(case, k, proposal, l);
     let to = link.to;

@@ -14,7 +14,7 @@ use Rattle.case_header.specs.declared.Counts.{Counts}
 use Rattle.shortfalls.specs.Meaning.Answer.{shortfallCount}
 use Rattle.shortfalls.specs.Promised.Answer.{numbers-long}
 use Rattle.shortfalls.specs.Promised.Causes.{short-output, enough-room}
-use Rattle.single_shortfall.specs.Judged.{Judged}
+use Rattle.single_shortfall.specs.Judged.{HourAccepted}
 use Rattle.hour_shortfalls.specs.Kept.{kept-refused, kept-answer, found-refused, found-accepted, valued, judged, count-is, few}
 use Rattle.hour_shortfalls.specs.Pairs.{countOf}
 use Rattle.hour_shortfalls.proofs.hour_shortfalls.Statement.{statement}
@@ -64,7 +64,7 @@ k e = found e .find .result .hour .counts
 accepted : (e : tie.Else1) → Accepted (file (found e)) (plan (found e)) reportRoom
 accepted e = let f = found e in found-accepted (file f) (plan f) (out f) (f .find .result) (f .find .ensures) (is-zero e)
 
-hour : (e : tie.Else1) → Judged (file (found e)) (k e) (plan (found e))
+hour : (e : tie.Else1) → HourAccepted (file (found e)) (plan (found e)) (found e .find .result .hour)
 hour e = let f = found e in judged (file f) (plan f) (out f) (f .find .result) (f .find .ensures) (is-zero e)
 
 count : (e : tie.Else1) → countOf (k e) ≡ shortfallCount (caseOf (file (found e)))
@@ -101,7 +101,7 @@ put-all-requires c κs =
     let f = found e in
     let h = f .find .ensures in
     let v = valued (file f) (plan f) (out f) (f .find .result) h (is-zero e) in
-    (hour e, ((h .hour-is v) .opening-is, ((h .cleared-is v) .parts-are, (h .prices-are v, c .before .if2 .left))))
+    (hour e, ((h .cleared-is v) .parts-are, (h .prices-are v, c .before .if2 .left)))
 
 same-length : tie.Need-same-length
 same-length c = search needs

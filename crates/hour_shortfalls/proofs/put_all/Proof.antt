@@ -6,16 +6,11 @@ use native.Mathlib.Omega.{arith}
 use denote.Ref.{now}
 use lib.ListN.{length}
 use lib.Seq.{sets, length-sets}
-use lib.IntN.{ℤ, pos, _-ℤ_}
-use mir.Syntax.{w64}
-use Rattle.integers.specs.Size.{near-fits, near-sub, near-pos, near-unsigned}
-use Rattle.integers.specs.Machine.{sfits-by}
-use Rattle.measures.specs.Meaning.Limits.{partsInOne}
+use lib.IntN.{ℤ}
 use Rattle.rules.specs.Meaning.Hour.{Case, Plan, Prices, caseOf, planOf, pricesOf}
 use Rattle.shortfalls.specs.Meaning.Shortfalls.{orderShortfall, branchShortfall, linkShortfall}
 use Rattle.shortfalls.specs.Meaning.Answer.{pairsTo, shortfallNumbers}
-use Rattle.proposal_file.specs.declared.Opening.{Opening}
-use Rattle.single_shortfall.specs.Judged.{orders-is, branches-is, links-is, proposal-in}
+use Rattle.clearing.specs.Read.{orders-is, branches-is, links-is}
 use Rattle.hour_shortfalls.specs.Pairs.{countOf, three-runs}
 use Rattle.hour_shortfalls.proofs.put_all.Statement.{statement}
 use Rattle.hour_shortfalls.proofs.put_all.Tie as tie
@@ -56,47 +51,35 @@ long-2 a = length-sets (sets (now (a .args .out)) 0 (of-orders a)) (branches-at 
 long-3 : (a : tie.Start) → length (sets (sets (sets (now (a .args .out)) 0 (of-orders a)) (branches-at a) (of-branches a)) (links-at a) (of-links a)) ≡ length (now (a .args .out))
 long-3 a = length-sets (sets (sets (now (a .args .out)) 0 (of-orders a)) (branches-at a) (of-branches a)) (links-at a) (of-links a) ∙ long-2 a
 
-share-is : (a : tie.Start) → a .args .found .hour .opening .share .0 ≡ pos (plan a .share)
-unfolding planOf
-share-is a = ap (λ (o : Opening). o .share .0) (a .pre .1 .0)
-
 ptdf-table-requires : tie.Need-ptdf-table-requires
-ptdf-table-requires c κs = (c .before .before .before .before .before .before) .pre .0 .proposed .opened
+ptdf-table-requires c κs = (c .before .before .before .before .before .before) .pre .0 .read .proposed .opened
 
 abbrev start : tie.After-ptdf-table → tie.Start
 start c = c .before .before .before .before .before .before .before
 
 put-orders-requires : tie.Need-put-orders-requires
-put-orders-requires c κs = let a = start (c .before) in (a .pre .0, (a .pre .1 .1 .1 .0, omega (arith, a .pre .1 .1 .1 .1)))
+put-orders-requires c κs = let a = start (c .before) in (a .pre .0, (a .pre .1 .1 .0, omega (arith, a .pre .1 .1 .1)))
 
 abbrev table : tie.After-put-orders → tie.After-ptdf-table
 table o = o .before .before
 
-rest-requires : tie.Need-rest-requires
-rest-requires c κs =
-    let a = start (table (c .before)) in
-    sfits-by w64 (ap (λ (x : ℤ). pos partsInOne -ℤ x) (share-is a)) (near-fits w64 (omega arith) (near-sub (near-pos partsInOne) (near-unsigned (plan a .share) 100000 ((proposal-in (a .pre .0)) .share-in))))
-
 put-branches-requires : tie.Need-put-branches-requires
 put-branches-requires c κs =
-    let o = c .before .before .before in
+    let o = c .before .before in
     let t = table o in
     let a = start t in (
       a .pre .0,
       (
         t .ptdf-table .ensures,
         (
-          a .pre .1 .1 .0,
-          (
-            c .before .rest .ensures ∙ ap (λ (x : ℤ). pos partsInOne -ℤ x) (share-is a),
-            subst (λ (n : ℕ). 2 * (a .args .found .hour .counts .orders + a .args .found .hour .counts .branches) ≤ n) (sym (ap length (o .put-orders .ensures) ∙ long-1 a)) (omega (arith, a .pre .1 .1 .1 .1)),
-          ),
+          a .pre .1 .0,
+          subst (λ (n : ℕ). 2 * (a .args .found .hour .counts .orders + a .args .found .hour .counts .branches) ≤ n) (sym (ap length (o .put-orders .ensures) ∙ long-1 a)) (omega (arith, a .pre .1 .1 .1)),
         ),
       ),
     )
 
 abbrev orders : tie.After-put-branches → tie.After-put-orders
-orders b = b .before .before .before .before
+orders b = b .before .before .before
 
 put-links-requires : tie.Need-put-links-requires
 put-links-requires c κs =
@@ -105,11 +88,8 @@ put-links-requires c κs =
     let a = start (table o) in (
       a .pre .0,
       (
-        a .pre .1 .1 .1 .0,
-        (
-          share-is a,
-          subst (λ (n : ℕ). 2 * countOf (a .args .found .hour .counts) ≤ n) (sym (ap length (b .put-branches .ensures ∙ (λ i. sets (o .put-orders .ensures i) (branches-at a) (of-branches a))) ∙ long-2 a)) (a .pre .1 .1 .1 .1),
-        ),
+        a .pre .1 .1 .0,
+        subst (λ (n : ℕ). 2 * countOf (a .args .found .hour .counts) ≤ n) (sym (ap length (b .put-branches .ensures ∙ (λ i. sets (o .put-orders .ensures i) (branches-at a) (of-branches a))) ∙ long-2 a)) (a .pre .1 .1 .1),
       ),
     )
 
@@ -127,7 +107,7 @@ returns c =
     let o = orders b in
     let a = start (table o) in
     let k = a .args .found .hour .counts in
-    let j = a .pre .0 in
+    let j = a .pre .0 .read in
     let f = orderShortfall (hour a) (plan a) (rates a) in
     let g = branchShortfall (hour a) (plan a) (rates a) in
     let h = linkShortfall (hour a) (plan a) (rates a) in
@@ -142,7 +122,6 @@ put-all-spec =
     (tie.spec
     ptdf-table-requires
     put-orders-requires
-    rest-requires
     put-branches-requires
     put-links-requires
     same-length

@@ -10,18 +10,18 @@ use lib.IntN.{ℤ}
 use Rattle.rules.specs.Meaning.Hour.{caseOf, planOf, pricesOf, gap}
 use Rattle.shortfalls.specs.Meaning.Shortfalls.{branchShortfall}
 use Rattle.shortfalls.specs.Meaning.Answer.{pairsTo}
-use Rattle.single_shortfall.specs.Judged.{branches-is}
+use Rattle.clearing.specs.Read.{branches-is}
 use Rattle.hour_shortfalls.specs.Pairs.{numbersIn, writable, run-more}
 use Rattle.hour_shortfalls.specs.Kept.{few}
 use Rattle.hour_shortfalls.proofs.put_branches.Statement.{statement}
 use Rattle.hour_shortfalls.proofs.put_branches.Tie as tie
 
 abbrev Inv-loop : tie.InvT-loop
-Inv-loop «case» k proposal parts flow-based out₀ table m₀ m-end out m =
-    (m ≤ k .branches) × (out ≡ sets out₀ (2 * k .orders) (pairsTo m (branchShortfall (caseOf «case») (planOf «case» proposal) (pricesOf «case» proposal))))
+Inv-loop «case» proposal hour parts out₀ table m₀ m-end out m =
+    (m ≤ hour .counts .branches) × (out ≡ sets out₀ (2 * hour .counts .orders) (pairsTo m (branchShortfall (caseOf «case») (planOf «case» proposal) (pricesOf «case» proposal))))
 
 abbrev μ-loop : tie.MeasureT-loop
-μ-loop «case» k proposal parts flow-based out₀ table m₀ m-end out m = k .branches - m
+μ-loop «case» proposal hour parts out₀ table m₀ m-end out m = hour .counts .branches - m
 
 -- the hour, and the branch of a turn
 abbrev start : tie.At-loop Inv-loop μ-loop → tie.Start Inv-loop μ-loop
@@ -35,11 +35,11 @@ unfolding pairsTo
 loop-holds c = (omega arith, refl)
 
 inside : (t : tie.In-loop Inv-loop μ-loop) → t .before .loop .m < (caseOf (now (start (t .before) .args .«case»))) .branches
-inside t = omega (arith, branches-is (start (t .before) .pre .0), t .loop-test .taken)
+inside t = omega (arith, branches-is (start (t .before) .pre .0 .read), t .loop-test .taken)
 
 -- the output keeps its length
 kept : (l : tie.At-loop Inv-loop μ-loop) → length (l .loop .out) ≡ length (now (start l .args .out))
-kept l = ap length (l .loop .inv .1) ∙ length-sets (now (start l .args .out)) (2 * start l .args .k .orders) (pairsTo (l .loop .m) (shortfalls (start l)))
+kept l = ap length (l .loop .inv .1) ∙ length-sets (now (start l .args .out)) (2 * start l .args .hour .counts .orders) (pairsTo (l .loop .m) (shortfalls (start l)))
 
 mul-row : tie.Need-mul-row Inv-loop μ-loop
 mul-row c = omega (arith, c .loop-test .taken, few (start (c .before) .pre .0))
@@ -54,7 +54,7 @@ branch-shortfall-requires : tie.Need-branch-shortfall-requires Inv-loop μ-loop
 branch-shortfall-requires c κs =
     let t = c .before .before .before in
     let a = start (t .before) in
-    (a .pre .0, (t .loop-test .taken, (ap (λ (r : List (List ℤ)). getD r (t .before .loop .m) []) (a .pre .1 .0), (a .pre .1 .1 .0, a .pre .1 .1 .1 .0))))
+    (a .pre .0, (t .loop-test .taken, (ap (λ (r : List (List ℤ)). getD r (t .before .loop .m) []) (a .pre .1 .0), a .pre .1 .1 .0)))
 
 put-requires : tie.Need-put-requires Inv-loop μ-loop
 put-requires c κs =
@@ -63,7 +63,7 @@ put-requires c κs =
     let j = a .pre .0 in (
       omega (arith, t .loop-test .taken, few j),
       (
-        omega (arith, t .loop-test .taken, kept (t .before), a .pre .1 .1 .1 .1),
+        omega (arith, t .loop-test .taken, kept (t .before), a .pre .1 .1 .1),
         writable {x = shortfalls a (t .before .loop .m)} (gap (caseOf (now (a .args .«case»))) (planOf (now (a .args .«case»)) (now (a .args .proposal))) (pricesOf (now (a .args .«case»)) (now (a .args .proposal)))) (c .branch-shortfall .ensures) (j .accounted .branch-within (t .before .loop .m) (inside t)) (j .gap-small),
       ),
     )
@@ -83,8 +83,8 @@ loop-again c =
     let a = start l in (
       omega (arith, t .loop-test .taken),
       p .put .ensures
-          ∙ ap (λ (x : List ℤ). sets x (2 * (a .args .k .orders + l .loop .m)) (numbersIn (o .branch-shortfall .result))) (l .loop .inv .1)
-          ∙ run-more (now (a .args .out)) (2 * a .args .k .orders) (l .loop .m) (a .args .k .orders + l .loop .m) (shortfalls a) (omega arith) (o .branch-shortfall .ensures),
+          ∙ ap (λ (x : List ℤ). sets x (2 * (a .args .hour .counts .orders + l .loop .m)) (numbersIn (o .branch-shortfall .result))) (l .loop .inv .1)
+          ∙ run-more (now (a .args .out)) (2 * a .args .hour .counts .orders) (l .loop .m) (a .args .hour .counts .orders + l .loop .m) (shortfalls a) (omega arith) (o .branch-shortfall .ensures),
     )
 
 same-length : tie.Need-same-length Inv-loop μ-loop
@@ -94,8 +94,8 @@ returns : tie.Need-returns Inv-loop μ-loop
 returns c =
     let l = c .before in
     let a = start l in
-    let e : l .loop .m ≡ a .args .k .branches = omega (arith, l .loop .inv .0, c .loop-test .left) in
-    l .loop .inv .1 ∙ ap (λ (n : ℕ). sets (now (a .args .out)) (2 * a .args .k .orders) (pairsTo n (shortfalls a))) e
+    let e : l .loop .m ≡ a .args .hour .counts .branches = omega (arith, l .loop .inv .0, c .loop-test .left) in
+    l .loop .inv .1 ∙ ap (λ (n : ℕ). sets (now (a .args .out)) (2 * a .args .hour .counts .orders) (pairsTo n (shortfalls a))) e
 
 pub put-branches-spec : {M : Type 1} → statement M
 put-branches-spec =

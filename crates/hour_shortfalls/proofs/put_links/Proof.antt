@@ -10,18 +10,18 @@ use lib.IntN.{ℤ}
 use Rattle.rules.specs.Meaning.Hour.{caseOf, planOf, pricesOf, gap}
 use Rattle.shortfalls.specs.Meaning.Shortfalls.{linkShortfall}
 use Rattle.shortfalls.specs.Meaning.Answer.{pairsTo}
-use Rattle.single_shortfall.specs.Judged.{links-is}
+use Rattle.clearing.specs.Read.{links-is}
 use Rattle.hour_shortfalls.specs.Pairs.{numbersIn, writable, run-more}
 use Rattle.hour_shortfalls.specs.Kept.{few}
 use Rattle.hour_shortfalls.proofs.put_links.Statement.{statement}
 use Rattle.hour_shortfalls.proofs.put_links.Tie as tie
 
 abbrev Inv-loop : tie.InvT-loop
-Inv-loop «case» k proposal share prices out₀ l₀ l-end out l =
-    (l ≤ k .links) × (out ≡ sets out₀ (2 * (k .orders + k .branches)) (pairsTo l (linkShortfall (caseOf «case») (planOf «case» proposal) (pricesOf «case» proposal))))
+Inv-loop «case» proposal hour prices out₀ l₀ l-end out l =
+    (l ≤ hour .counts .links) × (out ≡ sets out₀ (2 * (hour .counts .orders + hour .counts .branches)) (pairsTo l (linkShortfall (caseOf «case») (planOf «case» proposal) (pricesOf «case» proposal))))
 
 abbrev μ-loop : tie.MeasureT-loop
-μ-loop «case» k proposal share prices out₀ l₀ l-end out l = k .links - l
+μ-loop «case» proposal hour prices out₀ l₀ l-end out l = hour .counts .links - l
 
 -- the hour, and the link of a turn
 abbrev start : tie.At-loop Inv-loop μ-loop → tie.Start Inv-loop μ-loop
@@ -35,11 +35,11 @@ unfolding pairsTo
 loop-holds c = (omega arith, refl)
 
 inside : (t : tie.In-loop Inv-loop μ-loop) → t .before .loop .l < (caseOf (now (start (t .before) .args .«case»))) .links
-inside t = omega (arith, links-is (start (t .before) .pre .0), t .loop-test .taken)
+inside t = omega (arith, links-is (start (t .before) .pre .0 .read), t .loop-test .taken)
 
 -- the output keeps its length
 kept : (l : tie.At-loop Inv-loop μ-loop) → length (l .loop .out) ≡ length (now (start l .args .out))
-kept l = ap length (l .loop .inv .1) ∙ length-sets (now (start l .args .out)) (2 * (start l .args .k .orders + start l .args .k .branches)) (pairsTo (l .loop .l) (shortfalls (start l)))
+kept l = ap length (l .loop .inv .1) ∙ length-sets (now (start l .args .out)) (2 * (start l .args .hour .counts .orders + start l .args .hour .counts .branches)) (pairsTo (l .loop .l) (shortfalls (start l)))
 
 add-put : tie.Need-add-put Inv-loop μ-loop
 add-put c = let t = c .before .before in omega (arith, t .loop-test .taken, few (start (t .before) .pre .0))
@@ -48,7 +48,7 @@ add-put-2 : tie.Need-add-put-2 Inv-loop μ-loop
 add-put-2 c = let t = c .before .before in omega (arith, t .loop-test .taken, few (start (t .before) .pre .0))
 
 link-shortfall-requires : tie.Need-link-shortfall-requires Inv-loop μ-loop
-link-shortfall-requires c κs = let t = c .before .before in let a = start (t .before) in (a .pre .0, (a .pre .1 .0, (a .pre .1 .1 .0, t .loop-test .taken)))
+link-shortfall-requires c κs = let t = c .before .before in let a = start (t .before) in (a .pre .0, (a .pre .1 .0, t .loop-test .taken))
 
 put-requires : tie.Need-put-requires Inv-loop μ-loop
 put-requires c κs =
@@ -57,7 +57,7 @@ put-requires c κs =
     let j = a .pre .0 in (
       omega (arith, t .loop-test .taken, few j),
       (
-        omega (arith, t .loop-test .taken, kept (t .before), a .pre .1 .1 .1),
+        omega (arith, t .loop-test .taken, kept (t .before), a .pre .1 .1),
         writable {x = shortfalls a (t .before .loop .l)} (gap (caseOf (now (a .args .«case»))) (planOf (now (a .args .«case»)) (now (a .args .proposal))) (pricesOf (now (a .args .«case»)) (now (a .args .proposal)))) (c .link-shortfall .ensures) (j .accounted .link-within (t .before .loop .l) (inside t)) (j .gap-small),
       ),
     )
@@ -77,8 +77,8 @@ loop-again c =
     let a = start l in (
       omega (arith, t .loop-test .taken),
       p .put .ensures
-          ∙ ap (λ (x : List ℤ). sets x (2 * (a .args .k .orders + a .args .k .branches + l .loop .l)) (numbersIn (o .link-shortfall .result))) (l .loop .inv .1)
-          ∙ run-more (now (a .args .out)) (2 * (a .args .k .orders + a .args .k .branches)) (l .loop .l) (a .args .k .orders + a .args .k .branches + l .loop .l) (shortfalls a) (omega arith) (o .link-shortfall .ensures),
+          ∙ ap (λ (x : List ℤ). sets x (2 * (a .args .hour .counts .orders + a .args .hour .counts .branches + l .loop .l)) (numbersIn (o .link-shortfall .result))) (l .loop .inv .1)
+          ∙ run-more (now (a .args .out)) (2 * (a .args .hour .counts .orders + a .args .hour .counts .branches)) (l .loop .l) (a .args .hour .counts .orders + a .args .hour .counts .branches + l .loop .l) (shortfalls a) (omega arith) (o .link-shortfall .ensures),
     )
 
 same-length : tie.Need-same-length Inv-loop μ-loop
@@ -88,8 +88,8 @@ returns : tie.Need-returns Inv-loop μ-loop
 returns c =
     let l = c .before in
     let a = start l in
-    let e : l .loop .l ≡ a .args .k .links = omega (arith, l .loop .inv .0, c .loop-test .left) in
-    l .loop .inv .1 ∙ ap (λ (n : ℕ). sets (now (a .args .out)) (2 * (a .args .k .orders + a .args .k .branches)) (pairsTo n (shortfalls a))) e
+    let e : l .loop .l ≡ a .args .hour .counts .links = omega (arith, l .loop .inv .0, c .loop-test .left) in
+    l .loop .inv .1 ∙ ap (λ (n : ℕ). sets (now (a .args .out)) (2 * (a .args .hour .counts .orders + a .args .hour .counts .branches)) (pairsTo n (shortfalls a))) e
 
 pub put-links-spec : {M : Type 1} → statement M
 put-links-spec =

@@ -10,18 +10,18 @@ use lib.IntN.{ℤ}
 use Rattle.rules.specs.Meaning.Hour.{caseOf, planOf, pricesOf, gap}
 use Rattle.shortfalls.specs.Meaning.Shortfalls.{orderShortfall}
 use Rattle.shortfalls.specs.Meaning.Answer.{pairsTo}
-use Rattle.single_shortfall.specs.Judged.{orders-is}
+use Rattle.clearing.specs.Read.{orders-is}
 use Rattle.hour_shortfalls.specs.Pairs.{numbersIn, writable, run-more}
 use Rattle.hour_shortfalls.specs.Kept.{few}
 use Rattle.hour_shortfalls.proofs.put_orders.Statement.{statement}
 use Rattle.hour_shortfalls.proofs.put_orders.Tie as tie
 
 abbrev Inv-loop : tie.InvT-loop
-Inv-loop «case» k proposal prices out₀ i₀ i-end out i =
-    (i ≤ k .orders) × (out ≡ sets out₀ 0 (pairsTo i (orderShortfall (caseOf «case») (planOf «case» proposal) (pricesOf «case» proposal))))
+Inv-loop «case» proposal hour prices out₀ i₀ i-end out i =
+    (i ≤ hour .counts .orders) × (out ≡ sets out₀ 0 (pairsTo i (orderShortfall (caseOf «case») (planOf «case» proposal) (pricesOf «case» proposal))))
 
 abbrev μ-loop : tie.MeasureT-loop
-μ-loop «case» k proposal prices out₀ i₀ i-end out i = k .orders - i
+μ-loop «case» proposal hour prices out₀ i₀ i-end out i = hour .counts .orders - i
 
 -- the hour, and the order of a turn
 abbrev start : tie.At-loop Inv-loop μ-loop → tie.Start Inv-loop μ-loop
@@ -35,7 +35,7 @@ unfolding pairsTo
 loop-holds c = (omega arith, refl)
 
 inside : (t : tie.In-loop Inv-loop μ-loop) → t .before .loop .i < (caseOf (now (start (t .before) .args .«case»))) .orders
-inside t = omega (arith, orders-is (start (t .before) .pre .0), t .loop-test .taken)
+inside t = omega (arith, orders-is (start (t .before) .pre .0 .read), t .loop-test .taken)
 
 -- the output keeps its length
 kept : (l : tie.At-loop Inv-loop μ-loop) → length (l .loop .out) ≡ length (now (start l .args .out))
@@ -82,7 +82,7 @@ returns : tie.Need-returns Inv-loop μ-loop
 returns c =
     let l = c .before in
     let a = start l in
-    let e : l .loop .i ≡ a .args .k .orders = omega (arith, l .loop .inv .0, c .loop-test .left) in
+    let e : l .loop .i ≡ a .args .hour .counts .orders = omega (arith, l .loop .inv .0, c .loop-test .left) in
     l .loop .inv .1 ∙ ap (λ (n : ℕ). sets (now (a .args .out)) 0 (pairsTo n (shortfalls a))) e
 
 pub put-orders-spec : {M : Type 1} → statement M

@@ -10,15 +10,16 @@ use Rattle.integers.specs.Machine.{sfits-by}
 use Rattle.measures.specs.Meaning.Limits.{partsInOne}
 use Rattle.rules.specs.Meaning.Hour.{Case, Plan, Prices, caseOf, planOf, pricesOf, zonePrice, spread}
 use Rattle.case_links.specs.declared.Link.{Link}
+use Rattle.clearing.specs.Read.{case-opened, sound, links-is, share-is}
 use Rattle.network.specs.Prices.{grainsAt}
 use Rattle.single_shortfall.specs.Short.{shortOf, shortable-by, exact-by}
-use Rattle.single_shortfall.specs.Judged.{links-is, sound, link-is, spread-near, link-shortable}
+use Rattle.single_shortfall.specs.Judged.{link-is, spread-near, link-shortable}
 use Rattle.single_shortfall.proofs.link_shortfall.Statement.{statement}
 use Rattle.single_shortfall.proofs.link_shortfall.Tie as tie
 
 -- the hour, and this link of it
 abbrev start : tie.After-link-at → tie.Start
-start o = o .before .before .before
+start o = o .before .before .before .before .before
 
 abbrev hour : tie.Start → Case
 hour a = caseOf (now (a .args .«case»))
@@ -30,13 +31,13 @@ abbrev rates : tie.Start → Prices
 rates a = pricesOf (now (a .args .«case»)) (now (a .args .proposal))
 
 inside : (a : tie.Start) → a .args .l < hour a .links
-inside a = omega (arith, links-is (a .pre .0), a .pre .1 .1 .1)
+inside a = omega (arith, links-is (a .pre .0 .read), a .pre .1 .1)
 
 link-at-requires : tie.Need-link-at-requires
-link-at-requires c κs = let a = c .before .before in (a .pre .0 .proposed .opened, a .pre .1 .1 .1)
+link-at-requires c κs = let a = c .before .before .before .before in (case-opened (a .pre .0 .read), a .pre .1 .1)
 
 flow-at-requires : tie.Need-flow-at-requires
-flow-at-requires c κs = let a = start c in (a .pre .0 .proposed, a .pre .1 .1 .1)
+flow-at-requires c κs = let a = start c in (a .pre .0 .read .proposed, a .pre .1 .1)
 
 -- the zone that it enters, and the zone that it leaves
 to-is : (o : tie.After-link-at) → o .link-at .result .to ≡ hour (start o) .to (start o .args .l)
@@ -44,26 +45,26 @@ unfolding caseOf
 to-is o = ap (λ (x : Link). x .to) (o .link-at .ensures)
 
 to-known : (o : tie.After-link-at) → hour (start o) .to (start o .args .l) < hour (start o) .zones
-to-known o = (sound (start o .pre .0)) .placed .to-in (start o .args .l) (inside (start o))
+to-known o = (sound (start o .pre .0 .read)) .placed .to-in (start o .args .l) (inside (start o))
 
 to-in : (o : tie.After-link-at) → o .link-at .result .to < 16
-to-in o = omega (arith, to-is o, to-known o, (sound (start o .pre .0)) .zones-in .1)
+to-in o = omega (arith, to-is o, to-known o, (sound (start o .pre .0 .read)) .zones-in .1)
 
-to-price : (o : tie.After-link-at) → grainsAt (start o .args .t5) (o .link-at .result .to) ≡ zonePrice (hour (start o)) (rates (start o)) (hour (start o) .to (start o .args .l))
-to-price o = ap (grainsAt (start o .args .t5)) (to-is o) ∙ start o .pre .1 .0 .each _ (to-known o)
+to-price : (o : tie.After-link-at) → grainsAt (start o .args .t4) (o .link-at .result .to) ≡ zonePrice (hour (start o)) (rates (start o)) (hour (start o) .to (start o .args .l))
+to-price o = ap (grainsAt (start o .args .t4)) (to-is o) ∙ start o .pre .1 .0 .each _ (to-known o)
 
 from-is : (o : tie.After-link-at) → o .link-at .result .from ≡ hour (start o) .from (start o .args .l)
 unfolding caseOf
 from-is o = ap (λ (x : Link). x .from) (o .link-at .ensures)
 
 from-known : (o : tie.After-link-at) → hour (start o) .from (start o .args .l) < hour (start o) .zones
-from-known o = (sound (start o .pre .0)) .placed .from-in (start o .args .l) (inside (start o))
+from-known o = (sound (start o .pre .0 .read)) .placed .from-in (start o .args .l) (inside (start o))
 
 from-in : (o : tie.After-link-at) → o .link-at .result .from < 16
-from-in o = omega (arith, from-is o, from-known o, (sound (start o .pre .0)) .zones-in .1)
+from-in o = omega (arith, from-is o, from-known o, (sound (start o .pre .0 .read)) .zones-in .1)
 
-from-price : (o : tie.After-link-at) → grainsAt (start o .args .t5) (o .link-at .result .from) ≡ zonePrice (hour (start o)) (rates (start o)) (hour (start o) .from (start o .args .l))
-from-price o = ap (grainsAt (start o .args .t5)) (from-is o) ∙ start o .pre .1 .0 .each _ (from-known o)
+from-price : (o : tie.After-link-at) → grainsAt (start o .args .t4) (o .link-at .result .from) ≡ zonePrice (hour (start o)) (rates (start o)) (hour (start o) .from (start o .args .l))
+from-price o = ap (grainsAt (start o .args .t4)) (from-is o) ∙ start o .pre .1 .0 .each _ (from-known o)
 
 mul-minus : tie.Need-mul-minus
 mul-minus c = omega (arith, to-in (c .before .before))
@@ -77,7 +78,7 @@ mul-minus-2 c = omega (arith, from-in (c .before .before .before))
 array-copy-out-minus-2 : tie.Need-array-copy-out-minus-2
 array-copy-out-minus-2 c = omega (arith, from-in (c .before .before .before))
 
-apart-is : (o : tie.After-link-at) → grainsAt (start o .args .t5) (o .link-at .result .to) -ℤ grainsAt (start o .args .t5) (o .link-at .result .from) ≡ spread (hour (start o)) (rates (start o)) (start o .args .l)
+apart-is : (o : tie.After-link-at) → grainsAt (start o .args .t4) (o .link-at .result .to) -ℤ grainsAt (start o .args .t4) (o .link-at .result .from) ≡ spread (hour (start o)) (rates (start o)) (start o .args .l)
 unfolding spread
 apart-is o = λ j. to-price o j -ℤ from-price o j
 
@@ -95,8 +96,8 @@ unfolding caseOf
 capacity-is c = ap (λ (x : Link). x .capacity .0) (link c .link-at .ensures)
 
 -- THE THREE, as the form has them
-part-is : (c : tie.After-minus) → let a = start (link c) in a .args .share .0 *ℤ link c .link-at .result .capacity .0 ≡ pos (plan a .share) *ℤ pos (hour a .capacity (a .args .l))
-part-is c = λ j. start (link c) .pre .1 .1 .0 j *ℤ capacity-is c j
+part-is : (c : tie.After-minus) → let a = start (link c) in a .args .hour .opening .share .0 *ℤ link c .link-at .result .capacity .0 ≡ pos (plan a .share) *ℤ pos (hour a .capacity (a .args .l))
+part-is c = λ j. share-is (start (link c) .pre .0 .read) j *ℤ capacity-is c j
 
 part-requires : tie.Need-part-requires
 part-requires c κs = let a = start (link c) in sfits-by w64 (part-is c) (near-fits w64 (omega arith) ((link-shortable (a .pre .0) (a .args .l) (inside a)) .room-near))

@@ -13,15 +13,16 @@ use Rattle.measures.specs.Meaning.Limits.{partsInOne, grainsOf}
 use Rattle.rules.specs.Meaning.Hour.{Case, Plan, Prices, caseOf, planOf, pricesOf, buys, above, zonePrice}
 use Rattle.rules.specs.Promised.Fits.{in-grains, near-zone-price}
 use Rattle.orders.specs.declared.Order.{Order}
+use Rattle.clearing.specs.Read.{case-opened, sound, orders-is}
 use Rattle.network.specs.Prices.{grainsAt}
 use Rattle.single_shortfall.specs.Short.{shortOf, shortable-by, exact-by}
-use Rattle.single_shortfall.specs.Judged.{orders-is, sound, gainOf, order-is, order-shortable}
+use Rattle.single_shortfall.specs.Judged.{gainOf, order-is, order-shortable}
 use Rattle.single_shortfall.proofs.order_shortfall.Statement.{statement}
 use Rattle.single_shortfall.proofs.order_shortfall.Tie as tie
 
 -- the hour, and this order of it
 abbrev start : tie.After-order-at → tie.Start
-start o = o .before .before .before
+start o = o .before .before .before .before
 
 abbrev hour : tie.Start → Case
 hour a = caseOf (now (a .args .«case»))
@@ -33,13 +34,13 @@ abbrev rates : tie.Start → Prices
 rates a = pricesOf (now (a .args .«case»)) (now (a .args .proposal))
 
 inside : (a : tie.Start) → a .args .i < hour a .orders
-inside a = omega (arith, orders-is (a .pre .0), a .pre .1 .1)
+inside a = omega (arith, orders-is (a .pre .0 .read), a .pre .1 .1)
 
 order-at-requires : tie.Need-order-at-requires
-order-at-requires c κs = let a = c .before .before in (a .pre .0 .proposed .opened, a .pre .1 .1)
+order-at-requires c κs = let a = c .before .before .before in (case-opened (a .pre .0 .read), a .pre .1 .1)
 
 volume-at-requires : tie.Need-volume-at-requires
-volume-at-requires c κs = let a = start c in (a .pre .0 .proposed, a .pre .1 .1)
+volume-at-requires c κs = let a = start c in (a .pre .0 .read .proposed, a .pre .1 .1)
 
 -- its zone, quantity, side and price
 zone-is : (o : tie.After-order-at) → o .order-at .result .zone ≡ hour (start o) .zone (start o .args .i)
@@ -47,10 +48,10 @@ unfolding caseOf
 zone-is o = ap (λ (x : Order). x .zone) (o .order-at .ensures)
 
 zone-known : (o : tie.After-order-at) → hour (start o) .zone (start o .args .i) < hour (start o) .zones
-zone-known o = (sound (start o .pre .0)) .placed .zone-in (start o .args .i) (inside (start o))
+zone-known o = (sound (start o .pre .0 .read)) .placed .zone-in (start o .args .i) (inside (start o))
 
 zone-in : (o : tie.After-order-at) → o .order-at .result .zone < 16
-zone-in o = omega (arith, zone-is o, zone-known o, (sound (start o .pre .0)) .zones-in .1)
+zone-in o = omega (arith, zone-is o, zone-known o, (sound (start o .pre .0 .read)) .zones-in .1)
 
 zone-price : (o : tie.After-order-at) → grainsAt (start o .args .t4) (o .order-at .result .zone) ≡ zonePrice (hour (start o)) (rates (start o)) (hour (start o) .zone (start o .args .i))
 zone-price o = ap (grainsAt (start o .args .t4)) (zone-is o) ∙ start o .pre .1 .0 .each _ (zone-known o)
@@ -64,7 +65,7 @@ unfolding caseOf
 price-is o = ap (λ (x : Order). x .price .0) (o .order-at .ensures)
 
 price-within : (o : tie.After-order-at) → Within limits.orderPrice (o .order-at .result .price .0)
-price-within o = subst (λ (x : ℤ). Within limits.orderPrice x) (sym (price-is o)) ((sound (start o .pre .0)) .price-in (start o .args .i) (inside (start o)))
+price-within o = subst (λ (x : ℤ). Within limits.orderPrice x) (sym (price-is o)) ((sound (start o .pre .0 .read)) .price-in (start o .args .i) (inside (start o)))
 
 in-grains-requires : tie.Need-in-grains-requires
 in-grains-requires c κs = near-fits w64 (omega arith) (near-zone-price _ (in-grains _ (price-within (c .before .before))))
