@@ -28,17 +28,27 @@ use Rattle.sheet_lines.specs.Steps.Lines.{malformedAt, tooFineAt, outOfRangeAt,
 pub zones-within : (zones : ℕ) → outside zoneCounts (pos zones) ≡ false → (1 ≤ zones) × (zones ≤ 16)
 zones-within zones e = nat-within 1 16 zones (is-false e)
 
-module _ (zones : ℕ) (sheet : List ℕ) (room : ℕ) where
+abbrev refusedBy : ℕ → ℕ → Written
+refusedBy n k = record { number = n; index = k; length = 0 }
+
+module _ (zones : ℕ) (sheet out : List ℕ) where
+  abbrev room : ℕ
+  room = length out
+
+  owed : {w : Written} {after : List ℕ} → output.Met (sheetRefusal zones sheet room) (sheetBytes zones sheet) out w after → SheetAnswered zones sheet out after w
+  unfolding sheetOutcome sheetWritten sheetOutput
+  owed m = record { outcome = m .0; length-is = m .1 .0; output = m .1 .1 }
+
+  refuse : {n k : ℕ} {w : Written} → sheetRefusal zones sheet room ≡ some (verdict n k) → w ≡ refusedBy n k → SheetAnswered zones sheet out out w
+  refuse e q = owed (output.met-refusal (sheetBytes zones sheet) out e q)
+
+  -- what is left of the table once its first n rows passed
   abbrev From : ℕ → Type 0
   From n = sheetRefusal zones sheet room ≡ refusal (drop n (sheetRows zones sheet room))
 
-  abbrev Refused : ℕ → ℕ → Type 0
-  Refused n k = sheetRefusal zones sheet room ≡ some (verdict n k)
-
-  -- 50
-  pub refused-50 : outside zoneCounts (pos zones) ≡ true → Refused 50 0
+  pub answer-50 : {w : Written} → outside zoneCounts (pos zones) ≡ true → w ≡ refusedBy 50 0 → SheetAnswered zones sheet out out w
   unfolding sheetRefusal sheetRows
-  refused-50 e = field-fails 50 0 _ e
+  answer-50 e q = refuse (field-fails 50 0 _ e) q
 
   -- THE ROWS AFTER IT, each where those before it passed, from what was read of the sheet
   module _ (z : outside zoneCounts (pos zones) ≡ false) {old new : List ℕ} {s : SheetFaults} (r : SheetRead zones sheet old new s) where
@@ -46,9 +56,9 @@ module _ (zones : ℕ) (sheet : List ℕ) (room : ℕ) where
     unfolding sheetRefusal sheetRows
     from-1 = field-passes 50 0 _ z
 
-    pub refused-51 : {k : ℕ} → s .malformed ≡ At k → Refused 51 k
+    pub answer-51 : {k : ℕ} {w : Written} → s .malformed ≡ At k → w ≡ refusedBy 51 k → SheetAnswered zones sheet out out w
     unfolding sheetRefusal sheetRows
-    refused-51 {k} e = from-1 ∙ row-found (each 51 (lineCount sheet) (malformedAt zones sheet)) _ k (sym (r .malformed-is) ∙ ap placeOf e)
+    answer-51 {k} e q = refuse (from-1 ∙ row-found (each 51 (lineCount sheet) (malformedAt zones sheet)) _ k (sym (r .malformed-is) ∙ ap placeOf e)) q
 
     module _ (m : s .malformed ≡ Nowhere) where
       lines-are : LinesRead zones sheet old new s
@@ -58,27 +68,27 @@ module _ (zones : ℕ) (sheet : List ℕ) (room : ℕ) where
       unfolding sheetRefusal sheetRows
       from-2 = from-1 ∙ row-clear (each 51 (lineCount sheet) (malformedAt zones sheet)) _ (sym (r .malformed-is) ∙ ap placeOf m)
 
-      pub refused-52 : {k : ℕ} → s .finer ≡ At k → Refused 52 k
+      pub answer-52 : {k : ℕ} {w : Written} → s .finer ≡ At k → w ≡ refusedBy 52 k → SheetAnswered zones sheet out out w
       unfolding sheetRefusal sheetRows
-      refused-52 {k} e = from-2 ∙ row-found (each 52 (lineCount sheet) (tooFineAt zones sheet)) _ k (sym (lines-are .finer-is) ∙ ap placeOf e)
+      answer-52 {k} e q = refuse (from-2 ∙ row-found (each 52 (lineCount sheet) (tooFineAt zones sheet)) _ k (sym (lines-are .finer-is) ∙ ap placeOf e)) q
 
       module _ (f : s .finer ≡ Nowhere) where
         from-3 : From 3
         unfolding sheetRefusal sheetRows
         from-3 = from-2 ∙ row-clear (each 52 (lineCount sheet) (tooFineAt zones sheet)) _ (sym (lines-are .finer-is) ∙ ap placeOf f)
 
-        pub refused-53 : {k : ℕ} → s .outside ≡ At k → Refused 53 k
+        pub answer-53 : {k : ℕ} {w : Written} → s .outside ≡ At k → w ≡ refusedBy 53 k → SheetAnswered zones sheet out out w
         unfolding sheetRefusal sheetRows
-        refused-53 {k} e = from-3 ∙ row-found (each 53 (lineCount sheet) (outOfRangeAt zones sheet)) _ k (sym (lines-are .outside-is) ∙ ap placeOf e)
+        answer-53 {k} e q = refuse (from-3 ∙ row-found (each 53 (lineCount sheet) (outOfRangeAt zones sheet)) _ k (sym (lines-are .outside-is) ∙ ap placeOf e)) q
 
         module _ (o : s .outside ≡ Nowhere) where
           from-4 : From 4
           unfolding sheetRefusal sheetRows
           from-4 = from-3 ∙ row-clear (each 53 (lineCount sheet) (outOfRangeAt zones sheet)) _ (sym (lines-are .outside-is) ∙ ap placeOf o)
 
-          pub refused-54 : 64 < s .lines → Refused 54 0
+          pub answer-54 : {w : Written} → 64 < s .lines → w ≡ refusedBy 54 0 → SheetAnswered zones sheet out out w
           unfolding sheetRefusal sheetRows
-          refused-54 h = from-4 ∙ field-fails 54 0 _ (lt-ltb 64 (lineCount sheet) (omega (arith, lines-are .count)))
+          answer-54 h q = refuse (from-4 ∙ field-fails 54 0 _ (lt-ltb 64 (lineCount sheet) (omega (arith, lines-are .count)))) q
 
           module _ (l : s .lines ≤ 64) {part : ℕ} (p : part ≡ branchPart zones (s .lines)) where
             part-is : part ≡ branchPart zones (lineCount sheet)
@@ -88,11 +98,11 @@ module _ (zones : ℕ) (sheet : List ℕ) (room : ℕ) where
             unfolding sheetRefusal sheetRows
             from-5 = from-4 ∙ field-passes 54 0 _ (le-ltb 64 (lineCount sheet) (omega (arith, lines-are .count)))
 
-            pub refused-55 : room < part → Refused 55 0
+            pub answer-55 : {w : Written} → room < part → w ≡ refusedBy 55 0 → SheetAnswered zones sheet out out w
             unfolding sheetRefusal sheetRows
-            refused-55 h = from-5 ∙ field-fails 55 0 _ (lt-ltb room (branchPart zones (lineCount sheet)) (omega (arith, part-is)))
+            answer-55 h q = refuse (from-5 ∙ field-fails 55 0 _ (lt-ltb room (branchPart zones (lineCount sheet)) (omega (arith, part-is)))) q
 
-            pub none-refused : part ≤ room → sheetRefusal zones sheet room ≡ none
+            none-refused : part ≤ room → sheetRefusal zones sheet room ≡ none
             unfolding sheetRefusal sheetRows refusal
             none-refused h = from-5 ∙ field-passes 55 0 [] (le-ltb room (branchPart zones (lineCount sheet)) (omega (arith, part-is)))
 
@@ -104,11 +114,12 @@ module _ (zones : ℕ) (sheet : List ℕ) (room : ℕ) where
             unfolding sheetBytes
             part-length = part-is ∙ sym (lines-length zones (lineCount sheet) sheet)
 
-            pub branches-are : part ≤ length new → (part ≡ length bytes) × (take part new ≡ bytes)
-            branches-are h =
+            pub answer-0 : {after : List ℕ} → part ≤ room → part ≤ length new → after ≡ sets out 0 (take part new) → SheetAnswered zones sheet out after (record { number = 0; index = 0; length = part })
+            answer-0 h i b =
                 let t : new ≡ sets old 0 bytes = lines-are .bytes-are (ap placeOf o) (omega (arith, lines-are .count)) in
-                let room : 0 + length bytes ≤ length old = omega (arith, part-length, ap length t, length-sets old 0 bytes) in
-                (part-length, (λ i. take (part-length i) (t i)) ∙ ap (take (length bytes)) (sets-eq bytes old 0 room) ∙ take-append-seam bytes (drop (0 + length bytes) old))
+                let inside : 0 + length bytes ≤ length old = omega (arith, part-length, ap length t, length-sets old 0 bytes) in
+                let front : take part new ≡ bytes = (λ i. take (part-length i) (t i)) ∙ ap (take (length bytes)) (sets-eq bytes old 0 inside) ∙ take-append-seam bytes (drop (0 + length bytes) old) in
+                owed (output.met-answer bytes out (none-refused h) (omega (arith, part-length)) part-length (b ∙ ap (sets out 0) front))
 
 -- one byte more of some that are copied
 pub copy-next : (from l : List ℕ) (i : ℕ) → i < length from → set (sets l 0 (take i from)) i (getD from i 0) ≡ sets l 0 (take (i + 1) from)
@@ -118,16 +129,3 @@ copy-next from l i h =
     ∙ sets-append l 0 (take i from) (getD from i 0 ∷ [])
     ∙ ap (sets l 0) (sym (take-suc from i 0 h))
     ∙ ap (λ (k : ℕ). sets l 0 (take k from)) (sym (add-one i))
-
--- WHAT THE ENTRY OWES, where it refuses and where it answers
-module _ (zones : ℕ) (sheet out : List ℕ) where
-  owed : {r : Written} {after : List ℕ} → output.Met (sheetRefusal zones sheet (length out)) (sheetBytes zones sheet) out r after → SheetAnswered zones sheet out after r
-  unfolding sheetOutcome sheetWritten sheetOutput
-  owed m = record { outcome = m .0; length-is = m .1 .0; output = m .1 .1 }
-
-  pub met-refusal : {n k : ℕ} {r : Written} → sheetRefusal zones sheet (length out) ≡ some (verdict n k) → r ≡ record { number = n; index = k; length = 0 } → SheetAnswered zones sheet out out r
-  met-refusal e q = owed (output.met-refusal (sheetBytes zones sheet) out e q)
-
-  pub met-answer : {after branches : List ℕ} {m : ℕ} → sheetRefusal zones sheet (length out) ≡ none → m ≤ length out → (m ≡ length (sheetBytes zones sheet)) × (branches ≡ sheetBytes zones sheet)
-      → after ≡ sets out 0 branches → SheetAnswered zones sheet out after (record { number = 0; index = 0; length = m })
-  met-answer e h q b = owed (output.met-answer (sheetBytes zones sheet) out e (omega (arith, q .0)) (q .0) (b ∙ ap (sets out 0) (q .1)))

@@ -9,18 +9,8 @@ use borrow.Author.Tests.{eq-eqb, eqb-true}
 use lib.Dec.{eqb}
 use lib.ListN.{length}
 use Rattle.numerals.specs.Meaning.Numeral.{digits, has, before, after, negative, whole, isNumber}
-use Rattle.numerals.specs.Steps.Scan.{clash, Separator, leading, has-then}
+use Rattle.numerals.specs.Steps.Scan.{clash, Separator, has-then}
 use Rattle.numerals.specs.Promised.Spelled.{minus, point, pointDigits, numeral, afterPoint, number-spelled, digits-lead}
-
--- A TEXT THAT HAS A MARK: what stands before the first, the mark, and what follows it
-pub has-split : (mark : ℕ) (t : List ℕ) → has mark t ≡ true → t ≡ before mark t ++ mark ∷ after mark t
-unfolding has before after
-has-split mark [] e = absurd (clash (sym e))
-has-split mark (b ∷ t) e = by (eqb b mark) refl e (has-split mark t)
-  where
-    by : (c : Bool) → eqb b mark ≡ c → c || has mark t ≡ true → (has mark t ≡ true → t ≡ before mark t ++ mark ∷ after mark t) → b ∷ t ≡ cond c [] (b ∷ before mark t) ++ mark ∷ cond c t (after mark t)
-    by true q e ih = ap (λ (x : ℕ). x ∷ t) (eqb-true b mark q)
-    by false q e ih = ap (λ (l : List ℕ). b ∷ l) (ih e)
 
 -- TWO MARKS: a text up to the first m has the mark k, so k stands before m
 module _ (k m : ℕ) (apart : eqb k m ≡ false) where

@@ -104,9 +104,6 @@ pub lead-end : (s : List ℕ) (i : ℕ) → length s ≤ i → leading (drop i s
 unfolding leading
 lead-end s i h = ap leading (drop-of-length-le s h)
 
-pub lead-le : (t : List ℕ) → length (leading t) ≤ length t
-lead-le t = omega (arith, sym (ap length (lead-split t)) ∙ length-append (leading t) (rest t))
-
 -- DIGITS BEFORE A TEXT change nothing of its marks
 module _ (l : List ℕ) where
   pub only-then : (t : List ℕ) → onlyDigits (leading t ++ l) ≡ onlyDigits l

@@ -1,12 +1,11 @@
 -- Entries of a branch, by sign and size. Assumes nothing.
-use mathlib.Core.Path.{_≡_, refl, sym, ap, _∙_, subst}
+use mathlib.Core.Path.{_≡_, refl, sym, ap, _∙_}
 use mathlib.Core.Bool.{Bool, true, false, not, _||_}
 use mathlib.Core.List.{List}
 use Prim.Native.Nat.{ℕ, zero, suc, _≤_, _<_}
 use native.Mathlib.Decide.{decLt}
 use native.Mathlib.Omega.{arith}
 use borrow.Author.Tests.{lt-ltb}
-use lib.Dec.{T}
 use lib.IntN.{ℤ, pos, negsuc, negℤ, negℤ-negℤ, _-ℤ_, +ℤ-idl}
 use lib.Signed.{ltZ}
 use mir.Syntax.{w32}
@@ -18,7 +17,7 @@ use Rattle.integers.specs.Ranges.{range, minus, outside}
 use Rattle.measures.specs.Meaning.Limits as limits
 use Rattle.numerals.specs.declared.Number.{Number}
 use Rattle.numerals.specs.Meaning.Numeral.{isDigit, negative, units, sign, value}
-use Rattle.numerals.specs.Steps.Scan.{Separator}
+use Rattle.numerals.specs.Steps.Scan.{clash, Separator}
 use Rattle.numerals.specs.Steps.Capped.{cap, capped, capped-over, capped-within}
 use Rattle.numerals.specs.Steps.Pieces.{heldNumber}
 use Rattle.sheet_lines.specs.Meaning.Sheet.{decimalCount, limit, entry}
@@ -86,10 +85,7 @@ held-outside (suc z) field = held-range (turned (suc z) (negative field)) 200000
 
 -- and one that does not lie outside is held as it is
 held-within : (b : Bool) (g n : ℕ) → g < cap → outside (range (minus g) (pos g)) (sign b n) ≡ false → capped n ≡ n
-held-within b g n h e = elim (decLt cap n) [ yes l ↦ absurd (apart (sym (far b g n (omega arith)) ∙ e)) | no k ↦ capped-within n (omega arith) ]
-  where
-    apart : true ≡ false → ⊥
-    apart q = subst (λ (t : Bool). T t) q tt
+held-within b g n h e = elim (decLt cap n) [ yes l ↦ absurd (clash (sym (far b g n (omega arith)) ∙ e)) | no k ↦ capped-within n (omega arith) ]
 
 pub held-exact : (j : ℕ) (field : List ℕ) → outside (limit j) (entry j field) ≡ false → heldEntry j field ≡ entry j field
 held-exact zero field e =

@@ -27,7 +27,7 @@ use Rattle.sheet_lines.specs.declared.LineAnswer.{LineAnswer}
 use Rattle.sheet_lines.specs.declared.LineAnswer.the-variants as answer
 use Rattle.sheet_lines.specs.Meaning.Sheet.{decimalCount, limit, entry, fieldOf, entryOf, malformed, tooFine, outOfRange, lineCount, branchPart, entryBytes, lineBytes, sheetBytes}
 use Rattle.sheet_lines.specs.Steps.Entries.{heldEntry, held-outside, held-exact}
-use Rattle.sheet_lines.specs.Steps.Lines.{lineAt, markOf, commaMissing, FieldsFrom, fields-start, FieldRead, field-no-number, field-unseparated, field-read, noNumber, malformed-no, LineValid, lineFlaws, lineBy, LineRead, line-read, line-malformed, any-more, LinesFrom, lines-start, lines-done, line-in, line-here, line-next, malformedAt, tooFineAt, outOfRangeAt, SheetRead, rowOf, firstWith, first-more, first-none, next-entry, next-line}
+use Rattle.sheet_lines.specs.Steps.Lines.{lineAt, markOf, commaMissing, FieldsFrom, fields-start, FieldRead, field-no-number, field-unseparated, field-read, noNumber, malformed-no, lineFlaws, lineBy, LineRead, line-read, line-malformed, any-more, LinesFrom, lines-start, lines-done, line-in, line-here, line-next, malformedAt, tooFineAt, outOfRangeAt, SheetRead, rowOf, firstWith, first-more, first-none, next-entry, next-line}
 
 abbrev pub finerField : List ℕ → ℕ → Bool
 finerField line j = finer (decimalCount j) (fieldOf line j)
