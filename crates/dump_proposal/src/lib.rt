@@ -32,12 +32,12 @@ use rows::Place;
 use words::put_low32;
 
 // The values before the orders' shares: the LTA share and the system price.
-const OPENING: usize = 2;
+const OPENING: usize = layout::DUMP_OPENING;
 
 // Where the proposal's fields stand: after mark and version, and after the opening's two.
-const FIELDS_AT: usize = 5;
+const FIELDS_AT: usize = layout::PROPOSAL_SHARE_AT;
 
-const REST_AT: usize = 13;
+const REST_AT: usize = layout::PROPOSAL_HEADER;
 
 // The opening as it is taken, with the cursor past it; or that the dump is too short for it.
 enum OpeningField {

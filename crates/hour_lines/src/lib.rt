@@ -18,14 +18,14 @@ use decimal::put_money;
 use decimal::put_price;
 use fields::index_of;
 use fields::word_at;
+use layout::BOUND_AT;
+use layout::GAP_AT;
+use layout::OWED_AT;
+use layout::PRICES_AT;
+use layout::RENT_AT;
+use layout::REPORT_ZONES_AT;
+use layout::WELFARE_AT;
 use measures::Bits;
-use report::BOUND_AT;
-use report::GAP_AT;
-use report::OWED_AT;
-use report::PRICES_AT;
-use report::RENT_AT;
-use report::WELFARE_AT;
-use report::ZONES_AT;
 use rows::Outcome;
 
 // A text as it stands.
@@ -68,7 +68,7 @@ fn number_at(report: &[u8], at: usize) -> Bits
 {
     let low = word_at(report, at) as u64;
     let high = word_at(report, at + 4) as u64;
-    Bits(low + 4294967296 * high)
+    Bits(low + layout::WORD_VALUES * high)
 }
 
 // A total's name, and its amount in euros, from its place in the report.
@@ -126,5 +126,5 @@ pub fn put_hour(out: &mut [u8], at: usize, report: &[u8]) -> usize
     ensures { λ r. ⌜ Put (now (out .entry)) at (linesIn (now (report .entry))) (now (out .exit)) r ⌝ }
 {
     let prices = put_totals(out, at, report);
-    put_prices(out, prices, report, index_of(report[ZONES_AT]))
+    put_prices(out, prices, report, index_of(report[REPORT_ZONES_AT]))
 }
