@@ -11,19 +11,24 @@ ghost use Rattle.columns.specs.Meaning.Answer.{restoreBy};
 ghost use Rattle.columns.specs.Steps.Stored.{every, orders};
 use case_file::CaseAnswer;
 use case_file::read_case;
-use case_header::HEADER;
 use case_header::HeaderField;
 use case_header::take_header;
 use fields::Mark;
+use layout::CASE_HEADER;
+use layout::CASE_LETTER;
+use layout::COLUMNED_LETTER;
+use layout::LONGEST_CASE;
+use layout::MARK;
+use layout::MARK_FIRST;
+use layout::MARK_SECOND;
+use layout::ORDER;
 use output::Written;
 use output::refused;
 
-const COLUMNED: Mark = Mark(b'L', b'T', b'K');
-
-const ORDER_SIZE: usize = 10;
+const COLUMNED: Mark = Mark(MARK_FIRST, MARK_SECOND, COLUMNED_LETTER);
 
 // The longest readable case.
-const LONGEST: usize = 10126;
+const LONGEST: usize = LONGEST_CASE;
 
 // Every step-th byte from a place on, so many of them, one after the other.
 fn put_every(source: &[u8], from: usize, step: usize, out: &mut [u8], at: usize, count: usize)
@@ -56,10 +61,10 @@ fn put_file(source: &[u8], out: &mut [u8], letter: u8, start: usize, rows: usize
     requires { ⌜ start + rows < 2 ^ 64 ⌝ }
     ensures { λ _. ⌜ now (out .exit) ≡ arranged letter start rows columns (now (source .entry)) ++ drop (length (now (source .entry))) (now (out .entry)) ⌝ }
 {
-    out[0] = b'L';
-    out[1] = b'T';
+    out[0] = MARK_FIRST;
+    out[1] = MARK_SECOND;
     out[2] = letter;
-    put_every(source, 3, 1, out, 3, start - 3);
+    put_every(source, MARK, 1, out, MARK, start - MARK);
     put_orders(source, out, start, rows, columns);
 }
 
@@ -78,8 +83,8 @@ pub fn columned(case: &[u8], out: &mut [u8]) -> Written
     if out.len() < case.len() {
         return refused(72, 0);
     }
-    let start = case.len() - ORDER_SIZE * k.orders;
-    put_file(case, out, b'K', start, ORDER_SIZE, k.orders);
+    let start = case.len() - ORDER * k.orders;
+    put_file(case, out, COLUMNED_LETTER, start, ORDER, k.orders);
     Written {
         number: 0,
         index: 0,
@@ -113,11 +118,11 @@ fn restore(file: &[u8], case: &mut [u8]) -> RestoreAnswer
         return not_restored();
     }
     let orders = h.orders as usize;
-    if file.len() - HEADER < ORDER_SIZE * orders {
+    if file.len() - CASE_HEADER < ORDER * orders {
         return not_restored();
     }
-    let start = file.len() - ORDER_SIZE * orders;
-    put_file(file, case, b'C', start, orders, ORDER_SIZE);
+    let start = file.len() - ORDER * orders;
+    put_file(file, case, CASE_LETTER, start, orders, ORDER);
     let CaseAnswer::Readable(_) = read_case(case) else {
         return not_restored();
     };

@@ -32,15 +32,15 @@ use words::put_low32;
 use words::put_word;
 
 // The values before the orders' shares: the LTA share and the system price.
-const OPENING: usize = 2;
+const OPENING: usize = layout::DUMP_OPENING;
 
 // The bytes of a value.
 const VALUE: usize = 8;
 
 // Where the proposal's fields stand: after mark and version, and after the opening's two.
-const FIELDS_AT: usize = 5;
+const FIELDS_AT: usize = layout::PROPOSAL_SHARE_AT;
 
-const REST_AT: usize = 13;
+const REST_AT: usize = layout::PROPOSAL_HEADER;
 
 // The entries of the table of converted fields: as many as the largest case has orders, links and branches, and few
 // for a small case, since clearing the large table takes longer than converting a small dump.

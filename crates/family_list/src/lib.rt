@@ -23,14 +23,13 @@ use fields::half_at;
 use rows::Outcome;
 use rows::Place;
 
-const MARK: Mark = Mark(b'L', b'T', b'F');
+const MARK: Mark = Mark(
+    layout::MARK_FIRST,
+    layout::MARK_SECOND,
+    layout::FAMILY_LETTER,
+);
 
 const VERSION: u32 = 1;
-
-const HEADER: usize = 5;
-
-// The bytes of a parent.
-const PARENT: usize = 2;
 
 // What stands for no parent.
 const NONE: u32 = 65535;
@@ -65,7 +64,7 @@ fn walk_header(families: &[u8], orders: usize) -> Walked
     if version != VERSION {
         return Walked::Refused(WRONG_LIST);
     }
-    if families.len() != at_parents.at + 2 * orders {
+    if families.len() != at_parents.at + layout::PARENT * orders {
         return Walked::Refused(WRONG_LIST);
     }
     Walked::Past(at_parents)
@@ -78,7 +77,7 @@ fn number_at(families: &[u8], orders: usize, i: usize) -> u32
     ensures { λ r. ⌜ r ≡ parentIn (now (families .entry)) i ⌝ }
     ensures { λ r. ⌜ r < 65536 ⌝ }
 {
-    half_at(families, HEADER + 2 * i)
+    half_at(families, layout::FAMILY_HEADER + layout::PARENT * i)
 }
 
 pub fn parent_at(families: &[u8], orders: usize, i: usize) -> usize
@@ -101,7 +100,12 @@ fn is_absent(orders: u32, parent: u32) -> bool
 
 // ROW 17: the parents, each over its own two bytes, whose length is known, and their numbers into the array. A parent that does not exist ends the walk
 // with the order that names it. Row 16 passed, so that none is missing.
-fn walk_parents(families: &[u8], orders: usize, start: Cursor, up: &mut [u32; 512]) -> Walked
+fn walk_parents(
+    families: &[u8],
+    orders: usize,
+    start: Cursor,
+    up: &mut [u32; layout::ORDERS],
+) -> Walked
     requires { ⌜ Whole (now families) orders ⌝ }
     requires { ⌜ start .at ≡ familyHeader ⌝ }
     requires { ⌜ length (now up) ≡ 512 ⌝ }
@@ -112,7 +116,7 @@ fn walk_parents(families: &[u8], orders: usize, start: Cursor, up: &mut [u32; 51
     let mut cursor = start;
     for i in 0..orders {
         let at = cursor.at;
-        let field = &families[at..at + PARENT];
+        let field = &families[at..at + layout::PARENT];
         let WordField::Taken(parent, past) = Cursor::new(0).half(field) else {
             return Walked::Refused(WRONG_LIST);
         };
@@ -129,7 +133,7 @@ fn walk_parents(families: &[u8], orders: usize, start: Cursor, up: &mut [u32; 51
 }
 
 // ROWS 16 AND 17: one walk from the mark to the last parent.
-fn walk_list(families: &[u8], orders: usize, up: &mut [u32; 512]) -> Walked
+fn walk_list(families: &[u8], orders: usize, up: &mut [u32; layout::ORDERS]) -> Walked
     requires { ⌜ orders ≤ 512 ⌝ }
     requires { ⌜ length (now up) ≡ 512 ⌝ }
     ensures walk { λ r. ⌜ r ≡ rowsWalked (listRows (now (families .entry)) orders) (cursor (familyLength orders)) ⌝ }
@@ -143,10 +147,10 @@ fn walk_list(families: &[u8], orders: usize, up: &mut [u32; 512]) -> Walked
 }
 
 // ROW 18. An order that a walk has been at holds no longer its parent but the walk's number, above that of every order.
-const WALKS: usize = 512;
+const WALKS: usize = layout::ORDERS;
 
 // Walk i: up from order i, over orders that no walk has been at, to the first that one has been at or that has no parent.
-fn walk_up(up: &mut [u32; 512], orders: usize, i: usize) -> usize
+fn walk_up(up: &mut [u32; layout::ORDERS], orders: usize, i: usize) -> usize
     requires { ⌜ orders ≤ 512 ⌝ }
     requires { ⌜ i < orders ⌝ }
     requires { ⌜ length (now up) ≡ 512 ⌝ }
@@ -196,7 +200,13 @@ fn least_on_circle(families: &[u8], orders: usize, i: usize, tip: usize) -> usiz
 }
 
 // Order i in its turn, with a walk up from it where none has been at it: the first order that leads back to itself, of those that the walks have been at.
-fn first_after(families: &[u8], orders: usize, up: &mut [u32; 512], i: usize, first: usize) -> usize
+fn first_after(
+    families: &[u8],
+    orders: usize,
+    up: &mut [u32; layout::ORDERS],
+    i: usize,
+    first: usize,
+) -> usize
     requires { ⌜ Known (now families) orders ⌝ }
     requires { ⌜ i < orders ⌝ }
     requires { ⌜ Search (now families) orders i first (now up) ⌝ }
@@ -214,7 +224,7 @@ fn first_after(families: &[u8], orders: usize, up: &mut [u32; 512], i: usize, fi
 }
 
 // The first order that leads back to itself. One that leads into a circle does so only where it lies on it.
-fn first_on_circle(families: &[u8], orders: usize, up: &mut [u32; 512]) -> Place
+fn first_on_circle(families: &[u8], orders: usize, up: &mut [u32; layout::ORDERS]) -> Place
     requires { ⌜ Known (now families) orders ⌝ }
     requires { ⌜ Taken (now families) orders (now up) ⌝ }
     ensures { λ r. ⌜ placeOf r ≡ firstBelow orders (leadsBack orders (parentOf (now (families .entry)))) ⌝ }
@@ -232,7 +242,7 @@ fn first_on_circle(families: &[u8], orders: usize, up: &mut [u32; 512]) -> Place
 }
 
 // ROW 18 of a family list that rows 16 and 17 pass.
-fn hold_circles(families: &[u8], orders: usize, up: &mut [u32; 512]) -> FamilyAnswer
+fn hold_circles(families: &[u8], orders: usize, up: &mut [u32; layout::ORDERS]) -> FamilyAnswer
     requires { ⌜ Known (now families) orders ⌝ }
     requires { ⌜ Taken (now families) orders (now up) ⌝ }
     ensures { λ r. ⌜ r ≡ circleAnswer (now (families .entry)) orders ⌝ }
@@ -251,7 +261,7 @@ pub fn read_families(families: &[u8], orders: usize) -> FamilyAnswer
     requires { ⌜ orders ≤ 512 ⌝ }
     ensures { λ r. ⌜ r ≡ familyAnswer (now (families .entry)) orders ⌝ }
 {
-    let mut up = [0u32; 512];
+    let mut up = [0u32; layout::ORDERS];
     match walk_list(families, orders, &mut up) {
         Walked::Past(_) => hold_circles(families, orders, &mut up),
         Walked::Refused(refusal) => FamilyAnswer::Refused(refusal),

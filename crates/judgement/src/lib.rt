@@ -53,7 +53,7 @@ fn conclude(found: Found, report: &mut [u8]) -> Outcome
 }
 
 // The room that a report buffer must have.
-pub const REPORT_ROOM: usize = 176;
+pub const REPORT_ROOM: usize = layout::REPORT_ROOM;
 
 // With the family list, or without one.
 fn judge_with_families(

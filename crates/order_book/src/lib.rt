@@ -112,11 +112,11 @@ impl BookState {
 // How many prices and rows there may be.
 pub const PRICES_LEAST: usize = 1;
 
-pub const PRICES_GREATEST: usize = 16;
+pub const PRICES_GREATEST: usize = layout::ZONES;
 
 pub const ROWS_LEAST: usize = 0;
 
-pub const ROWS_GREATEST: usize = 512;
+pub const ROWS_GREATEST: usize = layout::ORDERS;
 
 // The price of a zone, held to its limits.
 fn zone_price(prices: &[i64], zone: usize) -> GrainsAnswer

@@ -5,10 +5,8 @@ use runs::print;
 // One byte less than the largest proposal, so that one dump finds the output short.
 const ROOM: usize = 2572;
 
-const REPORT_ROOM: usize = 176;
-
 fn print_verdict(case: &[u8], proposal: &[u8]) {
-    let mut report = [0u8; REPORT_ROOM];
+    let mut report = [0u8; layout::REPORT_ROOM];
     let verdict = judgement::judge(case, proposal, &mut report);
     print(b" judged ");
     runs::print_count(verdict.number as u64);

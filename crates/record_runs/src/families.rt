@@ -3,22 +3,20 @@
 use rows::Outcome;
 use runs::print;
 
-const REPORT_ROOM: usize = 176;
-
 fn print_verdict(v: Outcome) {
     runs::print_count(v.number as u64);
     runs::print_next(v.index as u64);
 }
 
 fn run_listed(case: &[u8], proposal: &[u8], families: &[u8]) {
-    let mut report = [0u8; REPORT_ROOM];
+    let mut report = [0u8; layout::REPORT_ROOM];
     print_verdict(judgement::judge_families(case, proposal, families, &mut report));
     runs::print_space();
     runs::print_hex(&report);
 }
 
 fn run_alone(case: &[u8], proposal: &[u8]) {
-    let mut report = [0u8; REPORT_ROOM];
+    let mut report = [0u8; layout::REPORT_ROOM];
     let alone = judgement::judge(case, proposal, &mut report);
     print(b" without ");
     print_verdict(alone);

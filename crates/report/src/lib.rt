@@ -11,27 +11,6 @@ use measures::Grains;
 use measures::Microcents;
 use words::put_signed64;
 
-// Where the report's fields stand.
-const VERSION_AT: usize = 3;
-
-const NUMBER_AT: usize = 5;
-
-pub const ZONES_AT: usize = 6;
-
-const ZERO_AT: usize = 7;
-
-pub const WELFARE_AT: usize = 8;
-
-pub const BOUND_AT: usize = 16;
-
-pub const GAP_AT: usize = 24;
-
-pub const RENT_AT: usize = 32;
-
-pub const OWED_AT: usize = 40;
-
-pub const PRICES_AT: usize = 48;
-
 pub struct Totals {
     pub welfare: Microcents,
     pub bound: Microcents,
@@ -44,25 +23,25 @@ fn put_header(report: &mut [u8], number: u8, zones: u8)
     requires { ⌜ welfareAt ≤ length (now report) ⌝ }
     ensures { λ _. ⌜ now (report .exit) ≡ sets (now (report .entry)) 0 (headerBytes number zones) ⌝ }
 {
-    report[0] = b'L';
-    report[1] = b'T';
-    report[2] = b'R';
-    report[VERSION_AT] = 1;
-    report[VERSION_AT + 1] = 0;
-    report[NUMBER_AT] = number;
-    report[ZONES_AT] = zones;
-    report[ZERO_AT] = 0;
+    report[0] = layout::MARK_FIRST;
+    report[1] = layout::MARK_SECOND;
+    report[2] = layout::REPORT_LETTER;
+    report[layout::REPORT_VERSION_AT] = 1;
+    report[layout::REPORT_VERSION_AT + 1] = 0;
+    report[layout::REPORT_NUMBER_AT] = number;
+    report[layout::REPORT_ZONES_AT] = zones;
+    report[layout::REPORT_ZERO_AT] = 0;
 }
 
 fn put_totals(report: &mut [u8], totals: Totals)
     requires { ⌜ pricesAt ≤ length (now report) ⌝ }
     ensures { λ _. ⌜ now (report .exit) ≡ sets (now (report .entry)) welfareAt (totalBytes (totalsIn totals)) ⌝ }
 {
-    put_signed64(report, WELFARE_AT, totals.welfare.bits());
-    put_signed64(report, BOUND_AT, totals.bound.bits());
-    put_signed64(report, GAP_AT, totals.gap.bits());
-    put_signed64(report, RENT_AT, totals.rent.bits());
-    put_signed64(report, OWED_AT, totals.owed.bits());
+    put_signed64(report, layout::WELFARE_AT, totals.welfare.bits());
+    put_signed64(report, layout::BOUND_AT, totals.bound.bits());
+    put_signed64(report, layout::GAP_AT, totals.gap.bits());
+    put_signed64(report, layout::RENT_AT, totals.rent.bits());
+    put_signed64(report, layout::OWED_AT, totals.owed.bits());
 }
 
 fn put_prices(report: &mut [u8], zones: usize, prices: [Grains; 16])
@@ -72,7 +51,11 @@ fn put_prices(report: &mut [u8], zones: usize, prices: [Grains; 16])
 {
     for z in 0..zones {
         let price = prices[z];
-        put_signed64(report, PRICES_AT + 8 * z, price.bits());
+        put_signed64(
+            report,
+            layout::PRICES_AT + layout::ZONE_PRICE * z,
+            price.bits(),
+        );
     }
 }
 

@@ -9,9 +9,6 @@ ghost use Rattle.integers.specs.Bytes.{bytesOf, signed32};
 use measures::Bits;
 use measures::Raw;
 
-// 2 ^ 32, which parts 64 bits in two halves.
-const HALF: u64 = 4294967296;
-
 // The four bytes of a number, the lowest first.
 pub fn put_word(out: &mut [u8], at: usize, x: u32)
     requires { ⌜ at + 4 ≤ length (now out) ⌝ }
@@ -33,7 +30,7 @@ pub fn put_signed32(out: &mut [u8], at: usize, x: Raw)
     ensures { λ _. ⌜ now (out .exit) ≡ sets (now (out .entry)) at (signed32 (x .0)) ⌝ }
 {
     let b = x.bits();
-    put_word(out, at, (b.0 % HALF) as u32);
+    put_word(out, at, (b.0 % layout::WORD_VALUES) as u32);
 }
 
 // The low 32 bits of a measure's, which are all of a field's number.
@@ -41,7 +38,7 @@ pub fn put_low32(out: &mut [u8], at: usize, x: Bits)
     requires { ⌜ at + 4 ≤ length (now out) ⌝ }
     ensures { λ _. ⌜ now (out .exit) ≡ sets (now (out .entry)) at (bytesOf 4 (x .0)) ⌝ }
 {
-    put_word(out, at, (x.0 % HALF) as u32);
+    put_word(out, at, (x.0 % layout::WORD_VALUES) as u32);
 }
 
 // Signed 64 bits, which are a measure's: the low half, and then the high one.
@@ -49,6 +46,6 @@ pub fn put_signed64(out: &mut [u8], at: usize, x: Bits)
     requires { ⌜ at + 8 ≤ length (now out) ⌝ }
     ensures { λ _. ⌜ now (out .exit) ≡ sets (now (out .entry)) at (bytesOf 8 (x .0)) ⌝ }
 {
-    put_word(out, at, (x.0 % HALF) as u32);
-    put_word(out, at + 4, (x.0 / HALF) as u32);
+    put_word(out, at, (x.0 % layout::WORD_VALUES) as u32);
+    put_word(out, at + 4, (x.0 / layout::WORD_VALUES) as u32);
 }

@@ -11,10 +11,10 @@ ghost use Rattle.zone_pairs.specs.Meaning.Pairs.{pairCount, firstZone, s
 use rows::Place;
 
 // No zone's number: what stands for the second zone of a last byte alone.
-const NO_ZONE: usize = 16;
+const NO_ZONE: usize = layout::ZONES;
 
 // So many pairs are taken.
-const PAIRS_GREATEST: usize = 64;
+const PAIRS_GREATEST: usize = layout::LINKS;
 
 pub fn pair_count(pairs: &[u8]) -> usize
     ensures { λ r. ⌜ r ≡ pairCount (now (pairs .entry)) ⌝ }
@@ -54,7 +54,7 @@ fn second_zone(pairs: &[u8], k: usize) -> usize
 }
 
 // Whether row 84 refuses pair k, by the zones seen after each zone in the pairs before it.
-fn bad_pair(pairs: &[u8], zones: usize, seen: &[u16; zone_set::ZONES], k: usize) -> bool
+fn bad_pair(pairs: &[u8], zones: usize, seen: &[u16; layout::ZONES], k: usize) -> bool
     requires { ⌜ zones ≤ 16 ⌝ }
     requires { ⌜ Seen (firstZone (now pairs)) (secondZone (now pairs)) k (now seen) ⌝ }
     ensures { λ r. ⌜ r ≡ badPair zones (now (pairs .entry)) k ⌝ }
@@ -77,7 +77,7 @@ fn bad_pair(pairs: &[u8], zones: usize, seen: &[u16; zone_set::ZONES], k: usize)
 }
 
 // Pair k is seen too.
-fn see_pair(pairs: &[u8], seen: &mut [u16; zone_set::ZONES], k: usize)
+fn see_pair(pairs: &[u8], seen: &mut [u16; layout::ZONES], k: usize)
     requires { ⌜ Good 16 (now pairs) k ⌝ }
     requires { ⌜ Seen (firstZone (now pairs)) (secondZone (now pairs)) k (now seen) ⌝ }
     ensures { λ _. ⌜ Seen (firstZone (now (pairs .entry))) (secondZone (now (pairs .entry))) (k + 1) (now (seen .exit)) ⌝ }
@@ -92,7 +92,7 @@ pub fn first_bad_pair(pairs: &[u8], zones: usize) -> Place
     requires { ⌜ zones ≤ 16 ⌝ }
     ensures { λ r. ⌜ placeOf r ≡ firstBelow (pairCount (now (pairs .entry))) (badPair zones (now (pairs .entry))) ⌝ }
 {
-    let mut seen = [0u16; zone_set::ZONES];
+    let mut seen = [0u16; layout::ZONES];
     let count = pair_count(pairs);
     let mut k = 0;
     while k < count {
@@ -106,7 +106,7 @@ pub fn first_bad_pair(pairs: &[u8], zones: usize) -> Place
 }
 
 // For two zones, at 16 times the first and the second, the pair that leads from the first to the second; 64 where there is none.
-pub const TABLE: usize = 256;
+pub const TABLE: usize = layout::ZONES * layout::ZONES;
 
 pub fn pair_table(pairs: &[u8]) -> [u8; TABLE]
     requires { ⌜ Distinct (now pairs) ⌝ }
@@ -118,7 +118,7 @@ pub fn pair_table(pairs: &[u8]) -> [u8; TABLE]
     while k < count {
         let first = zone_at(pairs, 2 * k);
         let second = zone_at(pairs, 2 * k + 1);
-        table[16 * first + second] = k as u8;
+        table[layout::ZONES * first + second] = k as u8;
         k += 1;
     }
     table
@@ -135,5 +135,5 @@ pub fn pair_at(table: &[u8; TABLE], a: usize, b: usize) -> usize
     requires { ⌜ (a < 16) × (b < 16) ⌝ }
     ensures { λ r. ⌜ r ≡ pairIn (now (table .entry)) a b ⌝ }
 {
-    wide(table[16 * a + b])
+    wide(table[layout::ZONES * a + b])
 }

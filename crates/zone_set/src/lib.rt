@@ -3,12 +3,10 @@ ghost use mathlib.Core.Path.{_≡_};
 ghost use Prim.Native.Nat.{_<_};
 ghost use Rattle.zone_set.specs.Zones.{member, added};
 
-pub const ZONES: usize = 16;
-
 pub fn has(zones: u16, zone: usize) -> bool
     ensures { λ r. ⌜ r ≡ member zones zone ⌝ }
 {
-    if ZONES <= zone {
+    if layout::ZONES <= zone {
         return false;
     }
     (zones >> zone) % 2 == 1
