@@ -1,4 +1,4 @@
-// THE DRIVER: what the verdict table from row 1 to row 26 finds in an hour. `find_listed_after`, near the end, asks the stages in the table's order. The verdict of a
+// THE DRIVER: what the verdict table from row 1 to row 26 finds in an hour. `find_listed`, at the end, asks the stages in the table's order. The verdict of a
 // stage is 0 where its rows pass, and a stage may rest on what those before it passed.
 ghost use mathlib.Core.Path.{_≡_};
 ghost use mathlib.Core.Bool.{true, not, cond, _&&_};
@@ -15,7 +15,6 @@ ghost use Rattle.rules.specs.Meaning.Hour as rules;
 ghost use Rattle.rows.specs.Meaning.Place.{placeOf};
 ghost use Rattle.rows.specs.Meaning.Rows.{verdict, failing, refusal, answer};
 ghost use Rattle.rules.specs.Meaning.Verdict.{excessVolume};
-ghost use Rattle.case_header.specs.Meaning.Answer.{headerAnswer};
 ghost use Rattle.proposal_file.specs.Proposed.{Proposed};
 ghost use Rattle.proposal_file.specs.Meaning.Answer.{openingOf};
 ghost use Rattle.family_list.specs.Steps.Answer.{Known};
@@ -25,10 +24,8 @@ ghost use Rattle.findings.specs.Found.{Finds, fileRows, orderRows, linkA
 ghost use Rattle.findings.specs.Listed.{Admitted, listedAnswer, fractionPlace};
 use case_branches::ptdf_table;
 use case_file::CaseAnswer;
-use case_file::read_case_after;
+use case_file::read_case;
 use case_header::Counts;
-use case_header::HeaderAnswer;
-use case_header::read_header;
 use clearing::link_sums;
 use clearing::net_sum;
 use clearing::order_sums;
@@ -161,21 +158,14 @@ fn not_read(verdict: Outcome) -> Files
     }
 }
 
-fn read_files(
-    case: &[u8],
-    header: HeaderAnswer,
-    proposal: &[u8],
-    families: &[u8],
-    listed: bool,
-) -> Files
-    requires { ⌜ header ≡ headerAnswer (now «case») ⌝ }
+fn read_files(case: &[u8], proposal: &[u8], families: &[u8], listed: bool) -> Files
     ensures verdict { λ r. ⌜ r .verdict ≡ answer (refusal (fileRows (listOf listed (now (families .entry))) (now («case» .entry)) (now (proposal .entry)))) ⌝ }
     ensures counts { λ r. ⌜ (r .verdict .number ≡ 0 → Proposed (now («case» .entry)) (r .counts) (now (proposal .entry))) ⌝ }
     ensures opening { λ r. ⌜ (r .verdict .number ≡ 0 → r .opening ≡ openingOf (now (proposal .entry))) ⌝ }
     ensures families { λ r. ⌜ (r .verdict .number ≡ 0 → listed ≡ true → Known (now (families .entry)) (r .counts .orders)) ⌝ }
 {
     // Lent again: handed on as it came, it is copied by sixteen bytes that were written by eight, for which the processor waits.
-    match read_case_after(&case[..], header) {
+    match read_case(&case[..]) {
         CaseAnswer::Refused(refusal) => not_read(refusal),
         CaseAnswer::Readable(counts) => match read_proposal(case, counts, proposal) {
             ProposalAnswer::Refused(refusal) => not_read(refusal),
@@ -328,19 +318,12 @@ fn value_hour(
     }
 }
 
-// The hour, after its header was read: the table's rows top to bottom, stage by stage.
-pub fn find_listed_after(
-    case: &[u8],
-    header: HeaderAnswer,
-    proposal: &[u8],
-    families: &[u8],
-    listed: bool,
-) -> Found
-    requires { ⌜ header ≡ headerAnswer (now «case») ⌝ }
+// The hour, from its first byte: the table's rows top to bottom, stage by stage.
+pub fn find_listed(case: &[u8], proposal: &[u8], families: &[u8], listed: bool) -> Found
     ensures { λ r. ⌜ Finds (hourRows (listOf listed (now (families .entry))) (now («case» .entry)) (now (proposal .entry))) (now («case» .entry)) (now (proposal .entry)) r ⌝ }
 {
     // 1 to 8, the case; 9 to 14, the proposal; 15, the tolerance; 16 to 18, the family list where there is one (S-11).
-    let files = read_files(case, header, proposal, families, listed);
+    let files = read_files(case, proposal, families, listed);
     let unread = files.verdict;
     if unread.number != 0 {
         return refused_by(unread);
@@ -368,24 +351,9 @@ pub fn find_listed_after(
     value_hour(case, k, proposal, opening, nets, parts, accepted.welfare)
 }
 
-// The hour, from its first byte.
-pub fn find_listed(case: &[u8], proposal: &[u8], families: &[u8], listed: bool) -> Found
-    ensures { λ r. ⌜ Finds (hourRows (listOf listed (now (families .entry))) (now («case» .entry)) (now (proposal .entry))) (now («case» .entry)) (now (proposal .entry)) r ⌝ }
-{
-    find_listed_after(case, read_header(case), proposal, families, listed)
-}
-
 // The same without a family list.
 pub fn find(case: &[u8], proposal: &[u8]) -> Found
     ensures { λ r. ⌜ Finds (hourRows none (now («case» .entry)) (now (proposal .entry))) (now («case» .entry)) (now (proposal .entry)) r ⌝ }
 {
     find_listed(case, proposal, &case[..0], false)
-}
-
-// The same, after the header was read.
-pub fn find_after_header(case: &[u8], header: HeaderAnswer, proposal: &[u8]) -> Found
-    requires { ⌜ header ≡ headerAnswer (now «case») ⌝ }
-    ensures { λ r. ⌜ Finds (hourRows none (now («case» .entry)) (now (proposal .entry))) (now («case» .entry)) (now (proposal .entry)) r ⌝ }
-{
-    find_listed_after(case, header, proposal, &case[..0], false)
 }

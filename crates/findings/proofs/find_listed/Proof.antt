@@ -1,4 +1,4 @@
--- `findings::find_listed_after` meets its contract: the stages in the table's order, past each that passes to the one that refuses. Assumes nothing.
+-- `findings::find_listed` meets its contract: the stages in the table's order, past each that passes to the one that refuses. Assumes nothing.
 use mathlib.Core.Path.{_≡_, sym, ap, subst, _∙_}
 use mathlib.Core.Bool.{not, _&&_}
 use mathlib.Core.List.{List, _++_}
@@ -27,8 +27,8 @@ use Rattle.proposal_file.specs.Meaning.Answer.{openingOf}
 use Rattle.findings.specs.declared.Found.{Found}
 use Rattle.findings.specs.Found.{Finds, listOf, hourRows, fileRows, orderRows, linkRows, networkRows, stages, same-rows, stage-refuses, stage-passes, files-silent, orders-silent, links-silent, linkAnswer, links-answer, links-pass}
 use Rattle.findings.specs.Facts.{HourFacts, hour-facts}
-use Rattle.findings.proofs.find_listed_after.Statement.{statement}
-use Rattle.findings.proofs.find_listed_after.Tie as tie
+use Rattle.findings.proofs.find_listed.Statement.{statement}
+use Rattle.findings.proofs.find_listed.Tie as tie
 
 -- the files and the list, and the rows from each stage on
 abbrev file : tie.Start → List ℕ
@@ -225,8 +225,8 @@ returns-4 c =
     let a = entry-2 e in
     past-orders e (stage-passes (from-24 a) (links-silent (hour a) (plan a)) (verdict-is (links x)) (linked x) (c .value-hour .ensures))
 
-pub find-listed-after-spec : {M : Type 1} → statement M
-find-listed-after-spec =
+pub find-listed-spec : {M : Type 1} → statement M
+find-listed-spec =
     tie.close
     (tie.spec
     read-files-requires
