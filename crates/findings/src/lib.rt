@@ -1,4 +1,4 @@
-// THE DRIVER: what the verdict table from row 1 to row 26 finds in an hour. `find_by_stages`, near the end, asks three stages in the table's order: `read`
+// THE DRIVER: what the verdict table from row 1 to row 26 finds in an hour. `find_with_families`, at the end, asks three stages in the table's order: `read`
 // (1 to 18), `clear` (21, 28, 22, 27, 23) and `value` (24 to 26). The verdict of a stage is 0 where its rows pass, and a stage may rest on what those before
 // it passed.
 ghost use mathlib.Core.Path.{_≡_};
@@ -16,7 +16,6 @@ ghost use Rattle.rules.specs.Meaning.Hour as rules;
 ghost use Rattle.rows.specs.Meaning.Place.{placeOf};
 ghost use Rattle.rows.specs.Meaning.Rows.{verdict, failing, refusal, answer};
 ghost use Rattle.rules.specs.Meaning.Verdict.{excessVolume};
-ghost use Rattle.case_header.specs.Meaning.Answer.{headerAnswer};
 ghost use Rattle.family_list.specs.Steps.Answer.{Known};
 ghost use Rattle.clearing.specs.Held.{tenthsAt};
 ghost use Rattle.clearing.specs.Read.{HourReadFrom};
@@ -26,10 +25,8 @@ ghost use Rattle.findings.specs.Found.{Finds, HourCleared, readRows, cle
 ghost use Rattle.findings.specs.Listed.{Admitted, listedAnswer, fractionPlace};
 use case_branches::ptdf_table;
 use case_file::CaseAnswer;
-use case_file::read_case_after;
+use case_file::read_case;
 use case_header::Counts;
-use case_header::HeaderAnswer;
-use case_header::read_header;
 use clearing::HourRead;
 use clearing::link_sums;
 use clearing::net_sum;
@@ -187,20 +184,13 @@ fn not_read(verdict: Outcome) -> Reading
 }
 
 // ROWS 1 TO 18: the case, the proposal, and what is asked of them and the family list alone.
-fn read(
-    case: &[u8],
-    header: HeaderAnswer,
-    proposal: &[u8],
-    families: &[u8],
-    list: FamilyList,
-) -> Reading
-    requires { ⌜ header ≡ headerAnswer (now «case») ⌝ }
+fn read(case: &[u8], proposal: &[u8], families: &[u8], list: FamilyList) -> Reading
     ensures verdict { λ r. ⌜ r .verdict ≡ answer (refusal (readRows (listOf list (now (families .entry))) (now («case» .entry)) (now (proposal .entry)))) ⌝ }
     ensures hour { λ r. ⌜ (r .verdict .number ≡ 0 → HourReadFrom (now («case» .entry)) (now (proposal .entry)) (r .hour)) ⌝ }
     ensures families { λ r. ⌜ (r .verdict .number ≡ 0 → list ≡ Given → Known (now (families .entry)) (r .hour .counts .orders)) ⌝ }
 {
     // Reborrow: handed on as it came, the slice is reloaded by 16 bytes right after it was stored by 8 and 8, for which the processor waits.
-    match read_case_after(&case[..], header) {
+    match read_case(&case[..]) {
         CaseAnswer::Refused(refusal) => not_read(refusal),
         CaseAnswer::Readable(counts) => match read_proposal(case, counts, proposal) {
             ProposalAnswer::Refused(refusal) => not_read(refusal),
@@ -368,19 +358,12 @@ fn value(case: &[u8], proposal: &[u8], hour: HourRead, cleared: Cleared) -> Foun
     }
 }
 
-// The hour, once its header was read: the table's rows top to bottom, stage by stage.
-fn find_by_stages(
-    case: &[u8],
-    header: HeaderAnswer,
-    proposal: &[u8],
-    families: &[u8],
-    list: FamilyList,
-) -> Found
-    requires { ⌜ header ≡ headerAnswer (now «case») ⌝ }
+// The hour, from its first byte: the table's rows top to bottom, stage by stage.
+pub fn find_with_families(case: &[u8], proposal: &[u8], families: &[u8], list: FamilyList) -> Found
     ensures { λ r. ⌜ Finds (hourRows (listOf list (now (families .entry))) (now («case» .entry)) (now (proposal .entry))) (now («case» .entry)) (now (proposal .entry)) r ⌝ }
 {
     // 1 to 8, the case; 9 to 14, the proposal; 15, the tolerance; 16 to 18, the family list where there is one (S-11).
-    let reading = read(case, header, proposal, families, list);
+    let reading = read(case, proposal, families, list);
     let unread = reading.verdict;
     if unread.number != 0 {
         return refused_by(unread);
@@ -396,24 +379,9 @@ fn find_by_stages(
     value(case, proposal, hour, cleared)
 }
 
-// The hour, from its first byte.
-pub fn find_with_families(case: &[u8], proposal: &[u8], families: &[u8], list: FamilyList) -> Found
-    ensures { λ r. ⌜ Finds (hourRows (listOf list (now (families .entry))) (now («case» .entry)) (now (proposal .entry))) (now («case» .entry)) (now (proposal .entry)) r ⌝ }
-{
-    find_by_stages(case, read_header(case), proposal, families, list)
-}
-
 // The same without a family list.
 pub fn find(case: &[u8], proposal: &[u8]) -> Found
     ensures { λ r. ⌜ Finds (hourRows none (now («case» .entry)) (now (proposal .entry))) (now («case» .entry)) (now (proposal .entry)) r ⌝ }
 {
     find_with_families(case, proposal, &case[..0], FamilyList::Absent)
-}
-
-// The same, once the header was read.
-pub fn find_after_header(case: &[u8], header: HeaderAnswer, proposal: &[u8]) -> Found
-    requires { ⌜ header ≡ headerAnswer (now «case») ⌝ }
-    ensures { λ r. ⌜ Finds (hourRows none (now («case» .entry)) (now (proposal .entry))) (now («case» .entry)) (now (proposal .entry)) r ⌝ }
-{
-    find_by_stages(case, header, proposal, &case[..0], FamilyList::Absent)
 }

@@ -7,10 +7,8 @@ use native.Mathlib.Omega.{arith}
 use borrow.Author.Tests.{ltb-true, ltb-false}
 use lib.ListN.{length, take, drop, length-drop}
 use lib.Seq.{length-take-le, take-all}
-use Rattle.case_header.specs.Meaning.Answer.{headerAnswer}
 use Rattle.decimal.specs.Steps.Put.{Put, put-as}
 use Rattle.desk_lines.specs.Steps.Answers.{met-refusal, met-answer}
-use Rattle.desk_lines.specs.Steps.Header.{case-header-is}
 use Rattle.rules.specs.Meaning.Cut.{casePart, proposalPart}
 use Rattle.rules.specs.Steps.CaseEnd.{end-within}
 use Rattle.rules.specs.Meaning.Lines.{hourText, deskText}
@@ -24,7 +22,7 @@ rest input at = take-all (length input - at) (drop at input) (omega (arith, leng
 
 module _ (c : tie.After-cut) where
   abbrev start : tie.Start
-  start = c .before .before .before .before .before .before
+  start = c .before .before .before .before .before
 
   abbrev input : List ℕ
   input = start .args .input .now
@@ -34,10 +32,6 @@ module _ (c : tie.After-cut) where
 
   cut-within : end ≤ length input
   cut-within = omega (arith, c .cut .ensures, end-within input)
-
-  header-is : c .before .read-header .result ≡ headerAnswer (take end input)
-  unfolding casePart
-  header-is = c .before .read-header .ensures ∙ sym (ap (λ (k : ℕ). headerAnswer (take k input)) (c .cut .ensures) ∙ case-header-is input)
 
   text : hourText (take end input) (take (length input - end) (drop end input)) ≡ deskText input
   unfolding deskText casePart proposalPart
@@ -59,11 +53,8 @@ returns c =
 room : (c : tie.Else1) → 1024 ≤ length (c .before .before .before .before .args .out .now)
 room c = ltb-false _ _ (sym (c .before .too-short .ensures) ∙ c .if1 .left)
 
-read-header-requires : tie.Need-read-header-requires
-read-header-requires c κs = search needs
-
 cut-requires : tie.Need-cut-requires
-cut-requires c κs = c .read-header .ensures
+cut-requires c κs = search needs
 
 slice-aggregate-put-lines : tie.Need-slice-aggregate-put-lines
 slice-aggregate-put-lines c = sym (length-take-le _ _ (cut-within (c .before)))
@@ -78,7 +69,7 @@ part-put-lines-end : tie.Need-part-put-lines-end
 part-put-lines-end c = search needs
 
 put-lines-requires : tie.Need-put-lines-requires
-put-lines-requires c κs = let cut = c .before .before .before in (header-is cut, room (cut .before .before))
+put-lines-requires c κs = room (c .before .before .before .before)
 
 same-length : tie.Need-same-length
 same-length c = search needs
@@ -88,7 +79,7 @@ returns-2 c =
     let put = c .before .before in
     let cut = put .before .before .before .before in
     let a = (start cut) .args in
-    met-answer (a .input .now) (a .out .now) (room (cut .before .before)) (put-as (text cut) (put .put-lines .ensures))
+    met-answer (a .input .now) (a .out .now) (room (cut .before)) (put-as (text cut) (put .put-lines .ensures))
 
 pub lines-spec : {M : Type 1} → statement M
 lines-spec =
@@ -97,7 +88,6 @@ lines-spec =
     too-short-requires
     refused-requires
     returns
-    read-header-requires
     cut-requires
     slice-aggregate-put-lines
     sub-put-lines

@@ -16,28 +16,28 @@ use borrow.Author.Needs.{needs}
 use Rattle.desk_lines.proofs.put_lines.Statement.{statement}
 use Rattle.desk_lines.proofs.put_lines.Tie as tie
 
-abbrev start : tie.After-find-after-header → tie.Start
+abbrev start : tie.After-find → tie.Start
 start c = c .before .before .before .before
 
-abbrev file : tie.After-find-after-header → List ℕ
+abbrev file : tie.After-find → List ℕ
 file c = start c .args .«case» .now
 
-abbrev plan : tie.After-find-after-header → List ℕ
+abbrev plan : tie.After-find → List ℕ
 plan c = start c .args .proposal .now
 
-found : (c : tie.After-find-after-header) → Finds (hourRows none (file c) (plan c)) (file c) (plan c) (c .find-after-header .result)
-found c = c .find-after-header .ensures
+found : (c : tie.After-find) → Finds (hourRows none (file c) (plan c)) (file c) (plan c) (c .find .result)
+found c = c .find .ensures
 
-find-after-header-requires : tie.Need-find-after-header-requires
-find-after-header-requires c κs = c .before .before .before .pre .0
+find-requires : tie.Need-find-requires
+find-requires c κs = search needs
 
 put-verdict-requires : tie.Need-put-verdict-requires
 put-verdict-requires c κs =
     let f = c .before .before in
-    omega (arith, ap (λ (o : Outcome). length (verdictLine o)) (verdict-found (found f)), first-room (file f) (plan f), start f .pre .1)
+    omega (arith, ap (λ (o : Outcome). length (verdictLine o)) (verdict-found (found f)), first-room (file f) (plan f), start f .pre)
 
 -- the driver's answer before the first line
-abbrev driven : tie.After-put-verdict → tie.After-find-after-header
+abbrev driven : tie.After-put-verdict → tie.After-find
 driven c = c .before .before .before
 
 put-hour-requires : tie.Need-put-hour-requires
@@ -47,7 +47,7 @@ put-hour-requires c κs =
     let f = driven v in
     let p = v .put-verdict .ensures in
     let text = lines-found (found f) (test .if1 .taken) in
-    ((found f) .few-zones, omega (arith, simp length-append at (ap length text), hour-room (file f) (plan f), p .position, put-length p, start f .pre .1))
+    ((found f) .few-zones, omega (arith, simp length-append at (ap length text), hour-room (file f) (plan f), p .position, put-length p, start f .pre))
 
 same-length : tie.Need-same-length
 same-length c = search needs
@@ -71,7 +71,7 @@ pub put-lines-spec : {M : Type 1} → statement M
 put-lines-spec =
     tie.close
     (tie.spec
-    find-after-header-requires
+    find-requires
     put-verdict-requires
     put-hour-requires
     same-length

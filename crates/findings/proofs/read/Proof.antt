@@ -56,8 +56,8 @@ module _ (s t f : List ℕ) (list : FamilyList) {o : Outcome} (q : refusal (read
   refused e = let v = ap (λ (f : Reading). f .verdict) e in (v ∙ sym (ap answer q), (never v, never v))
 
 -- 1 TO 8
-read-case-after-requires : tie.Need-read-case-after-requires
-read-case-after-requires c κs = search needs
+read-case-requires : tie.Need-read-case-requires
+read-case-requires c κs = search needs
 
 enum-known-refusal : tie.Need-enum-known-refusal
 enum-known-refusal c = search needs
@@ -71,7 +71,7 @@ returns c =
     let o = c .before .before in
     let p = o .before .before in
     let a = p .before .before .before .before in
-    refused (file a) (plan a) (now (a .args .families)) (a .args .list) (first-refuses (of-case a) (of-proposal a ++ of-lists a) _ (case-answer.refused-of (file a) (sym (p .read-case-after .ensures) ∙ o .refusal .given .1))) (c .not-read .ensures)
+    refused (file a) (plan a) (now (a .args .families)) (a .args .list) (first-refuses (of-case a) (of-proposal a ++ of-lists a) _ (case-answer.refused-of (file a) (sym (p .read-case .ensures) ∙ o .refusal .given .1))) (c .not-read .ensures)
 
 enum-known-counts : tie.Need-enum-known-counts
 enum-known-counts c = search needs
@@ -80,7 +80,7 @@ abbrev case-entry : tie.After-counts → tie.Start
 case-entry c = c .before .before .before .before .before .before
 
 opened : (c : tie.After-counts) → Opened (file (case-entry c)) (c .counts .given .0 .0)
-opened c = opened-of (file (case-entry c)) (sym (c .before .before .read-case-after .ensures) ∙ c .counts .given .1)
+opened c = opened-of (file (case-entry c)) (sym (c .before .before .read-case .ensures) ∙ c .counts .given .1)
 
 past-case : (c : tie.After-counts) → let a = case-entry c in refusal (readRows (list a) (file a) (plan a)) ≡ refusal (of-proposal a ++ of-lists a)
 unfolding caseRefusal
@@ -143,7 +143,7 @@ pub read-spec : {M : Type 1} → statement M
 read-spec =
     tie.close
     (tie.spec
-    read-case-after-requires
+    read-case-requires
     enum-known-refusal
     not-read-requires
     enum-known-counts

@@ -1,4 +1,4 @@
--- `findings::find_by_stages` meets its contract: the stages in the table's order, past each that passes to the one that refuses. Assumes nothing.
+-- `findings::find_with_families` meets its contract: the stages in the table's order, past each that passes to the one that refuses. Assumes nothing.
 use mathlib.Core.Path.{_≡_, ap}
 use mathlib.Core.List.{List, _++_}
 use mathlib.Core.Option.{Option}
@@ -11,8 +11,8 @@ use Rattle.rows.specs.Meaning.Rows.{Row, refusal}
 use Rattle.clearing.specs.Read.{HourReadFrom}
 use Rattle.findings.specs.declared.Found.{Found}
 use Rattle.findings.specs.Found.{Finds, listOf, hourRows, readRows, clearRows, valueRows, stages, same-rows, read-silent, clear-silent, stage-refuses, stage-passes}
-use Rattle.findings.proofs.find_by_stages.Statement.{statement}
-use Rattle.findings.proofs.find_by_stages.Tie as tie
+use Rattle.findings.proofs.find_with_families.Statement.{statement}
+use Rattle.findings.proofs.find_with_families.Tie as tie
 
 -- the files and the list, and the rows from each stage on
 abbrev file : tie.Start → List ℕ
@@ -107,8 +107,8 @@ returns-3 c =
     let a = entry e in
     past-read e (stage-passes (from-24 a) (clear-silent (list a) (hour a) (plan a)) (clearing x .clear .ensures .0) (cleared x) (c .value .ensures))
 
-pub find-by-stages-spec : {M : Type 1} → statement M
-find-by-stages-spec =
+pub find-with-families-spec : {M : Type 1} → statement M
+find-with-families-spec =
     tie.close
     (tie.spec
     read-requires
