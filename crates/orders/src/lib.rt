@@ -51,7 +51,7 @@ pub fn admit(zones: usize, zone: usize, side: u8, quantity: u32, price: Raw) -> 
 }
 
 // How far an order's price lies on the good side of its zone's, in grains.
-pub fn above(buys: bool, price: Grains, at: Grains) -> Grains
+pub fn unit_gain(buys: bool, price: Grains, at: Grains) -> Grains
     requires { ⌜ Within limits.zonePrice (price .0) ⌝ }
     requires { ⌜ Within limits.zonePrice (at .0) ⌝ }
     ensures { λ r. ⌜ r .0 ≡ rules.above buys (price .0) (at .0) ⌝ }
@@ -70,5 +70,8 @@ pub fn surplus(order: Order, at: Grains) -> Microcents
     ensures { λ r. ⌜ r .0 ≡ surplusAt order (at .0) ⌝ }
 {
     let price = order.price.in_grains();
-    order.quantity.cost(above(order.buys, price, at)).positive()
+    order
+        .quantity
+        .cost(unit_gain(order.buys, price, at))
+        .positive()
 }

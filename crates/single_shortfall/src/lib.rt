@@ -25,7 +25,7 @@ use measures::Grains;
 use measures::Load;
 use measures::Ptdf;
 use measures::Tenths;
-use orders::above;
+use orders::unit_gain;
 use proposal_file::flow_at;
 use proposal_file::shadow_at;
 use proposal_file::volume_at;
@@ -60,7 +60,7 @@ pub fn order_shortfall(
     let volume = volume_at(case, k, proposal, i);
     let zone = order.zone;
     let quantity = order.quantity;
-    let gain = above(order.buys, order.price.in_grains(), prices[zone]);
+    let gain = unit_gain(order.buys, order.price.in_grains(), prices[zone]);
     short(quantity.whole(), volume.whole(), gain)
 }
 

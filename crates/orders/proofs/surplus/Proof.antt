@@ -18,16 +18,16 @@ use Rattle.orders.proofs.surplus.Tie as tie
 in-grains-requires : tie.Need-in-grains-requires
 in-grains-requires c κs = near-fits w64 (omega arith) (near-zone-price _ (in-grains (c .args .order .price .0) (c .pre .1 .0)))
 
-above-requires : tie.Need-above-requires
-above-requires c κs = (subst (λ (z : ℤ). Within limits.zonePrice z) (sym (c .in-grains .ensures)) (in-grains (c .before .args .order .price .0) (c .before .pre .1 .0)), c .before .pre .1 .1)
+unit-gain-requires : tie.Need-unit-gain-requires
+unit-gain-requires c κs = (subst (λ (z : ℤ). Within limits.zonePrice z) (sym (c .in-grains .ensures)) (in-grains (c .before .args .order .price .0) (c .before .pre .1 .0)), c .before .pre .1 .1)
 
 -- the difference of the prices, in grains
-above-is : (c : tie.After-above) → c .above .result .0 ≡ above (c .before .before .args .order .buys) (grainsOf (c .before .before .args .order .price .0)) (c .before .before .args .at .0)
-above-is c = c .above .ensures ∙ ap (λ (z : ℤ). above (c .before .before .args .order .buys) z (c .before .before .args .at .0)) (c .before .in-grains .ensures)
+gain-is : (c : tie.After-unit-gain) → c .unit-gain .result .0 ≡ above (c .before .before .args .order .buys) (grainsOf (c .before .before .args .order .price .0)) (c .before .before .args .at .0)
+gain-is c = c .unit-gain .ensures ∙ ap (λ (z : ℤ). above (c .before .before .args .order .buys) z (c .before .before .args .at .0)) (c .before .in-grains .ensures)
 
 cost-requires : tie.Need-cost-requires
 cost-requires c κs =
-    sfits-by w64 (ap (λ (z : ℤ). c .before .before .args .order .quantity .0 *ℤ z) (above-is c))
+    sfits-by w64 (ap (λ (z : ℤ). c .before .before .args .order .quantity .0 *ℤ z) (gain-is c))
     (near-fits w64 (omega arith) (near-mul (near-within 100000 limits.quantity _ (omega arith) (omega arith) (c .before .before .pre .0))
     (near-above (c .before .before .args .order .buys) _ _ (in-grains _ (c .before .before .pre .1 .0)) (c .before .before .pre .1 .1))))
 
@@ -37,8 +37,8 @@ positive-requires c κs = search needs
 returns : tie.Need-returns
 returns c =
     c .positive .ensures
-    ∙ ap positive (c .before .cost .ensures ∙ ap (λ (z : ℤ). c .before .before .before .before .args .order .quantity .0 *ℤ z) (above-is (c .before .before)))
+    ∙ ap positive (c .before .cost .ensures ∙ ap (λ (z : ℤ). c .before .before .before .before .args .order .quantity .0 *ℤ z) (gain-is (c .before .before)))
 
 pub surplus-spec : {M : Type 1} → statement M
 surplus-spec =
-    tie.close (tie.spec in-grains-requires above-requires cost-requires positive-requires returns)
+    tie.close (tie.spec in-grains-requires unit-gain-requires cost-requires positive-requires returns)

@@ -70,14 +70,14 @@ price-within o = subst (λ (x : ℤ). Within limits.orderPrice x) (sym (price-is
 in-grains-requires : tie.Need-in-grains-requires
 in-grains-requires c κs = near-fits w64 (omega arith) (near-zone-price _ (in-grains _ (price-within (c .before .before))))
 
-mul-above : tie.Need-mul-above
-mul-above c = omega (arith, zone-in (c .before .before .before))
+mul-unit-gain : tie.Need-mul-unit-gain
+mul-unit-gain c = omega (arith, zone-in (c .before .before .before))
 
-array-copy-out-above : tie.Need-array-copy-out-above
-array-copy-out-above c = omega (arith, zone-in (c .before .before .before))
+array-copy-out-unit-gain : tie.Need-array-copy-out-unit-gain
+array-copy-out-unit-gain c = omega (arith, zone-in (c .before .before .before))
 
-above-requires : tie.Need-above-requires
-above-requires c κs =
+unit-gain-requires : tie.Need-unit-gain-requires
+unit-gain-requires c κs =
     let g = c .before in
     let o = g .before .before .before in (
       subst (λ (x : ℤ). Within limits.zonePrice x) (sym (g .in-grains .ensures)) (in-grains _ (price-within o)),
@@ -85,20 +85,20 @@ above-requires c κs =
     )
 
 -- what a unit gains
-abbrev order : tie.After-above → tie.After-order-at
+abbrev order : tie.After-unit-gain → tie.After-order-at
 order c = c .before .before .before .before .before
 
-gain-is : (c : tie.After-above) → c .above .result .0 ≡ gainOf (start (order c) .pre .0) (start (order c) .args .i)
+gain-is : (c : tie.After-unit-gain) → c .unit-gain .result .0 ≡ gainOf (start (order c) .pre .0) (start (order c) .args .i)
 unfolding buys caseOf
 gain-is c =
     let o = order c in
-    c .above .ensures
+    c .unit-gain .ensures
     ∙ (λ j. above ((o .order-at .ensures j) .buys) ((c .before .before .in-grains .ensures ∙ ap grainsOf (price-is o)) j) (zone-price o j))
 
 whole-requires : tie.Need-whole-requires
 whole-requires c κs = let a = start (order c) in sfits-by w64 (ap (λ (x : ℤ). x *ℤ pos partsInOne) (quantity-is (order c))) (near-fits w64 (omega arith) ((order-shortable (a .pre .0) (a .args .i) (inside a)) .room-near))
 
-volume-is : (c : tie.After-above) → c .before .before .before .before .volume-at .result .0 ≡ pos (plan (start (order c)) .volume (start (order c) .args .i))
+volume-is : (c : tie.After-unit-gain) → c .before .before .before .before .volume-at .result .0 ≡ pos (plan (start (order c)) .volume (start (order c) .args .i))
 unfolding planOf
 volume-is c = c .before .before .before .before .volume-at .ensures
 
@@ -130,9 +130,9 @@ order-shortfall-spec =
     order-at-requires
     volume-at-requires
     in-grains-requires
-    mul-above
-    array-copy-out-above
-    above-requires
+    mul-unit-gain
+    array-copy-out-unit-gain
+    unit-gain-requires
     whole-requires
     whole-requires-2
     short-requires

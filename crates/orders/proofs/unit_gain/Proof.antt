@@ -1,4 +1,4 @@
--- `orders::above` meets its contract: two prices of one range are no farther apart than its ends. Assumes nothing.
+-- `orders::unit_gain` meets its contract: two prices of one range are no farther apart than its ends. Assumes nothing.
 use mathlib.Core.Path.{ap, sym, _∙_}
 use mathlib.Core.Bool.{Bool}
 use native.Mathlib.Omega.{arith}
@@ -6,8 +6,8 @@ use mir.Syntax.{w64}
 use Rattle.integers.specs.Size.{near-fits}
 use Rattle.rules.specs.Meaning.Hour as rules
 use Rattle.rules.specs.Promised.Fits.{apart-prices}
-use Rattle.orders.proofs.above.Statement.{statement}
-use Rattle.orders.proofs.above.Tie as tie
+use Rattle.orders.proofs.unit_gain.Statement.{statement}
+use Rattle.orders.proofs.unit_gain.Tie as tie
 
 minus-requires : tie.Need-minus-requires
 minus-requires c κs = near-fits w64 (omega arith) (apart-prices (c .before .args .price .0) (c .before .args .at .0) (c .before .pre .0) (c .before .pre .1))
@@ -21,5 +21,5 @@ minus-requires-2 c κs = near-fits w64 (omega arith) (apart-prices (c .before .a
 returns-2 : tie.Need-returns-2
 returns-2 c = c .minus2 .ensures ∙ ap (λ (b : Bool). rules.above b (c .before .before .args .price .0) (c .before .before .args .at .0)) (sym (c .before .if1 .left))
 
-pub above-spec : {M : Type 1} → statement M
-above-spec = tie.close (tie.spec minus-requires returns minus-requires-2 returns-2)
+pub unit-gain-spec : {M : Type 1} → statement M
+unit-gain-spec = tie.close (tie.spec minus-requires returns minus-requires-2 returns-2)
