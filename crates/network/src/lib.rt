@@ -47,7 +47,7 @@ pub fn branch_sums(
 {
     let k = hour.counts;
     let share = hour.opening.share;
-    let flow_based = share.rest();
+    let flow_based = share.flow_based();
     let system = hour.opening.system;
     let zones = k.zones;
     let branches = k.branches;
@@ -66,7 +66,7 @@ pub fn branch_sums(
             let next = price.plus(ptdf.price(shadow));
             prices[z] = next;
         }
-        if load.exceeds(flow_based.part(margin)) {
+        if load.exceeds(flow_based.of_volume(margin)) {
             return Network {
                 overloaded: Place::At(m),
                 prices,

@@ -61,7 +61,7 @@ pub fn order_shortfall(
     let zone = order.zone;
     let quantity = order.quantity;
     let gain = unit_gain(order.buys, order.price.in_grains(), prices[zone]);
-    short(quantity.whole(), volume.whole(), gain)
+    short(quantity.scaled_by_one(), volume.scaled_by_one(), gain)
 }
 
 // Rule 5's sum over the zones, of a branch with these PTDFs.
@@ -100,7 +100,7 @@ pub fn branch_shortfall(
     let margin = margin_at(case, k, m);
     let shadow = shadow_at(case, k, proposal, m);
     let load = load_of(row, parts, k.zones);
-    short(share.rest().part(margin), load, shadow.in_grains())
+    short(share.flow_based().of_volume(margin), load, shadow.in_grains())
 }
 
 // Link l: its capacity scaled by the LTA share is the room, and its flow is used, at its spread. Its contracted volume does not enter.
@@ -124,5 +124,5 @@ pub fn link_shortfall(
     let from = link.from;
     let capacity = link.capacity;
     let spread = prices[to].minus(prices[from]);
-    short(share.part(capacity), flow.whole(), spread)
+    short(share.of_volume(capacity), flow.scaled_by_one(), spread)
 }

@@ -99,17 +99,17 @@ to-in c = omega (arith, to-is c, to-small c)
 from-in : (c : tie.After-link-at Inv-loop μ-loop) → c .link-at .result .from < 16
 from-in c = omega (arith, from-is c, from-small c)
 
-whole-requires : tie.Need-whole-requires Inv-loop μ-loop
+scaled-by-one-requires : tie.Need-scaled-by-one-requires Inv-loop μ-loop
 unfolding flowIn
-whole-requires c κs =
+scaled-by-one-requires c κs =
     let f = c .before in
     let l = loop (f .before) in
     sfits-by w64 (ap (λ (x : ℤ). x *ℤ pos partsInOne) (f .flow-at .ensures))
     (near-fits w64 (omega arith) (near-mul (near-unsigned _ 4294967295 (word-small (now (entry l .args .proposal)) _ (record { byte = λ i. omega (arith, l .before .before .before .shared-slice-known2 .given i) }))) (near-pos partsInOne)))
 
-part-requires : tie.Need-part-requires Inv-loop μ-loop
+of-volume-requires : tie.Need-of-volume-requires Inv-loop μ-loop
 unfolding caseOf planOf
-part-requires c κs =
+of-volume-requires c κs =
     let k = c .before .before .before in
     let a = from-link k in
     sfits-by w64 (λ j. share-is (a .pre .0) j *ℤ (k .link-at .ensures j) .capacity .0)
@@ -125,8 +125,8 @@ unfolding linkRoom linkUse caseOf planOf
 answered c =
     c .exceeds .ensures
     ∙ (λ j. ltZ
-    ((c .before .part .ensures ∙ (λ i. share-is (from-link (link c) .pre .0) i *ℤ (link c .link-at .ensures i) .capacity .0)) j)
-    ((c .before .before .whole .ensures ∙ ap (λ (x : ℤ). x *ℤ pos partsInOne) (flow c .flow-at .ensures)) j))
+    ((c .before .of-volume .ensures ∙ (λ i. share-is (from-link (link c) .pre .0) i *ℤ (link c .link-at .ensures i) .capacity .0)) j)
+    ((c .before .before .scaled-by-one .ensures ∙ ap (λ (x : ℤ). x *ℤ pos partsInOne) (flow c .flow-at .ensures)) j))
 
 returns : tie.Need-returns Inv-loop μ-loop
 returns c =
@@ -253,8 +253,8 @@ link-sums-spec =
     loop-holds
     link-at-requires
     flow-at-requires
-    whole-requires
-    part-requires
+    scaled-by-one-requires
+    of-volume-requires
     exceeds-requires
     returns
     mul-minus

@@ -91,11 +91,11 @@ rest-is a = ap (λ (x : ℤ). pos partsInOne -ℤ x) (share-is (a .pre .0))
 rest-near : (a : tie.Start Inv-loop2 μ-loop2 Inv-loop μ-loop) → Near 200000 (pos partsInOne -ℤ pos (plan a .share))
 rest-near a = near-sub (near-pos partsInOne) (near-unsigned _ 100000 (share-in (a .pre .0)))
 
-rest-requires : tie.Need-rest-requires Inv-loop2 μ-loop2 Inv-loop μ-loop
-rest-requires c κs = let a = c .before .before .before .before in sfits-by w64 (rest-is a) (near-fits w64 (omega arith) (rest-near a))
+flow-based-requires : tie.Need-flow-based-requires Inv-loop2 μ-loop2 Inv-loop μ-loop
+flow-based-requires c κs = let a = c .before .before .before .before in sfits-by w64 (rest-is a) (near-fits w64 (omega arith) (rest-near a))
 
-flow-based-is : (l : tie.At-loop Inv-loop2 μ-loop2 Inv-loop μ-loop) → l .before .before .before .rest .result .0 ≡ pos partsInOne -ℤ pos (plan (entry l) .share)
-flow-based-is l = l .before .before .before .rest .ensures ∙ rest-is (entry l)
+flow-based-is : (l : tie.At-loop Inv-loop2 μ-loop2 Inv-loop μ-loop) → l .before .before .before .flow-based .result .0 ≡ pos partsInOne -ℤ pos (plan (entry l) .share)
+flow-based-is l = l .before .before .before .flow-based .ensures ∙ rest-is (entry l)
 
 in-grains-requires : tie.Need-in-grains-requires Inv-loop2 μ-loop2 Inv-loop μ-loop
 in-grains-requires c κs = sfits-by w64 (ap grainsOf (system-is (c .before .before .before .before .before .before .pre .0))) (near-fits w64 (omega arith) (near-mul (near-pos partsInOne) (system-near _ _)))
@@ -263,9 +263,9 @@ loop2-again c =
       ),
     )
 
-part-requires : tie.Need-part-requires Inv-loop2 μ-loop2 Inv-loop μ-loop
+of-volume-requires : tie.Need-of-volume-requires Inv-loop2 μ-loop2 Inv-loop μ-loop
 unfolding caseOf planOf
-part-requires c κs =
+of-volume-requires c κs =
     let i = c .before .before .before .before in
     let a = entry (i .before) in
     sfits-by w64 (λ j. flow-based-is (i .before) j *ℤ c .before .before .margin-at .ensures j)
@@ -289,7 +289,7 @@ answered : (c : tie.After-exceeds Inv-loop2 μ-loop2 Inv-loop μ-loop) → c .ex
 unfolding branchRoom caseOf planOf
 answered c =
     let a = entry (c .before .before .before .before .before .before .before) in
-    c .exceeds .ensures ∙ (λ j. ltZ ((c .before .part2 .ensures ∙ (λ i. flow-based-is (c .before .before .before .before .before .before .before) i *ℤ c .before .before .before .before .margin-at .ensures i)) j) (used (c .before .before) j))
+    c .exceeds .ensures ∙ (λ j. ltZ ((c .before .of-volume2 .ensures ∙ (λ i. flow-based-is (c .before .before .before .before .before .before .before) i *ℤ c .before .before .before .before .margin-at .ensures i)) j) (used (c .before .before) j))
 
 returns : tie.Need-returns Inv-loop2 μ-loop2 Inv-loop μ-loop
 returns c =
@@ -378,7 +378,7 @@ branch-sums-spec =
     μ-loop2
     Inv-loop
     μ-loop
-    rest-requires
+    flow-based-requires
     in-grains-requires
     loop-holds
     shadow-at-requires
@@ -402,7 +402,7 @@ branch-sums-spec =
     add-z
     loop2-less
     loop2-again
-    part-requires
+    of-volume-requires
     exceeds-requires
     returns
     in-grains-requires-2

@@ -70,15 +70,15 @@ used-is c =
     c .load-of .ensures ∙ sum-ext (a .args .hour .counts .zones) _ _ (term-is a)
     ∙ ap (λ (n : ℕ). sumTo n (λ z. hour a .ptdf (a .args .m) z *ℤ fbPart (hour a) (plan a) z)) (zones-is (a .pre .0 .read))
 
-rest-requires : tie.Need-rest-requires
-rest-requires c κs = let a = start c in sfits-by w64 (rest-is (a .pre .0)) (near-fits w64 (omega arith) (rest-near (a .pre .0)))
+flow-based-requires : tie.Need-flow-based-requires
+flow-based-requires c κs = let a = start c in sfits-by w64 (rest-is (a .pre .0)) (near-fits w64 (omega arith) (rest-near (a .pre .0)))
 
-part-is : (c : tie.After-rest) → let a = start (c .before) in c .rest .result .0 *ℤ c .before .before .before .margin-at .result .0 ≡ branchRoom (hour a) (plan a) (a .args .m)
+part-is : (c : tie.After-flow-based) → let a = start (c .before) in c .flow-based .result .0 *ℤ c .before .before .before .margin-at .result .0 ≡ branchRoom (hour a) (plan a) (a .args .m)
 unfolding branchRoom planOf caseOf
-part-is c = λ j. (c .rest .ensures ∙ rest-is (start (c .before) .pre .0)) j *ℤ c .before .before .before .margin-at .ensures j
+part-is c = λ j. (c .flow-based .ensures ∙ rest-is (start (c .before) .pre .0)) j *ℤ c .before .before .before .margin-at .ensures j
 
-part-requires : tie.Need-part-requires
-part-requires c κs = let a = start (c .before) in sfits-by w64 (part-is c) (near-fits w64 (omega arith) ((branch-shortable (a .pre .0) (a .args .m) (inside a)) .room-near))
+of-volume-requires : tie.Need-of-volume-requires
+of-volume-requires c κs = let a = start (c .before) in sfits-by w64 (part-is c) (near-fits w64 (omega arith) ((branch-shortable (a .pre .0) (a .args .m) (inside a)) .room-near))
 
 shadow-is : (c : tie.After-load-of) → grainsOf (c .before .shadow-at .result .0) ≡ pos partsInOne *ℤ pos (rates (start c) .shadow (start c .args .m))
 unfolding pricesOf
@@ -92,7 +92,7 @@ short-requires c κs =
     let r = c .before .before in
     let l = r .before in
     let a = start l in
-    shortable-by (c .before .part .ensures ∙ part-is r) (used-is l) (c .in-grains .ensures ∙ shadow-is l) (branch-shortable (a .pre .0) (a .args .m) (inside a))
+    shortable-by (c .before .of-volume .ensures ∙ part-is r) (used-is l) (c .in-grains .ensures ∙ shadow-is l) (branch-shortable (a .pre .0) (a .args .m) (inside a))
 
 returns : tie.Need-returns
 returns c =
@@ -100,7 +100,7 @@ returns c =
     let r = g .before .before in
     let l = r .before in
     let a = start l in
-    exact-by ((λ j. shortOf ((g .before .part .ensures ∙ part-is r) j) (used-is l j) ((g .in-grains .ensures ∙ shadow-is l) j)) ∙ branch-is (a .pre .0) (a .args .m)) (c .short .ensures)
+    exact-by ((λ j. shortOf ((g .before .of-volume .ensures ∙ part-is r) j) (used-is l j) ((g .in-grains .ensures ∙ shadow-is l) j)) ∙ branch-is (a .pre .0) (a .args .m)) (c .short .ensures)
 
 pub branch-shortfall-spec : {M : Type 1} → statement M
 branch-shortfall-spec =
@@ -109,8 +109,8 @@ branch-shortfall-spec =
     margin-at-requires
     shadow-at-requires
     load-of-requires
-    rest-requires
-    part-requires
+    flow-based-requires
+    of-volume-requires
     in-grains-requires
     short-requires
     returns)

@@ -99,23 +99,23 @@ capacity-is c = ap (λ (x : Link). x .capacity .0) (link c .link-at .ensures)
 part-is : (c : tie.After-minus) → let a = start (link c) in a .args .hour .opening .share .0 *ℤ link c .link-at .result .capacity .0 ≡ pos (plan a .share) *ℤ pos (hour a .capacity (a .args .l))
 part-is c = λ j. share-is (start (link c) .pre .0 .read) j *ℤ capacity-is c j
 
-part-requires : tie.Need-part-requires
-part-requires c κs = let a = start (link c) in sfits-by w64 (part-is c) (near-fits w64 (omega arith) ((link-shortable (a .pre .0) (a .args .l) (inside a)) .room-near))
+of-volume-requires : tie.Need-of-volume-requires
+of-volume-requires c κs = let a = start (link c) in sfits-by w64 (part-is c) (near-fits w64 (omega arith) ((link-shortable (a .pre .0) (a .args .l) (inside a)) .room-near))
 
 flow-is : (c : tie.After-minus) → c .before .before .before .before .flow-at .result .0 ≡ pos (plan (start (link c)) .flow (start (link c) .args .l))
 unfolding planOf
 flow-is c = c .before .before .before .before .flow-at .ensures
 
-whole-requires : tie.Need-whole-requires
-whole-requires c κs =
+scaled-by-one-requires : tie.Need-scaled-by-one-requires
+scaled-by-one-requires c κs =
     let a = start (link (c .before)) in
     sfits-by w64 (ap (λ (x : ℤ). x *ℤ pos partsInOne) (flow-is (c .before))) (near-fits w64 (omega arith) ((link-shortable (a .pre .0) (a .args .l) (inside a)) .used-near))
 
-room-is : (c : tie.After-whole) → let a = start (link (c .before .before)) in c .before .part .result .0 ≡ pos (plan a .share) *ℤ pos (hour a .capacity (a .args .l))
-room-is c = c .before .part .ensures ∙ part-is (c .before .before)
+room-is : (c : tie.After-scaled-by-one) → let a = start (link (c .before .before)) in c .before .of-volume .result .0 ≡ pos (plan a .share) *ℤ pos (hour a .capacity (a .args .l))
+room-is c = c .before .of-volume .ensures ∙ part-is (c .before .before)
 
-used-is : (c : tie.After-whole) → let a = start (link (c .before .before)) in c .whole .result .0 ≡ pos (plan a .flow (a .args .l)) *ℤ pos partsInOne
-used-is c = c .whole .ensures ∙ ap (λ (x : ℤ). x *ℤ pos partsInOne) (flow-is (c .before .before))
+used-is : (c : tie.After-scaled-by-one) → let a = start (link (c .before .before)) in c .scaled-by-one .result .0 ≡ pos (plan a .flow (a .args .l)) *ℤ pos partsInOne
+used-is c = c .scaled-by-one .ensures ∙ ap (λ (x : ℤ). x *ℤ pos partsInOne) (flow-is (c .before .before))
 
 short-requires : tie.Need-short-requires
 short-requires c κs = let a = start (link (c .before .before)) in shortable-by (room-is c) (used-is c) (spread-is (c .before .before)) (link-shortable (a .pre .0) (a .args .l) (inside a))
@@ -137,7 +137,7 @@ link-shortfall-spec =
     mul-minus-2
     array-copy-out-minus-2
     minus-requires
-    part-requires
-    whole-requires
+    of-volume-requires
+    scaled-by-one-requires
     short-requires
     returns)

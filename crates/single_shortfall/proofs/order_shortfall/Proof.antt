@@ -95,24 +95,24 @@ gain-is c =
     c .unit-gain .ensures
     ∙ (λ j. above ((o .order-at .ensures j) .buys) ((c .before .before .in-grains .ensures ∙ ap grainsOf (price-is o)) j) (zone-price o j))
 
-whole-requires : tie.Need-whole-requires
-whole-requires c κs = let a = start (order c) in sfits-by w64 (ap (λ (x : ℤ). x *ℤ pos partsInOne) (quantity-is (order c))) (near-fits w64 (omega arith) ((order-shortable (a .pre .0) (a .args .i) (inside a)) .room-near))
+scaled-by-one-requires : tie.Need-scaled-by-one-requires
+scaled-by-one-requires c κs = let a = start (order c) in sfits-by w64 (ap (λ (x : ℤ). x *ℤ pos partsInOne) (quantity-is (order c))) (near-fits w64 (omega arith) ((order-shortable (a .pre .0) (a .args .i) (inside a)) .room-near))
 
 volume-is : (c : tie.After-unit-gain) → c .before .before .before .before .volume-at .result .0 ≡ pos (plan (start (order c)) .volume (start (order c) .args .i))
 unfolding planOf
 volume-is c = c .before .before .before .before .volume-at .ensures
 
-whole-requires-2 : tie.Need-whole-requires-2
-whole-requires-2 c κs =
+scaled-by-one-requires-2 : tie.Need-scaled-by-one-requires-2
+scaled-by-one-requires-2 c κs =
     let a = start (order (c .before)) in
     sfits-by w64 (ap (λ (x : ℤ). x *ℤ pos partsInOne) (volume-is (c .before))) (near-fits w64 (omega arith) ((order-shortable (a .pre .0) (a .args .i) (inside a)) .used-near))
 
 -- THE THREE, as the form has them
-room-is : (c : tie.After-whole2) → let a = start (order (c .before .before)) in c .before .whole .result .0 ≡ pos (hour a .quantity (a .args .i)) *ℤ pos partsInOne
-room-is c = c .before .whole .ensures ∙ ap (λ (x : ℤ). x *ℤ pos partsInOne) (quantity-is (order (c .before .before)))
+room-is : (c : tie.After-scaled-by-one2) → let a = start (order (c .before .before)) in c .before .scaled-by-one .result .0 ≡ pos (hour a .quantity (a .args .i)) *ℤ pos partsInOne
+room-is c = c .before .scaled-by-one .ensures ∙ ap (λ (x : ℤ). x *ℤ pos partsInOne) (quantity-is (order (c .before .before)))
 
-used-is : (c : tie.After-whole2) → let a = start (order (c .before .before)) in c .whole2 .result .0 ≡ pos (plan a .volume (a .args .i)) *ℤ pos partsInOne
-used-is c = c .whole2 .ensures ∙ ap (λ (x : ℤ). x *ℤ pos partsInOne) (volume-is (c .before .before))
+used-is : (c : tie.After-scaled-by-one2) → let a = start (order (c .before .before)) in c .scaled-by-one2 .result .0 ≡ pos (plan a .volume (a .args .i)) *ℤ pos partsInOne
+used-is c = c .scaled-by-one2 .ensures ∙ ap (λ (x : ℤ). x *ℤ pos partsInOne) (volume-is (c .before .before))
 
 short-requires : tie.Need-short-requires
 short-requires c κs = let a = start (order (c .before .before)) in shortable-by (room-is c) (used-is c) (gain-is (c .before .before)) (order-shortable (a .pre .0) (a .args .i) (inside a))
@@ -133,7 +133,7 @@ order-shortfall-spec =
     mul-unit-gain
     array-copy-out-unit-gain
     unit-gain-requires
-    whole-requires
-    whole-requires-2
+    scaled-by-one-requires
+    scaled-by-one-requires-2
     short-requires
     returns)
