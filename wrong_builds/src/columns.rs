@@ -10,7 +10,7 @@ use second_judge::{Columns, OutputAnswer, Papers};
 pub type Rearrange = fn(&[u8], &mut [u8]) -> OutputAnswer;
 
 /// Every wrong build: its columning, its way back, and its name.
-pub const BUILDS: [([Rearrange; 2], &str); 13] = [
+pub static BUILDS: [([Rearrange; 2], &str); 13] = [
     ([|f, o| RowByRow.case_columned(f, o), |f, o| RowByRow.case_restored(f, o)], "columns by order of rows"),
     (
         [|f, o| PriceHighestFirst.case_columned(f, o), |f, o| PriceHighestFirst.case_restored(f, o)],

@@ -11,7 +11,7 @@ use std::cmp::Ordering;
 pub type Convert = fn(&[u8], &[u8], &mut [u8]) -> OutputAnswer;
 
 /// Every wrong build, with its name.
-pub const BUILDS: [(Convert, &str); 17] = [
+pub static BUILDS: [(Convert, &str); 17] = [
     (|c, d, o| VolumeToNearest.dump_proposal(c, d, o), "volume to the nearest"),
     (|c, d, o| FlowToNearest.dump_proposal(c, d, o), "flow to the nearest"),
     (|c, d, o| LtaShareToNearest.dump_proposal(c, d, o), "LTA share to the nearest"),

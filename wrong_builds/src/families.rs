@@ -10,7 +10,7 @@ use second_judge::{Judgement, Papers, Verdict};
 pub type JudgeFamilies = fn(&[u8], &[u8], &[u8], &mut [u8]) -> Verdict;
 
 /// Every wrong build, with its name.
-pub const BUILDS: [(JudgeFamilies, &str); 23] = [
+pub static BUILDS: [(JudgeFamilies, &str); 23] = [
     (|c, p, l, r| EmptyIsNoFamilies.judge_families(c, p, l, r), "empty list: no families"),
     (|c, p, l, r| MarkNotAsked.judge_families(c, p, l, r), "16: any mark"),
     (|c, p, l, r| VersionNotAsked.judge_families(c, p, l, r), "16: any version"),

@@ -27,7 +27,7 @@ macro_rules! entries {
 }
 
 /// Every wrong build of S-3, with its name.
-pub const BUILDS: [(Entries, &str); 15] = [
+pub static BUILDS: [(Entries, &str); 15] = [
     (entries!(FirstPriceAbove), "counted: first price above"),
     (entries!(EqualPricesLeftOut), EQUAL_PRICES),
     (entries!(EveryPair), "every pair counted"),
@@ -46,7 +46,7 @@ pub const BUILDS: [(Entries, &str); 15] = [
 ];
 
 /// Those of S-13.
-pub const SMALL_BUILDS: [(Entries, &str); 6] = [
+pub static SMALL_BUILDS: [(Entries, &str); 6] = [
     (entries!(NumberTooFew), "95 numbers let through"),
     (entries!(WideZeros), "the wide scratch's zeros written"),
     (entries!(WideRoom), "85 under 324 numbers"),

@@ -9,7 +9,7 @@ use second_judge::{Judgement, Papers, Verdict};
 pub type Judge = fn(&[u8], &[u8], &mut [u8]) -> Verdict;
 
 /// Every wrong build, with its name.
-pub const BUILDS: [(Judge, &str); 41] = [
+pub static BUILDS: [(Judge, &str); 41] = [
     // The paper's.
     (|c, p, r| ExportPositive.judge(c, p, r), "export counted positive"),
     (|c, p, r| CapacityWithoutShare.judge(c, p, r), "capacity without the share"),

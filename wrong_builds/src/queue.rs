@@ -9,7 +9,7 @@ use std::ops::Range;
 pub type NewQueue = fn() -> Box<dyn DeskQueue>;
 
 /// Every wrong build, with its name.
-pub const BUILDS: [(NewQueue, &str); 14] = [
+pub static BUILDS: [(NewQueue, &str); 14] = [
     (|| Box::new(AreaZeroFirst), "area 0 always first"),
     (|| Box::new(TurnStays), "turn not moved on"),
     (|| Box::new(TurnOfAnEmptyArea), "turn moved on by a 64"),

@@ -8,7 +8,7 @@ use second_judge::{MarginSheet, OutputAnswer, Papers};
 pub type Read = fn(&[u8], usize, &mut [u8]) -> OutputAnswer;
 
 /// Every wrong build, with its name.
-pub const BUILDS: [(Read, &str); 7] = [
+pub static BUILDS: [(Read, &str); 7] = [
     (|s, z, o| SignNotTurned.sheet_branches(s, z, o), "PTDFs keep their sign"),
     (|s, z, o| MarginTurnedToo.sheet_branches(s, z, o), "margins turned too"),
     (|s, z, o| DecimalsCutOff.sheet_branches(s, z, o), "decimals past ours cut off"),

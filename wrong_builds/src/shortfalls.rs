@@ -9,7 +9,7 @@ use second_judge::{GapShortfalls, OutputAnswer, Papers, Shortfalls};
 pub type Value = fn(&[u8], &[u8], &mut [i64]) -> OutputAnswer;
 
 /// Every wrong build, with its name.
-pub const BUILDS: [(Value, &str); 23] = [
+pub static BUILDS: [(Value, &str); 23] = [
     // Links.
     (|c, p, o| SpreadNotCut.shortfalls(c, p, o), "spread not cut at zero"),
     (|c, p, o| SpreadCutOnTheFlow.shortfalls(c, p, o), "spread cut on the flow's side"),
