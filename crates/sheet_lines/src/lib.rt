@@ -1,4 +1,5 @@
-// The lines of a published margin sheet (request S-1), read once: what is wrong with them, and the branches of a case that they turn into.
+// The lines of a published margin sheet (request S-1), read once: what is wrong with them, and the branches of a case
+// that they turn into.
 ghost use mathlib.Core.Path.{_≡_};
 ghost use Prim.Native.Nat.{_+_, _*_, _≤_};
 ghost use lib.ListN.{length};
@@ -105,7 +106,8 @@ fn mark(zones: usize, j: usize) -> u8
     b'\n'
 }
 
-// The sheet ends with a field that is not the last of its line. The next field would be empty, so no number, but would stand past the sheet's last byte.
+// The sheet ends with a field that is not the last of its line. Without this test the next field, an empty one past the
+// sheet's end, would be refused in its place; the proof and the loop are simpler with it.
 fn comma_missing(zones: usize, j: usize, end: usize, length: usize) -> bool
     ensures { λ r. ⌜ r ≡ commaMissing zones j end length ⌝ }
 {
@@ -163,7 +165,8 @@ fn first(found: Place, n: usize, holds: bool) -> Place
     }
 }
 
-// The row of the table for line n. Lines past the 64th are read for their causes alone: they share one row more, which is never written out.
+// The row of the table for line n. Lines past the 64th are read for their causes alone: they share one row more, which
+// is never written out.
 fn row(n: usize) -> usize
     ensures { λ r. ⌜ r ≡ rowOf n ⌝ }
 {
