@@ -289,7 +289,7 @@ answered : (c : tie.After-exceeds Inv-loop2 μ-loop2 Inv-loop μ-loop) → c .ex
 unfolding branchRoom caseOf planOf
 answered c =
     let a = entry (c .before .before .before .before .before .before .before) in
-    c .exceeds .ensures ∙ (λ j. ltZ ((c .before .of-volume2 .ensures ∙ (λ i. flow-based-is (c .before .before .before .before .before .before .before) i *ℤ c .before .before .before .before .margin-at .ensures i)) j) (used (c .before .before) j))
+    c .exceeds .ensures ∙ (λ j. ltZ ((c .before .of-volume .ensures ∙ (λ i. flow-based-is (c .before .before .before .before .before .before .before) i *ℤ c .before .before .before .before .margin-at .ensures i)) j) (used (c .before .before) j))
 
 returns : tie.Need-returns Inv-loop2 μ-loop2 Inv-loop μ-loop
 returns c =
