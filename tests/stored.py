@@ -30,15 +30,15 @@ def lines_of_both_judges(program, records):
     return [line.split(" ", 2) for line in run.stdout.split("\n")[:-1]]
 
 
-def said_by_both_judges(program, records):
+def answers_of_both_judges(program, records):
     """What each judge says of each record: its line by name and judge, and under WRITTEN too what it wrote."""
-    said = {}
+    answers = {}
     for name, judge, words in lines_of_both_judges(program, records):
         if words.startswith(WRITTEN):
-            said[name, judge, WRITTEN] = words.removeprefix(WRITTEN)
+            answers[name, judge, WRITTEN] = words.removeprefix(WRITTEN)
         else:
-            said[name, judge] = words
-    return said
+            answers[name, judge] = words
+    return answers
 
 
 def stored_lines(kind):

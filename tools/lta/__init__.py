@@ -1,4 +1,4 @@
-"""Mbirukaze for testers and analysts: hours judged by the proved archive, explained, shown, built and drawn.
+"""Mbirukaze for testers and analysts: hours judged by the proved library, explained, shown, built and drawn.
 
     import lta
     answer = lta.judge(case, proposal)            two files' bytes
@@ -17,11 +17,13 @@
     answer = lta.shortfalls(case, proposal)       an accepted hour's
     answer.orders, answer.branches, answer.links  hundred-thousandths of a microcent each; None where answer.number is not 0
 
-Verdicts, totals, prices, shortfalls, a yes or no, proposals and columned files come from the archive alone. Explanations
-are computed beside it, are not proved, and say so; one that disagrees with the archive is not given.
+Verdicts, totals, prices, shortfalls, a yes or no, proposals and columned files come from the library alone. Explanations
+are computed beside it, are not proved, and say so; one that disagrees with the library is not given.
 """
 
-from .archive import (
+from .causes import Disagreement, Explanation, explain
+from .hour import build, build_families, field_at, show
+from .library import (
     BuildError,
     Carried,
     Columned,
@@ -37,8 +39,6 @@ from .archive import (
     judge_joined,
     shortfalls,
 )
-from .causes import Disagreement, Explanation, explain
-from .hour import build, build_families, field_at, show
 from .rules import Sums, cut
 
 __all__ = [

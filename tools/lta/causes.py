@@ -1,5 +1,5 @@
 """Why an hour is refused, in words: for each number of the verdict table and each cause within it the field, where it
-stands, its value and its limit. Computed beside the archive, in the table's order, and held to its answer: where the
+stands, its value and its limit. Computed beside the library, in the table's order, and held to its answer: where the
 two disagree there is no explanation, only that.
 """
 
@@ -8,19 +8,19 @@ from __future__ import annotations
 import struct
 from dataclasses import dataclass
 
-from . import amounts, archive, hour, rules
+from . import amounts, hour, library, rules
 from .amounts import counted
 
 HEADER_FIELDS = ("zones", "branches", "links", "orders", "tolerance")
 
 
 class Disagreement(Exception):
-    """The explanation's own reading gives another outcome than the archive. The archive's is the verdict."""
+    """The explanation's own reading gives another outcome than the library. The library's is the verdict."""
 
     def __init__(self, judged, found):
         super().__init__(
-            f"DISAGREEMENT: the archive answers {judged}, and the reading beside it gives {found}; "
-            "the archive's answer is the verdict, and there is no explanation"
+            f"DISAGREEMENT: the library answers {judged}, and the reading beside it gives {found}; "
+            "the library's answer is the verdict, and there is no explanation"
         )
 
 
@@ -574,18 +574,18 @@ def accepted(sums):
     return Explanation(0, 0, "", f"accepted, with a gap of {gap} euros within the tolerance of {tolerance}")
 
 
-def totals_beside(case, proposal):
+def own_totals(case, proposal):
     """The totals and prices by the rules as they stand here."""
     sums = rules.Sums(case, proposal)
     return {name: getattr(sums, name) for name in hour.TOTALS}, tuple(sums.prices)
 
 
 def agreed(judgement, case, proposal, found):
-    """The explanation, once number, index, totals and prices are the archive's."""
+    """The explanation, once number, index, totals and prices are the library's."""
     if judgement.verdict != (found.number, found.index):
         raise Disagreement("{} {}".format(*judgement.verdict), f"{found.number} {found.index}")
     if judgement.number in hour.REPORTED:
-        totals, prices = totals_beside(case, proposal)
+        totals, prices = own_totals(case, proposal)
         for name, total in judgement.totals.items():
             if total != totals[name]:
                 raise Disagreement(f"{name} {total}", f"{totals[name]}")
@@ -595,11 +595,11 @@ def agreed(judgement, case, proposal, found):
 
 
 def explain(case, proposal, judgement=None, room=rules.REPORT_ROOM, families=None):
-    """The archive's verdict in words, with a family list if there is one. Without a judgement the archive is asked for
+    """The library's verdict in words, with a family list if there is one. Without a judgement the library is asked for
     one.
     """
     case, proposal = bytes(case), bytes(proposal)
     families = None if families is None else bytes(families)
     if judgement is None:
-        judgement = archive.judge(case, proposal, families, room)
+        judgement = library.judge(case, proposal, families, room)
     return agreed(judgement, case, proposal, own_reading(case, proposal, room, families))

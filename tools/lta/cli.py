@@ -6,7 +6,7 @@ import signal
 import sys
 import tempfile
 
-from . import account, archive, hour, judging
+from . import explain_text, hour, judging, library
 from .causes import Disagreement, explain
 from .inputs import (
     CASE,
@@ -25,7 +25,7 @@ from .inputs import (
     text_hour,
     why_not,
 )
-from .telling import tell
+from .stderr_log import write_stderr
 
 HELP = """\
 Judges, explains, shows, builds and draws hours of the day-ahead coupling.
@@ -57,11 +57,11 @@ they are named: by their file, by their folder, or in the text.
 judge prints a table: file, verdict, index, welfare, gap, rent and owed in euros. --csv and --json are for machines and
 have every decimal. Without a FILE it reads a joined hour from standard input.
 explain says the verdict in words: the field, its offset in decimal and hex, its value and its limit; and of an hour
-whose files are in order its zones, branches, links and families, and the gap's parts: of an accepted hour the archive's
+whose files are in order its zones, branches, links and families, and the gap's parts: of an accepted hour the library's
 shortfalls, largest first, and what is left.
 shortfalls says of an accepted hour by how much each order, branch and link falls short of its best at the zone prices,
 largest first, to a hundred-thousandth of a microcent, and what is left of the gap. --csv and --json have all of them, in
-file order: the archive's two numbers, whole microcents and hundred-thousandths, and euros.
+file order: the library's two numbers, whole microcents and hundred-thousandths, and euros.
 intuitive says whether an accepted hour's exports can all be carried to imports, each from a zone to one whose price is
 not lower, by annex 5.1 of Annex 16.18: yes or no, how much can be carried, and for a no the zones that are cut off.
 Flow goes along pairs of zones: the case's links, which --links says too, or those of --pairs, a text with two zones to
@@ -78,14 +78,14 @@ field says which field of the last file named stands at OFFSET, a number or hex 
 build writes the files asked for, - being standard output; without one it says the sizes.
 Nothing that is there is written over without --force.
 
-Verdicts, totals, prices, shortfalls, yes or no, proposals and columned files come from the proved archive alone; on first
+Verdicts, totals, prices, shortfalls, yes or no, proposals and columned files come from the proved library alone; on first
 use, and after a change in crates/, it is proved and built, which takes some minutes. Explanations, zones cut off, what is
 left of a gap and pages are computed beside it and say so.
 
 Status: 0 every hour is accepted, or as its text expects; 1 not so; 2 something could not be read, judged or written,
-and a line says what. intuitive: 0 yes; 1 no, and where the archive refuses the hour or a pair, which is then said; 2.
-shortfalls: 0 answered; 1 where the archive refuses the hour, which is then said; 2.
-dump, column and restore: 0 written; 1 where the archive refuses the case, the dump or the file, which is then said; 2.
+and a line says what. intuitive: 0 yes; 1 no, and where the library refuses the hour or a pair, which is then said; 2.
+shortfalls: 0 answered; 1 where the library refuses the hour, which is then said; 2.
+dump, column and restore: 0 written; 1 where the library refuses the case, the dump or the file, which is then said; 2.
 page, show, field and build: 0 or 2.
 """
 
@@ -104,7 +104,7 @@ class Parser(argparse.ArgumentParser):
 
 
 def complain(fault):
-    tell(f"lta: {printable(fault)}\n")
+    write_stderr(f"lta: {printable(fault)}\n")
 
 
 def put(text):
@@ -199,21 +199,21 @@ def run_explain(options):
     source = one_hour(options.files, options.way)
     read_hour = source.read()
     files, families = (read_hour.case, read_hour.proposal), read_hour.families
-    judgement = archive.judge(*files, families)
+    judgement = library.judge(*files, families)
     found = explain(*files, judgement, families=families)
-    put(account.account(*files, judgement, found, source.kind == JOINED, families))
+    put(explain_text.full_text(*files, judgement, found, source.kind == JOINED, families))
     return 0 if judgement.accepted else 1
 
 
 def run_shortfalls(options):
-    from . import shortages
+    from . import shortfalls_cli
 
     source = one_hour(options.files, options.way)
     read_hour = source.read()
-    told = shortages.ask(source.name, read_hour.case, read_hour.proposal)
-    forms = {"json": shortages.as_json, "csv": shortages.as_csv, None: shortages.as_text}
-    put(forms[options.form](told))
-    return 0 if told.answer.answered else 1
+    result = shortfalls_cli.ask(source.name, read_hour.case, read_hour.proposal)
+    forms = {"json": shortfalls_cli.as_json, "csv": shortfalls_cli.as_csv, None: shortfalls_cli.as_text}
+    put(forms[options.form](result))
+    return 0 if result.answer.answered else 1
 
 
 def run_intuitive(options):
@@ -230,14 +230,14 @@ def run_intuitive(options):
     if read_hour.families is not None:
         raise InputError(source.families or source.name, "intuitive takes no family list")
     pairs = exchanges.links(read_hour.case) if given is None else given
-    told = exchanges.ask(source.name, read_hour.case, read_hour.proposal, pairs)
-    put(exchanges.as_json(told) if options.json else exchanges.as_text(told))
-    return 0 if told.answer.intuitive else 1
+    result = exchanges.ask(source.name, read_hour.case, read_hour.proposal, pairs)
+    put(exchanges.as_json(result) if options.json else exchanges.as_text(result))
+    return 0 if result.answer.intuitive else 1
 
 
 def case_and_dump(files):
     """The bytes of a case and a dump, two files or one text."""
-    from . import dumping
+    from . import dump_command
 
     takes = "dump takes a case and a dump, or the text of a dump"
     if len(files) > 2:
@@ -247,25 +247,25 @@ def case_and_dump(files):
     if len(files) == 2:
         return read(files[0]), read(files[1])
     data = read(files[0])
-    if not dumping.is_text(data):
+    if not dump_command.is_text(data):
         raise InputError(files[0], takes)
-    return dumping.text_dump(files[0], data)
+    return dump_command.text_dump(files[0], data)
 
 
 def run_dump(options):
-    from . import dumping
+    from . import dump_command
 
     case, dump = case_and_dump(options.files)
     if options.out is not None:
         refuse_if_there([options.out], options.force)
-    told = dumping.ask(case, dump)
-    return written(options, told, "proposal", told.answer.proposal)
+    result = dump_command.ask(case, dump)
+    return written(options, result, "proposal", result.answer.proposal)
 
 
-def written(options, told, name, data):
-    """Writes what the archive gave, or says its length, or why there is nothing."""
-    if not told.answer.written:
-        put(f"not written; {told.words}\n")
+def written(options, result, name, data):
+    """Writes what the library gave, or says its length, or why there is nothing."""
+    if not result.answer.written:
+        put(f"not written; {result.words}\n")
         return 1
     if options.out is None:
         put(f"{name} {len(data)} bytes\n")
@@ -276,7 +276,7 @@ def written(options, told, name, data):
     return 0
 
 
-def run_archive(options):
+def run_columns(options):
     from . import columns
 
     if len(options.files) > 1:
@@ -285,8 +285,8 @@ def run_archive(options):
     if options.out is not None:
         refuse_if_there([options.out], options.force)
     columning = options.command == "column"
-    told = columns.column(data) if columning else columns.restore(data)
-    return written(options, told, "columned file" if columning else "case", told.answer.file)
+    result = columns.column(data) if columning else columns.restore(data)
+    return written(options, result, "columned file" if columning else "case", result.answer.file)
 
 
 def run_page(options):
@@ -330,20 +330,20 @@ def refuse_to_show(files, way):
 
 
 def run_show(options):
-    from . import dumping
+    from . import dump_command
 
     refuse_to_show(options.files, options.way)
     if options.way is None and kind_of(options.files[0]) == TEXT:
         data = read(options.files[0])
-        if dumping.is_text(data):
-            put(dumping.ask(*dumping.text_dump(options.files[0], data)).shown)
+        if dump_command.is_text(data):
+            put(dump_command.ask(*dump_command.text_dump(options.files[0], data)).shown)
             return 0
         built = text_hour(options.files[0], data)
         put(hour.show(built.case, built.proposal, built.families))
         return 0
     first = read(options.files[0])
     if len(options.files) == 2 and kind_of(options.files[1]) == DUMP:
-        put(dumping.ask(first, read(options.files[1])).shown)
+        put(dump_command.ask(first, read(options.files[1])).shown)
         return 0
     if len(options.files) == 2 and kind_of(options.files[1]) == FAMILIES:
         put(hour.show(first, b"", read(options.files[1])))
@@ -351,7 +351,7 @@ def run_show(options):
     if len(options.files) >= 2:
         put(hour.show(first, *map(read, options.files[1:])))
         return 0
-    case, proposal = archive.rules.cut(first)
+    case, proposal = library.rules.cut(first)
     # One file is a case, unless what follows the case in it is a proposal.
     joined = options.way == "joined" or proposal[:3] == hour.MARKS["proposal"]
     put(hour.show(case, proposal) if joined else hour.show(first))
@@ -373,11 +373,11 @@ def run_field(options):
 
 
 def run_build(options):
-    from . import dumping
+    from . import dump_command
 
     data = read(options.text)
-    if dumping.is_text(data):
-        made = dict(zip(("case", "dump"), dumping.text_dump(options.text, data)))
+    if dump_command.is_text(data):
+        made = dict(zip(("case", "dump"), dump_command.text_dump(options.text, data)))
     else:
         built = text_hour(options.text, data)
         made = {"case": built.case, "proposal": built.proposal, "joined": built.joined}
@@ -397,9 +397,9 @@ def run_build(options):
 
 
 def run_help(options):
-    from . import dump
+    from . import dump_format
 
-    put(f"{hour.TEXT_HELP}\n{dump.TEXT_HELP}" if options.topic == "text" else HELP)
+    put(f"{hour.TEXT_HELP}\n{dump_format.TEXT_HELP}" if options.topic == "text" else HELP)
     return 0
 
 
@@ -435,7 +435,7 @@ def parser():
     asked.add_argument("--links", action="store_true")
     asked.add_argument("--pairs")
     intuitive.add_argument("--json", action="store_true")
-    writing = [needing("dump", run_dump), needing("column", run_archive), needing("restore", run_archive)]
+    writing = [needing("dump", run_dump), needing("column", run_columns), needing("restore", run_columns)]
     for made in (*writing, needing("page", run_page, ("pairs", "joined"))):
         made.add_argument("-o", dest="out")
         made.add_argument("--force", action="store_true")
@@ -473,7 +473,7 @@ def main(arguments):
         if sys.stdout is not None:
             sys.stdout.flush()
         return status
-    except (Failure, InputError, Disagreement, archive.BuildError, hour.OffsetError) as fault:
+    except (Failure, InputError, Disagreement, library.BuildError, hour.OffsetError) as fault:
         complain(fault)
     except BrokenPipeError:
         raise

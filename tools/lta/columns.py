@@ -1,5 +1,5 @@
-"""lta column and lta restore: a case with its orders column by column, request S-10, and the way back, as the archive
-writes them. The same is found here from the bytes, beside the archive, and held to it: to its number and index, and to
+"""lta column and lta restore: a case with its orders column by column, request S-10, and the way back, as the library
+writes them. The same is found here from the bytes, beside the library, and held to it: to its number and index, and to
 every byte that it wrote.
 """
 
@@ -7,7 +7,7 @@ from __future__ import annotations
 
 from dataclasses import dataclass
 
-from . import archive, causes, hour
+from . import causes, hour, library
 from .amounts import counted
 from .causes import Disagreement
 
@@ -17,10 +17,10 @@ NO_PROPOSAL = b""
 
 
 @dataclass(frozen=True)
-class Told:
-    """The archive's answer on a file, and its words."""
+class ColumnsResult:
+    """The library's answer on a file, and its words."""
 
-    answer: archive.Columned
+    answer: library.Columned
     words: str
 
 
@@ -59,7 +59,7 @@ def refusal(case):
     return found.words if found.number < 9 else None
 
 
-def column_beside(case, room):
+def own_columned(case, room):
     """Number, words and bytes of columning."""
     why = refusal(case)
     if why is not None:
@@ -67,7 +67,7 @@ def column_beside(case, room):
     return fitted(columned(case), room)
 
 
-def restore_beside(file, room):
+def own_restored(file, room):
     """Number, words and bytes of the way back."""
     if file[:3] != MARK:
         return 71, f"71: the file does not begin with {MARK.decode()}", None
@@ -84,21 +84,21 @@ def fitted(data, room):
     return 0, f"written: {counted(len(data), 'byte')}", data
 
 
-# Asked of the archive.
+# Asked of the library.
 
 
-def ask(entry, beside, data):
-    answer, found = entry(data), beside(data, len(data))
+def ask(entry, own_answer, data):
+    answer, found = entry(data), own_answer(data, len(data))
     if (answer.number, answer.index) != (found[0], 0):
         raise Disagreement(f"{answer.number} {answer.index}", f"{found[0]} 0")
     if answer.file != found[2]:
         raise Disagreement("a file", "another one")
-    return Told(answer, found[1])
+    return ColumnsResult(answer, found[1])
 
 
 def column(case):
-    return ask(archive.case_columned, column_beside, case)
+    return ask(library.case_columned, own_columned, case)
 
 
 def restore(file):
-    return ask(archive.case_restored, restore_beside, file)
+    return ask(library.case_restored, own_restored, file)

@@ -16,11 +16,11 @@ CENTS_PER_EURO, GRAINS_PER_EURO = 100, 10_000_000
 
 def element(name, body="", kind="", **attributes):
     """An element of a page. An attribute is text, or a place, which is told to a tenth."""
-    told = f' class="{kind}"' if kind else ""
+    attribute_text = f' class="{kind}"' if kind else ""
     for attribute, value in attributes.items():
         shown = value if isinstance(value, str) else f"{value:.1f}"
-        told += f' {attribute.rstrip("_").replace("_", "-")}="{html.escape(shown)}"'
-    return f"<{name}{told}>{body}</{name}>"
+        attribute_text += f' {attribute.rstrip("_").replace("_", "-")}="{html.escape(shown)}"'
+    return f"<{name}{attribute_text}>{body}</{name}>"
 
 
 def drawn(kind, words, body, box=None):

@@ -1,5 +1,5 @@
 """lta intuitive: whether an accepted hour's exchanges can all go from a lower or equal price to a higher one. Yes or no
-and the total are the archive's. Which zones are cut off is found beside it and held to its answer: no counted pair
+and the total are the library's. Which zones are cut off is found beside it and held to its answer: no counted pair
 leaves them, and what they export above what they import is just what cannot be carried.
 """
 
@@ -9,11 +9,11 @@ import json
 from collections import deque
 from dataclasses import dataclass
 
-from . import account, amounts, archive, hour, numbers, rules
+from . import amounts, explain_text, hour, library, numbers, rules
 from .causes import Disagreement, explain
 from .inputs import InputError, printable, why_not
 
-NOT_PROVED = "Yes or no and the total are the archive's. All else is computed beside it and is not proved."
+NOT_PROVED = "Yes or no and the total are the library's. All else is computed beside it and is not proved."
 LINKS = "the case's links"
 MW_DECIMALS = 1
 
@@ -38,7 +38,7 @@ def links(case):
 
 
 def read_pairs(name, data):
-    """The pairs of a text: two zones to a line, with # before a comment. Which zones there are, the archive asks."""
+    """The pairs of a text: two zones to a line, with # before a comment. Which zones there are, the library asks."""
     zones, lines = [], []
     try:
         for line, content in enumerate(data.decode().split("\n"), 1):
@@ -137,8 +137,8 @@ def yes_or_no(intuitive, total):
     return f"{'yes' if intuitive else 'no'} and {amounts.mw(total)}"
 
 
-def held(graph, answer):
-    """The zones that are cut off, once they bear out the archive's answer; for a yes there are none."""
+def cross_checked(graph, answer):
+    """The zones that are cut off, once they bear out the library's answer; for a yes there are none."""
     zones = graph.cut_off()
     exports, imports = graph.sent(zones)
     if any(first in zones and second not in zones for first, second in graph.counted):
@@ -153,12 +153,12 @@ def held(graph, answer):
 
 
 @dataclass(frozen=True)
-class Told:
-    """The archive's answer on an hour, and what is found beside it."""
+class IntuitiveResult:
+    """The library's answer on an hour, and what is found beside it."""
 
     name: str
     pairs: Pairs
-    answer: archive.Carried
+    answer: library.Carried
     # In words, of a refusal.
     cause: str = ""
     sums: rules.Sums | None = None
@@ -167,15 +167,15 @@ class Told:
 
 
 def ask(name, case, proposal, pairs):
-    """Has the archive answer, and finds the rest."""
-    answer = archive.intuitive(case, proposal, pairs.zones)
+    """Has the library answer, and finds the rest."""
+    answer = library.intuitive(case, proposal, pairs.zones)
     if answer.number in numbers.VERDICTS and not answer.answered:
-        return Told(name, pairs, answer, refused_hour(case, proposal, answer))
+        return IntuitiveResult(name, pairs, answer, refused_hour(case, proposal, answer))
     sums = rules.Sums(case, proposal)
     if not answer.answered:
-        return Told(name, pairs, answer, refused_pair(pairs, answer, sums.zones))
+        return IntuitiveResult(name, pairs, answer, refused_pair(pairs, answer, sums.zones))
     graph = Graph([-net for net in sums.net], sums.prices, pairs.zones)
-    return Told(name, pairs, answer, "", sums, graph, tuple(held(graph, answer)))
+    return IntuitiveResult(name, pairs, answer, "", sums, graph, tuple(cross_checked(graph, answer)))
 
 
 def refused_hour(case, proposal, answer):
@@ -200,66 +200,66 @@ def zones_words(zones):
     return f"zone {zones[0]}" if len(zones) == 1 else f"zones {', '.join(map(str, zones[:-1]))} and {zones[-1]}"
 
 
-def answer_lines(told):
+def answer_lines(result):
     """Yes or no, the total, and for a no what is cut off."""
     way = "from a lower or equal price to a higher one"
-    to_carry, total = told.graph.to_carry, told.answer.total
-    if told.answer.intuitive:
+    to_carry, total = result.graph.to_carry, result.answer.total
+    if result.answer.intuitive:
         yield f"yes: all {amounts.mw(total)} of exports can go {way}"
         return
     yield f"no: {amounts.mw(total)} of {amounts.mw(to_carry)} of exports can go {way}"
-    exports, imports = told.graph.sent(told.cut_off)
-    one = len(told.cut_off) == 1
+    exports, imports = result.graph.sent(result.cut_off)
+    one = len(result.cut_off) == 1
     yield ""
-    yield f"  cut off  {zones_words(told.cut_off)}, which no counted pair leaves"
+    yield f"  cut off  {zones_words(result.cut_off)}, which no counted pair leaves"
     yield (
         f"           {'it exports' if one else 'they export'} {amounts.mw(exports)} and "
         f"{'imports' if one else 'import'} {amounts.mw(imports)}: {amounts.mw(exports - imports)} too much"
     )
 
 
-def zone_lines(told):
+def zone_lines(result):
     rows = [
         (
             f"zone {zone}",
             amounts.grains(price),
-            amounts.scaled(told.graph.exports[zone], 1, 1),
-            "cut off" if zone in told.cut_off else "",
+            amounts.scaled(result.graph.exports[zone], 1, 1),
+            "cut off" if zone in result.cut_off else "",
         )
-        for zone, price in enumerate(told.sums.prices)
+        for zone, price in enumerate(result.sums.prices)
     ]
-    yield from account.columns(("zone", "price, euros/MWh", "net position, MW", ""), rows)
+    yield from explain_text.columns(("zone", "price, euros/MWh", "net position, MW", ""), rows)
 
 
-def pair_lines(told):
-    counted = set(told.graph.counted)
+def pair_lines(result):
+    counted = set(result.graph.counted)
     rows = []
-    for index, (first, second) in enumerate(told.pairs.zones):
-        prices = [amounts.grains(told.sums.prices[zone]) for zone in (first, second)]
+    for index, (first, second) in enumerate(result.pairs.zones):
+        prices = [amounts.grains(result.sums.prices[zone]) for zone in (first, second)]
         counts = "counts" if (first, second) in counted else "does not count"
         rows.append((f"pair {index}", f"{first} to {second}", *prices, counts))
-    yield from account.columns(("pair", "zones", "first price", "second price", ""), rows, left=2)
+    yield from explain_text.columns(("pair", "zones", "first price", "second price", ""), rows, left=2)
 
 
-def as_text(told):
-    if not told.answer.answered:
-        return f"not answered; {told.cause}\n"
-    lines = list(answer_lines(told))
-    lines += account.titled("Zones, export positive", zone_lines(told))
-    title = f"Pairs, {printable(told.pairs.name)}"
-    lines += account.titled(title, pair_lines(told) if told.pairs.zones else ["  none"])
+def as_text(result):
+    if not result.answer.answered:
+        return f"not answered; {result.cause}\n"
+    lines = list(answer_lines(result))
+    lines += explain_text.titled("Zones, export positive", zone_lines(result))
+    title = f"Pairs, {printable(result.pairs.name)}"
+    lines += explain_text.titled(title, pair_lines(result) if result.pairs.zones else ["  none"])
     return "\n".join([*lines, "", NOT_PROVED]) + "\n"
 
 
-def as_json(told):
+def as_json(result):
     """For machines: MW with all their decimals, as text, as judge has euros."""
-    answer, graph = told.answer, told.graph
+    answer, graph = result.answer, result.graph
 
     def mw(tenths):
         return None if tenths is None else amounts.fixed(tenths, MW_DECIMALS)
 
     made = {
-        "file": told.name,
+        "file": result.name,
         "number": answer.number,
         "index": answer.index,
         "text": answer.text,
@@ -267,8 +267,8 @@ def as_json(told):
         "total": mw(answer.total),
         "exports": mw(graph.to_carry if graph else None),
         "not_carried": mw(graph.to_carry - answer.total if graph else None),
-        "cut_off": list(told.cut_off) if graph else None,
-        "pairs": [list(pair) for pair in told.pairs.zones],
+        "cut_off": list(result.cut_off) if graph else None,
+        "pairs": [list(pair) for pair in result.pairs.zones],
         "counted": [list(pair) for pair in graph.counted] if graph else None,
     }
     return json.dumps(made, indent=1) + "\n"

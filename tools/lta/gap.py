@@ -1,5 +1,5 @@
-"""The gap's parts: by how much each order, branch and link of an accepted hour falls short (request S-14), as the archive
-writes it, and what is left, the larger total's lead. The shortfalls are found here too, beside the archive, and held to
+"""The gap's parts: by how much each order, branch and link of an accepted hour falls short (request S-14), as the library
+writes it, and what is left, the larger total's lead. The shortfalls are found here too, beside the library, and held to
 it; the lead is computed here, from both totals, and held to what the shortfalls leave of the reported gap.
 """
 
@@ -9,7 +9,7 @@ import re
 from dataclasses import dataclass
 from decimal import Decimal
 
-from . import amounts, archive, hour, rules
+from . import amounts, hour, library, rules
 from .causes import Disagreement
 
 KINDS = ("order", "branch", "link")
@@ -31,14 +31,14 @@ class Part:
 
 @dataclass(frozen=True)
 class Parts:
-    """An hour's gap in microcents and its parts: the shortfalls in file order, the archive's or found beside it, and
+    """An hour's gap in microcents and its parts: the shortfalls in file order, the library's or found beside it, and
     what is left.
     """
 
     gap: int
     shortfalls: tuple
     left: tuple
-    from_archive: bool
+    from_library: bool
 
     @property
     def short(self):
@@ -50,26 +50,26 @@ class Parts:
         return sum(part.amount for part in self.left)
 
     @property
-    def told(self):
+    def nonzero(self):
         """What a reader sees: the shortfalls that are not zero, largest first, and what is left."""
         return [*self.short, *(part for part in self.left if part.amount)]
 
 
-def beside(sums):
+def own_parts(sums):
     """The shortfalls and what is left, found here."""
     found = [Part(*part) for part in sums.gap_parts()]
     return tuple(part for part in found if part.kind in KINDS), tuple(part for part in found if part.kind not in KINDS)
 
 
 def of_answer(answer):
-    """The archive's shortfalls in file order."""
+    """The library's shortfalls in file order."""
     lists = zip(KINDS, (answer.orders, answer.branches, answer.links))
     return tuple(Part(kind, place, amount) for kind, found in lists for place, amount in enumerate(found))
 
 
-def held(answer, judgement, sums):
-    """The parts of an accepted hour, once what is found here bears out the archive's answer."""
-    written, (found, left) = of_answer(answer), beside(sums)
+def cross_checked(answer, judgement, sums):
+    """The parts of an accepted hour, once what is found here bears out the library's answer."""
+    written, (found, left) = of_answer(answer), own_parts(sums)
     for pair in zip(written, found):
         if pair[0] != pair[1]:
             raise Disagreement(*(f"{part.kind} {part.place} short by {amounts.gap_part(part.amount)}" for part in pair))
@@ -81,15 +81,15 @@ def held(answer, judgement, sums):
 
 
 def parts(case, proposal, judgement, sums):
-    """The parts of an hour that has a gap: of an accepted one the archive's shortfalls; of one refused by 26, on which
-    the archive gives none, those found here.
+    """The parts of an hour that has a gap: of an accepted one the library's shortfalls; of one refused by 26, on which
+    the library gives none, those found here.
     """
     if not judgement.accepted:
-        return Parts(judgement.gap, *beside(sums), False)
-    answer = archive.shortfalls(case, proposal)
+        return Parts(judgement.gap, *own_parts(sums), False)
+    answer = library.shortfalls(case, proposal)
     if not answer.answered:
         raise Disagreement(f"{answer.number} {answer.index} for the shortfalls", "0 0")
-    return held(answer, judgement, sums)
+    return cross_checked(answer, judgement, sums)
 
 
 # What a stored hour expects.
@@ -97,13 +97,13 @@ def parts(case, proposal, judgement, sums):
 
 def expected(text):
     """What falls short by the text of a stored hour, by kind and place, or None where it says nothing of that."""
-    found, said = {}, []
+    found, expectation_lines = {}, []
     for line, content in enumerate(text.split("\n"), 1):
         match = EXPECTATION.match(content)
         if match is None:
             continue
         words = EXPECTED.fullmatch(match.group(1))
-        said.append(content)
+        expectation_lines.append(content)
         if words is None:
             if match.group(1).strip() != "none":
                 raise hour.TextError(line, f"{hour.short(content)!r} is no shortfall line")
@@ -112,6 +112,6 @@ def expected(text):
         if not euros or (kind, place) in found:
             raise hour.TextError(line, f"{hour.short(content)!r} is zero, or a second one")
         found[kind, place] = int(euros.scaleb(DECIMALS))
-    if len(said) != max(len(found), 1 if said else 0):
+    if len(expectation_lines) != max(len(found), 1 if expectation_lines else 0):
         raise ValueError("a line says that nothing falls short, and another what does")
-    return found if said else None
+    return found if expectation_lines else None

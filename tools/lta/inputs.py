@@ -7,7 +7,7 @@ import stat
 import sys
 from dataclasses import dataclass
 
-from . import dump, hour, rules
+from . import dump_format, hour, rules
 
 JOINED, TEXT, CASE, PROPOSAL, DUMP, UNREAD = "joined", "text", "case", "proposal", "dump", "unread"
 FAMILIES = "families"
@@ -68,7 +68,7 @@ def mark_of(path):
 
 
 @dataclass(frozen=True)
-class Hour:
+class HourFiles:
     """An hour's two files, if it came joined or as text its joined bytes and what the text expects, and its family list
     if it has one.
     """
@@ -97,15 +97,15 @@ class Input:
             return text_hour(self.paths[0], data[0])
         families = None if self.families is None else read(self.families)
         if self.kind == JOINED:
-            return Hour(*rules.cut(data[0]), data[0], families=families)
-        return Hour(*data, families=families)
+            return HourFiles(*rules.cut(data[0]), data[0], families=families)
+        return HourFiles(*data, families=families)
 
 
 def text_hour(path, data):
     """A text's hour. One without any line that expects something expects nothing."""
     try:
         text = data.decode()
-        if dump.is_text(text):
+        if dump_format.is_text(text):
             raise ValueError("the text of a solver's dump, of which lta dump makes a proposal")
         case, proposal, families = hour.build_families(text, os.path.dirname(path))
         lines = (hour.EXPECTATION.match(line) for line in text.split("\n"))
@@ -113,7 +113,7 @@ def text_hour(path, data):
         expected = hour.expected(text, other) if any(lines) else None
     except ValueError as fault:
         raise InputError(path, why_not(fault)) from None
-    return Hour(case, proposal, case + proposal, expected, families)
+    return HourFiles(case, proposal, case + proposal, expected, families)
 
 
 def lonely(path, why):
@@ -129,7 +129,7 @@ def paired(case, proposal, families=None):
     return Input(case, CASE, (case, proposal), families)
 
 
-def list_beside(stem, paths):
+def family_list_of(stem, paths):
     """The family list of a stem among some paths, by its name."""
     named = stem + ".families"
     return named if named in paths else None
@@ -156,9 +156,9 @@ def hours_of_files(paths):
         if kind == TEXT:
             yield Input(path, kind, (path,))
         elif kind == JOINED:
-            yield Input(path, kind, (path,), list_beside(stem, paths))
+            yield Input(path, kind, (path,), family_list_of(stem, paths))
         elif kind == CASE:
-            yield paired(path, stem + ".proposal", list_beside(stem, paths))
+            yield paired(path, stem + ".proposal", family_list_of(stem, paths))
         elif kind == FAMILIES and not has_hour(path, paths):
             yield lonely(path, LISTLESS)
         elif kind == PROPOSAL and not os.path.exists(stem + ".case"):
@@ -229,7 +229,7 @@ class Named:
         """The family list of the hour at a place, the last of whose files stands at another: by name, else the next word.
         One that only lies beside it is not taken: what is judged with families is named so.
         """
-        named = list_beside(os.path.splitext(self.words[at])[0], self.places)
+        named = family_list_of(os.path.splitext(self.words[at])[0], self.places)
         if named is not None:
             self.taken.add(self.places[named])
             return named

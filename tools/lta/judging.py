@@ -1,4 +1,4 @@
-"""lta judge: many hours judged by the archive, held to what their texts expect, as a table, as CSV or as JSON."""
+"""lta judge: many hours judged by the library, held to what their texts expect, as a table, as CSV or as JSON."""
 
 from __future__ import annotations
 
@@ -9,9 +9,9 @@ import sys
 import time
 from dataclasses import dataclass
 
-from . import amounts, archive, hour
+from . import amounts, hour, library
 from .inputs import InputError, printable
-from .telling import tell
+from .stderr_log import write_stderr
 
 COLUMNS = ("welfare", "gap", "rent", "owed")
 MONEY_DECIMALS, PRICE_DECIMALS = 8, 7
@@ -22,7 +22,7 @@ class Row:
     """An hour as judged, joined or apart where these differ, and what its text expects: verdict and totals, or None."""
 
     source: str
-    judgement: archive.Judgement
+    judgement: library.Judgement
     expected: tuple | None = None
     way: str = ""
 
@@ -63,12 +63,12 @@ def rows_of(name, read):
     text with families is held to what it expects of all three files.
     """
     if read.expected is None:
-        return [Row(name, archive.judge(read.case, read.proposal, read.families))]
+        return [Row(name, library.judge(read.case, read.proposal, read.families))]
     if read.families is not None:
         due, _, totals = read.expected
-        return [Row(name, archive.judge(read.case, read.proposal, read.families), (due, totals))]
+        return [Row(name, library.judge(read.case, read.proposal, read.families), (due, totals))]
     due, apart_due, totals = read.expected
-    joined, apart = archive.judge_joined(read.joined), archive.judge(read.case, read.proposal)
+    joined, apart = library.judge_joined(read.joined), library.judge(read.case, read.proposal)
     if due == apart_due and joined == apart:
         return [Row(name, joined, (due, totals))]
     return [Row(name, joined, (due, totals), "joined"), Row(name, apart, (apart_due, totals), "apart")]
@@ -90,17 +90,17 @@ class Progress:
         now = time.monotonic()
         if self.wanted and now - self.began > 0.5 and now - self.shown > 0.1:
             self.shown = now
-            tell(f"\r{done:,} of {self.total:,} hours judged")
+            write_stderr(f"\r{done:,} of {self.total:,} hours judged")
 
     def end(self):
         if self.shown:
-            tell("\r\x1b[K")
+            write_stderr("\r\x1b[K")
 
 
 def judge_all(sources, complain):
     """The rows of all inputs, and how many could not be read; of each of those complain is told."""
     rows, unread, progress = [], 0, Progress(len(sources))
-    archive.entry()
+    library.entry()
     try:
         for done, source in enumerate(sources):
             progress.step(done)
@@ -148,14 +148,14 @@ def table(rows, unread=0):
 
 def closing(rows, unread):
     accepted = sum(row.judgement.accepted for row in rows)
-    said = [f"{amounts.counted(len(rows), 'judgement')}: {accepted:,} accepted, {len(rows) - accepted:,} refused"]
-    held = [row.as_expected for row in rows if row.expected is not None]
-    if held:
-        said.append(f"{sum(held):,} as expected, {len(held) - sum(held):,} not")
+    clauses = [f"{amounts.counted(len(rows), 'judgement')}: {accepted:,} accepted, {len(rows) - accepted:,} refused"]
+    as_expected = [row.as_expected for row in rows if row.expected is not None]
+    if as_expected:
+        clauses.append(f"{sum(as_expected):,} as expected, {len(as_expected) - sum(as_expected):,} not")
     if unread:
-        said.append(f"{unread:,} not read")
-    said.append("money in euros")
-    return "; ".join(said)
+        clauses.append(f"{unread:,} not read")
+    clauses.append("money in euros")
+    return "; ".join(clauses)
 
 
 def fixed_totals(totals):
@@ -189,10 +189,10 @@ def as_csv(rows):
     writer.writerow(["file", "number", "index", "text", *hour.TOTALS, "prices", "expected", "as_expected", *dues])
     for row in rows:
         made = record(row)
-        due, held = made["expected"], made["as_expected"]
+        due, as_expected = made["expected"], made["as_expected"]
         made["prices"] = " ".join(made["prices"])
         made["expected"] = "{number} {index}".format(**due) if due else ""
-        made["as_expected"] = "" if held is None else "yes" if held else "no"
+        made["as_expected"] = "" if as_expected is None else "yes" if as_expected else "no"
         made.update({f"expected_{name}": due[name] if due else None for name in hour.TOTALS})
         writer.writerow("" if value is None else value for value in made.values())
     return out.getvalue()

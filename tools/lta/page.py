@@ -1,5 +1,5 @@
 """lta page: one self-contained page of an hour, or of many with a first table. It asks for nothing from elsewhere and
-runs no script. Verdicts, totals, prices and the shortfalls of an accepted hour are the archive's; what is drawn beside
+runs no script. Verdicts, totals, prices and the shortfalls of an accepted hour are the library's; what is drawn beside
 them is computed here, as it says.
 """
 
@@ -10,7 +10,7 @@ import os
 import pathlib
 from dataclasses import dataclass
 
-from . import account, amounts, drawing, gap, hour, judging, rules
+from . import amounts, drawing, explain_text, gap, hour, judging, rules
 from .causes import Disagreement, Explanation, explain
 from .drawing import element
 from .inputs import JOINED, UNREAD, InputError, printable
@@ -20,7 +20,7 @@ MOST_NAMED = 12  # hours of a page up to which each order of a curve has a name 
 MOST_PARTS = 20  # of a gap, or of what a field is held to
 STYLE = pathlib.Path(__file__).with_name("page.css")
 NOT_PROVED = (
-    "Verdict, totals, zone prices and the shortfalls of an accepted hour are the proved archive's. All else here is computed "
+    "Verdict, totals, zone prices and the shortfalls of an accepted hour are the proved library's. All else here is computed "
     "beside it and is not proved."
 )
 POLICY = "default-src 'none'; style-src 'unsafe-inline'"
@@ -37,7 +37,7 @@ NOTES = {
     "Contracted volumes, where the case has them, are what is owed for; they limit no flow.",
     "Families": "An order is accepted in no larger fraction than the order on which it leans. The bound takes no notice of families.",
     "The gap's parts": "Shortfalls, largest first: what each order, branch or link could have earned more at the zone prices. What "
-    "is left is the larger total's lead, weighed by the two shares; it is computed beside the archive.",
+    "is left is the larger total's lead, weighed by the two shares; it is computed beside the library.",
     "Prices through the hours": "In the table's order; an hour that is refused leaves a hole.",
 }
 
@@ -53,7 +53,7 @@ STANDINGS = {
 
 @dataclass(frozen=True)
 class Drawn:
-    """An hour as a page has it: where it came from, the archive's answers as judge has them, of which the last is that
+    """An hour as a page has it: where it came from, the library's answers as judge has them, of which the last is that
     of the two files apart, the explanation or why there is none, and of an hour with a gap its parts.
     """
 
@@ -91,7 +91,7 @@ class Drawn:
 
     @property
     def sums(self):
-        if self.explanation is None or not account.clearable(self.judgement.number):
+        if self.explanation is None or not explain_text.clearable(self.judgement.number):
             return None
         return rules.Sums(self.case, self.proposal)
 
@@ -105,8 +105,8 @@ def drawn_hour(source, folder=None):
         found = explain(*files, judgement, families=read.families)
         if judgement.number in hour.REPORTED:
             parts = gap.parts(*files, judgement, rules.Sums(*files))
-    except Disagreement as said:
-        found, fault = None, str(said)
+    except Disagreement as disagreement:
+        found, fault = None, str(disagreement)
     return Drawn(name, *files, rows, found, fault, source.kind == JOINED, read.families, parts)
 
 
@@ -120,8 +120,8 @@ def euros(microcents):
 
 def part(level, title, body, note=""):
     """A part of a page under a heading, none without a body."""
-    told = " ".join(filter(None, (note, NOTES.get(title, ""))))
-    noted = element("p", text(told), "note") if told else ""
+    note_text = " ".join(filter(None, (note, NOTES.get(title, ""))))
+    noted = element("p", text(note_text), "note") if note_text else ""
     return element("section", element(level, title) + noted + body, "part") + "\n" if body else ""
 
 
@@ -186,7 +186,7 @@ def verdict(one, level):
 def marked_bytes(data, field):
     """The bytes around a field with its own marked."""
     lines = []
-    for row, row_bytes in account.hex_rows(data, field):
+    for row, row_bytes in explain_text.hex_rows(data, field):
         shown = " ".join(element("mark", f"{byte:02x}") if own else f"{byte:02x}" for byte, own in row_bytes)
         lines.append(f"{row:>6} 0x{row:04x}  {shown.replace('</mark> <mark>', ' ')}")
     return element("pre", "\n".join(lines))
@@ -201,7 +201,7 @@ def where(one):
     if len(others) > MOST_PARTS:
         rows.append(("with", f"and {len(others) - MOST_PARTS} more"))
     if one.joined and any(field.file == "proposal" for field in one.explanation.fields):
-        rows.append(("joined", account.joined_words(one.case)))
+        rows.append(("joined", explain_text.joined_words(one.case)))
     body = "".join(element("dt", name) + element("dd", text(words)) for name, words in rows if words)
     files = {"case": one.case, "proposal": one.proposal, "families": one.families}
     shown = marked_bytes(files[first.file], first) if first.size else ""
@@ -219,7 +219,7 @@ def total_card(name, amount, bar, note):
 def totals(judgement, sums):
     """Gap, rent and owed side by side on one scale."""
     owed_note = f"{amounts.counted(sum(spread > 0 for spread in sums.spreads), 'link')} with a positive spread"
-    if account.has_contracted(sums):
+    if explain_text.has_contracted(sums):
         owed_note += f"; by contracted volumes, the link total by capacities is {euros(sums.link_total)}"
     if not sums.links:
         owed_note = f"no link: the bound has the branch total alone, {euros(sums.branch_total)}"
@@ -325,7 +325,7 @@ def room_card(title, state, price, bar, words):
 
 
 def room_words(kind, amount, room):
-    use = account.use_of(amount, room)
+    use = explain_text.use_of(amount, room)
     return f"{kind} {amounts.scaled(amount, 6, 1)} of {amounts.load_mw(room)}" + (f" · {use}" if use else "")
 
 
@@ -335,7 +335,7 @@ def branch_cards(sums):
         words = room_words("load", load, room)
         price = f"shadow price {amounts.cents(branch.shadow)} €/MWh" if branch.shadow else ""
         bar = drawing.bar(load, room, signed, f"branch {index}: {words}")
-        cards += room_card(f"Branch {index}", account.standing(load, room, branch.shadow > 0), price, bar, words)
+        cards += room_card(f"Branch {index}", explain_text.standing(load, room, branch.shadow > 0), price, bar, words)
     return element("div", cards, "cards") if cards else ""
 
 
@@ -343,10 +343,10 @@ def link_cards(sums):
     cards = ""
     for index, (link, use, room, spread) in enumerate(zip(sums.links, sums.uses, sums.link_rooms, sums.spreads)):
         words = room_words("flow", use, room)
-        if account.has_contracted(sums):
-            words += f" · contracted {account.contracted_of(link)} MW"
+        if explain_text.has_contracted(sums):
+            words += f" · contracted {explain_text.contracted_of(link)} MW"
         title = f"Link {index} " + element("span", f"zone {link.source} → zone {link.sink}", "unit")
-        state = account.standing(use, room, spread > 0, rules.WHOLE)
+        state = explain_text.standing(use, room, spread > 0, rules.WHOLE)
         bar = drawing.bar(use, room, False, f"link {index}: {words}")
         cards += room_card(title, state, f"spread {amounts.grains(spread)} €/MWh", bar, words)
     return element("div", cards, "cards") if cards else ""
@@ -359,7 +359,7 @@ def family_table(one, sums):
     """The orders that have a parent, where a family list is given."""
     if one.families is None:
         return ""
-    rows = list(account.family_rows(sums, hour.parents_of(one.case, one.families)))
+    rows = list(explain_text.family_rows(sums, hour.parents_of(one.case, one.families)))
     if not rows:
         return element("p", "no order has a parent", "soft")
     head = element("th", "order", "left") + element("th", "parent", "left")
@@ -384,7 +384,7 @@ def gap_table(sums, parts):
     """The shortfalls, the largest ones by name, and what is left under them."""
     if not parts.gap:
         return element("p", "0.00 €: no order, branch or link falls short.")
-    named, left = account.part_rows(sums, parts), sum(1 for part in parts.left if part.amount)
+    named, left = explain_text.part_rows(sums, parts), sum(1 for part in parts.left if part.amount)
     short, rest = named[: len(named) - left], named[len(named) - left :]
     largest, rows = max(amount for _, amount in named), []
 
@@ -404,7 +404,7 @@ def gap_table(sums, parts):
 
 
 def gap_note(parts):
-    return "" if parts.from_archive else "The archive gives no shortfalls of a refusal: these are found beside it."
+    return "" if parts.from_library else "The library gives no shortfalls of a refusal: these are found beside it."
 
 
 # Pages.
@@ -426,13 +426,14 @@ def hour_body(one, level, named):
 
 def hour_row(one, place, money, expecting):
     """An hour's row in the first table."""
-    glyph, held = "✓" if one.judgement.accepted else "✗", ""
+    glyph, as_expected = "✓" if one.judgement.accepted else "✗", ""
     if one.as_expected is not None:
-        held = "✓" if one.as_expected else "✗ " + "; ".join(f"{row.due()} {row.way}".rstrip() for row in one.missed)
+        missed = "; ".join(f"{row.due()} {row.way}".rstrip() for row in one.missed)
+        as_expected = "✓" if one.as_expected else f"✗ {missed}"
     words = "accepted" if one.judgement.accepted and one.explanation else text(one.words)
     cells = element("th", element("a", text(one.name), href=f"#hour-{place}"), "left")
     cells += element("td", f"{glyph} {one.judgement.number}") + element("td", str(one.judgement.index))
-    cells += (element("td", held) if expecting else "") + element("td", words, "wide")
+    cells += (element("td", as_expected) if expecting else "") + element("td", words, "wide")
     cells += "".join(element("td", amount) for amount in money)
     return element("tr", cells, "accepted" if one.judgement.accepted else "refused")
 
@@ -466,9 +467,9 @@ def summary(hours, unread):
     yield amounts.counted(len(hours), "hour")
     yield f"✓ {accepted:,} accepted"
     yield f"✗ {len(hours) - accepted:,} refused"
-    held = [one.as_expected for one in hours if one.as_expected is not None]
-    if held:
-        yield f"{sum(held):,} as their texts expect, {len(held) - sum(held):,} not"
+    as_expected = [one.as_expected for one in hours if one.as_expected is not None]
+    if as_expected:
+        yield f"{sum(as_expected):,} as their texts expect, {len(as_expected) - sum(as_expected):,} not"
     if unread:
         yield f"{len(unread):,} not read"
 

@@ -1,5 +1,5 @@
 """The limits and rules 1 to 11 of document 01, in whole numbers and in its measures: tenths, cents, grains, microcents.
-It is what the explanations and pages are computed by, beside the archive. No verdict and no total is taken from here.
+It is what the explanations and pages are computed by, beside the library. No verdict and no total is taken from here.
 """
 
 from collections import namedtuple

@@ -53,8 +53,8 @@ def files():
 
 def lines(room, file):
     """What is printed for a file."""
-    for name, beside in (("columned", columns.column_beside), ("restored", columns.restore_beside)):
-        number, _, data = beside(file, room)
+    for name, own_answer in (("columned", columns.own_columned), ("restored", columns.own_restored)):
+        number, _, data = own_answer(file, room)
         data = data or b""
         yield f"{name} {number} 0 {len(data)} {data.hex()}"
 

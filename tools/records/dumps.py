@@ -4,7 +4,7 @@
 
 import pathlib
 
-from lta import dump
+from lta import dump_format
 
 from . import Record, named, texts
 
@@ -18,5 +18,5 @@ def stored_dumps():
 
 def runs():
     for name, words in stored_dumps().items():
-        record = Record(b"d", named(name, dump.build, words, DUMPS))
-        yield (record,), [named(name, dump.expected, words).line]
+        record = Record(b"d", named(name, dump_format.build, words, DUMPS))
+        yield (record,), [named(name, dump_format.expected, words).line]

@@ -94,8 +94,8 @@ def line(exchange):
     """What is printed. Both entries answer alike; after an answer the scratch is zeros, after a refusal as it was."""
     number, index, yes, total = (*exchange.due, 0, 0)[:4]
     wide, small = (0, 0) if number else (SCRATCH, SMALL_SCRATCH)
-    said = f"{number} {index} {yes} {total}"
-    return f"{exchange.name}: {said} {wide}; {said} {small}"
+    answer_words = f"{number} {index} {yes} {total}"
+    return f"{exchange.name}: {answer_words} {wide}; {answer_words} {small}"
 
 
 def runs():

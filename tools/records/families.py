@@ -26,7 +26,7 @@ def files_of(words):
 
 
 def report(number, case, proposal):
-    """The report buffer: totals and prices by the rules as they stand beside the archive."""
+    """The report buffer: totals and prices by the rules as they stand beside the library."""
     if number not in hour.REPORTED:
         return bytes(rules.REPORT_ROOM)
     sums = rules.Sums(case, proposal)

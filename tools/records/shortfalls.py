@@ -27,25 +27,25 @@ def records():
     found = {}
     for name, words in stored_hours().items():
         case, proposal = map(bytes, named(name, hour.build, words, HOURS))
-        told = named(name, gap.expected, words) is not None
+        has_shortfalls = named(name, gap.expected, words) is not None
         if len(case) > LONGEST:
             continue
         room = due_room(case)
         found[name] = (room, case, proposal)
-        if told:
+        if has_shortfalls:
             found[f"{name},one-too-few"] = (room - 1, case, proposal)
             found[f"{name},more-than-enough"] = (room + MORE, case, proposal)
-        if told or name in REFUSED:
+        if has_shortfalls or name in REFUSED:
             found[f"{name},no-room"] = (0, case, proposal)
     return found
 
 
 def answered(room, case, proposal):
-    """Number, index, and the numbers that are written, found beside the archive."""
+    """Number, index, and the numbers that are written, found beside the library."""
     verdict = causes.own_reading(case, proposal)
     if verdict.number:
         return verdict.number, verdict.index, []
-    shortfalls, _ = gap.beside(rules.Sums(case, proposal))
+    shortfalls, _ = gap.own_parts(rules.Sums(case, proposal))
     numbers = [number for part in shortfalls for number in divmod(part.amount, rules.WHOLE)]
     return (86, 0, []) if room < len(numbers) else (0, 0, numbers)
 

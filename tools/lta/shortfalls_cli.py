@@ -1,4 +1,4 @@
-"""lta shortfalls: by how much each order, branch and link of an accepted hour falls short, as the archive writes it, and
+"""lta shortfalls: by how much each order, branch and link of an accepted hour falls short, as the library writes it, and
 what is left of the gap. What falls short is named beside it.
 """
 
@@ -9,38 +9,38 @@ import io
 import json
 from dataclasses import dataclass
 
-from . import account, amounts, archive, gap, rules
+from . import amounts, explain_text, gap, library, rules
 from .causes import Disagreement, explain
 
-NOT_PROVED = "Shortfalls and gap are the archive's. All else is computed beside it and is not proved."
+NOT_PROVED = "Shortfalls and gap are the library's. All else is computed beside it and is not proved."
 
 
 @dataclass(frozen=True)
-class Told:
-    """The archive's answer on an hour, and its parts, or of a refusal the words."""
+class ShortfallsResult:
+    """The library's answer on an hour, and its parts, or of a refusal the words."""
 
     name: str
-    answer: archive.Shortfalls
+    answer: library.Shortfalls
     cause: str = ""
     sums: rules.Sums | None = None
     parts: gap.Parts | None = None
 
 
 def ask(name, case, proposal):
-    """Has the archive answer, and finds the rest."""
-    judgement, answer = archive.judge(case, proposal), archive.shortfalls(case, proposal)
+    """Has the library answer, and finds the rest."""
+    judgement, answer = library.judge(case, proposal), library.shortfalls(case, proposal)
     found = explain(case, proposal, judgement)
     if (answer.number, answer.index) != (found.number, found.index):
         raise Disagreement(f"{answer.number} {answer.index}", f"{found.number} {found.index}")
     if not answer.answered:
-        return Told(name, answer, found.words)
+        return ShortfallsResult(name, answer, found.words)
     sums = rules.Sums(case, proposal)
-    return Told(name, answer, "", sums, gap.held(answer, judgement, sums))
+    return ShortfallsResult(name, answer, "", sums, gap.cross_checked(answer, judgement, sums))
 
 
-def first_line(told):
+def first_line(result):
     """How many fall short, by how much together, and what is left."""
-    found = told.parts
+    found = result.parts
     whole = f"gap {amounts.microcents(found.gap)} euros"
     if not found.gap:
         return f"{whole}: no order, branch or link falls short"
@@ -51,11 +51,11 @@ def first_line(told):
     return f"{whole}: {short}; {left}"
 
 
-def as_text(told):
-    if told.parts is None:
-        return f"not answered; {told.cause}\n"
-    body = ["", *account.part_lines(told.sums, told.parts)] if told.parts.told else []
-    return "\n".join([first_line(told), *body, "", NOT_PROVED]) + "\n"
+def as_text(result):
+    if result.parts is None:
+        return f"not answered; {result.cause}\n"
+    body = ["", *explain_text.part_lines(result.sums, result.parts)] if result.parts.nonzero else []
+    return "\n".join([first_line(result), *body, "", NOT_PROVED]) + "\n"
 
 
 def record(part):
@@ -65,11 +65,11 @@ def record(part):
     return {"kind": part.kind, "index": part.place, "microcents": whole, "hundred_thousandths": rest, "euros": euros}
 
 
-def as_json(told):
+def as_json(result):
     """For machines: every shortfall in file order, and what is left."""
-    answer, found = told.answer, told.parts
+    answer, found = result.answer, result.parts
     made = {
-        "file": told.name,
+        "file": result.name,
         "number": answer.number,
         "index": answer.index,
         "text": answer.text,
@@ -80,11 +80,11 @@ def as_json(told):
     return json.dumps(made, indent=1) + "\n"
 
 
-def as_csv(told):
+def as_csv(result):
     """A row for each shortfall, in file order; of a refusal none."""
     out = io.StringIO()
     writer = csv.writer(out, lineterminator="\n")
     writer.writerow(["file", "kind", "index", "microcents", "hundred_thousandths", "euros"])
-    for part in told.parts.shortfalls if told.parts else ():
-        writer.writerow([told.name, *record(part).values()])
+    for part in result.parts.shortfalls if result.parts else ():
+        writer.writerow([result.name, *record(part).values()])
     return out.getvalue()

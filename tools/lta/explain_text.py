@@ -1,13 +1,13 @@
 """lta explain: the verdict in words with the field at fault, and of an hour that could be cleared what is in it: zones,
-branches, links, and the gap's parts. The verdict, the totals and, of an accepted hour, the shortfalls are the archive's;
+branches, links, and the gap's parts. The verdict, the totals and, of an accepted hour, the shortfalls are the library's;
 all else is computed beside it.
 """
 
 from . import amounts, gap, hour, rules
 
-NOT_PROVED = "Verdict, totals and prices are the archive's. All else is computed beside it and is not proved."
+NOT_PROVED = "Verdict, totals and prices are the library's. All else is computed beside it and is not proved."
 NOT_PROVED_ACCEPTED = (
-    "Verdict, totals, prices and shortfalls are the archive's. All else is computed beside it and is not proved."
+    "Verdict, totals, prices and shortfalls are the library's. All else is computed beside it and is not proved."
 )
 HEX_ROW = 16
 
@@ -221,7 +221,7 @@ def titled(title, lines):
 
 def part_rows(sums, parts):
     """The parts that are not zero, the shortfalls largest first: each with its name and amount."""
-    return [(part_name(sums, part.kind, part.place), part.amount) for part in parts.told]
+    return [(part_name(sums, part.kind, part.place), part.amount) for part in parts.nonzero]
 
 
 def part_lines(sums, parts):
@@ -231,8 +231,8 @@ def part_lines(sums, parts):
 
 
 def gap_title(parts):
-    """On a refusal by 26 the archive gives no shortfalls."""
-    whence = "" if parts.from_archive else ", found beside the archive, which gives none of a refusal"
+    """On a refusal by 26 the library gives no shortfalls."""
+    whence = "" if parts.from_library else ", found beside the library, which gives none of a refusal"
     return f"Gap: shortfalls, largest first, and what is left{whence}"
 
 
@@ -261,7 +261,7 @@ def clearable(number):
     return number == 0 or 21 <= number <= 28
 
 
-def account(case, proposal, judgement, explanation, joined=False, families=None):
+def full_text(case, proposal, judgement, explanation, joined=False, families=None):
     """All that lta explain prints, of two files or of a joined one, with a family list if there is one."""
     lines = [explanation.words]
     lines += fault_lines(explanation, {"case": case, "proposal": proposal, "families": families}, joined)

@@ -1,10 +1,10 @@
-"""What is told on standard error. Where that is closed or full there is nobody to tell, and the work goes on."""
+"""Lines on standard error. Where that is closed or full nobody can read them, and the work goes on."""
 
 import contextlib
 import sys
 
 
-def tell(text):
+def write_stderr(text):
     """Writes a text at once, where it can be written."""
     if sys.stderr is None:
         return

@@ -1,4 +1,4 @@
-"""The proved archive, called from Python: the shared object that is linked from it, and what its entries answer.
+"""The proved library, called from Python: the shared object that is linked from it, and what its entries answer.
 The one place from which a verdict, a total or a yes comes.
 """
 
@@ -14,7 +14,7 @@ import tempfile
 from dataclasses import dataclass
 
 from . import hour, numbers, rules
-from .telling import tell
+from .stderr_log import write_stderr
 
 ROOT = pathlib.Path(__file__).resolve().parent.parent.parent
 OWN = ROOT / "target" / "staticlib" / "libhost.a"
@@ -24,7 +24,7 @@ REPORTED = hour.REPORTED
 
 
 class BuildError(Exception):
-    """The archive or its shared object cannot be had; the message is one line."""
+    """The library or its shared object cannot be had; the message is one line."""
 
 
 @dataclass(frozen=True)
@@ -159,7 +159,7 @@ def run(command, what):
 
 
 def sources():
-    """The files that the archive is proved and built from."""
+    """The files that the library is proved and built from."""
     yield ROOT / "crates.txt"
     for folder, _, names in os.walk(ROOT / "crates"):
         for name in names:
@@ -174,39 +174,39 @@ def newer(path, than):
         return False
 
 
-def made_archive():
-    """The archive, proved and built where it is missing or older than a source."""
+def made_library():
+    """The library, proved and built where it is missing or older than a source."""
     given = os.environ.get("LTA_ARCHIVE_DIR")
-    archive = pathlib.Path(given) / OWN.name if given else OWN
+    library = pathlib.Path(given) / OWN.name if given else OWN
     if given:
-        if not archive.is_file():
-            raise BuildError(f"{archive}: there is no archive; rt staticlib host writes it")
-        return archive
-    if not archive.is_file() or any(newer(source, archive.stat().st_mtime_ns) for source in sources()):
-        tell("lta: proving and building, some minutes the first time\n")
-        run(["rt", "staticlib", "host"], "the archive cannot be built")
-        if not archive.is_file():
-            raise BuildError(f"the archive cannot be built: rt staticlib host left no {archive}")
+        if not library.is_file():
+            raise BuildError(f"{library}: there is no library; rt staticlib host writes it")
+        return library
+    if not library.is_file() or any(newer(source, library.stat().st_mtime_ns) for source in sources()):
+        write_stderr("lta: proving and building, some minutes the first time\n")
+        run(["rt", "staticlib", "host"], "the library cannot be built")
+        if not library.is_file():
+            raise BuildError(f"the library cannot be built: rt staticlib host left no {library}")
         # Where a change does not reach it, it is not written anew.
-        archive.touch()
-    return archive
+        library.touch()
+    return library
 
 
-def hashes(archive, shared):
-    """The hashes of an archive and of the shared object linked from it, as sha256sum prints them."""
-    named = ((archive, f"../staticlib/{OWN.name}"), (shared, SHARED))
+def hashes(library, shared):
+    """The hashes of a library and of the shared object linked from it, as sha256sum prints them."""
+    named = ((library, f"../staticlib/{OWN.name}"), (shared, SHARED))
     return "".join(f"{hashlib.sha256(path.read_bytes()).hexdigest()}  {name}\n" for path, name in named)
 
 
-def link(archive, folder):
-    """Links an archive's shared object in a folder."""
+def link(library, folder):
+    """Links a library's shared object in a folder."""
     linked = pathlib.Path(folder) / SHARED
-    run([str(ROOT / "tools" / "link_shared"), str(archive), str(linked)], NOT_LINKED)
+    run([str(ROOT / "tools" / "link_shared"), str(library), str(linked)], NOT_LINKED)
     return linked
 
 
 def kept_shared(shared):
-    """Our own archive's shared object, linked where the one that is there is not known, by hash, to be linked from it.
+    """Our own library's shared object, linked where the one that is there is not known, by hash, to be linked from it.
     It is put in place whole.
     """
     linked_from = shared.with_name(LINKED_FROM)
@@ -216,24 +216,24 @@ def kept_shared(shared):
     shared.parent.mkdir(parents=True, exist_ok=True)
     with tempfile.TemporaryDirectory(dir=shared.parent) as folder:
         linked = link(OWN, folder)
-        said = linked.with_name(LINKED_FROM)
-        said.write_text(hashes(OWN, linked))
+        hash_file = linked.with_name(LINKED_FROM)
+        hash_file.write_text(hashes(OWN, linked))
         os.replace(linked, shared)
-        os.replace(said, linked_from)
+        os.replace(hash_file, linked_from)
 
 
 @contextlib.contextmanager
 def made_shared():
-    """The path of the archive's shared object. That of an archive from elsewhere is linked anew and does not stay, so
+    """The path of the library's shared object. That of a library from elsewhere is linked anew and does not stay, so
     that no later call is answered by it.
     """
-    archive, shared = made_archive(), ROOT / "target" / "shared" / SHARED
+    library, shared = made_library(), ROOT / "target" / "shared" / SHARED
     with contextlib.ExitStack() as ends:
         try:
-            if OWN.is_file() and os.path.samefile(archive, OWN):
+            if OWN.is_file() and os.path.samefile(library, OWN):
                 kept_shared(shared)
             else:
-                shared = link(archive, ends.enter_context(tempfile.TemporaryDirectory()))
+                shared = link(library, ends.enter_context(tempfile.TemporaryDirectory()))
         except OSError as fault:
             raise BuildError(f"{NOT_LINKED}: {fault.filename or shared}: {fault.strerror}") from None
         yield shared
@@ -276,7 +276,7 @@ _loaded = {}
 
 
 def entry(name="lta_judge"):
-    """An entry of the archive. The shared object is loaded once."""
+    """An entry of the library. The shared object is loaded once."""
     if name not in _loaded:
         library = _loaded.get("")
         try:
@@ -301,7 +301,7 @@ def bytes_of(data):
 
 
 def judge(case, proposal, families=None, room=rules.REPORT_ROOM):
-    """Has a case and a proposal, as bytes, judged by the archive, with a family list if there is one, and with a report
+    """Has a case and a proposal, as bytes, judged by the library, with a family list if there is one, and with a report
     buffer of the room's bytes. An empty list is a list, and refused; None is none.
     """
     files = [bytes_of(case), bytes_of(proposal)] + ([] if families is None else [bytes_of(families)])
@@ -358,7 +358,7 @@ def new_scratch():
 
 
 def carried(net_exports, zone_prices, pairs):
-    """Has the archive answer whether net positions, in tenths and export positive, are intuitive at zone prices in
+    """Has the library answer whether net positions, in tenths and export positive, are intuitive at zone prices in
     grains along these pairs.
     """
     net, prices = amounts_of(net_exports, "net position"), amounts_of(zone_prices, "zone price")
@@ -368,7 +368,7 @@ def carried(net_exports, zone_prices, pairs):
 
 
 def intuitive(case, proposal, pairs=None):
-    """Has the archive answer whether an hour, as two files' bytes, is intuitive along these pairs; without them along
+    """Has the library answer whether an hour, as two files' bytes, is intuitive along these pairs; without them along
     the case's links.
     """
     case, proposal = bytes_of(case), bytes_of(proposal)
@@ -378,7 +378,7 @@ def intuitive(case, proposal, pairs=None):
 
 
 def dump_proposal(case, dump, room=rules.PROPOSAL_ROOM):
-    """Has the archive write the proposal that a solver's dump gives for a case, both as bytes, with an output of the
+    """Has the library write the proposal that a solver's dump gives for a case, both as bytes, with an output of the
     room's bytes.
     """
     case, dump = bytes_of(case), bytes_of(dump)
@@ -404,7 +404,7 @@ def rearranged(name, data, room):
 
 
 def case_columned(case, room=None):
-    """Has the archive write a case in columns, as bytes, with an output of the room's bytes or of the case's length."""
+    """Has the library write a case in columns, as bytes, with an output of the room's bytes or of the case's length."""
     return rearranged("lta_case_columned", case, room)
 
 
@@ -414,7 +414,7 @@ def case_restored(file, room=None):
 
 
 def shortfalls(case, proposal, room=rules.SHORTFALL_ROOM):
-    """Has the archive write by how much each order, branch and link of an accepted hour, as two files' bytes, falls short,
+    """Has the library write by how much each order, branch and link of an accepted hour, as two files' bytes, falls short,
     with an output of the room's numbers.
     """
     case, proposal = bytes_of(case), bytes_of(proposal)

@@ -1,6 +1,6 @@
 """A solver's dump of request S-5 between readable text and bytes, both ways, and what becomes of each of its values.
 Whatever a case and a dump are, building what is shown gives back their bytes. What a value becomes is found here by one
-float product of Python's own, beside the archive, and dumping.py holds it to that.
+float product of Python's own, beside the library, and dump_command.py holds it to that.
 """
 
 from __future__ import annotations
@@ -317,8 +317,8 @@ def show_dump(case, dump, known):
     yield from hour.show_hex("dump", rest)
 
 
-def show(case, dump, said="", known=True):
-    """The text of a case and a dump, whatever their bytes; said is a line for the reader."""
+def show(case, dump, remark="", known=True):
+    """The text of a case and a dump, whatever their bytes; remark is a line for the reader."""
     lines = list(show_dump(case, dump, known))
-    comment = f"# {said}\n" if said else ""
+    comment = f"# {remark}\n" if remark else ""
     return hour.show(case) + "\n" + UNITS + comment + "".join(f"{line}\n" for line in lines)
