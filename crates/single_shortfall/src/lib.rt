@@ -100,7 +100,11 @@ pub fn branch_shortfall(
     let margin = margin_at(case, k, m);
     let shadow = shadow_at(case, k, proposal, m);
     let load = load_of(row, parts, k.zones);
-    short(share.flow_based().of_volume(margin), load, shadow.in_grains())
+    short(
+        share.flow_based().of_volume(margin),
+        load,
+        shadow.in_grains(),
+    )
 }
 
 // Link l: its capacity scaled by the LTA share is the room, and its flow is used, at its spread. Its contracted volume does not enter.
