@@ -1,4 +1,3 @@
 -- Augmenting paths: what one step changes, the labels that lead back, and both over the lent lists
-pub mod Lacking
-pub mod Links
-pub mod Path
+pub mod Meaning
+pub mod Steps

@@ -1,5 +1,4 @@
 -- THE PROOFS' MEANS
-pub mod Machine
 pub mod Cutting
 pub mod Half
 pub mod Whole

@@ -8,7 +8,7 @@ ghost use lib.Ieee as Ieee;
 ghost use lib.Ieee.{binary64};
 ghost use Rattle.binary64.specs.Meaning.Value.{finite, cut, nearest};
 ghost use Rattle.binary64.specs.Meaning.Answer.{wholeBelow, wholeUpTo};
-ghost use Rattle.binary64.specs.Steps.Machine.{zero64, one64, times};
+ghost use Rattle.binary64.specs.Meaning.Machine.{zero64, one64, times};
 ghost use Rattle.binary64.specs.Steps.Cutting.{Ranged};
 
 // A whole number of 32 bits, or none.

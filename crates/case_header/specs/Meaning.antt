@@ -1,2 +1,3 @@
 -- THE MEANING of the answers to a header
 pub mod Answer
+pub mod Opened

@@ -7,7 +7,7 @@ ghost use lib.Signed.{ltZ};
 ghost use mir.Syntax.{w64};
 ghost use mir.Val.{toZ};
 ghost use Rattle.decimal.specs.Meaning.Text.{places, lastDigits, countText, sizeText, amountText};
-ghost use Rattle.decimal.specs.Steps.Put.{Put};
+ghost use Rattle.decimal.specs.Meaning.Put.{Put};
 use measures::Bits;
 
 // Decimals of an amount of money in euros, and of a price in euros per MWh.

@@ -1,2 +1,2 @@
 -- The products that row 28 compares
-pub mod Fraction
+pub mod Steps

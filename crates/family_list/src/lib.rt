@@ -13,7 +13,7 @@ ghost use Rattle.family_list.specs.Steps.Round as round;
 ghost use Rattle.family_list.specs.Steps.Walk.{held, Trail};
 ghost use Rattle.family_list.specs.Steps.Taken.{Taken, Search};
 ghost use Rattle.family_list.specs.Meaning.Answer.{headerBy, parentRow, listRows, circleAnswer, familyAnswer, wrongList};
-ghost use Rattle.family_list.specs.Steps.Answer.{Whole, Known};
+ghost use Rattle.family_list.specs.Meaning.Answer.{Whole, Known};
 use fields::Cursor;
 use fields::Mark;
 use fields::MarkField;

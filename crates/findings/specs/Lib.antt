@@ -1,4 +1,3 @@
 -- What the driver finds, what a stage knows of the hour, and what is asked of a family list
-pub mod Found
-pub mod Facts
-pub mod Listed
+pub mod Meaning
+pub mod Steps

@@ -1,5 +1,3 @@
 -- The 96 numbers of a flow in a lent scratch, and the numbers above and below zero as the machine has them
 pub mod Meaning
-pub mod Amounts
-pub mod Scratch
-pub mod Cleared
+pub mod Steps

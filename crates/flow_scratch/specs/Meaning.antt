@@ -1,2 +1,3 @@
 -- THE MEANING, to be read beside request S-13
 pub mod Places
+pub mod Cleared

@@ -1,4 +1,3 @@
 -- The pairs as they are written, and from what was found to the contract
 pub mod Meaning
-pub mod Pairs
-pub mod Kept
+pub mod Steps

@@ -1,5 +1,3 @@
 -- What the judgement answers, what a stage answers, and from the table to the entries' clauses
 pub mod Meaning
-pub mod Judged
-pub mod Packed
-pub mod Promises
+pub mod Steps

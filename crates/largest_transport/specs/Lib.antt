@@ -1,2 +1,3 @@
 -- Augmenting paths until none is left, and the answer that this gives
-pub mod Filled
+pub mod Meaning
+pub mod Steps

@@ -3,7 +3,7 @@ ghost use mathlib.Core.Path.{_≡_};
 ghost use mathlib.Core.Bool.{false};
 ghost use Prim.Native.Nat.{ℕ, _≤_, _<_};
 ghost use lib.ListN.{length};
-ghost use Rattle.integers.specs.Sums.{sumTo};
+ghost use Rattle.integers.specs.Meaning.Sums.{sumTo};
 ghost use Rattle.measures.specs.Meaning.Limits as limits;
 ghost use Rattle.measures.specs.Meaning.Held.{tenthsIn};
 ghost use Rattle.rows.specs.Meaning.Rows.{firstBelow};

@@ -1,2 +1,3 @@
 -- Prices by zone
-pub mod Prices
+pub mod Meaning
+pub mod Steps

@@ -1,2 +1,3 @@
 -- THE MEANING: the answer of a lent book
 pub mod Lent
+pub mod BookState

@@ -1,11 +1,11 @@
 // One order: a lent row held to its limits, and the surplus at a zone price (rule 8), which the case file and the lent book share.
 ghost use mathlib.Core.Path.{_≡_};
 ghost use lib.IntN.{pos};
-ghost use Rattle.integers.specs.Ranges.{Within};
+ghost use Rattle.integers.specs.Meaning.Ranges.{Within};
 ghost use Rattle.measures.specs.Meaning.Limits as limits;
 ghost use Rattle.rules.specs.Meaning.Hour as rules;
 ghost use Rattle.orders.specs.Meaning.Answer.{admitted};
-ghost use Rattle.orders.specs.Admitted.{surplusAt};
+ghost use Rattle.orders.specs.Meaning.Admitted.{surplusAt};
 use measures::Cents;
 use measures::CentsAnswer;
 use measures::Grains;

@@ -1,4 +1,3 @@
 -- What reading a proposal answers, and what holds of a proposal that was read.
 pub mod Meaning
-pub mod Answer
-pub mod Proposed
+pub mod Steps

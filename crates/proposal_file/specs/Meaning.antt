@@ -1,2 +1,3 @@
 -- THE MEANING of the answers to a proposal
 pub mod Answer
+pub mod Proposed

@@ -1,2 +1,3 @@
 -- The report as runs of stores
-pub mod Written
+pub mod Meaning
+pub mod Steps

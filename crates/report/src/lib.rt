@@ -6,7 +6,7 @@ ghost use lib.ListN.{length, drop};
 ghost use lib.Seq.{sets};
 ghost use Rattle.rules.specs.Meaning.Layout.{welfareAt, pricesAt, zonePriceAt};
 ghost use Rattle.rules.specs.Meaning.Report.{headerBytes, totalBytes, priceBytes, reportText};
-ghost use Rattle.report.specs.Written.{totalsIn, priceIn};
+ghost use Rattle.report.specs.Meaning.Written.{totalsIn, priceIn};
 use measures::Grains;
 use measures::Microcents;
 use words::put_signed64;

@@ -2,7 +2,7 @@
 ghost use mathlib.Core.Path.{_≡_};
 ghost use mathlib.Core.Bool.{_||_};
 ghost use lib.IntN.{pos};
-ghost use Rattle.integers.specs.Ranges.{range, outside};
+ghost use Rattle.integers.specs.Meaning.Ranges.{range, outside};
 
 // What a table answers: the number of the first cause that holds, and the index that goes with it; or 0 and 0.
 pub struct Outcome {

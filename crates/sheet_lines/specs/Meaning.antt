@@ -1,2 +1,3 @@
 -- THE MEANING, to be read beside request S-1
 pub mod Sheet
+pub mod Lines

@@ -3,12 +3,13 @@
 ghost use mathlib.Core.Path.{_≡_};
 ghost use Prim.Native.Nat.{_+_, _*_, _≤_};
 ghost use lib.ListN.{length};
-ghost use Rattle.integers.specs.Ranges as ranges;
+ghost use Rattle.integers.specs.Meaning.Ranges as ranges;
 ghost use Rattle.rows.specs.Meaning.Place.{placeOf};
 ghost use Rattle.numerals.specs.Steps.Capped.{cap};
 ghost use Rattle.sheet_lines.specs.Meaning.Sheet.{decimalCount, limit, branchPart};
 ghost use Rattle.sheet_lines.specs.Steps.Entries.{turned, entryOfNumber};
-ghost use Rattle.sheet_lines.specs.Steps.Lines.{markOf, commaMissing, LineRead, rowOf, firstWith, SheetRead};
+ghost use Rattle.sheet_lines.specs.Meaning.Lines.{SheetRead};
+ghost use Rattle.sheet_lines.specs.Steps.Lines.{markOf, commaMissing, LineRead, rowOf, firstWith};
 use measures::Ptdf;
 use measures::PtdfAnswer;
 use measures::Raw;

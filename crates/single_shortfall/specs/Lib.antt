@@ -1,3 +1,3 @@
 -- One shortfall: the form that all three have, and what an accepted hour leaves for it
-pub mod Short
-pub mod Judged
+pub mod Meaning
+pub mod Steps

@@ -1,2 +1,2 @@
 -- The rent while the prices are asked
-pub mod Rent
+pub mod Meaning

@@ -5,7 +5,7 @@ ghost use lib.ListN.{length};
 ghost use lib.Seq.{sets};
 ghost use mir.Syntax.{w32};
 ghost use mir.Val.{SFits};
-ghost use Rattle.integers.specs.Bytes.{bytesOf, signed32};
+ghost use Rattle.integers.specs.Meaning.Bytes.{bytesOf, signed32};
 use measures::Bits;
 use measures::Raw;
 

@@ -1,3 +1,3 @@
 -- A set of zones and what it holds, and the pairs of zones seen as such sets
-pub mod Zones
-pub mod Pairs
+pub mod Meaning
+pub mod Steps

@@ -1,7 +1,7 @@
 // A set of zones: a bit for each of sixteen.
 ghost use mathlib.Core.Path.{_≡_};
 ghost use Prim.Native.Nat.{_<_};
-ghost use Rattle.zone_set.specs.Zones.{member, added};
+ghost use Rattle.zone_set.specs.Meaning.Zones.{member, added};
 
 pub fn has(zones: u16, zone: usize) -> bool
     ensures { λ r. ⌜ r ≡ member zones zone ⌝ }

@@ -6,9 +6,10 @@ use borrow.Author.Needs.{needs}
 use denote.Ref.{now}
 use mathlib.Core.List.{List}
 use lib.IntN.{ℤ, pos}
-use Rattle.augmenting_path.specs.Links.{Trail}
-use Rattle.flow_scratch.specs.Scratch.{rest-to, rest-trans}
-use Rattle.augmenting_path.specs.Path.{PathBack, Augment, trailOf, path-start-at, path-end-at, root-left}
+use Rattle.augmenting_path.specs.Steps.Links.{Trail}
+use Rattle.flow_scratch.specs.Steps.Scratch.{rest-to, rest-trans}
+use Rattle.augmenting_path.specs.Meaning.Path.{Augment, trailOf}
+use Rattle.augmenting_path.specs.Steps.Path.{PathBack, path-start-at, path-end-at, root-left}
 use Rattle.augmenting_path.proofs.augment.Statement.{statement}
 use Rattle.augmenting_path.proofs.augment.Tie as tie
 

@@ -2,7 +2,7 @@
 use mathlib.Core.Path.{_≡_, refl, _∙_}
 use native.Mathlib.Omega.{arith}
 use denote.Ref.{now}
-use Rattle.augmenting_path.specs.Path.{shifted-on, shifted-back}
+use Rattle.augmenting_path.specs.Steps.Path.{shifted-on, shifted-back}
 use borrow.Author.Needs.{needs}
 use Rattle.augmenting_path.proofs.shift.Statement.{statement}
 use Rattle.augmenting_path.proofs.shift.Tie as tie

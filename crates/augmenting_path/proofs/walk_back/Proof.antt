@@ -7,8 +7,9 @@ use borrow.Author.Needs.{needs}
 use lib.ListN.{length, getD}
 use lib.IntN.{ℤ, pos}
 use denote.Ref.{now}
-use Rattle.flow_scratch.specs.Scratch.{Rest, rest-refl, rest-trans}
-use Rattle.augmenting_path.specs.Path.{PathBack, SomePath, trailOf, step-safe, path-step}
+use Rattle.flow_scratch.specs.Steps.Scratch.{Rest, rest-refl, rest-trans}
+use Rattle.augmenting_path.specs.Meaning.Path.{trailOf}
+use Rattle.augmenting_path.specs.Steps.Path.{PathBack, SomePath, step-safe, path-step}
 use Rattle.augmenting_path.proofs.walk_back.Statement.{statement}
 use Rattle.augmenting_path.proofs.walk_back.Tie as tie
 

@@ -4,7 +4,7 @@ use mathlib.Core.Path.{_≡_, sym, ap, _∙_}
 use mathlib.Core.Bool.{Bool}
 use lib.Dec.{T}
 use lib.Ieee.{Float, lt, ofBits, binary64}
-use Rattle.integers.specs.Ranges.{is-true}
+use Rattle.integers.specs.Steps.Ranges.{is-true}
 use Rattle.binary64.specs.Meaning.Value.{cut}
 use Rattle.binary64.specs.Meaning.Answer.{wholeBy}
 use Rattle.binary64.specs.Steps.Whole.{word-end, word-end-bits, word-ranged}

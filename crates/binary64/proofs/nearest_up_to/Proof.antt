@@ -3,7 +3,7 @@ use mathlib.Core.Path.{_≡_, sym, ap, _∙_, subst}
 use mathlib.Core.Bool.{Bool}
 use Prim.Native.Nat.{ℕ, _≤_, _<_}
 use lib.Ieee.{Float, le, ofBits, binary64}
-use Rattle.integers.specs.Ranges.{is-true}
+use Rattle.integers.specs.Steps.Ranges.{is-true}
 use Rattle.binary64.specs.Steps.Whole.{halves-end, halves-end-bits, held, above, too-large, halves-finite}
 use Rattle.binary64.specs.declared.WholeAnswer.the-variants.{Held}
 use native.Mathlib.Omega.{arith}

@@ -5,7 +5,7 @@ use native.Mathlib.Omega.{arith}
 use Prim.Native.Nat.{_^_, _<_}
 use borrow.Author.Needs.{needs}
 use Rattle.binary64.specs.Meaning.Value.{cut}
-use Rattle.binary64.specs.Steps.Machine.{times}
+use Rattle.binary64.specs.Meaning.Machine.{times}
 use Rattle.binary64.specs.Steps.Cutting.{Share, Part, share-of, share-finite, share-in-range, share-part, times-not-negative}
 use Rattle.binary64.proofs.part_of.Statement.{statement}
 use Rattle.binary64.proofs.part_of.Tie as tie

@@ -6,7 +6,7 @@ use native.Mathlib.Omega.{arith}
 use lib.Dec.{T, le→leb}
 use lib.Ieee.{Float, binary64, add, sub, inFloat, inUnsigned, toUnsigned, ofBits}
 use lib.Ieee.Back.{unsigned-back}
-use Rattle.integers.specs.Ranges.{is-true}
+use Rattle.integers.specs.Steps.Ranges.{is-true}
 use Rattle.binary64.specs.Meaning.Value.{cut}
 use Rattle.binary64.specs.Steps.Whole.{ranged-finite}
 use Rattle.binary64.specs.Steps.WholePart.{NextTo, wholes-bits, rounded-whole, not-above, above-it}

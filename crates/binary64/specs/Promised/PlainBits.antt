@@ -12,7 +12,7 @@ use native.Mathlib.Omega.{arith}
 use borrow.Author.Tests.{ltb-true, lt-ltb, le-leb, lt-leb, eqb-true, eq-eqb, ne-eqb, not-false}
 use lib.Dec.{T, eqb, ltb, leb→le, eqb·suc-zero, lit<, lit≤}
 use lib.Pow.{pow-pos}
-use Rattle.integers.specs.Ranges.{is-true, and-left, and-right}
+use Rattle.integers.specs.Steps.Ranges.{is-true, and-left, and-right}
 use Rattle.binary64.specs.Meaning.Value.{minus, exponent, fraction, finite, units, negative, aboveOne}
 
 -- NOT FINITE, an infinity or a NaN: the exponent's eleven bits are all ones

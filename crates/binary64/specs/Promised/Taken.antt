@@ -22,8 +22,8 @@ use lib.Ieee.Order.{round-mono}
 use lib.Ieee.Positive.{num, den, den-pos, through}
 use lib.Ieee.Scale as float
 use lib.Ieee.Scale.{round-val, round-under}
-use Rattle.integers.specs.Ranges.{is-true}
-use Rattle.integers.specs.NaturalSums.{sumNat}
+use Rattle.integers.specs.Steps.Ranges.{is-true}
+use Rattle.integers.specs.Meaning.NaturalSums.{sumNat}
 use Rattle.rules.specs.Meaning.Layout.{u32At}
 use Rattle.binary64.specs.Meaning.Value.{bitsAt, minus, units, product, cut, nearest}
 use Rattle.binary64.specs.Steps.Cutting.{lt-or-eq, over-by, under-by, round-cut-le, round-cut-ge}

@@ -10,9 +10,9 @@ use lib.Ieee.{Float, nan, inf, fin, binary64, le, ofBits}
 use lib.Ieee.Exact.{HasValue}
 use lib.Ieee.Positive.{num, den, den-pos}
 use lib.Ieee.Scale as float
-use Rattle.integers.specs.Ranges.{is-true}
+use Rattle.integers.specs.Steps.Ranges.{is-true}
 use Rattle.binary64.specs.Meaning.Value.{minus, finite, units, negative, aboveOne, product, cut, ShareWithin}
-use Rattle.binary64.specs.Steps.Machine.{zero64, one64, times}
+use Rattle.binary64.specs.Meaning.Machine.{zero64, one64, times}
 use Rattle.binary64.specs.Steps.Cutting.{Part, share-part, share-of, share-in-range}
 use Rattle.binary64.specs.Steps.Patterns.{bits-value}
 use Rattle.binary64.specs.Steps.Products.{product-is, not-negative, not-above-one}

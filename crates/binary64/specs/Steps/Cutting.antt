@@ -18,7 +18,7 @@ use lib.Ieee.Scale.{round-same, finite}
 use lib.Ieee.Back.{round-whole}
 use lib.Ieee.Positive.{through, num, den}
 use Rattle.binary64.specs.Meaning.Value.{cut}
-use Rattle.binary64.specs.Steps.Machine.{zero64, one64, times}
+use Rattle.binary64.specs.Meaning.Machine.{zero64, one64, times}
 
 -- ≤ of two floats that are not negative, as ≤ of two numbers
 or-split : (a b : Bool) → T (a || b) → T a ⊎ T b

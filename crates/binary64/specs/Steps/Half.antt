@@ -15,7 +15,7 @@ use lib.Ieee.Scale.{round-same}
 use lib.Ieee.Positive.{through}
 use Rattle.binary64.specs.Steps.Cutting.{lt-or-eq, none, Ranged, in-range, of-int}
 use Rattle.binary64.specs.Meaning.Value.{nearest}
-use Rattle.binary64.specs.Steps.Machine.{zero64}
+use Rattle.binary64.specs.Meaning.Machine.{zero64}
 
 -- numbers: n / d is w and a rest
 unique : (a c k : ℕ) → 0 < c → k * c ≤ a → a < (k + 1) * c → a / c ≡ k

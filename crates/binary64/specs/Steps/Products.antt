@@ -17,7 +17,7 @@ use lib.Ieee.Order.{le-of-values}
 use lib.Ieee.Scale.{round-same}
 use Rattle.binary64.specs.Meaning.Value as value
 use Rattle.binary64.specs.Meaning.Value.{minus, finite, negative, aboveOne, product}
-use Rattle.binary64.specs.Steps.Machine.{zero64, one64, times}
+use Rattle.binary64.specs.Meaning.Machine.{zero64, one64, times}
 use Rattle.binary64.specs.Steps.Cutting.{none, mul-whole, of-int, lt-or-eq}
 use Rattle.binary64.specs.Steps.Patterns.{bits-value}
 

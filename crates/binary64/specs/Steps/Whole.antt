@@ -13,10 +13,10 @@ use lib.Ieee.{Float, nan, inf, fin, binary64, up, down, le, lt, eq, ofBits}
 use lib.Ieee.Fits.{down-pos}
 use lib.Ieee.Order.{le-of-values}
 use lib.Ieee.Scale.{finite}
-use Rattle.integers.specs.Ranges.{or-left}
+use Rattle.integers.specs.Steps.Ranges.{or-left}
 use Rattle.binary64.specs.Meaning.Value.{cut, nearest}
 use Rattle.binary64.specs.Meaning.Answer.{wholeBy, wholeUpTo}
-use Rattle.binary64.specs.Steps.Machine.{zero64, one64}
+use Rattle.binary64.specs.Meaning.Machine.{zero64, one64}
 use Rattle.binary64.specs.declared.WholeAnswer.the-variants.{Held, Outside}
 use Rattle.binary64.specs.Steps.Cutting.{Ranged, in-range, minus-zero}
 

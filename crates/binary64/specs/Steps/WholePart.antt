@@ -17,9 +17,9 @@ use lib.Ieee.Order.{le-of-values, round-mono}
 use lib.Ieee.Back.{round-whole}
 use lib.Ieee.Scale.{finite}
 use lib.Ieee.Positive.{num, den, den-pos, positive, own-value, positive-of-value, values-of-le, between}
-use Rattle.integers.specs.Ranges.{is-true, and-right}
+use Rattle.integers.specs.Steps.Ranges.{is-true, and-right}
 use Rattle.binary64.specs.Meaning.Value.{cut}
-use Rattle.binary64.specs.Steps.Machine.{zero64}
+use Rattle.binary64.specs.Meaning.Machine.{zero64}
 use Rattle.binary64.specs.Steps.Cutting.{Ranged, cast-cut, cut-ge, minus-zero, of-int}
 use Rattle.binary64.specs.Steps.Whole.{word-end, word-test, ranged-finite}
 

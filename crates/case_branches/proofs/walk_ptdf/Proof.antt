@@ -3,7 +3,7 @@ use mathlib.Core.Path.{_≡_, sym, ap, _∙_}
 use Prim.Native.Nat.{ℕ, _+_}
 use native.Mathlib.Omega.{arith}
 use borrow.Author.Needs.{needs}
-use Rattle.integers.specs.Ranges.{outside}
+use Rattle.integers.specs.Meaning.Ranges.{outside}
 use Rattle.measures.specs.Meaning.Limits as limits
 use Rattle.measures.specs.Steps.Held.{ptdf-outside, ptdf-held}
 use Rattle.measures.specs.declared.Raw.{Raw}
@@ -12,8 +12,8 @@ use Rattle.fields.specs.declared.Cursor.{Cursor}
 use Rattle.fields.specs.declared.Walked.the-variants.{Past}
 use Rattle.fields.specs.Meaning.Field.{cursor, raw}
 use Rattle.fields.specs.Meaning.Walk.{refusedAt}
-use Rattle.fields.specs.Record.{RecordWithin, FieldRead, signed-read, signed-there}
-use Rattle.case_branches.specs.Branch.{ptdfBy}
+use Rattle.fields.specs.Steps.Record.{RecordWithin, FieldRead, signed-read, signed-there}
+use Rattle.case_branches.specs.Steps.Branch.{ptdfBy}
 use Rattle.case_branches.proofs.walk_ptdf.Statement.{statement}
 use Rattle.case_branches.proofs.walk_ptdf.Tie as tie
 

@@ -11,7 +11,7 @@ use Rattle.rows.specs.Promised.RowLaws.{first-later}
 use Rattle.fields.specs.declared.Cursor.{Cursor}
 use Rattle.fields.specs.declared.Walked.the-variants.{Past}
 use Rattle.fields.specs.Meaning.Field.{cursor}
-use Rattle.case_branches.specs.Branch.{ptdfFault, ptdfWalked, one-refused, one-past, ptdfs-stop, ptdfs-end}
+use Rattle.case_branches.specs.Steps.Branch.{ptdfFault, ptdfWalked, one-refused, one-past, ptdfs-stop, ptdfs-end}
 use Rattle.case_branches.proofs.walk_ptdfs.Statement.{statement}
 use Rattle.case_branches.proofs.walk_ptdfs.Tie as tie
 

@@ -6,7 +6,7 @@ use Prim.Native.Nat.{ℕ}
 use lib.ListN.{length}
 use lib.Dec.{eqb}
 use lib.IntN.{pos}
-use Rattle.integers.specs.Ranges.{outside}
+use Rattle.integers.specs.Meaning.Ranges.{outside}
 use Rattle.measures.specs.Meaning.Limits as limits
 use Rattle.rules.specs.Meaning.Layout.{caseHeader, caseVersion, zonesIn, branchesIn, linksIn, ordersIn, toleranceIn, zoneCounts, branchCounts, linkCounts, orderCounts}
 use Rattle.rows.specs.declared.Outcome.{Outcome}

@@ -7,13 +7,13 @@ use native.Mathlib.Omega.{arith}
 use borrow.Author.Needs.{needs}
 use lib.ListN.{length}
 use lib.IntN.{ℤ, pos}
-use Rattle.integers.specs.Ranges.{Within}
+use Rattle.integers.specs.Meaning.Ranges.{Within}
 use Rattle.measures.specs.Meaning.Limits as limits
 use Rattle.measures.specs.declared.Tenths.{Tenths}
 use Rattle.rules.specs.Meaning.Layout.{u32At, caseVersion, contracts, contractedSize, linkAt, capacityIn, contractedIn}
 use Rattle.case_header.specs.declared.Counts.{Counts}
-use Rattle.case_header.specs.Opened.{headed, whole, limited, link-start-is, link-inside}
-use Rattle.case_links.specs.Link.{contracted-within}
+use Rattle.case_header.specs.Steps.Opened.{headed, whole, limited, link-start-is, link-inside}
+use Rattle.case_links.specs.Steps.Link.{contracted-within}
 use Rattle.case_links.proofs.contracted_at.Statement.{statement}
 use Rattle.case_links.proofs.contracted_at.Tie as tie
 

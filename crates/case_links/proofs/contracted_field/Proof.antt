@@ -1,7 +1,7 @@
 -- `case_links::contracted_field` meets its contract: by the version. Assumes nothing.
 use mathlib.Core.Path.{sym, ap, _∙_}
 use borrow.Author.Needs.{needs}
-use Rattle.case_links.specs.Walk.{contractedBy}
+use Rattle.case_links.specs.Steps.Walk.{contractedBy}
 use Rattle.case_links.proofs.contracted_field.Statement.{statement}
 use Rattle.case_links.proofs.contracted_field.Tie as tie
 

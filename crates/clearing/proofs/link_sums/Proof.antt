@@ -11,9 +11,9 @@ use lib.ListN.{set}
 use lib.IntN.{ℤ, pos, _+ℤ_, _-ℤ_, _*ℤ_, +ℤ-idr}
 use lib.Signed.{ltZ}
 use mir.Syntax.{w64}
-use Rattle.integers.specs.Sums.{sumTo}
-use Rattle.integers.specs.Size.{Near, near-fits, near-sub, near-mul, near-pos, near-unsigned}
-use Rattle.integers.specs.Machine.{sfits-by}
+use Rattle.integers.specs.Meaning.Sums.{sumTo}
+use Rattle.integers.specs.Steps.Size.{Near, near-fits, near-sub, near-mul, near-pos, near-unsigned}
+use Rattle.integers.specs.Steps.Machine.{sfits-by}
 use Rattle.measures.specs.Meaning.Limits.{partsInOne}
 use Rattle.rules.specs.Meaning.Layout.{flowIn}
 use Rattle.rules.specs.Meaning.Hour.{Case, Plan, caseOf, planOf, linkUse, linkRoom, inflow, outflow, ltaPart, fbPart}
@@ -22,10 +22,10 @@ use Rattle.rows.specs.Promised.RowLaws.{first-here, first-later, first-nowhere,
 use Rattle.rules.specs.Meaning.Verdict.{over}
 use Rattle.rules.specs.Promised.Fits.{flow-in, partial-near}
 use Rattle.case_links.specs.declared.Link.{Link}
-use Rattle.clearing.specs.Read.{sound, links-is, share-is, share-in}
-use Rattle.clearing.specs.Held.{tenthsAt, Holds}
-use Rattle.clearing.specs.Parts.{flows, partly, in-set, out-next, out-set}
-use Rattle.clearing.specs.Stages.{word-small}
+use Rattle.clearing.specs.Steps.Read.{sound, links-is, share-is, share-in}
+use Rattle.clearing.specs.Meaning.Held.{tenthsAt, Holds}
+use Rattle.clearing.specs.Steps.Parts.{flows, partly, in-set, out-next, out-set}
+use Rattle.clearing.specs.Steps.Stages.{word-small}
 use Rattle.clearing.proofs.link_sums.Statement.{statement}
 use Rattle.clearing.proofs.link_sums.Tie as tie
 

@@ -2,9 +2,9 @@
 use mathlib.Core.Path.{_≡_, refl, ap, _∙_}
 use Prim.Native.Nat.{ℕ, _≤_, _-_}
 use native.Mathlib.Omega.{arith}
-use Rattle.integers.specs.Sums.{sumTo}
-use Rattle.integers.specs.Machine.{step, step-fits}
-use Rattle.clearing.specs.Held.{tenthsAt}
+use Rattle.integers.specs.Meaning.Sums.{sumTo}
+use Rattle.integers.specs.Steps.Machine.{step, step-fits}
+use Rattle.clearing.specs.Meaning.Held.{tenthsAt}
 use Rattle.clearing.proofs.net_sum.Statement.{statement}
 use Rattle.clearing.proofs.net_sum.Tie as tie
 

@@ -10,9 +10,11 @@ use lib.Dec.{eqb, nltb→le}
 use lib.IntN.{ℤ, pos, _+ℤ_, _*ℤ_}
 use lib.Signed.{ltZ}
 use mir.Syntax.{w64}
-use Rattle.integers.specs.Sums.{sumTo, only, sum-scale-l}
-use Rattle.integers.specs.Size.{near-fits, near-mul, near-pos}
-use Rattle.integers.specs.Machine.{SumsFit, step, step-fits, sfits-by}
+use Rattle.integers.specs.Meaning.Sums.{sumTo, only}
+use Rattle.integers.specs.Steps.Sums.{sum-scale-l}
+use Rattle.integers.specs.Steps.Size.{near-fits, near-mul, near-pos}
+use Rattle.integers.specs.Meaning.Machine.{SumsFit}
+use Rattle.integers.specs.Steps.Machine.{step, step-fits, sfits-by}
 use Rattle.measures.specs.Meaning.Limits.{partsInOne, grainsOf}
 use Rattle.rules.specs.Meaning.Hour.{Case, Plan, caseOf, planOf, signed, buys, orderNet, net, orderWelfare, welfare}
 use Rattle.rows.specs.Meaning.Rows.{firstBelow}
@@ -21,8 +23,9 @@ use Rattle.rules.specs.Meaning.Verdict.{over}
 use Rattle.rules.specs.Steps.Duality.{signed-times, times-grains}
 use Rattle.rules.specs.Promised.Fits.{near-order-price, orderNet-near, net-sums, welfare-sums}
 use Rattle.orders.specs.declared.Order.{Order}
-use Rattle.clearing.specs.Read.{sound, orders-is}
-use Rattle.clearing.specs.Held.{tenthsAt, Holds, zeros-hold, keyed, keyed-next, keyed-set}
+use Rattle.clearing.specs.Steps.Read.{sound, orders-is}
+use Rattle.clearing.specs.Meaning.Held.{tenthsAt, Holds}
+use Rattle.clearing.specs.Steps.Held.{zeros-hold, keyed, keyed-next, keyed-set}
 use Rattle.clearing.proofs.order_sums.Statement.{statement}
 use Rattle.clearing.proofs.order_sums.Tie as tie
 

@@ -4,7 +4,7 @@ use mathlib.Core.Bool.{Bool}
 use lib.IntN.{negℤ, +ℤ-idl}
 use mir.Syntax.{w64}
 use mir.Val.{SFits}
-use Rattle.integers.specs.Machine.{sfits-by}
+use Rattle.integers.specs.Steps.Machine.{sfits-by}
 use Rattle.rules.specs.Meaning.Hour.{signed}
 use Rattle.clearing.proofs.signed_volume.Statement.{statement}
 use Rattle.clearing.proofs.signed_volume.Tie as tie

@@ -8,8 +8,8 @@ use lib.ListN.{length, take, drop}
 use Rattle.rows.specs.declared.Outcome.{Outcome}
 use Rattle.rows.specs.Meaning.Rows.{verdict}
 use Rattle.output.specs.declared.Written.{Written}
-use Rattle.case_header.specs.Opened.{Opened}
-use Rattle.case_file.specs.Answer.{opened-of}
+use Rattle.case_header.specs.Meaning.Opened.{Opened}
+use Rattle.case_file.specs.Steps.Answer.{opened-of}
 use Rattle.columns.specs.Meaning.Columns.{columnedOf, unreadable, columnedRows, columnedOutcome, columnedWritten, columnedOutput, Columned, ComesBack, NotJudged}
 use Rattle.columns.specs.Promised.RoundTrip.{columned-length, columned-stands}
 use Rattle.columns.specs.Steps.Counts.{unreadable-of, start-past}

@@ -13,9 +13,9 @@ use Rattle.rules.specs.Meaning.Layout.{ordersIn}
 use Rattle.rules.specs.Meaning.Verdict.{notMark, Readable}
 use Rattle.case_header.specs.declared.Header.{Header}
 use Rattle.case_header.specs.Meaning.Answer.{headerIn}
-use Rattle.case_header.specs.Answer.{header-taken, header-refused}
+use Rattle.case_header.specs.Steps.Answer.{header-taken, header-refused}
 use Rattle.case_file.specs.Meaning.Answer.{caseAnswer}
-use Rattle.case_file.specs.Answer.{opened-of}
+use Rattle.case_file.specs.Steps.Answer.{opened-of}
 use Rattle.columns.specs.declared.RestoreAnswer.{RestoreAnswer}
 use Rattle.columns.specs.declared.RestoreAnswer.the-variants.{Restored}
 use Rattle.columns.specs.Meaning.Columns.{arranged, restoredOf, notRestored}

@@ -8,7 +8,8 @@ use native.Mathlib.Omega.{arith}
 use lib.ListN.{length, getD}
 use lib.Dec.{T}
 use Rattle.rows.specs.declared.Outcome.{Outcome}
-use Rattle.rows.specs.Meaning.Rows.{verdict, refusal, answer, unnamed, ask, Asks}
+use Rattle.rows.specs.Promised.Asked.{unnamed, ask, Asks}
+use Rattle.rows.specs.Meaning.Rows.{verdict, refusal, answer}
 use Rattle.rows.specs.Promised.RowLaws.{empty, Cause, answer-caused, Answered, answered, Soonest, soonest, lacks, zero-none}
 use Rattle.output.specs.Meaning.Output.{writtenBy, outputAfter}
 use Rattle.columns.specs.Meaning.Columns.{columnedOf, restoredOf, columnedRows, restoredRows, columnedOutcome, columnedWritten, columnedOutput, restoredOutcome, restoredWritten, restoredOutput}

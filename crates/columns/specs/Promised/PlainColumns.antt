@@ -10,7 +10,7 @@ use native.Mathlib.Omega.{arith}
 use native.Mathlib.Decide.{decLt}
 use lib.Dec.{T}
 use lib.ListN.{length, getD}
-use Rattle.integers.specs.Ranges.{is-false, not-is, nor-both}
+use Rattle.integers.specs.Steps.Ranges.{is-false, not-is, nor-both}
 use Rattle.rows.specs.declared.Outcome.{Outcome}
 use Rattle.rows.specs.Meaning.Rows.{verdict, refusal, answer}
 use Rattle.rules.specs.Meaning.Layout.{u8At, u16At, caseVersion, ordersIn, orderAt}

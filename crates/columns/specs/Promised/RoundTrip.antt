@@ -11,7 +11,7 @@ use borrow.Author.Tests.{le-ltb}
 use lib.Dec.{T, eqb}
 use lib.ListN.{length, getD, take, drop}
 use lib.Seq.{ext-getD, take-append-seam}
-use Rattle.integers.specs.Ranges.{is-false, not-is}
+use Rattle.integers.specs.Steps.Ranges.{is-false, not-is}
 use Rattle.rows.specs.Meaning.Rows.{verdict, answer}
 use Rattle.rows.specs.Promised.RowLaws.{all-pass, field-fails, field-passes}
 use Rattle.rules.specs.Meaning.Layout.{u8At, ordersIn, orderAt, caseLength}

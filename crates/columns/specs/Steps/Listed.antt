@@ -8,7 +8,7 @@ use native.Mathlib.Decide.{decLt}
 use native.Mathlib.Omega.{arith}
 use lib.ListN.{length, getD, set, length-append, List·getD-append, List·getD-eq-default}
 use lib.Seq.{sets, getD-append-seam}
-use Rattle.integers.specs.Bytes.{sets-append}
+use Rattle.integers.specs.Steps.Bytes.{sets-append}
 use Rattle.columns.specs.Meaning.Columns.{listed}
 
 pub listed-length : (n : ℕ) (f : ℕ → ℕ) → length (listed n f) ≡ n

@@ -15,8 +15,9 @@ use Rattle.rows.specs.declared.Outcome.{Outcome}
 use Rattle.case_header.specs.declared.Counts.{Counts}
 use Rattle.case_file.specs.declared.CaseAnswer.the-variants as answer
 use Rattle.case_file.specs.Meaning.Answer.{caseAnswer}
-use Rattle.case_file.specs.Answer.{refused-of}
-use Rattle.case_header.specs.Opened.{Opened, contracted-bound}
+use Rattle.case_file.specs.Steps.Answer.{refused-of}
+use Rattle.case_header.specs.Meaning.Opened.{Opened}
+use Rattle.case_header.specs.Steps.Opened.{contracted-bound}
 use Rattle.columns.specs.Meaning.Columns.{arranged, columnedOf, restoredOf, refuses, unreadable, notRestored}
 use Rattle.columns.specs.Steps.Transposed.{arranged-length}
 use Rattle.columns.specs.Steps.Counts.{readable-of, unreadable-of, start-past, full-length, length-stays}

@@ -10,7 +10,8 @@ use lib.Seq.{sets}
 use Rattle.decimal.specs.Meaning.Text.{lastDigits}
 use Rattle.decimal.specs.Promised.Value.{last-length}
 use Rattle.decimal.specs.Steps.Digits.{put-digit, put-two, hundredth}
-use Rattle.decimal.specs.Steps.Put.{Put, put-length}
+use Rattle.decimal.specs.Meaning.Put.{Put}
+use Rattle.decimal.specs.Steps.Put.{put-length}
 use Rattle.decimal.proofs.put_last.Statement.{statement}
 use Rattle.decimal.proofs.put_last.Tie as tie
 

@@ -7,7 +7,8 @@ use native.Mathlib.Omega.{arith}
 use lib.ListN.{length, length-set}
 use Rattle.decimal.specs.Meaning.Text.{lastDigits, countText, sizeText}
 use Rattle.decimal.specs.Promised.Sizes.{size-length}
-use Rattle.decimal.specs.Steps.Put.{Put, put-as, put-length, put-then, put-byte}
+use Rattle.decimal.specs.Meaning.Put.{Put}
+use Rattle.decimal.specs.Steps.Put.{put-as, put-length, put-then, put-byte}
 use borrow.Author.Needs.{needs}
 use Rattle.decimal.proofs.put_size.Statement.{statement}
 use Rattle.decimal.proofs.put_size.Tie as tie

@@ -5,12 +5,8 @@ use Prim.Native.Nat.{ℕ, suc, _+_, _<_}
 use native.Mathlib.Omega.{arith}
 use lib.ListN.{length, set, length-append}
 use lib.Seq.{set-comm, sets, length-sets}
-use Rattle.integers.specs.Bytes.{sets-append}
-
--- `text` stands at `at`, all else is as it was, and `next` is the position past it
-pub record Put (before : List ℕ) (at : ℕ) (text after : List ℕ) (next : ℕ) : Type 0 where
-  pub bytes : after ≡ sets before at text
-  pub position : next ≡ at + length text
+use Rattle.integers.specs.Steps.Bytes.{sets-append}
+use Rattle.decimal.specs.Meaning.Put.{Put}
 
 -- the same text, said otherwise
 pub put-as : {before text other after : List ℕ} {at next : ℕ} → text ≡ other → Put before at text after next → Put before at other after next

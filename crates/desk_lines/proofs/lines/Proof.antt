@@ -7,7 +7,8 @@ use native.Mathlib.Omega.{arith}
 use borrow.Author.Tests.{ltb-true, ltb-false}
 use lib.ListN.{length, take, drop, length-drop}
 use lib.Seq.{length-take-le, take-all}
-use Rattle.decimal.specs.Steps.Put.{Put, put-as}
+use Rattle.decimal.specs.Meaning.Put.{Put}
+use Rattle.decimal.specs.Steps.Put.{put-as}
 use Rattle.desk_lines.specs.Steps.Answers.{met-refusal, met-answer}
 use Rattle.rules.specs.Meaning.Cut.{casePart, proposalPart}
 use Rattle.rules.specs.Steps.CaseEnd.{end-within}

@@ -8,7 +8,7 @@ use native.Mathlib.Omega.{arith}
 use lib.ListN.{length, length-append}
 use Rattle.decimal.specs.Steps.Put.{put-as, put-length, put-then}
 use Rattle.rules.specs.Meaning.Lines.{verdictLine}
-use Rattle.findings.specs.Found.{Finds, hourRows}
+use Rattle.findings.specs.Meaning.Found.{Finds, hourRows}
 use Rattle.desk_lines.specs.Steps.Judged.{verdict-found, line-found, lines-found}
 use Rattle.desk_lines.specs.Promised.Room.{first-room, hour-room}
 use Rattle.rows.specs.declared.Outcome.{Outcome}

@@ -4,9 +4,10 @@ use mathlib.Core.Path.{_≡_, refl, ap}
 use Prim.Native.Nat.{ℕ, _-_, _≤_}
 use native.Mathlib.Omega.{arith}
 use borrow.Author.Needs.{needs}
-use Rattle.decimal.specs.Steps.Put.{Put, put-as, put-length, put-then}
+use Rattle.decimal.specs.Meaning.Put.{Put}
+use Rattle.decimal.specs.Steps.Put.{put-as, put-length, put-then}
 use Rattle.rules.specs.Meaning.Lines.{priceLines}
-use Rattle.report.specs.Written.{priceIn}
+use Rattle.report.specs.Meaning.Written.{priceIn}
 use Rattle.desk_lines.specs.Steps.Texts.{prices-more, prices-within}
 use Rattle.desk_lines.proofs.put_prices.Statement.{statement}
 use Rattle.desk_lines.proofs.put_prices.Tie as tie

@@ -7,7 +7,8 @@ use native.Mathlib.Numerals.{add-one}
 use native.Mathlib.Omega.{arith}
 use lib.ListN.{length, take, getD}
 use lib.Seq.{take-suc, take-length}
-use Rattle.decimal.specs.Steps.Put.{Put, put-as, put-length, put-then, put-byte}
+use Rattle.decimal.specs.Meaning.Put.{Put}
+use Rattle.decimal.specs.Steps.Put.{put-as, put-length, put-then, put-byte}
 use Rattle.desk_lines.proofs.put_text.Statement.{statement}
 use Rattle.desk_lines.proofs.put_text.Tie as tie
 

@@ -7,7 +7,8 @@ use lib.ListN.{length, length-append}
 use mir.Syntax.{w64}
 use mir.Val.{toZ}
 use Rattle.decimal.specs.Meaning.Text.{amountText}
-use Rattle.decimal.specs.Steps.Put.{Put, put-as, put-length, put-then}
+use Rattle.decimal.specs.Meaning.Put.{Put}
+use Rattle.decimal.specs.Steps.Put.{put-as, put-length, put-then}
 use Rattle.rules.specs.Meaning.Lines.{totalLine}
 use Rattle.desk_lines.specs.Steps.Texts.{bits-text}
 use borrow.Author.Needs.{needs}

@@ -8,7 +8,8 @@ use mir.Syntax.{w64}
 use mir.Val.{toZ}
 use Rattle.decimal.specs.Meaning.Ascii.{ascii}
 use Rattle.decimal.specs.Meaning.Text.{countText, amountText}
-use Rattle.decimal.specs.Steps.Put.{Put, put-as, put-length, put-then}
+use Rattle.decimal.specs.Meaning.Put.{Put}
+use Rattle.decimal.specs.Steps.Put.{put-as, put-length, put-then}
 use Rattle.rules.specs.Meaning.Lines.{priceLine}
 use Rattle.desk_lines.specs.Steps.Texts.{bits-text}
 use borrow.Author.Needs.{needs}

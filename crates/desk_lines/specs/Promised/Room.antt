@@ -23,7 +23,8 @@ use Rattle.rules.specs.Meaning.Report.{Totals, totalsOf, reports}
 use Rattle.rules.specs.Steps.Passed.{sound, case-sound}
 use Rattle.rules.specs.Promised.Fits.{fits}
 use Rattle.case_header.specs.Meaning.Answer.{countsOf}
-use Rattle.case_header.specs.Opened.{Limited, branches-bound, links-bound}
+use Rattle.case_header.specs.Meaning.Opened.{Limited}
+use Rattle.case_header.specs.Steps.Opened.{branches-bound, links-bound}
 use Rattle.rules.specs.Meaning.Cut.{casePart, proposalPart}
 use Rattle.desk_lines.specs.Steps.Header.{headerRows, laterRows, outcome-by-header, counted}
 use Rattle.rules.specs.Meaning.Lines.{verdictLine, totalLine, totalLines, priceLine, priceLines, hourLines, linesOf, hourText, deskText}

@@ -8,7 +8,8 @@ use lib.Seq.{length-take-le, take-append-seam, sets-eq}
 use Rattle.rows.specs.Meaning.Rows.{verdict}
 use Rattle.output.specs.declared.Written.{Written}
 use Rattle.output.specs.Steps.Met as output
-use Rattle.decimal.specs.Steps.Put.{Put, put-length}
+use Rattle.decimal.specs.Meaning.Put.{Put}
+use Rattle.decimal.specs.Steps.Put.{put-length}
 use Rattle.rules.specs.Meaning.Lines.{deskText}
 use Rattle.desk_lines.specs.Meaning.Printed.{deskRoom, deskRefusal, deskOutcome, deskWritten, deskOutput}
 use Rattle.desk_lines.specs.Promised.ShortOutput.{refused-31, past-31}

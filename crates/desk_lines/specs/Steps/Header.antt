@@ -12,7 +12,8 @@ use Rattle.rows.specs.Meaning.Rows.{Row, refusal, answer}
 use Rattle.rows.specs.Promised.RowLaws.{field-passes, else-refusal, refusal-append}
 use Rattle.rules.specs.Meaning.Verdict.{roomRows, caseRows, proposalRows, judgementRows, table, outcome, headerRefusal, caseHeaderRows, caseBodyRows}
 use Rattle.case_header.specs.Meaning.Answer.{countsOf}
-use Rattle.case_header.specs.Opened.{Limited, limited, links-bound}
+use Rattle.case_header.specs.Meaning.Opened.{Limited}
+use Rattle.case_header.specs.Steps.Opened.{limited, links-bound}
 
 -- the rows before 5, and those from 5 on
 abbrev pub headerRows : List ℕ → List Row

@@ -14,9 +14,9 @@ use Rattle.rows.specs.Promised.RowLaws.{field-passes}
 use Rattle.rules.specs.Meaning.Verdict.{roomRows, table, outcome}
 use Rattle.rules.specs.Meaning.Report.{Totals, totalsOf, reports}
 use Rattle.rules.specs.Meaning.Lines.{verdictLine, priceLines, totalLines, hourLines, linesOf, hourText}
-use Rattle.report.specs.Written.{totalsIn, priceIn}
+use Rattle.report.specs.Meaning.Written.{totalsIn, priceIn}
 use Rattle.findings.specs.declared.Found.{Found}
-use Rattle.findings.specs.Found.{Finds, hourRows}
+use Rattle.findings.specs.Meaning.Found.{Finds, hourRows}
 use Rattle.desk_lines.specs.Steps.Texts.{prices-same}
 
 module _ (s t : List ℕ) where

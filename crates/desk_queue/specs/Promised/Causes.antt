@@ -9,7 +9,8 @@ use Prim.Native.Nat.{ℕ, _≤_, _<_}
 use native.Mathlib.Omega.{arith}
 use lib.Dec.{T}
 use lib.ListN.{getD}
-use Rattle.rows.specs.Meaning.Rows.{Row, verdict, refusal, answer, unnamed, ask, Asks}
+use Rattle.rows.specs.Promised.Asked.{unnamed, ask, Asks}
+use Rattle.rows.specs.Meaning.Rows.{Row, verdict, refusal, answer}
 use Rattle.rows.specs.Promised.RowLaws.{empty, Answered, answered, Soonest, soonest, lacks}
 use Rattle.desk_queue.specs.Meaning.Queue.{Queue, among, postRows, postNumber, afterPost, Pair, next, serveRows, serveAnswer, afterServe}
 use Rattle.desk_queue.specs.Steps.Invariant.{Taken, Refused, posting, refused-61, refused-62, refused-63, not-refused, number-by, answer-by, after-next, found-none}

@@ -8,7 +8,7 @@ use Prim.Native.Nat.{ℕ, zero, suc, _<_}
 use native.Mathlib.Omega.{arith}
 use lib.Dec.{T, eqb}
 use lib.ListN.{length, getD, replicate}
-use Rattle.integers.specs.Ranges.{or-left, or-right}
+use Rattle.integers.specs.Steps.Ranges.{or-left, or-right}
 use Rattle.rows.specs.Meaning.Rows.{refusal, firstBelow}
 use Rattle.desk_queue.specs.Meaning.Queue.{empty, among, Pair, pair, postRows, postNumber, afterPost, inTurn, firstWaiting, next, afterServe}
 use Rattle.desk_queue.specs.Meaning.Runs.{Event, post, serve, step, after, servings, ServedWithin, AreaServedWithin}

@@ -11,7 +11,8 @@ use native.Mathlib.Decide.{decLt}
 use borrow.Author.Tests.{eq-eqb, ne-eqb, eqb-false, lt-ltb, le-ltb}
 use lib.Dec.{eqb}
 use lib.ListN.{length, length-append}
-use Rattle.integers.specs.NaturalSums.{sumNat, only, sum-zero, sum-one, sum-bound, only-le}
+use Rattle.integers.specs.Meaning.NaturalSums.{sumNat, only}
+use Rattle.integers.specs.Steps.NaturalSums.{sum-zero, sum-one, sum-bound, only-le}
 use Rattle.rows.specs.declared.Outcome.{Outcome}
 use Rattle.rows.specs.Meaning.Rows.{verdict, refusal, answer}
 use Rattle.rows.specs.Promised.RowLaws.{field-passes, field-fails}

@@ -10,7 +10,7 @@ use lib.ListN.{length}
 use Rattle.rows.specs.declared.Place.{Place}
 use Rattle.rows.specs.Meaning.Rows.{firstBelow}
 use Rattle.rows.specs.Meaning.Place.{placeOf}
-use Rattle.case_header.specs.Opened.{headed, limited}
+use Rattle.case_header.specs.Steps.Opened.{headed, limited}
 use Rattle.dump_proposal.specs.Steps.Walks.{countOf}
 use Rattle.dump_proposal.specs.Steps.Answers.{notFiniteAt, met-57, met-58, finite-dump}
 use Rattle.dump_proposal.proofs.convert.Statement.{statement}

@@ -10,7 +10,7 @@ use Rattle.rows.specs.Meaning.Rows.{firstBelow}
 use Rattle.rows.specs.declared.Place.{Place}
 use Rattle.rows.specs.Meaning.Place.{placeOf}
 use Rattle.rows.specs.Promised.RowLaws.{place-below}
-use Rattle.case_header.specs.Opened.{headed, limited}
+use Rattle.case_header.specs.Steps.Opened.{headed, limited}
 use Rattle.dump_proposal.specs.Steps.Walks.{restOf, faultAfter}
 use Rattle.dump_proposal.specs.Steps.Answers.{met-rest, met-60, met-0}
 use Rattle.dump_proposal.proofs.convert_by.Statement.{statement}

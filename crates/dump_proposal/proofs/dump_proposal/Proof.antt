@@ -4,7 +4,7 @@ use mathlib.Core.Path.{sym, _∙_}
 use borrow.Author.Needs.{needs}
 use denote.Ref.{now}
 use lib.ListN.{length}
-use Rattle.case_file.specs.Answer.{opened-of, refused-of}
+use Rattle.case_file.specs.Steps.Answer.{opened-of, refused-of}
 use Rattle.dump_proposal.specs.Steps.Answers.{refused-56, met-refusal}
 use Rattle.dump_proposal.proofs.dump_proposal.Statement.{statement}
 use Rattle.dump_proposal.proofs.dump_proposal.Tie as tie

@@ -9,7 +9,7 @@ use lib.ListN.{length}
 use lib.IntN.{ℤ, pos}
 use mir.Syntax.{w64}
 use mir.Val.{ofZ}
-use Rattle.integers.specs.Bytes.{bytesOf}
+use Rattle.integers.specs.Meaning.Bytes.{bytesOf}
 use Rattle.rows.specs.declared.Outcome.{Outcome}
 use Rattle.rows.specs.Meaning.Rows.{Row, verdict, refusal, answer, once, field, each}
 use Rattle.rules.specs.Meaning.Layout.{ordersIn, linksIn, branchesIn, quantityIn, proposalLength, shareIn, systemIn, volumeIn, flowIn, shadowIn}

@@ -8,7 +8,8 @@ use native.Mathlib.Omega.{arith}
 use lib.ListN.{length, getD}
 use lib.Dec.{T}
 use Rattle.rows.specs.declared.Outcome.{Outcome}
-use Rattle.rows.specs.Meaning.Rows.{Row, verdict, answer, unnamed, at-offset, the-place, ask, Asks}
+use Rattle.rows.specs.Promised.Asked.{unnamed, at-offset, the-place, ask, Asks}
+use Rattle.rows.specs.Meaning.Rows.{Row, verdict, answer}
 use Rattle.rows.specs.Promised.RowLaws.{empty, Cause, answer-caused, Answered, answered, Soonest, soonest, lacks, zero-none}
 use Rattle.rules.specs.Meaning.Verdict.{caseRefusal}
 use Rattle.output.specs.Meaning.Output.{writtenBy, outputAfter}

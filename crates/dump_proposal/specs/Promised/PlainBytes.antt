@@ -15,8 +15,9 @@ use lib.Seq.{getD-take, getD-drop, getD-append-add}
 use lib.IntN.{ℤ, pos, negsuc}
 use mir.Syntax.{w32, w64}
 use mir.Val.{SFits, ofZ}
-use Rattle.integers.specs.Bytes.{byte-at}
-use Rattle.integers.specs.Ranges.{range, outside, nat-within, is-false}
+use Rattle.integers.specs.Steps.Bytes.{byte-at}
+use Rattle.integers.specs.Meaning.Ranges.{range, outside}
+use Rattle.integers.specs.Steps.Ranges.{nat-within, is-false}
 use Rattle.rules.specs.Meaning.Layout.{u8At, u16At, ordersIn, linksIn, branchesIn, quantityIn, proposalLength}
 use Rattle.rules.specs.Meaning.Hour.{caseOf}
 use Rattle.rules.specs.Steps.Passed.{case-sound}

@@ -14,8 +14,8 @@ use native.Mathlib.Omega.{arith}
 use borrow.Author.Tests.{not-false, eq-eqb, ne-eqb, eqb-true, le-ltb}
 use lib.Dec.{T, ltb→lt, lt→ltb, nltb→le, not-T, T-not}
 use lib.ListN.{length, getD}
-use Rattle.integers.specs.NaturalSums.{sumNat}
-use Rattle.integers.specs.Ranges.{is-true, is-false, not-is}
+use Rattle.integers.specs.Meaning.NaturalSums.{sumNat}
+use Rattle.integers.specs.Steps.Ranges.{is-true, is-false, not-is}
 use Rattle.rows.specs.declared.Outcome.{Outcome}
 use Rattle.rows.specs.Meaning.Rows.{Pass, verdict, refusal, answer}
 use Rattle.rows.specs.Promised.RowLaws.{Comes, past, none-left, row-by-number, row-answers, number-passes, number-below, numbersBelow, rowNumbered, lacks, before, zero-none}

@@ -15,8 +15,10 @@ use lib.IntN.{ℤ, pos, negsuc}
 use lib.Ieee.Scale as float
 use mir.Syntax.{w32, w64}
 use mir.Val.{SFits, ofZ}
-use Rattle.integers.specs.Bytes.{bytesOf, bytes-length, signed32}
-use Rattle.integers.specs.Ranges.{range, outside, nat-within, nat-inside, is-false, not-is, nor-left, nor-right}
+use Rattle.integers.specs.Meaning.Bytes.{bytesOf, signed32}
+use Rattle.integers.specs.Steps.Bytes.{bytes-length}
+use Rattle.integers.specs.Meaning.Ranges.{range, outside}
+use Rattle.integers.specs.Steps.Ranges.{nat-within, nat-inside, is-false, not-is, nor-left, nor-right}
 use Rattle.measures.specs.Meaning.Limits as limits
 use Rattle.rows.specs.declared.Outcome.{Outcome}
 use Rattle.rows.specs.Meaning.Rows.{Row, Pass, firstBelow, refusal, eachAt}
@@ -26,7 +28,7 @@ use Rattle.rules.specs.Meaning.Hour.{caseOf, planOf, pricesOf}
 use Rattle.rules.specs.Meaning.Verdict.{caseRefusal, Readable, notMark, proposalRows, proposalRefusal}
 use Rattle.rules.specs.Steps.LayoutLaws.{word-there, signed-there}
 use Rattle.rules.specs.Steps.Passed.{case-sound}
-use Rattle.words.specs.Halves.{low-half, low-bits}
+use Rattle.words.specs.Steps.Halves.{low-half, low-bits}
 use Rattle.binary64.specs.Meaning.Value.{bitsAt, finite, negative, aboveOne, cut, nearest, ShareWithin}
 use Rattle.binary64.specs.Promised.Within.{share-within}
 use Rattle.dump_values.specs.Meaning.Field.{Kind, share-of, flow, shadow-price, kindOf, productOf, converted, forbidden, fieldRange, fault}

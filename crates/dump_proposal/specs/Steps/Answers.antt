@@ -11,8 +11,9 @@ use lib.ListN.{length, drop, length-append}
 use lib.Seq.{sets}
 use mir.Syntax.{w64}
 use mir.Val.{ofZ}
-use Rattle.integers.specs.Bytes.{bytesOf, sets-append}
-use Rattle.integers.specs.Ranges.{is-true, is-false, not-is}
+use Rattle.integers.specs.Meaning.Bytes.{bytesOf}
+use Rattle.integers.specs.Steps.Bytes.{sets-append}
+use Rattle.integers.specs.Steps.Ranges.{is-true, is-false, not-is}
 use Rattle.measures.specs.declared.Bits.{Bits}
 use Rattle.rows.specs.declared.Outcome.{Outcome}
 use Rattle.rows.specs.Meaning.Rows.{verdict, firstBelow, refusal, each}
@@ -22,7 +23,7 @@ use Rattle.rules.specs.Meaning.Verdict.{caseRefusal}
 use Rattle.output.specs.declared.Written.{Written}
 use Rattle.output.specs.Steps.Met as output
 use Rattle.case_header.specs.declared.Counts.{Counts}
-use Rattle.case_header.specs.Opened.{Opened}
+use Rattle.case_header.specs.Meaning.Opened.{Opened}
 use Rattle.binary64.specs.Meaning.Value.{bitsAt, finite}
 use Rattle.dump_values.specs.declared.FieldAnswer.the-variants as answer
 use Rattle.dump_values.specs.Meaning.Answer.{fieldOf}

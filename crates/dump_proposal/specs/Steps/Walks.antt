@@ -15,17 +15,18 @@ use mir.Val.{ofZ}
 use lib.Seq.{sets, getD-set-same, getD-set-other}
 use lib.Ieee.{Float, binary64, ofBits}
 use lib.Ieee.Scale as float
-use Rattle.integers.specs.Bytes.{bytesOf, bytes-length, sets-append}
+use Rattle.integers.specs.Meaning.Bytes.{bytesOf}
+use Rattle.integers.specs.Steps.Bytes.{bytes-length, sets-append}
 use Rattle.rows.specs.Meaning.Rows.{firstBelow}
 use Rattle.measures.specs.declared.Bits.{Bits}
 use Rattle.fields.specs.declared.Cursor.{Cursor}
 use Rattle.fields.specs.declared.LongField.the-variants as long
 use Rattle.fields.specs.Meaning.Field.{cursor, u64At, longField}
-use Rattle.fields.specs.Part.{partOf, part-length, part-u32}
-use Rattle.fields.specs.Walk.{long-took, long-short}
+use Rattle.fields.specs.Steps.Part.{partOf, part-length, part-u32}
+use Rattle.fields.specs.Steps.Walk.{long-took, long-short}
 use Rattle.rules.specs.Meaning.Layout.{u32At}
 use Rattle.case_header.specs.declared.Counts.{Counts}
-use Rattle.case_header.specs.Opened.{Opened}
+use Rattle.case_header.specs.Meaning.Opened.{Opened}
 use Rattle.binary64.specs.Meaning.Value.{bitsAt, finite}
 use Rattle.binary64.specs.Steps.Patterns.{finite-value}
 use Rattle.dump_values.specs.declared.DumpOpening.{DumpOpening}
@@ -34,7 +35,7 @@ use Rattle.dump_values.specs.declared.FieldAnswer.the-variants as answer
 use Rattle.dump_values.specs.Meaning.Field.{Kind, kindOf, afterOpening, converted, fault}
 use Rattle.dump_values.specs.Meaning.Answer.{fieldBy, fieldOf}
 use Rattle.dump_values.specs.Steps.Agree.{share-agrees, system-agrees}
-use Rattle.dump_values.specs.Steps.Fields.{shareField, systemField, openingFields}
+use Rattle.dump_values.specs.Meaning.Fields.{shareField, systemField, openingFields}
 use Rattle.dump_proposal.specs.declared.OpeningNumbers.{OpeningNumbers}
 use Rattle.dump_proposal.specs.declared.OpeningField.{OpeningField}
 use Rattle.dump_proposal.specs.declared.OpeningField.the-variants as opened

@@ -11,12 +11,13 @@ use mir.Syntax.{w64}
 use mir.Val.{ofZ}
 use Rattle.rules.specs.Meaning.Layout.{quantityIn}
 use Rattle.binary64.specs.Steps.Patterns.{finite-value}
-use Rattle.case_header.specs.Opened.{headed, limited}
+use Rattle.case_header.specs.Steps.Opened.{headed, limited}
 use Rattle.orders.specs.declared.Order.{Order}
 use Rattle.dump_values.specs.Meaning.Field.{Kind}
 use Rattle.dump_values.specs.Steps.Agree.{share-agrees, flow-agrees, shadow-agrees}
 use Rattle.dump_values.specs.Meaning.Answer.{fieldOf}
-use Rattle.dump_values.specs.Steps.Fields.{shareField, flowField, shadowField}
+use Rattle.dump_values.specs.Meaning.Fields.{shareField}
+use Rattle.dump_values.specs.Steps.Fields.{flowField, shadowField}
 use Rattle.dump_values.specs.Steps.Places.{quantity-most, order-place, flow-place, shadow-place}
 use Rattle.dump_values.proofs.field_of.Statement.{statement}
 use Rattle.dump_values.proofs.field_of.Tie as tie

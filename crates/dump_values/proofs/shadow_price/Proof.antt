@@ -5,8 +5,8 @@ use lib.Dec.{T, lit≤}
 use lib.Ieee.{Float, le, mul, ofBits, binary64}
 use mir.Syntax.{w64}
 use mir.Val.{ofZ}
-use Rattle.integers.specs.Ranges.{is-true}
-use Rattle.binary64.specs.Steps.Machine.{zero64, times}
+use Rattle.integers.specs.Steps.Ranges.{is-true}
+use Rattle.binary64.specs.Meaning.Machine.{zero64, times}
 use Rattle.binary64.specs.Steps.Cutting.{times-not-negative}
 use Rattle.binary64.specs.Steps.Whole.{zero-test}
 use Rattle.binary64.specs.declared.WholeAnswer.{WholeAnswer}

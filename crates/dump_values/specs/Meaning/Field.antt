@@ -6,7 +6,7 @@ use lib.Dec.{ltb}
 use lib.IntN.{ℤ, pos, negℤ}
 use lib.Ieee.{Float}
 use lib.Ieee.Scale as float
-use Rattle.integers.specs.Ranges.{Range, range, outside}
+use Rattle.integers.specs.Meaning.Ranges.{Range, range, outside}
 use Rattle.measures.specs.Meaning.Limits as limits
 use Rattle.rules.specs.Meaning.Layout.{ordersIn, linksIn, quantityIn}
 use Rattle.binary64.specs.Meaning.Value.{minus, negative, aboveOne, product, cut, nearest}

@@ -19,7 +19,8 @@ use lib.Signed.{_<ℤ_}
 use lib.Ieee.{fin, binary64, round}
 use lib.Ieee.Positive.{num, den}
 use lib.Ieee.Scale as float
-use Rattle.integers.specs.Ranges.{range, outside, is-true, not-is, nat-inside}
+use Rattle.integers.specs.Meaning.Ranges.{range, outside}
+use Rattle.integers.specs.Steps.Ranges.{is-true, not-is, nat-inside}
 use Rattle.measures.specs.Meaning.Limits as limits
 use Rattle.binary64.specs.Meaning.Value.{finite, minus, units, negative, aboveOne, product, cut, nearest}
 use Rattle.binary64.specs.Promised.PlainBits.{below-zero, above-one}

@@ -10,10 +10,11 @@ use lib.Dec.{T, leb, ltb, lit≤}
 use lib.IntN.{pos, negℤ}
 use lib.Ieee.{Float, nan, inf, fin, binary64, neg, le, lt, ofBits, ofInt, round}
 use lib.Ieee.Scale as float
-use Rattle.integers.specs.Ranges.{range, outside, is-true, not-is, nat-inside}
+use Rattle.integers.specs.Meaning.Ranges.{range, outside}
+use Rattle.integers.specs.Steps.Ranges.{is-true, not-is, nat-inside}
 use Rattle.measures.specs.Meaning.Limits as limits
 use Rattle.binary64.specs.Meaning.Value.{minus, finite, negative, aboveOne, product, cut, nearest}
-use Rattle.binary64.specs.Steps.Machine.{zero64, one64, times}
+use Rattle.binary64.specs.Meaning.Machine.{zero64, one64, times}
 use Rattle.binary64.specs.Steps.Cutting.{times-not-negative, minus-zero}
 use Rattle.binary64.specs.Steps.Half.{nearest-zero}
 use Rattle.binary64.specs.Steps.Patterns.{finite-value}
@@ -24,7 +25,8 @@ use Rattle.dump_values.specs.Meaning.Field as kind
 use Rattle.dump_values.specs.Meaning.Field.{Kind, productOf, converted, forbidden, fieldRange, fault}
 use Rattle.dump_values.specs.Promised.PlainFaults.{share-held}
 use Rattle.dump_values.specs.Meaning.Answer.{fieldBy, fieldOf}
-use Rattle.dump_values.specs.Steps.Fields.{shareField, flowField, shadowField, signOf, signedOf, systemBy, systemField}
+use Rattle.dump_values.specs.Meaning.Fields.{shareField, signOf, signedOf, systemBy, systemField}
+use Rattle.dump_values.specs.Steps.Fields.{flowField, shadowField}
 
 -- TESTS. A number of no sign against a range from zero, and a number of either sign against 32 signed bits
 pub outside-above : (g n : ℕ) → outside (range (pos 0) (pos g)) (pos n) ≡ not (leb n g)

@@ -1,44 +1,18 @@
 -- What a value becomes by the machine's own float. Assumes nothing.
-use mathlib.Core.Bool.{Bool, false, not, cond, _&&_}
-use Prim.Native.Nat.{ℕ}
-use lib.IntN.{ℤ, pos, negℤ}
-use lib.Ieee.{Float, nan, inf, fin, le, lt}
+use mathlib.Core.Bool.{not, _&&_}
+use lib.IntN.{pos}
+use lib.Ieee.{Float, le, lt}
 use lib.Ieee.Scale as float
-use Rattle.integers.specs.Ranges.{outside}
+use Rattle.integers.specs.Meaning.Ranges.{outside}
 use Rattle.measures.specs.Meaning.Limits as limits
 use Rattle.binary64.specs.Meaning.Value.{cut, nearest}
-use Rattle.binary64.specs.Steps.Machine.{zero64, one64, times}
+use Rattle.binary64.specs.Meaning.Machine.{zero64, times}
 use Rattle.binary64.specs.Steps.Whole.{word-end}
 use Rattle.dump_values.specs.declared.FieldAnswer.{FieldAnswer}
-use Rattle.dump_values.specs.declared.DumpOpening.{DumpOpening}
-use Rattle.dump_values.specs.declared.OpeningFields.{OpeningFields}
 use Rattle.dump_values.specs.Meaning.Answer.{fieldBy}
-
--- by the machine's value
-abbrev pub shareField : Float → ℕ → FieldAnswer
-shareField x q = fieldBy (le zero64 x && le x one64) (pos (cut (times x q)))
 
 abbrev pub flowField : Float → FieldAnswer
 flowField x = fieldBy (le zero64 x && lt (times x 10) word-end) (pos (cut (times x 10)))
 
 abbrev pub shadowField : Float → FieldAnswer
 shadowField x = fieldBy (le zero64 x && (float.finite (times x 100) && not (outside limits.shadowPrice (pos (nearest (times x 100)))))) (pos (nearest (times x 100)))
-
--- the sign that a price's product has
-abbrev pub signOf : Float → Bool
-signOf nan = false
-signOf (inf s) = s
-signOf (fin s m e) = s
-
-abbrev pub signedOf : Float → ℤ
-signedOf p = cond (signOf p) (negℤ (pos (nearest p))) (pos (nearest p))
-
-abbrev pub systemBy : Float → FieldAnswer
-systemBy p = fieldBy (float.finite p && not (outside limits.systemPrice (signedOf p))) (signedOf p)
-
-abbrev pub systemField : Float → FieldAnswer
-systemField x = systemBy (times x 100)
-
--- THE OPENING: the LTA share in hundred-thousandths, and the system price
-abbrev pub openingFields : DumpOpening → OpeningFields
-openingFields o = record { share = shareField (o .share) 100000; system = systemField (o .system) }

@@ -7,7 +7,7 @@ use Rattle.rules.specs.Meaning.Layout.{ordersIn, linksIn, quantityIn}
 use Rattle.rules.specs.Meaning.Hour.{caseOf}
 use Rattle.rules.specs.Steps.Passed.{case-sound}
 use Rattle.case_header.specs.declared.Counts.{Counts}
-use Rattle.case_header.specs.Opened.{Opened}
+use Rattle.case_header.specs.Meaning.Opened.{Opened}
 use Rattle.dump_values.specs.Meaning.Field.{share-of, flow, shadow-price, afterOpening}
 use Rattle.dump_values.specs.Promised.PlainPlaces.{order-kind, flow-kind, shadow-kind}
 

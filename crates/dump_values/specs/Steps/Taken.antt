@@ -10,10 +10,11 @@ use mir.Syntax.{w32, w64}
 use mir.Val.{SFits, toZ, ofZ}
 use mir.Facts.{toZ-pos, toZ-ofZ, sfits-lit}
 use lib.Ieee.{Float, nan, inf, fin, le, lt, neg}
-use Rattle.integers.specs.Machine.{sfits-by}
-use Rattle.integers.specs.Size.{near-pos, near-neg, near-fits}
+use Rattle.integers.specs.Steps.Machine.{sfits-by}
+use Rattle.integers.specs.Steps.Size.{near-pos, near-neg, near-fits}
 use lib.Ieee.Scale as float
-use Rattle.integers.specs.Ranges.{outside, is-true, and-right}
+use Rattle.integers.specs.Meaning.Ranges.{outside}
+use Rattle.integers.specs.Steps.Ranges.{is-true, and-right}
 use Rattle.measures.specs.Meaning.Limits as limits
 use Rattle.measures.specs.declared.Bits.{Bits}
 use Rattle.measures.specs.declared.Cents.{Cents}
@@ -22,12 +23,13 @@ use Rattle.measures.specs.Meaning.Held.{centsBy, centsIn}
 use Rattle.binary64.specs.Meaning.Value.{cut, nearest}
 use Rattle.binary64.specs.declared.WholeAnswer.the-variants as whole
 use Rattle.binary64.specs.Meaning.Answer.{wholeBy, wholeBelow, wholeUpTo}
-use Rattle.binary64.specs.Steps.Machine.{zero64, times}
+use Rattle.binary64.specs.Meaning.Machine.{zero64, times}
 use Rattle.binary64.specs.Steps.Products.{Signs, times-signs}
 use Rattle.binary64.specs.Steps.Whole.{word-end}
 use Rattle.dump_values.specs.declared.FieldAnswer.the-variants.{Held, Outside}
 use Rattle.dump_values.specs.Meaning.Answer.{fieldBy}
-use Rattle.dump_values.specs.Steps.Fields.{signOf, flowField, shadowField, systemBy}
+use Rattle.dump_values.specs.Meaning.Fields.{signOf, systemBy}
+use Rattle.dump_values.specs.Steps.Fields.{flowField, shadowField}
 use Rattle.dump_values.specs.Steps.Agree.{outside-above, system-up, system-down}
 
 -- a number as it leaves its measure

@@ -13,7 +13,7 @@ use Rattle.orders.specs.declared.Order.{Order}
 use Rattle.case_header.specs.declared.Counts.{Counts}
 use Rattle.rules.specs.Meaning.Families.{parentOf}
 use Rattle.rules.specs.Meaning.Verdict.{exceedsParent}
-use Rattle.family_fractions.specs.Fraction.{has-parent, no-parent, product-fits, fraction-test}
+use Rattle.family_fractions.specs.Steps.Fraction.{has-parent, no-parent, product-fits, fraction-test}
 use Rattle.family_fractions.proofs.exceeds_parent.Statement.{statement}
 use Rattle.family_fractions.proofs.exceeds_parent.Tie as tie
 

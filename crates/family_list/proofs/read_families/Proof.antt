@@ -10,7 +10,7 @@ use Rattle.rules.specs.Meaning.Families.{familyLength}
 use Rattle.fields.specs.declared.Cursor.{Cursor}
 use Rattle.fields.specs.Meaning.Field.{cursor}
 use Rattle.fields.specs.Meaning.Walk.{rowsWalkedBy}
-use Rattle.fields.specs.Walked.{rows-refused, rows-passed}
+use Rattle.fields.specs.Steps.Walked.{rows-refused, rows-passed}
 use Rattle.family_list.specs.Meaning.Answer.{listRows, familyBy}
 use Rattle.family_list.specs.Steps.Answer.{list-refused, list-passed, list-known}
 use Rattle.family_list.proofs.read_families.Statement.{statement}

@@ -14,7 +14,7 @@ use Rattle.fields.specs.declared.Cursor.{Cursor}
 use Rattle.fields.specs.declared.Mark.{Mark}
 use Rattle.fields.specs.declared.Walked.the-variants.{Past}
 use Rattle.fields.specs.Meaning.Field.{markAt}
-use Rattle.fields.specs.Taking.{FieldsTaken, NextTaken, none-taken, mark-next, mark-lacks, half-next, half-lacks}
+use Rattle.fields.specs.Steps.Taking.{FieldsTaken, NextTaken, none-taken, mark-next, mark-lacks, half-next, half-lacks}
 use Rattle.rules.specs.Meaning.Families.{familyVersion, familyLength}
 use Rattle.family_list.specs.Meaning.Answer.{headerBy, wrongList}
 use Rattle.family_list.specs.Steps.Answer.{too-short, wrong-mark, wrong-version, by-length}

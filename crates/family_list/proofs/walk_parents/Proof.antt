@@ -14,8 +14,8 @@ use Rattle.rows.specs.Meaning.Rows.{firstBelow}
 use Rattle.rows.specs.Promised.RowLaws.{first-later}
 use Rattle.fields.specs.declared.Cursor.{Cursor}
 use Rattle.fields.specs.Meaning.Field.{cursor}
-use Rattle.fields.specs.Record.{RecordWithin, FieldRead, half-read, half-there}
-use Rattle.fields.specs.Walked.{refused-past, walk-stops, walk-done}
+use Rattle.fields.specs.Steps.Record.{RecordWithin, FieldRead, half-read, half-there}
+use Rattle.fields.specs.Steps.Walked.{refused-past, walk-stops, walk-done}
 use Rattle.family_list.specs.Meaning.Answer.{absent, parentRow}
 use Rattle.family_list.specs.Steps.Taken.{Taken, take-none, take-more}
 use Rattle.family_list.proofs.walk_parents.Statement.{statement}

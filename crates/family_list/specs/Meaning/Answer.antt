@@ -13,6 +13,14 @@ use Rattle.rules.specs.Meaning.Families.{familyHeader, familyVersion, familyLen
 use Rattle.rules.specs.Meaning.Verdict.{differ, notMark}
 use Rattle.family_list.specs.declared.FamilyAnswer.{FamilyAnswer}
 use Rattle.family_list.specs.declared.FamilyAnswer.the-variants.{Sound, Refused}
+use mathlib.Core.Path.{_≡_}
+use mathlib.Core.Bool.{Bool, true, false, _||_}
+use mathlib.Core.Option.{Option, none, some}
+use Prim.Native.Nat.{ℕ, _≤_}
+use Rattle.rows.specs.Meaning.Rows.{verdict, refusal}
+use Rattle.rules.specs.Meaning.Families.{familyHeader, familyVersion, familyLength, parentOf, missing, leadsBack}
+use Rattle.rules.specs.Meaning.Verdict.{differ, notMark}
+use Rattle.family_list.specs.Meaning.Parents.{Exist}
 
 -- THE TESTS of the three rows, and the rows: of a case they ask the number of its orders alone
 abbrev pub wrongList : List ℕ → ℕ → Bool
@@ -53,3 +61,13 @@ circleAnswer f orders = familyBy (refusal (circleRow f orders ∷ []))
 abbrev pub headerBy : Bool → Walked
 headerBy true = walk.Refused (verdict 16 0)
 headerBy false = pastAt familyHeader
+
+-- ROW 16 PASSED: the length is right, beside at most 512 orders
+pub record Whole (f : List ℕ) (orders : ℕ) : Type 0 where
+  pub few : orders ≤ 512
+  pub long : length f ≡ familyLength orders
+
+-- ROW 17 PASSED too: every parent that is named is an order
+pub record Known (f : List ℕ) (orders : ℕ) : Type 0 where
+  pub whole : Whole f orders
+  pub exist : Exist orders (parentOf f)

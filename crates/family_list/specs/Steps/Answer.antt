@@ -8,7 +8,7 @@ use native.Mathlib.Omega.{arith}
 use lib.ListN.{length}
 use borrow.Author.Tests.{eqb-true, eq-eqb, ne-eqb, le-leb, lt-leb}
 use lib.Dec.{T, eqb, nleb→lt}
-use Rattle.integers.specs.Ranges.{not-is}
+use Rattle.integers.specs.Steps.Ranges.{not-is}
 use Rattle.rows.specs.declared.Outcome.{Outcome}
 use Rattle.rows.specs.Meaning.Rows.{verdict, firstBelow, refusal}
 use Rattle.rows.specs.Promised.RowLaws.{field-fails, field-passes, row-found, row-clear, else-refusal, refusal-append, none-each, number-passes, rowNumbered}
@@ -16,26 +16,17 @@ use Rattle.fields.specs.declared.Cursor.{Cursor}
 use Rattle.fields.specs.declared.Walked.the-variants as walk
 use Rattle.fields.specs.Meaning.Field.{cursor}
 use Rattle.fields.specs.Meaning.Walk.{walked, rowsWalkedBy, rowsWalked}
-use Rattle.fields.specs.Walked.{last-part}
+use Rattle.fields.specs.Steps.Walked.{last-part}
 use Rattle.rules.specs.Meaning.Hour.{Case}
 use Rattle.rules.specs.Meaning.Families.{familyHeader, noParent, familyVersion, familyLength, named, parentIn, parentOf, missing, leadsBack}
 use Rattle.rules.specs.Meaning.Verdict.{differ, notMark, familyRows}
 use Rattle.family_list.specs.declared.FamilyAnswer.the-variants.{Sound, Refused}
 use Rattle.family_list.specs.Meaning.Parents.{Exist}
 use Rattle.family_list.specs.Meaning.Answer.{wrongList, absent, parentRow, circleRow, listRows, rowsBeside, familyBy, familyAnswer, headerBy}
+use Rattle.family_list.specs.Meaning.Answer.{Whole, Known}
 
 pub rows-are : (f : List ℕ) (c : Case) {orders : ℕ} → c .orders ≡ orders → familyRows (some f) c ≡ rowsBeside f orders
 rows-are f c e = ap (rowsBeside f) e
-
--- ROW 16 PASSED: the length is right, beside at most 512 orders
-pub record Whole (f : List ℕ) (orders : ℕ) : Type 0 where
-  pub few : orders ≤ 512
-  pub long : length f ≡ familyLength orders
-
--- ROW 17 PASSED too: every parent that is named is an order
-pub record Known (f : List ℕ) (orders : ℕ) : Type 0 where
-  pub whole : Whole f orders
-  pub exist : Exist orders (parentOf f)
 
 -- ROW 16, by its three tests
 or-true : (a : Bool) → (a || true) ≡ true

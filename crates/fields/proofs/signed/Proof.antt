@@ -6,7 +6,7 @@ use lib.IntN.{pos, _-ℤ_}
 use mir.Syntax.{w32, w64}
 use mir.Val.{toZ, ofZ}
 use mir.Facts.{toZ-ofZ, sfits-toZ, sfits-widen}
-use Rattle.integers.specs.Machine.{twos, sfits-by}
+use Rattle.integers.specs.Steps.Machine.{twos, sfits-by}
 use Rattle.fields.proofs.signed.Statement.{statement}
 use Rattle.fields.proofs.signed.Tie as tie
 

@@ -7,15 +7,16 @@ use native.Mathlib.Omega.{arith}
 use borrow.Author.Needs.{needs}
 use denote.Ref.{now}
 use lib.IntN.{pos}
-use Rattle.integers.specs.Ranges.{outside}
+use Rattle.integers.specs.Meaning.Ranges.{outside}
 use Rattle.measures.specs.Meaning.Limits as limits
 use Rattle.measures.specs.Steps.Held.{microcents-outside, microcents-held, money-tests}
 use Rattle.rules.specs.Meaning.Hour.{Case}
 use Rattle.rows.specs.Meaning.Rows.{failing, answer}
 use Rattle.rows.specs.Promised.RowLaws.{row-found, row-clear, once-fails, once-passes}
 use Rattle.rules.specs.Meaning.Verdict.{wideTolerance, familyRows}
-use Rattle.findings.specs.Found.{listOf, admittedRows, answers, never-0}
-use Rattle.findings.specs.Listed.{Counted, families-refuse, families-pass, families-known, families-not-0}
+use Rattle.findings.specs.Meaning.Found.{listOf}
+use Rattle.findings.specs.Steps.Found.{admittedRows, answers, never-0}
+use Rattle.findings.specs.Steps.Listed.{Counted, families-refuse, families-pass, families-known, families-not-0}
 use Rattle.findings.proofs.admit.Statement.{statement}
 use Rattle.findings.proofs.admit.Tie as tie
 

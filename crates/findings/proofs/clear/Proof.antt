@@ -10,20 +10,24 @@ use denote.Ref.{now}
 use lib.Dec.{eqb}
 use lib.IntN.{pos}
 use lib.Signed.{ltZ}
-use Rattle.integers.specs.Ranges.{isZero}
-use Rattle.integers.specs.Sums.{sumTo, sum-ext}
-use Rattle.integers.specs.Machine.{SumsFit}
+use Rattle.integers.specs.Meaning.Ranges.{isZero}
+use Rattle.integers.specs.Meaning.Sums.{sumTo}
+use Rattle.integers.specs.Steps.Sums.{sum-ext}
+use Rattle.integers.specs.Meaning.Machine.{SumsFit}
 use Rattle.rules.specs.Meaning.Hour.{Case, Plan, caseOf, planOf, net, netSum, noLink}
 use Rattle.rules.specs.Promised.Fits.{balance-sums}
 use Rattle.rows.specs.declared.Outcome.{Outcome}
 use Rattle.rows.specs.Meaning.Rows.{Row, refusal, answer}
 use Rattle.rows.specs.Meaning.Place.{placeOf}
 use Rattle.rows.specs.Promised.RowLaws.{place-below}
-use Rattle.clearing.specs.Held.{Holds}
-use Rattle.clearing.specs.Read.{HourReadFrom, sound, zones-is, few-zones, links-is, share-is, share-in}
-use Rattle.clearing.specs.Stages.{VolumesIn, volumes-in, flows-in, fit-ext}
+use Rattle.clearing.specs.Meaning.Held.{Holds}
+use Rattle.clearing.specs.Meaning.Read.{HourReadFrom}
+use Rattle.clearing.specs.Steps.Read.{sound, zones-is, few-zones, links-is, share-is, share-in}
+use Rattle.clearing.specs.Meaning.Stages.{VolumesIn}
+use Rattle.clearing.specs.Steps.Stages.{volumes-in, flows-in, fit-ext}
 use Rattle.findings.specs.declared.Cleared.{Cleared}
-use Rattle.findings.specs.Found.{listOf, orderRows, linkRows, orders-silent, verdict-refuses, verdict-passes, linkAnswer, links-answer, links-pass}
+use Rattle.findings.specs.Meaning.Found.{listOf}
+use Rattle.findings.specs.Steps.Found.{orderRows, linkRows, orders-silent, verdict-refuses, verdict-passes, linkAnswer, links-answer, links-pass}
 use Rattle.findings.proofs.clear.Statement.{statement}
 use Rattle.findings.proofs.clear.Tie as tie
 

@@ -8,9 +8,10 @@ use borrow.Author.Needs.{needs}
 use denote.Ref.{now}
 use Rattle.rules.specs.Meaning.Hour.{Case, Plan, caseOf, planOf, pricesOf}
 use Rattle.rows.specs.Meaning.Rows.{Row, refusal}
-use Rattle.clearing.specs.Read.{HourReadFrom}
+use Rattle.clearing.specs.Meaning.Read.{HourReadFrom}
 use Rattle.findings.specs.declared.Found.{Found}
-use Rattle.findings.specs.Found.{Finds, listOf, hourRows, readRows, clearRows, valueRows, stages, same-rows, read-silent, clear-silent, stage-refuses, stage-passes}
+use Rattle.findings.specs.Meaning.Found.{Finds, listOf, hourRows}
+use Rattle.findings.specs.Steps.Found.{readRows, clearRows, valueRows, stages, same-rows, read-silent, clear-silent, stage-refuses, stage-passes}
 use Rattle.findings.proofs.find_with_families.Statement.{statement}
 use Rattle.findings.proofs.find_with_families.Tie as tie
 

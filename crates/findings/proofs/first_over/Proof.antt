@@ -6,8 +6,8 @@ use borrow.Author.Needs.{needs}
 use denote.Ref.{now}
 use Rattle.rules.specs.Meaning.Hour.{caseOf, planOf}
 use Rattle.findings.specs.declared.FamilyList.{FamilyList}
-use Rattle.findings.specs.Found.{listOf}
-use Rattle.findings.specs.Listed.{fractionPlace}
+use Rattle.findings.specs.Meaning.Found.{listOf}
+use Rattle.findings.specs.Steps.Listed.{fractionPlace}
 use Rattle.findings.proofs.first_over.Statement.{statement}
 use Rattle.findings.proofs.first_over.Tie as tie
 

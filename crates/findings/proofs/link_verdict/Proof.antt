@@ -7,11 +7,11 @@ use borrow.Author.Needs.{needs}
 use lib.Dec.{eqb}
 use lib.IntN.{pos}
 use lib.Signed.{ltZ}
-use Rattle.integers.specs.Ranges.{isZero}
-use Rattle.integers.specs.Sums.{sumTo}
+use Rattle.integers.specs.Meaning.Ranges.{isZero}
+use Rattle.integers.specs.Meaning.Sums.{sumTo}
 use Rattle.rows.specs.Meaning.Place.{placeOf}
-use Rattle.clearing.specs.Held.{tenthsAt}
-use Rattle.findings.specs.Found.{linkAnswer}
+use Rattle.clearing.specs.Meaning.Held.{tenthsAt}
+use Rattle.findings.specs.Steps.Found.{linkAnswer}
 use Rattle.findings.proofs.link_verdict.Statement.{statement}
 use Rattle.findings.proofs.link_verdict.Tie as tie
 

@@ -11,10 +11,11 @@ use Rattle.rows.specs.Meaning.Rows.{failing, refusal, answer}
 use Rattle.rows.specs.Meaning.Place.{placeOf}
 use Rattle.rows.specs.Promised.RowLaws.{row-found, row-clear, at-place, at-none, place-below}
 use Rattle.rules.specs.Meaning.Verdict.{excessVolume, fractionRows}
-use Rattle.clearing.specs.Read.{sound}
-use Rattle.clearing.specs.Stages.{volumes-in}
-use Rattle.findings.specs.Found.{listOf, orderRows, answers, never-0}
-use Rattle.findings.specs.Listed.{fractionPlace, place-few, fraction-over, fractions-within}
+use Rattle.clearing.specs.Steps.Read.{sound}
+use Rattle.clearing.specs.Steps.Stages.{volumes-in}
+use Rattle.findings.specs.Meaning.Found.{listOf}
+use Rattle.findings.specs.Steps.Found.{orderRows, answers, never-0}
+use Rattle.findings.specs.Steps.Listed.{fractionPlace, place-few, fraction-over, fractions-within}
 use Rattle.findings.proofs.order_verdict.Statement.{statement}
 use Rattle.findings.proofs.order_verdict.Tie as tie
 

@@ -10,20 +10,22 @@ use Rattle.rules.specs.Meaning.Verdict.{caseRows, caseRefusal, proposalRows, pr
 use Rattle.rows.specs.declared.Outcome.{Outcome}
 use Rattle.rows.specs.Meaning.Rows.{Row, refusal, answer}
 use Rattle.rows.specs.Promised.RowLaws.{not-refused}
-use Rattle.case_header.specs.Opened.{Opened}
-use Rattle.case_file.specs.Answer.{opened-of}
-use Rattle.case_file.specs.Answer as case-answer
-use Rattle.proposal_file.specs.Proposed.{Proposed, opening-is, proposed-of}
-use Rattle.proposal_file.specs.Proposed as proposal-answer
+use Rattle.case_header.specs.Meaning.Opened.{Opened}
+use Rattle.case_file.specs.Steps.Answer.{opened-of}
+use Rattle.case_file.specs.Steps.Answer as case-answer
+use Rattle.proposal_file.specs.Meaning.Proposed.{Proposed}
+use Rattle.proposal_file.specs.Steps.Proposed.{opening-is, proposed-of}
+use Rattle.proposal_file.specs.Steps.Proposed as proposal-answer
 use Rattle.proposal_file.specs.Meaning.Answer.{proposalAnswer}
 use Rattle.proposal_file.specs.declared.ProposalAnswer.the-variants as proposal
-use Rattle.clearing.specs.Read.{HourReadFrom}
-use Rattle.family_list.specs.Steps.Answer.{Known}
+use Rattle.clearing.specs.Meaning.Read.{HourReadFrom}
+use Rattle.family_list.specs.Meaning.Answer.{Known}
 use Rattle.findings.specs.declared.FamilyList.{FamilyList}
 use Rattle.findings.specs.declared.FamilyList.the-variants.{Given}
 use Rattle.findings.specs.declared.Reading.{Reading}
-use Rattle.findings.specs.Found.{listOf, admittedRows, readRows, unreadAs, read-silent, first-refuses, first-passes}
-use Rattle.findings.specs.Facts.{counted, few-orders}
+use Rattle.findings.specs.Meaning.Found.{listOf}
+use Rattle.findings.specs.Steps.Found.{admittedRows, readRows, unreadAs, read-silent, first-refuses, first-passes}
+use Rattle.findings.specs.Steps.Facts.{counted, few-orders}
 use Rattle.findings.proofs.read.Statement.{statement}
 use Rattle.findings.proofs.read.Tie as tie
 

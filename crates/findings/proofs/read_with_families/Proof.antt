@@ -3,7 +3,7 @@ use mathlib.Core.Path.{sym, ap, _∙_}
 use borrow.Author.Needs.{needs}
 use denote.Ref.{now}
 use Rattle.findings.specs.declared.FamilyList.{FamilyList}
-use Rattle.findings.specs.Listed.{listedAnswer}
+use Rattle.findings.specs.Steps.Listed.{listedAnswer}
 use Rattle.findings.proofs.read_with_families.Statement.{statement}
 use Rattle.findings.proofs.read_with_families.Tie as tie
 

@@ -1,7 +1,7 @@
 -- `findings::refused_by` meets its contract: nothing is read and nothing is cleared. Assumes nothing.
 use mathlib.Core.Path.{ap}
 use borrow.Author.Needs.{needs}
-use Rattle.findings.specs.Found.{refusedWith}
+use Rattle.findings.specs.Steps.Found.{refusedWith}
 use Rattle.findings.proofs.refused_by.Statement.{statement}
 use Rattle.findings.proofs.refused_by.Tie as tie
 

@@ -10,8 +10,10 @@ use denote.Ref.{now}
 use lib.Dec.{T}
 use lib.IntN.{ℤ, pos, _*ℤ_}
 use lib.Signed.{ltZ}
-use Rattle.integers.specs.Ranges.{outside, within}
-use Rattle.integers.specs.Sums.{sumTo, sum-ext}
+use Rattle.integers.specs.Meaning.Ranges.{outside}
+use Rattle.integers.specs.Steps.Ranges.{within}
+use Rattle.integers.specs.Meaning.Sums.{sumTo}
+use Rattle.integers.specs.Steps.Sums.{sum-ext}
 use Rattle.measures.specs.Meaning.Limits as limits
 use Rattle.measures.specs.Meaning.Limits.{microcentsOf}
 use Rattle.rules.specs.Meaning.Hour.{Case, Plan, Prices, caseOf, planOf, pricesOf, net, zonePrice, gap, rent}
@@ -24,11 +26,12 @@ use Rattle.rules.specs.Promised.Fits.{rent-sums, system-near}
 use Rattle.rules.specs.Meaning.Report as rules
 use Rattle.rules.specs.Meaning.Report.{totalsOf, reports}
 use Rattle.case_header.specs.declared.Counts.{Counts}
-use Rattle.clearing.specs.Held.{tenthsAt, Holds}
-use Rattle.clearing.specs.Read.{case-opened, sound, zones-is, few-zones, shadow-in}
-use Rattle.clearing.specs.Stages.{VolumesIn, fit-ext}
-use Rattle.network.specs.Prices.{grainsAt, Priced}
-use Rattle.findings.specs.Found.{valueRows, refusedAs, finds-refused, gap-answers, gap-reports}
+use Rattle.clearing.specs.Meaning.Held.{tenthsAt, Holds}
+use Rattle.clearing.specs.Steps.Read.{case-opened, sound, zones-is, few-zones, shadow-in}
+use Rattle.clearing.specs.Meaning.Stages.{VolumesIn}
+use Rattle.clearing.specs.Steps.Stages.{fit-ext}
+use Rattle.network.specs.Meaning.Prices.{grainsAt, Priced}
+use Rattle.findings.specs.Steps.Found.{valueRows, refusedAs, finds-refused, gap-answers, gap-reports}
 use Rattle.findings.proofs.value.Statement.{statement}
 use Rattle.findings.proofs.value.Tie as tie
 

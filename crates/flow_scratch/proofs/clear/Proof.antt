@@ -5,7 +5,8 @@ use native.Mathlib.Omega.{arith}
 use denote.Ref.{now}
 use lib.ListN.{length}
 use lib.Dec.{lit<}
-use Rattle.flow_scratch.specs.Cleared.{Cleared, cleared-none, cleared-more}
+use Rattle.flow_scratch.specs.Meaning.Cleared.{Cleared}
+use Rattle.flow_scratch.specs.Steps.Cleared.{cleared-none, cleared-more}
 use Rattle.flow_scratch.proofs.clear.Statement.{statement}
 use Rattle.flow_scratch.proofs.clear.Tie as tie
 

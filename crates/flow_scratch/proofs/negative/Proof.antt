@@ -7,10 +7,10 @@ use lib.Signed.{ltZ, nonNeg}
 use mir.Syntax.{w64}
 use mir.Val.{Fits, SFits, toZ, ofZ}
 use mir.Facts.{toZ-ofZ}
-use Rattle.integers.specs.Difference.{dn}
-use Rattle.integers.specs.Machine.{sfits-by}
-use Rattle.integers.specs.Size.{near-fits, near-pos}
-use Rattle.flow_scratch.specs.Amounts.{dn-below, dn-else}
+use Rattle.integers.specs.Meaning.Difference.{dn}
+use Rattle.integers.specs.Steps.Machine.{sfits-by}
+use Rattle.integers.specs.Steps.Size.{near-fits, near-pos}
+use Rattle.flow_scratch.specs.Steps.Amounts.{dn-below, dn-else}
 use Rattle.flow_scratch.proofs.negative.Statement.{statement}
 use Rattle.flow_scratch.proofs.negative.Tie as tie
 

@@ -7,7 +7,7 @@ use lib.Signed.{ltZ, nonNeg}
 use mir.Syntax.{w64}
 use mir.Val.{Fits, toZ, ofZ}
 use mir.Facts.{toZ-ofZ, fits-natAbs}
-use Rattle.flow_scratch.specs.Amounts.{up-below, up-else, not-below}
+use Rattle.flow_scratch.specs.Steps.Amounts.{up-below, up-else, not-below}
 use Rattle.flow_scratch.proofs.positive.Statement.{statement}
 use Rattle.flow_scratch.proofs.positive.Tie as tie
 

@@ -8,7 +8,7 @@ use denote.Ref.{now}
 use lib.ListN.{length}
 use lib.Seq.{length-take-le}
 use lib.IntN.{ℤ}
-use Rattle.findings.specs.Found.{Finds, hourRows}
+use Rattle.findings.specs.Meaning.Found.{Finds, hourRows}
 use Rattle.hour_intuitive.specs.Steps.Kept.{hour-refused, exports-fit, prices-fit, exports-are, prices-are, pass, hour-answer}
 use Rattle.hour_intuitive.proofs.hour_intuitive_in.Statement.{statement}
 use Rattle.hour_intuitive.proofs.hour_intuitive_in.Tie as tie

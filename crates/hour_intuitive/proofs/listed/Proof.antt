@@ -3,7 +3,7 @@ use mathlib.Core.Path.{_≡_, subst}
 use Prim.Native.Nat.{ℕ, _≤_, _-_}
 use native.Mathlib.Omega.{arith}
 use borrow.Author.Needs.{needs}
-use Rattle.network.specs.Prices.{grainsAt}
+use Rattle.network.specs.Meaning.Prices.{grainsAt}
 use Rattle.hour_intuitive.specs.Steps.Lent.{Lists, back-twice, lists-none, lists-more}
 use Rattle.hour_intuitive.proofs.listed.Statement.{statement}
 use Rattle.hour_intuitive.proofs.listed.Tie as tie

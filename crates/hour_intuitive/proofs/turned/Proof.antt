@@ -6,7 +6,7 @@ use borrow.Author.Needs.{needs}
 use lib.IntN.{pos, _-ℤ_}
 use mir.Syntax.{w64}
 use mir.Val.{ofZ}
-use Rattle.clearing.specs.Held.{tenthsAt}
+use Rattle.clearing.specs.Meaning.Held.{tenthsAt}
 use Rattle.hour_intuitive.specs.Steps.Lent.{Lists, back-twice, lists-none, lists-more}
 use Rattle.hour_intuitive.proofs.turned.Statement.{statement}
 use Rattle.hour_intuitive.proofs.turned.Tie as tie

@@ -12,10 +12,12 @@ use lib.ListN.{length, getD, length-append, List·getD-append}
 use lib.Seq.{getD-append-seam}
 use lib.Dec.{T, eqb}
 use lib.IntN.{ℤ, pos, _-ℤ_}
-use Rattle.integers.specs.Difference.{at, le-by}
-use Rattle.integers.specs.Ranges.{Within, outside, isZero, inside, nat-inside, not-is}
-use Rattle.integers.specs.Size.{Near, near-sub, near-pos, near-le}
-use Rattle.integers.specs.Sums.{sumTo, sum-ext, sum-sub, sum-zero}
+use Rattle.integers.specs.Steps.Difference.{at, le-by}
+use Rattle.integers.specs.Meaning.Ranges.{Within, outside, isZero}
+use Rattle.integers.specs.Steps.Ranges.{inside, nat-inside, not-is}
+use Rattle.integers.specs.Steps.Size.{Near, near-sub, near-pos, near-le}
+use Rattle.integers.specs.Meaning.Sums.{sumTo}
+use Rattle.integers.specs.Steps.Sums.{sum-ext, sum-sub, sum-zero}
 use Rattle.measures.specs.Meaning.Limits as limits
 use Rattle.rows.specs.declared.Outcome.{Outcome}
 use Rattle.rows.specs.Meaning.Rows.{Row, refusal, answer, once, each, failing}
@@ -29,7 +31,7 @@ use Rattle.rules.specs.Promised.Fits.{net-near, volumes-in}
 use Rattle.net_positions.specs.Meaning.Positions.{positionOutside, unbalanced}
 use Rattle.zone_pairs.specs.Meaning.Pairs.{pairCount, badPair}
 use Rattle.intuitive.specs.Meaning.Intuitive.{unfit, priceOutside, intuitiveRows, intuitiveRefusal, intuitiveOutcome}
-use Rattle.intuitive.specs.Steps.Answers.{ListsPass}
+use Rattle.intuitive.specs.Meaning.Answers.{ListsPass}
 use Rattle.hour_intuitive.specs.Meaning.Hour.{listTo, hourExports, hourPrices, askedRows, hourOutcome}
 
 -- A LIST BY ITS PLACES

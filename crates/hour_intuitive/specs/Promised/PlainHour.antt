@@ -12,8 +12,8 @@ use native.Mathlib.Decide.{decLt, ℕ-discrete}
 use lib.ListN.{length, getD}
 use lib.IntN.{ℤ, pos, negℤ, _-ℤ_}
 use lib.Signed.{_<ℤ_}
-use Rattle.integers.specs.Difference.{at, _⊖_, ⊝_, eq-by}
-use Rattle.integers.specs.Ranges.{is-false, nat-within}
+use Rattle.integers.specs.Steps.Difference.{at, _⊖_, ⊝_, eq-by}
+use Rattle.integers.specs.Steps.Ranges.{is-false, nat-within}
 use Rattle.rows.specs.declared.Outcome.{Outcome}
 use Rattle.rows.specs.Meaning.Rows.{Row, verdict, refusal, answer}
 use Rattle.rows.specs.Promised.RowLaws.{lacks, later, not-below, zero-none, numbersBelow, number-below}
@@ -29,7 +29,7 @@ use Rattle.intuitive.specs.Promised.PlainCauses as causes
 use Rattle.intuitive.specs.Promised.PlainCauses.{Past83, prices-inside, ScratchCleared, zeros-then}
 use Rattle.intuitive.specs.Promised.PlainAnswers as answers
 use Rattle.intuitive.specs.Promised.PlainAnswers.{Routes, Enclosed, LargestCarried, everyExport}
-use Rattle.intuitive.specs.Steps.Answers.{ListsPass}
+use Rattle.intuitive.specs.Meaning.Answers.{ListsPass}
 use Rattle.hour_intuitive.specs.Meaning.Hour.{hourExports, hourPrices, askedRows, hourOutcome, hourScratch, HourAnswer}
 use Rattle.hour_intuitive.specs.Promised.Asked.{list-length, list-at, asked-then, none-refused, not-accepted, accepted-asks, lists-pass, never-81, never-82, never-83}
 

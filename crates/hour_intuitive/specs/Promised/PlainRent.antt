@@ -16,11 +16,13 @@ use lib.IntN.{ℤ, pos, negsuc, _-ℤ_, _*ℤ_}
 use lib.Signed.{_≤ℤ_}
 use mir.Syntax.{w64}
 use mir.Val.{SFits}
-use Rattle.integers.specs.Bytes.{bytesOf, numberOf, byte-at, number-bytes}
-use Rattle.integers.specs.Difference.{at, _⊖_, eq-by}
-use Rattle.integers.specs.Sums.{sumTo, sum-ext}
-use Rattle.integers.specs.NaturalSums as natural
-use Rattle.integers.specs.NaturalSums.{sumNat}
+use Rattle.integers.specs.Meaning.Bytes.{bytesOf, numberOf}
+use Rattle.integers.specs.Steps.Bytes.{byte-at, number-bytes}
+use Rattle.integers.specs.Steps.Difference.{at, _⊖_, eq-by}
+use Rattle.integers.specs.Meaning.Sums.{sumTo}
+use Rattle.integers.specs.Steps.Sums.{sum-ext}
+use Rattle.integers.specs.Steps.NaturalSums as natural
+use Rattle.integers.specs.Meaning.NaturalSums.{sumNat}
 use Rattle.rows.specs.declared.Outcome.{Outcome}
 use Rattle.rows.specs.Meaning.Rows.{verdict, answer}
 use Rattle.rows.specs.Promised.RowLaws.{field-passes}
@@ -33,7 +35,7 @@ use Rattle.rules.specs.Promised.PlainReport.{modulo64, Stands, reports-of, repo
 use Rattle.zone_pairs.specs.Meaning.Pairs.{pairCount}
 use Rattle.zone_pairs.specs.Promised.PlainPairs.{is-pair, pair-leads, GoodPair}
 use Rattle.transports.specs.Meaning.Network.{FeasibleAll}
-use Rattle.findings.specs.Found.{hourRows}
+use Rattle.findings.specs.Meaning.Found.{hourRows}
 use Rattle.intuitive.specs.declared.Carried.{Carried}
 use Rattle.intuitive.specs.Meaning.Intuitive.{intuitiveRefusal}
 use Rattle.intuitive.specs.Promised.PlainAnswers.{count-is, counted}

@@ -10,8 +10,9 @@ use native.Mathlib.Omega.{arith}
 use lib.ListN.{length}
 use lib.IntN.{ℤ, pos, negℤ, _-ℤ_, _*ℤ_}
 use lib.Signed.{_≤ℤ_}
-use Rattle.integers.specs.Difference.{at, _⊖_, ⊝_, eq-by}
-use Rattle.integers.specs.Sums.{sumTo, sum-ext}
+use Rattle.integers.specs.Steps.Difference.{at, _⊖_, ⊝_, eq-by}
+use Rattle.integers.specs.Meaning.Sums.{sumTo}
+use Rattle.integers.specs.Steps.Sums.{sum-ext}
 use Rattle.rows.specs.declared.Outcome.{Outcome}
 use Rattle.rules.specs.Meaning.Hour.{caseOf, planOf, pricesOf, net, zonePrice, rent}
 use Rattle.zone_pairs.specs.Meaning.Pairs.{pairCount, priceAt, importsWorth}

@@ -8,8 +8,8 @@ use native.Mathlib.Omega.{arith}
 use lib.ListN.{length, take}
 use lib.IntN.{ℤ, pos, _-ℤ_}
 use mir.Syntax.{w64}
-use Rattle.integers.specs.Size.{near-fits}
-use Rattle.integers.specs.Machine.{sfits-by}
+use Rattle.integers.specs.Steps.Size.{near-fits}
+use Rattle.integers.specs.Steps.Machine.{sfits-by}
 use Rattle.rows.specs.declared.Outcome.{Outcome}
 use Rattle.rows.specs.Meaning.Rows.{refusal, answer}
 use Rattle.rows.specs.Promised.RowLaws.{field-passes}
@@ -20,14 +20,14 @@ use Rattle.rules.specs.Meaning.Verdict.{roomRows, table, outcome}
 use Rattle.rules.specs.Promised.Fits.{near-zone-price}
 use Rattle.measures.specs.declared.Tenths.{Tenths}
 use Rattle.measures.specs.declared.Grains.{Grains}
-use Rattle.clearing.specs.Held.{tenthsAt}
-use Rattle.network.specs.Prices.{grainsAt}
+use Rattle.clearing.specs.Meaning.Held.{tenthsAt}
+use Rattle.network.specs.Meaning.Prices.{grainsAt}
 use Rattle.zone_pairs.specs.Meaning.Pairs.{networkOf}
 use Rattle.intuitive.specs.declared.Carried.{Carried}
-use Rattle.intuitive.specs.Steps.Answers.{ListsPass}
+use Rattle.intuitive.specs.Meaning.Answers.{ListsPass}
 use Rattle.intuitive.specs.Meaning.Intuitive.{scratchBy, intuitiveRefusal, intuitiveOutcome, intuitiveScratch, EntryAnswer}
 use Rattle.findings.specs.declared.Found.{Found}
-use Rattle.findings.specs.Found.{Finds, hourRows}
+use Rattle.findings.specs.Meaning.Found.{Finds, hourRows}
 use Rattle.hour_intuitive.specs.Meaning.Hour.{listTo, hourExports, hourPrices, hourNetwork, askedRows, hourOutcome, hourScratch, HourAnswer}
 use Rattle.hour_intuitive.specs.Promised.Asked.{refused-first, asked-then, none-refused, position-near, price-in, lists-pass}
 use Rattle.hour_intuitive.specs.Steps.Lent.{FitsTo, Lists, part-is, same-list, refusedAs}

@@ -11,9 +11,9 @@ use lib.IntN.{ℤ, pos, negsuc, _-ℤ_}
 use mir.Syntax.{w64}
 use mir.Val.{SFits, toZ, ofZ}
 use mir.Facts.{toZ-pos, toZ-neg, toZ-ofZ}
-use Rattle.integers.specs.Difference.{at, _⊖_, eq-by}
-use Rattle.integers.specs.Size.{near-fits, near-sub, near-pos, near-unsigned}
-use Rattle.integers.specs.Machine.{sfits-by}
+use Rattle.integers.specs.Steps.Difference.{at, _⊖_, eq-by}
+use Rattle.integers.specs.Steps.Size.{near-fits, near-sub, near-pos, near-unsigned}
+use Rattle.integers.specs.Steps.Machine.{sfits-by}
 use Rattle.rows.specs.declared.Outcome.{Outcome}
 use Rattle.intuitive.specs.declared.Carried.{Carried}
 use Rattle.hour_intuitive.specs.Meaning.Hour.{listTo}

@@ -14,9 +14,9 @@ use Rattle.case_header.specs.declared.Counts.{Counts}
 use Rattle.shortfalls.specs.Meaning.Answer.{shortfallCount}
 use Rattle.shortfalls.specs.Promised.Answer.{numbers-long}
 use Rattle.shortfalls.specs.Promised.Causes.{short-output, enough-room}
-use Rattle.single_shortfall.specs.Judged.{HourAccepted}
-use Rattle.hour_shortfalls.specs.Kept.{kept-refused, kept-answer, found-refused, found-accepted, valued, judged, count-is, few}
-use Rattle.hour_shortfalls.specs.Pairs.{countOf}
+use Rattle.single_shortfall.specs.Meaning.Judged.{HourAccepted}
+use Rattle.hour_shortfalls.specs.Steps.Kept.{kept-refused, kept-answer, found-refused, found-accepted, valued, judged, count-is, few}
+use Rattle.hour_shortfalls.specs.Steps.Pairs.{countOf}
 use Rattle.hour_shortfalls.proofs.hour_shortfalls.Statement.{statement}
 use Rattle.hour_shortfalls.proofs.hour_shortfalls.Tie as tie
 

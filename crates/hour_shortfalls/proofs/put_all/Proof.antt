@@ -10,8 +10,8 @@ use lib.IntN.{ℤ}
 use Rattle.rules.specs.Meaning.Hour.{Case, Plan, Prices, caseOf, planOf, pricesOf}
 use Rattle.shortfalls.specs.Meaning.Shortfalls.{orderShortfall, branchShortfall, linkShortfall}
 use Rattle.shortfalls.specs.Meaning.Answer.{pairsTo, shortfallNumbers}
-use Rattle.clearing.specs.Read.{orders-is, branches-is, links-is}
-use Rattle.hour_shortfalls.specs.Pairs.{countOf, three-runs}
+use Rattle.clearing.specs.Steps.Read.{orders-is, branches-is, links-is}
+use Rattle.hour_shortfalls.specs.Steps.Pairs.{countOf, three-runs}
 use Rattle.hour_shortfalls.proofs.put_all.Statement.{statement}
 use Rattle.hour_shortfalls.proofs.put_all.Tie as tie
 

@@ -10,9 +10,9 @@ use lib.IntN.{ℤ}
 use Rattle.rules.specs.Meaning.Hour.{caseOf, planOf, pricesOf, gap}
 use Rattle.shortfalls.specs.Meaning.Shortfalls.{orderShortfall}
 use Rattle.shortfalls.specs.Meaning.Answer.{pairsTo}
-use Rattle.clearing.specs.Read.{orders-is}
-use Rattle.hour_shortfalls.specs.Pairs.{numbersIn, writable, run-more}
-use Rattle.hour_shortfalls.specs.Kept.{few}
+use Rattle.clearing.specs.Steps.Read.{orders-is}
+use Rattle.hour_shortfalls.specs.Steps.Pairs.{numbersIn, writable, run-more}
+use Rattle.hour_shortfalls.specs.Steps.Kept.{few}
 use Rattle.hour_shortfalls.proofs.put_orders.Statement.{statement}
 use Rattle.hour_shortfalls.proofs.put_orders.Tie as tie
 

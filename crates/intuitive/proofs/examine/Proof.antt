@@ -7,12 +7,13 @@ use native.Mathlib.Omega.{arith}
 use lib.ListN.{length}
 use lib.IntN.{pos}
 use denote.Ref.{now}
-use Rattle.integers.specs.Ranges.{outside, nat-within, is-false, not-is}
+use Rattle.integers.specs.Meaning.Ranges.{outside}
+use Rattle.integers.specs.Steps.Ranges.{nat-within, is-false, not-is}
 use Rattle.rows.specs.Meaning.Rows.{firstBelow}
 use Rattle.rows.specs.Meaning.Place.{placeOf}
 use Rattle.rows.specs.Promised.RowLaws.{place-below, not-below}
 use Rattle.rules.specs.Meaning.Layout.{zoneCounts}
-use Rattle.order_book.specs.Steps.BookState.{firstPriceOutside}
+use Rattle.order_book.specs.Meaning.BookState.{firstPriceOutside}
 use Rattle.net_positions.specs.Meaning.Positions.{positionOutside}
 use Rattle.intuitive.specs.Meaning.Intuitive.{priceOutside}
 use Rattle.intuitive.specs.Steps.Answers.{From, refused-count, refused-lengths, past-81, refused-82, past-82, refused-sum, past-sum, refused-83, past-83, by-rest, outcome-by}

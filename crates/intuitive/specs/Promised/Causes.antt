@@ -9,7 +9,8 @@ use lib.ListN.{length, getD, drop, replicate}
 use lib.Dec.{T}
 use lib.IntN.{ℤ, pos}
 use Rattle.rows.specs.declared.Outcome.{Outcome}
-use Rattle.rows.specs.Meaning.Rows.{Row, verdict, answer, unnamed, the-place, ask, Asks}
+use Rattle.rows.specs.Promised.Asked.{unnamed, the-place, ask, Asks}
+use Rattle.rows.specs.Meaning.Rows.{Row, verdict, answer}
 use Rattle.rows.specs.Promised.RowLaws.{empty, Cause, answer-caused, Answered, answered, Soonest, soonest, lacks, zero-none, numbersBelow, number-below}
 use Rattle.intuitive.specs.Meaning.Intuitive.{intuitiveRows, intuitiveRefusal, intuitiveOutcome, scratchBy, intuitiveScratch}
 

@@ -14,10 +14,12 @@ use lib.Dec.{eqb, ltb→lt, lt→ltb}
 use lib.ListN.{length, getD}
 use lib.IntN.{ℤ, pos, negsuc, negℤ, _-ℤ_, _*ℤ_}
 use lib.Signed.{_≤ℤ_, _<ℤ_}
-use Rattle.integers.specs.Difference.{up, dn, at, _⊖_, _⊗_, ⊝_, eq-by, eq-fact, le-by, le-fact}
-use Rattle.integers.specs.Sums as whole
-use Rattle.integers.specs.Sums.{sumTo}
-use Rattle.integers.specs.NaturalSums.{sumNat, only, sum-ext, sum-parts}
+use Rattle.integers.specs.Meaning.Difference.{up, dn}
+use Rattle.integers.specs.Steps.Difference.{at, _⊖_, _⊗_, ⊝_, eq-by, eq-fact, le-by, le-fact}
+use Rattle.integers.specs.Meaning.Sums as whole
+use Rattle.integers.specs.Meaning.Sums.{sumTo}
+use Rattle.integers.specs.Meaning.NaturalSums.{sumNat, only}
+use Rattle.integers.specs.Steps.NaturalSums.{sum-ext, sum-parts}
 use Rattle.rows.specs.declared.Outcome.{Outcome}
 use Rattle.zone_pairs.specs.Meaning.Pairs.{pairCount, networkOf}
 use Rattle.zone_pairs.specs.Promised.PlainPairs.{is-pair, pair-leads, pair-counts}

@@ -14,7 +14,8 @@ use lib.Dec.{T, eqb, ltb, eqb→eq, ltb→lt, lt→ltb, nltb→le, not-T, T-not}
 use lib.ListN.{length, getD, drop, replicate, length-append, length-drop, length-replicate, getD-replicate, List·getD-append}
 use lib.Seq.{getD-append-add, getD-drop}
 use lib.IntN.{ℤ, pos, negℤ}
-use Rattle.integers.specs.Ranges.{outside, is-true, nor-left, nor-right, nor-both, nat-within, nat-inside}
+use Rattle.integers.specs.Meaning.Ranges.{outside}
+use Rattle.integers.specs.Steps.Ranges.{is-true, nor-left, nor-right, nor-both, nat-within, nat-inside}
 use Rattle.measures.specs.Promised.Numbers.{zone-price-is}
 use Rattle.rows.specs.declared.Outcome.{Outcome}
 use Rattle.rows.specs.Meaning.Rows.{Row, Pass, verdict, failing, refusal, answer, once, each}

@@ -8,7 +8,7 @@ use Prim.Native.Nat.{ℕ}
 use lib.ListN.{length}
 use lib.IntN.{ℤ, pos}
 use lib.Signed.{_≤ℤ_}
-use Rattle.integers.specs.Sums.{sumTo}
+use Rattle.integers.specs.Meaning.Sums.{sumTo}
 use Rattle.rows.specs.declared.Outcome.{Outcome}
 use Rattle.zone_pairs.specs.Meaning.Pairs.{pairCount, importsWorth, networkOf}
 use Rattle.zone_pairs.specs.Promised.Worth as pairs-worth

@@ -6,12 +6,13 @@ use mathlib.Core.Option.{Option, none, some}
 use Prim.Native.Nat.{ℕ, _+_, _-_, _≤_, _<_}
 use native.Mathlib.Omega.{arith}
 use native.Mathlib.Decide.{decLt}
-use borrow.Author.Tests.{lt-ltb, le-ltb, eq-eqb, ne-eqb}
+use borrow.Author.Tests.{eq-eqb, ne-eqb}
 use lib.Dec.{eqb, T-not}
 use lib.ListN.{length, getD, drop, replicate, length-append, length-drop, length-replicate, getD-replicate, List·getD-append}
 use lib.Seq.{ext-getD, getD-append-add, getD-drop}
 use lib.IntN.{ℤ, pos}
-use Rattle.integers.specs.Ranges.{outside, is-true, is-false, nat-within}
+use Rattle.integers.specs.Meaning.Ranges.{outside}
+use Rattle.integers.specs.Steps.Ranges.{is-true, is-false, nat-within}
 use Rattle.rows.specs.declared.Outcome.{Outcome}
 use Rattle.rows.specs.Meaning.Rows.{Row, verdict, firstBelow, refusal, answer, once, each}
 use Rattle.rows.specs.Promised.RowLaws.{row-found, row-clear, field-fails, field-passes, first-is}
@@ -21,23 +22,16 @@ use Rattle.net_positions.specs.Meaning.Positions.{positionOutside, unbalanced}
 use Rattle.zone_pairs.specs.Meaning.Pairs.{pairCount, badPair, networkOf}
 use Rattle.zone_pairs.specs.Steps.Tests.{pair-past}
 use Rattle.transports.specs.Meaning.Network.{Network, FeasibleAll, DeficientSet}
-use Rattle.flow_scratch.specs.Cleared.{Cleared}
-use Rattle.largest_transport.specs.Filled.{Answer}
+use Rattle.flow_scratch.specs.Meaning.Cleared.{Cleared}
+use Rattle.largest_transport.specs.Meaning.Filled.{Answer}
 use Rattle.intuitive.specs.declared.Carried.{Carried}
-use Rattle.intuitive.specs.Meaning.Intuitive.{unfit, priceOutside, intuitiveRows, intuitiveRefusal, intuitiveOutcome, LargestTotal, scratchBy, intuitiveScratch, EntryAnswer, IntuitiveAnswer}
+use Rattle.intuitive.specs.Meaning.Intuitive.{priceOutside, intuitiveRows, intuitiveRefusal, intuitiveOutcome, LargestTotal, EntryAnswer, IntuitiveAnswer}
 use Rattle.intuitive.specs.Promised.Causes.{intuitive-none, scratch-refused, scratch-answered}
+use Rattle.intuitive.specs.Meaning.Answers.{ListsPass}
 
 -- 84 and 85, of so many zones
 abbrev pub restRows : ℕ → List ℕ → ℕ → ℕ → List Row
 restRows zones pairs n room = each 84 (pairCount pairs) (badPair zones pairs) ∷ once 85 (under n room) ∷ []
-
--- lists that 81 to 83 pass
-pub record ListsPass (netExports prices : List ℤ) : Type 0 where
-  pub count-in : outside zoneCounts (pos (length netExports)) ≡ false
-  pub lengths : length prices ≡ length netExports
-  pub positions-in : firstBelow (length netExports) (positionOutside netExports) ≡ none
-  pub balanced : unbalanced netExports ≡ false
-  pub prices-in : firstBelow (length prices) (priceOutside prices) ≡ none
 
 module _ (netExports prices : List ℤ) (pairs : List ℕ) (n room : ℕ) where
   abbrev pub From : ℕ → Type 0

@@ -10,9 +10,11 @@ use borrow.Author.Tests.{eqb-true, not-false}
 use lib.Dec.{T, eqb, nltb→le}
 use lib.ListN.{length, getD, List·getD-eq-default}
 use lib.IntN.{ℤ, pos, negsuc}
-use Rattle.integers.specs.Difference.{up, dn, at, le-fact}
-use Rattle.integers.specs.Ranges.{outside, within, nat-within, nor-left, nor-right, not-is, is-true, isZero, zero-is}
-use Rattle.integers.specs.Sums.{sumTo}
+use Rattle.integers.specs.Meaning.Difference.{up, dn}
+use Rattle.integers.specs.Steps.Difference.{at, le-fact}
+use Rattle.integers.specs.Meaning.Ranges.{outside, isZero}
+use Rattle.integers.specs.Steps.Ranges.{within, nat-within, nor-left, nor-right, not-is, is-true, zero-is}
+use Rattle.integers.specs.Meaning.Sums.{sumTo}
 use Rattle.measures.specs.Meaning.Limits as limits
 use Rattle.rows.specs.Meaning.Rows.{Pass}
 use Rattle.rows.specs.Promised.RowLaws.{empty, all-pass}
@@ -20,7 +22,7 @@ use Rattle.net_positions.specs.Meaning.Positions.{positionAt, positionOutside, 
 use Rattle.zone_pairs.specs.Meaning.Pairs.{pairCount, firstZone, secondZone, badPair, networkOf}
 use Rattle.zone_pairs.specs.Steps.Tests.{Good, good}
 use Rattle.transports.specs.Meaning.Network.{Placed}
-use Rattle.augmenting_path.specs.Path.{Sized}
+use Rattle.augmenting_path.specs.Meaning.Path.{Sized}
 use Rattle.intuitive.specs.Meaning.Intuitive.{intuitiveRows, intuitiveRefusal, unfit}
 
 -- a position within its limits, in both parts

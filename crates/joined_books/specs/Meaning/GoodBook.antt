@@ -5,7 +5,7 @@ use Prim.Native.Nat.{ℕ, _<_}
 use lib.Dec.{T}
 use lib.ListN.{length}
 use lib.IntN.{ℤ, pos}
-use Rattle.integers.specs.Ranges.{outside}
+use Rattle.integers.specs.Meaning.Ranges.{outside}
 use Rattle.measures.specs.Meaning.Limits as limits
 use Rattle.rules.specs.Meaning.Layout.{zoneCounts}
 use Rattle.rules.specs.Meaning.Book.{priceAt, badBookRow}

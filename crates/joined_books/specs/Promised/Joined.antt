@@ -7,14 +7,14 @@ use Prim.Native.Nat.{_+_, _≤_}
 use native.Mathlib.Omega.{arith}
 use lib.ListN.{length, length-append, length-map}
 use lib.IntN.{ℤ, _+ℤ_}
-use Rattle.integers.specs.Difference.{at, _⊕_, eq-by}
+use Rattle.integers.specs.Steps.Difference.{at, _⊕_, eq-by}
 use Rattle.rows.specs.declared.Outcome.{Outcome}
 use Rattle.rows.specs.Meaning.Rows.{refusal}
 use Rattle.rows.specs.Promised.RowLaws.{isRow, rowOf, lacks, zero-none, rowNumbered, number-passes, field-at-passes}
 use Rattle.rules.specs.Promised.Causes.{book-outcome}
 use Rattle.rules.specs.Meaning.Book.{BookRow, bookRows, bookRefusal, bookSurplus, bookAnswerBy, bookAnswer}
 use Rattle.order_book.specs.Meaning.Lent.{bookRow, given, lentAnswer}
-use Rattle.order_book.specs.Steps.BookState.{answered}
+use Rattle.order_book.specs.Meaning.BookState.{answered}
 use Rattle.order_book.specs.declared.OrderRow.{OrderRow}
 use Rattle.order_book.specs.declared.Surplus.{Surplus}
 use Rattle.joined_books.specs.Meaning.GoodBook.{GoodRows, GoodPrices}

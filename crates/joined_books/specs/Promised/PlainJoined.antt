@@ -8,7 +8,7 @@ use lib.ListN.{length}
 use lib.IntN.{ℤ, _+ℤ_}
 use Rattle.rules.specs.Promised.PlainBook as plain
 use Rattle.order_book.specs.Meaning.Lent.{bookRow, lentAnswer}
-use Rattle.order_book.specs.Steps.BookState.{answered}
+use Rattle.order_book.specs.Meaning.BookState.{answered}
 use Rattle.order_book.specs.declared.OrderRow.{OrderRow}
 use Rattle.joined_books.specs.Meaning.GoodBook.{GoodRows, GoodPrices}
 use Rattle.joined_books.specs.Promised.Joined.{sumOf, joined-sum, joined-answer, either-order}

@@ -12,8 +12,10 @@ use lib.Dec.{T, eqb}
 use lib.ListN.{length, length-append, List·getD-append}
 use lib.Seq.{getD-append-add}
 use lib.IntN.{ℤ, pos, _+ℤ_}
-use Rattle.integers.specs.Ranges.{outside, not-is}
-use Rattle.integers.specs.Sums.{sumTo, sum-ext, sum-split}
+use Rattle.integers.specs.Meaning.Ranges.{outside}
+use Rattle.integers.specs.Steps.Ranges.{not-is}
+use Rattle.integers.specs.Meaning.Sums.{sumTo}
+use Rattle.integers.specs.Steps.Sums.{sum-ext, sum-split}
 use Rattle.measures.specs.Meaning.Limits as limits
 use Rattle.rules.specs.Meaning.Layout.{zoneCounts, orderCounts}
 use Rattle.rules.specs.Meaning.Hour.{surplusOf}

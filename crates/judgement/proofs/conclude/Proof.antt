@@ -6,8 +6,8 @@ use denote.Ref.{now}
 use lib.ListN.{drop}
 use Rattle.rules.specs.Meaning.Layout.{zonePriceAt}
 use Rattle.rules.specs.Meaning.Report.{reportText}
-use Rattle.report.specs.Written.{totalsIn, priceIn}
-use Rattle.judgement.specs.Judged.{number-small, unwritten, written-out}
+use Rattle.report.specs.Meaning.Written.{totalsIn, priceIn}
+use Rattle.judgement.specs.Steps.Judged.{number-small, unwritten, written-out}
 use Rattle.judgement.proofs.conclude.Statement.{statement}
 use Rattle.judgement.proofs.conclude.Tie as tie
 

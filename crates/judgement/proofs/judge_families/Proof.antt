@@ -1,6 +1,6 @@
 -- `judgement::judge_families` meets its contract: it is judged by the table with the list. Assumes nothing.
 use borrow.Author.Needs.{needs}
-use Rattle.judgement.specs.Judged.{family-hour-judged}
+use Rattle.judgement.specs.Steps.Judged.{family-hour-judged}
 use Rattle.judgement.proofs.judge_families.Statement.{statement}
 use Rattle.judgement.proofs.judge_families.Tie as tie
 

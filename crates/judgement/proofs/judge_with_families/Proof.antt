@@ -12,8 +12,8 @@ use Rattle.rules.specs.Meaning.Report.{reports}
 use Rattle.rules.specs.Meaning.Verdict.{roomRows, table}
 use Rattle.rows.specs.Meaning.Rows.{Row, refusal}
 use Rattle.rows.specs.Promised.RowLaws.{field-fails, field-passes}
-use Rattle.findings.specs.Found.{listOf, hourRows}
-use Rattle.judgement.specs.Judged.{refused, same-rows, judged}
+use Rattle.findings.specs.Meaning.Found.{listOf, hourRows}
+use Rattle.judgement.specs.Steps.Judged.{refused, same-rows, judged}
 use Rattle.judgement.proofs.judge_with_families.Statement.{statement}
 use Rattle.judgement.proofs.judge_with_families.Tie as tie
 

@@ -6,8 +6,9 @@ use native.Mathlib.Nat.{mul-le-mul-right}
 use denote.Ref.{now}
 use lib.ListN.{length, getD}
 use lib.IntN.{pos}
-use Rattle.integers.specs.Difference.{up}
-use Rattle.integers.specs.NaturalSums.{sumNat, sum-more, sum-bound}
+use Rattle.integers.specs.Meaning.Difference.{up}
+use Rattle.integers.specs.Meaning.NaturalSums.{sumNat}
+use Rattle.integers.specs.Steps.NaturalSums.{sum-more, sum-bound}
 use Rattle.largest_transport.proofs.all_exports.Statement.{statement}
 use Rattle.largest_transport.proofs.all_exports.Tie as tie
 

@@ -10,11 +10,11 @@ use borrow.Author.Needs.{needs}
 use Rattle.transports.specs.Meaning.Network.{allExports}
 use Rattle.zone_pairs.specs.Meaning.Pairs.{networkOf}
 use Rattle.flow_scratch.specs.Meaning.Places.{flowOf}
-use Rattle.flow_scratch.specs.Scratch.{Rest, rest-refl, rest-trans}
+use Rattle.flow_scratch.specs.Steps.Scratch.{Rest, rest-refl, rest-trans}
 use Rattle.augmenting_path.specs.declared.Labels.{Labels}
-use Rattle.augmenting_path.specs.Lacking.{State}
-use Rattle.augmenting_path.specs.Path.{trailOf, Augment}
-use Rattle.largest_transport.specs.Filled.{total-le, exports-few, distinct, augment-of, filled}
+use Rattle.augmenting_path.specs.Steps.Lacking.{State}
+use Rattle.augmenting_path.specs.Meaning.Path.{trailOf, Augment}
+use Rattle.largest_transport.specs.Steps.Filled.{total-le, exports-few, distinct, augment-of, filled}
 use Rattle.largest_transport.proofs.fill.Statement.{statement}
 use Rattle.largest_transport.proofs.fill.Tie as tie
 

@@ -5,8 +5,9 @@ use native.Mathlib.Omega.{arith}
 use lib.Dec.{eqb}
 use denote.Ref.{now}
 use Rattle.zone_pairs.specs.Meaning.Pairs.{networkOf}
-use Rattle.flow_scratch.specs.Cleared.{cleared-again}
-use Rattle.largest_transport.specs.Filled.{Answer, total-le, exports-few, cleared-state, answer-of}
+use Rattle.flow_scratch.specs.Steps.Cleared.{cleared-again}
+use Rattle.largest_transport.specs.Meaning.Filled.{Answer}
+use Rattle.largest_transport.specs.Steps.Filled.{total-le, exports-few, cleared-state, answer-of}
 use borrow.Author.Needs.{needs}
 use Rattle.largest_transport.proofs.max_flow.Statement.{statement}
 use Rattle.largest_transport.proofs.max_flow.Tie as tie

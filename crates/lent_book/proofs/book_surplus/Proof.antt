@@ -55,7 +55,8 @@ use denote.Exit.{yes}
 use lib.IntN.{ℤ}
 use contract.Lifetimes.{Lfts}
 use Rattle.order_book.specs.Meaning.Lent.{lentAnswer}
-use Rattle.order_book.specs.Steps.BookState.{asksRow, addOf, closeOf, noOrder, stateAt}
+use Rattle.order_book.specs.Meaning.BookState.{asksRow, addOf, closeOf}
+use Rattle.order_book.specs.Steps.BookState.{noOrder, stateAt}
 use Rattle.order_book.specs.Steps.StateLaws.{asked}
 use Rattle.order_book.specs.Steps.Closing.{closing, ready, reading}
 use Rattle.order_book.specs.declared.OrderRow.{OrderRow}

@@ -8,7 +8,8 @@ use native.Mathlib.Omega.{arith}
 use borrow.Author.Tests.{eqb-true, not-false}
 use lib.Dec.{T, eqb, nltb→le}
 use lib.ListN.{length, getD}
-use Rattle.integers.specs.Ranges.{outside, Within, within, nat-within, nor-left, nor-right, not-is}
+use Rattle.integers.specs.Meaning.Ranges.{outside, Within}
+use Rattle.integers.specs.Steps.Ranges.{within, nat-within, nor-left, nor-right, not-is}
 use Rattle.rows.specs.Meaning.Rows.{Pass}
 use Rattle.rows.specs.Promised.RowLaws.{empty, all-pass, no-place}
 use Rattle.decimal.specs.Meaning.Text.{valueOf}

@@ -9,7 +9,8 @@ use native.Mathlib.Omega.{arith}
 use lib.ListN.{length, getD}
 use lib.Dec.{T}
 use Rattle.rows.specs.declared.Outcome.{Outcome}
-use Rattle.rows.specs.Meaning.Rows.{Row, verdict, answer, unnamed, the-place, ask, Asks}
+use Rattle.rows.specs.Promised.Asked.{unnamed, the-place, ask, Asks}
+use Rattle.rows.specs.Meaning.Rows.{Row, verdict, answer}
 use Rattle.rows.specs.Promised.RowLaws.{empty, Cause, answer-caused, Answered, answered, Soonest, soonest, lacks, zero-none}
 use Rattle.output.specs.Meaning.Output.{writtenBy}
 use Rattle.numerals.specs.Meaning.Numeral.{digits, starts, before, negative, unsigned, whole, isNumber}

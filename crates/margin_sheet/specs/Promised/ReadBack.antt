@@ -9,8 +9,9 @@ use lib.ListN.{length, getD, take, drop, List·getD-append}
 use lib.Seq.{drop-append-add, take-append-seam}
 use lib.IntN.{ℤ}
 use mir.Syntax.{w32}
-use Rattle.integers.specs.Ranges.{outside, within, is-false}
-use Rattle.integers.specs.Size.{Near, near-pos, near-neg, near-le, near-within, near-fits}
+use Rattle.integers.specs.Meaning.Ranges.{outside}
+use Rattle.integers.specs.Steps.Ranges.{within, is-false}
+use Rattle.integers.specs.Steps.Size.{Near, near-pos, near-neg, near-le, near-within, near-fits}
 use Rattle.measures.specs.Meaning.Limits as limits
 use Rattle.rules.specs.Meaning.Layout.{u8At, i32At, zonesIn, branchesIn, branchSize, branchAt, ramIn, ptdfIn}
 use Rattle.rules.specs.Steps.LayoutLaws.{signed-there}

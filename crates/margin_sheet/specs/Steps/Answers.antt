@@ -10,8 +10,9 @@ use borrow.Author.Tests.{lt-ltb, le-ltb}
 use lib.ListN.{length, getD, set, take, drop, length-take}
 use lib.Seq.{sets, sets-eq, length-sets, take-suc, take-append-seam}
 use lib.IntN.{pos}
-use Rattle.integers.specs.Bytes.{sets-append}
-use Rattle.integers.specs.Ranges.{outside, nat-within, is-false}
+use Rattle.integers.specs.Steps.Bytes.{sets-append}
+use Rattle.integers.specs.Meaning.Ranges.{outside}
+use Rattle.integers.specs.Steps.Ranges.{nat-within, is-false}
 use Rattle.rules.specs.Meaning.Layout.{zoneCounts}
 use Rattle.rows.specs.declared.Place.the-variants.{At, Nowhere}
 use Rattle.rows.specs.Meaning.Place.{placeOf}
@@ -22,7 +23,8 @@ use Rattle.output.specs.Steps.Met as output
 use Rattle.sheet_lines.specs.Meaning.Sheet.{lineCount, branchPart, sheetRows, sheetRefusal, sheetOutcome, sheetBytes, sheetWritten, sheetOutput}
 use Rattle.margin_sheet.specs.Meaning.Answer.{SheetAnswered}
 use Rattle.sheet_lines.specs.declared.SheetFaults.{SheetFaults}
-use Rattle.sheet_lines.specs.Steps.Lines.{malformedAt, tooFineAt, outOfRangeAt, LinesRead, SheetRead, lines-length}
+use Rattle.sheet_lines.specs.Meaning.Lines.{malformedAt, tooFineAt, outOfRangeAt, LinesRead, SheetRead}
+use Rattle.sheet_lines.specs.Steps.Lines.{lines-length}
 
 -- the zone count passes
 pub zones-within : (zones : ℕ) → outside zoneCounts (pos zones) ≡ false → (1 ≤ zones) × (zones ≤ 16)

@@ -1,7 +1,7 @@
 -- What a constructor of a measure answers: the number held, or that it lies outside its range. Assumes nothing.
 use mathlib.Core.Bool.{Bool, true, false}
 use lib.IntN.{ℤ}
-use Rattle.integers.specs.Ranges.{Range, outside}
+use Rattle.integers.specs.Meaning.Ranges.{Range, outside}
 use Rattle.measures.specs.declared.Tenths.{Tenths}
 use Rattle.measures.specs.declared.TenthsAnswer.{TenthsAnswer}
 use Rattle.measures.specs.declared.TenthsAnswer.the-variants as tenths

@@ -7,8 +7,9 @@ use native.Mathlib.Omega.{arith}
 use lib.Dec.{T}
 use lib.IntN.{ℤ, pos, negℤ, _*ℤ_}
 use lib.Signed.{_≤ℤ_}
-use Rattle.integers.specs.Difference.{at, _⊗_, eq-by}
-use Rattle.integers.specs.Ranges.{Range, outside, within, inside}
+use Rattle.integers.specs.Steps.Difference.{at, _⊗_, eq-by}
+use Rattle.integers.specs.Meaning.Ranges.{Range, outside}
+use Rattle.integers.specs.Steps.Ranges.{within, inside}
 use Rattle.measures.specs.Meaning.Limits as limits
 
 -- a limit allows what lies from a to b, and nothing else

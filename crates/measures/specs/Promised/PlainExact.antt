@@ -7,7 +7,7 @@ use Prim.Native.Nat.{ℕ, _+_, _*_, _/_, _%_, _≤_, _<_}
 use native.Mathlib.Omega.{arith}
 use lib.IntN.{ℤ, pos, _*ℤ_}
 use lib.Signed.{_≤ℤ_}
-use Rattle.integers.specs.Difference.{at, _⊗_, eq-fact, le-fact}
+use Rattle.integers.specs.Steps.Difference.{at, _⊗_, eq-fact, le-fact}
 use Rattle.measures.specs.Meaning.Exact.{exactly, Costs}
 
 -- 100,000 parts are one microcent

@@ -10,7 +10,7 @@ use lib.Signed.{_≤ℤ_, nonNeg}
 use mir.Syntax.{w64}
 use mir.Val.{SFits, Fits, toZ, ofZ}
 use mir.Facts.{toZ-ofZ, fits-natAbs}
-use Rattle.integers.specs.Difference.{at, le-fact}
+use Rattle.integers.specs.Steps.Difference.{at, le-fact}
 use Rattle.measures.specs.Meaning.Exact.{exactly, Costs}
 
 module _ (l a : ℕ) (price-small : a ≤ 100000000000) (small : l * a ≤ 900000000000000000000000) where

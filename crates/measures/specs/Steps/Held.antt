@@ -7,7 +7,7 @@ use native.Mathlib.Omega.{arith}
 use borrow.Author.Tests.{lt-ltb, le-ltb}
 use lib.Dec.{ltb}
 use lib.IntN.{ℤ, pos}
-use Rattle.integers.specs.Ranges.{range, outside}
+use Rattle.integers.specs.Meaning.Ranges.{range, outside}
 use Rattle.measures.specs.Meaning.Limits.{microcentsOf}
 use Rattle.measures.specs.Meaning.Held.{tenthsBy, centsBy, grainsBy, microcentsBy, ptdfBy, shareBy}
 use Rattle.measures.specs.declared.Tenths.{Tenths}

@@ -2,7 +2,7 @@
 use mathlib.Core.Path.{ap, _∙_}
 use mathlib.Core.Bool.{not}
 use lib.IntN.{ℤ}
-use Rattle.integers.specs.Ranges.{isZero}
+use Rattle.integers.specs.Meaning.Ranges.{isZero}
 use borrow.Author.Needs.{needs}
 use Rattle.net_positions.proofs.is_unbalanced.Statement.{statement}
 use Rattle.net_positions.proofs.is_unbalanced.Tie as tie

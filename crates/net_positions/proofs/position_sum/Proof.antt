@@ -7,10 +7,11 @@ use native.Mathlib.Nat.{mul-le-mul-right}
 use lib.ListN.{length}
 use lib.IntN.{ℤ}
 use denote.Ref.{now}
-use Rattle.integers.specs.Ranges.{within, is-false}
-use Rattle.integers.specs.Size.{near-within}
-use Rattle.integers.specs.Sums.{sumTo}
-use Rattle.integers.specs.Machine.{SumsFit, small-sums, step, step-fits}
+use Rattle.integers.specs.Steps.Ranges.{within, is-false}
+use Rattle.integers.specs.Steps.Size.{near-within}
+use Rattle.integers.specs.Meaning.Sums.{sumTo}
+use Rattle.integers.specs.Meaning.Machine.{SumsFit}
+use Rattle.integers.specs.Steps.Machine.{small-sums, step, step-fits}
 use Rattle.measures.specs.Meaning.Limits as limits
 use Rattle.net_positions.specs.Meaning.Positions.{positionAt}
 use Rattle.net_positions.proofs.position_sum.Statement.{statement}

@@ -4,8 +4,8 @@ use mathlib.Core.List.{List}
 use Prim.Native.Nat.{ℕ}
 use lib.ListN.{length, getD}
 use lib.IntN.{ℤ, pos}
-use Rattle.integers.specs.Ranges.{outside, isZero}
-use Rattle.integers.specs.Sums.{sumTo}
+use Rattle.integers.specs.Meaning.Ranges.{outside, isZero}
+use Rattle.integers.specs.Meaning.Sums.{sumTo}
 use Rattle.measures.specs.Meaning.Limits as limits
 
 abbrev pub positionAt : List ℤ → ℕ → ℤ

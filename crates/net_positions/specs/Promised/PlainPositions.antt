@@ -10,8 +10,9 @@ use lib.Dec.{T, T-not}
 use lib.ListN.{length, getD}
 use lib.IntN.{ℤ, pos, negℤ}
 use lib.Signed.{_≤ℤ_}
-use Rattle.integers.specs.Ranges.{Range, outside, isZero, zero-is}
-use Rattle.integers.specs.Sums.{sumTo}
+use Rattle.integers.specs.Meaning.Ranges.{Range, outside, isZero}
+use Rattle.integers.specs.Steps.Ranges.{zero-is}
+use Rattle.integers.specs.Meaning.Sums.{sumTo}
 use Rattle.measures.specs.Promised.Numbers.{Allows, net-position-is}
 use Rattle.rows.specs.Meaning.Rows.{Pass, each}
 use Rattle.rows.specs.Promised.RowLaws.{First}

@@ -14,10 +14,12 @@ use lib.Signed.{ltZ}
 use mir.Syntax.{w32, w64}
 use mir.Val.{toZ, ofZ}
 use mir.Facts.{toZ-ofZ}
-use Rattle.integers.specs.Ranges.{Within}
-use Rattle.integers.specs.Sums.{sumTo, sum-more, sum-scale-l}
-use Rattle.integers.specs.Size.{Near, near-fits, near-sub, near-mul, near-pos, near-unsigned, near-within}
-use Rattle.integers.specs.Machine.{SumsFit, step, step-fits, sfits-by}
+use Rattle.integers.specs.Meaning.Ranges.{Within}
+use Rattle.integers.specs.Meaning.Sums.{sumTo}
+use Rattle.integers.specs.Steps.Sums.{sum-more, sum-scale-l}
+use Rattle.integers.specs.Steps.Size.{Near, near-fits, near-sub, near-mul, near-pos, near-unsigned, near-within}
+use Rattle.integers.specs.Meaning.Machine.{SumsFit}
+use Rattle.integers.specs.Steps.Machine.{step, step-fits, sfits-by}
 use Rattle.measures.specs.Meaning.Limits as limits
 use Rattle.measures.specs.Meaning.Limits.{partsInOne, grainsOf}
 use Rattle.measures.specs.declared.Grains.{Grains}
@@ -28,10 +30,11 @@ use Rattle.rows.specs.Promised.RowLaws.{first-here, first-later, first-nowhere}
 use Rattle.rules.specs.Meaning.Verdict.{overZ}
 use Rattle.rules.specs.Steps.Duality.{times-grains}
 use Rattle.rules.specs.Promised.Fits.{branchUse-sums, branchTotal-sums, system-near, price-near, price-term-near}
-use Rattle.case_branches.specs.Table.{table-entry, entry-within}
-use Rattle.clearing.specs.Read.{case-opened, sound, zones-is, branches-is, few-zones, few-branches, share-is, share-in, system-is, shadow-in}
-use Rattle.clearing.specs.Held.{tenthsAt}
-use Rattle.network.specs.Prices.{noGrains, grainsAt, added, AddedTo, add-step, Partly, branch-step}
+use Rattle.case_branches.specs.Steps.Table.{table-entry, entry-within}
+use Rattle.clearing.specs.Steps.Read.{case-opened, sound, zones-is, branches-is, few-zones, few-branches, share-is, share-in, system-is, shadow-in}
+use Rattle.clearing.specs.Meaning.Held.{tenthsAt}
+use Rattle.network.specs.Meaning.Prices.{noGrains, grainsAt}
+use Rattle.network.specs.Steps.Prices.{added, AddedTo, add-step, Partly, branch-step}
 use Rattle.network.proofs.branch_sums.Statement.{statement}
 use Rattle.network.proofs.branch_sums.Tie as tie
 

@@ -11,7 +11,7 @@ use native.Mathlib.Decide.{decLt}
 use lib.Dec.{T, eqb, leb, leb→le}
 use lib.Pow.{pow-add}
 use lib.ListN.{length, take, drop, length-drop, take-append-drop}
-use Rattle.integers.specs.Ranges.{is-true, and-left, and-right}
+use Rattle.integers.specs.Steps.Ranges.{is-true, and-left, and-right}
 use Rattle.decimal.specs.Meaning.Text.{valueFrom, valueOf}
 use Rattle.numerals.specs.Meaning.Numeral.{isDigit, onlyDigits, digits, has, after, unsigned, whole, decimals, isNumber, units, nonZero, finer}
 use Rattle.numerals.specs.Promised.Exact.{value-then, exact}

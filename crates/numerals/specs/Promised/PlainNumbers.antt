@@ -13,7 +13,8 @@ use native.Mathlib.Decide.{decLt}
 use borrow.Author.Tests.{le-leb}
 use lib.ListN.{length, getD}
 use lib.IntN.{ℤ, pos, negℤ}
-use Rattle.integers.specs.NaturalSums.{sumNat, sum-ext}
+use Rattle.integers.specs.Meaning.NaturalSums.{sumNat}
+use Rattle.integers.specs.Steps.NaturalSums.{sum-ext}
 use Rattle.decimal.specs.Meaning.Text.{valueFrom, valueOf}
 use Rattle.decimal.specs.Promised.Value.{power-positive}
 use Rattle.numerals.specs.Meaning.Numeral.{isDigit, onlyDigits, digits, negative, whole, decimals, isNumber, units, sign, value, finer}

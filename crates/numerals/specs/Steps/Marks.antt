@@ -9,7 +9,8 @@ use borrow.Author.Tests.{eq-eqb, eqb-true}
 use lib.Dec.{eqb}
 use lib.ListN.{length}
 use Rattle.numerals.specs.Meaning.Numeral.{digits, has, before, after, negative, whole, isNumber}
-use Rattle.numerals.specs.Steps.Scan.{clash, Separator, has-then}
+use Rattle.numerals.specs.Meaning.Scan.{Separator}
+use Rattle.numerals.specs.Steps.Scan.{clash, has-then}
 use Rattle.numerals.specs.Promised.Spelled.{minus, point, pointDigits, numeral, afterPoint, number-spelled, digits-lead}
 
 -- TWO MARKS: a text up to the first m has the mark k, so k stands before m

@@ -13,9 +13,11 @@ use Rattle.numerals.specs.declared.Decimals.{Decimals}
 use Rattle.numerals.specs.declared.Piece.{Piece}
 use Rattle.numerals.specs.declared.NumberAnswer.the-variants.{Read, NoNumber}
 use Rattle.numerals.specs.Meaning.Numeral.{starts, before, negative, unsigned, isNumber, firstOf, units, nonZero, finer}
-use Rattle.numerals.specs.Steps.Scan.{clash, Separator, stops, starts-end, signLength, sign-length, leading, rest, sign-before, no-digits, no-mark, alone-whole, alone-decimals, alone-number, alone-length, point-whole, point-no-digits, point-no-mark, point-is-number, point-all, point-length}
+use Rattle.numerals.specs.Meaning.Scan.{Separator}
+use Rattle.numerals.specs.Steps.Scan.{clash, stops, starts-end, signLength, sign-length, leading, rest, sign-before, no-digits, no-mark, alone-whole, alone-decimals, alone-number, alone-length, point-whole, point-no-digits, point-no-mark, point-is-number, point-all, point-length}
 use Rattle.numerals.specs.Steps.Capped.{cap, capped, capped-le, held-whole, held-units}
-use Rattle.numerals.specs.Steps.Pieces.{pieceTo, pieceAt, wholeAt, decimalsAt, heldNumber, numberBy, numberAt}
+use Rattle.numerals.specs.Meaning.Pieces.{pieceTo, pieceAt, heldNumber, numberBy, numberAt}
+use Rattle.numerals.specs.Steps.Pieces.{wholeAt, decimalsAt}
 
 pub start-in : (s : List ℕ) (at : ℕ) {start : ℕ} → at ≤ length s → start ≡ at + signLength (drop at s) → start ≤ length s
 start-in s at h p = omega (arith, p, sign-length (drop at s), length-drop at s)

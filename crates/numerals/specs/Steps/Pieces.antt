@@ -15,9 +15,10 @@ use Rattle.numerals.specs.declared.Decimals.{Decimals}
 use Rattle.numerals.specs.declared.Number.{Number}
 use Rattle.numerals.specs.declared.NumberAnswer.{NumberAnswer}
 use Rattle.numerals.specs.declared.NumberAnswer.the-variants.{Read, NoNumber}
-use Rattle.numerals.specs.Meaning.Numeral.{before, after, negative, isNumber, units, nonZero, finer}
+use Rattle.numerals.specs.Meaning.Numeral.{before, after, isNumber, units, nonZero, finer}
 use Rattle.numerals.specs.Steps.Scan.{leading}
 use Rattle.numerals.specs.Steps.Capped.{cap, capped, capped-le}
+use Rattle.numerals.specs.Meaning.Pieces.{pieceAt, heldNumber, numberBy, numberAt}
 
 -- BEFORE THE FIRST MARK
 pub before-le : (mark : ℕ) (s : List ℕ) → length (before mark s) ≤ length s
@@ -38,13 +39,6 @@ after-drop mark (b ∷ bs) = by (eqb b mark) (after-drop mark bs)
     by : (t : Bool) → after mark bs ≡ drop (suc (length (before mark bs))) bs → cond t bs (after mark bs) ≡ drop (suc (length (cond t [] (b ∷ before mark bs)))) (b ∷ bs)
     by true e = refl
     by false e = e
-
--- A PIECE that ends at `end` in a text of n bytes, the one that starts at `at` in s, and what is so of it
-abbrev pub pieceTo : ℕ → ℕ → Piece
-pieceTo n end = record { end = end; next = record { at = cond (ltb end n) (end + 1) end } }
-
-abbrev pub pieceAt : ℕ → List ℕ → ℕ → Piece
-pieceAt mark s at = pieceTo (length s) (at + length (before mark (drop at s)))
 
 pub record Cut (mark : ℕ) (s : List ℕ) (at : ℕ) (p : Piece) : Type 0 where
   pub is : p ≡ pieceAt mark s at
@@ -102,17 +96,6 @@ decimalsFrom v left f i t = record {
 
 abbrev pub decimalsAt : List ℕ → ℕ → ℕ → ℕ → Decimals
 decimalsAt s at x k = decimalsFrom x k false at (drop at s)
-
--- A NUMBER: the piece that starts there, as one
-abbrev pub heldNumber : ℕ → List ℕ → Number
-heldNumber k text = record { negative = negative text; units = capped (units k text); finer = finer k text }
-
-abbrev pub numberBy : Bool → Number → Piece → NumberAnswer
-numberBy true x p = Read x p
-numberBy false x p = NoNumber
-
-abbrev pub numberAt : ℕ → ℕ → List ℕ → ℕ → NumberAnswer
-numberAt k mark s at = numberBy (isNumber (before mark (drop at s))) (heldNumber k (before mark (drop at s))) (pieceAt mark s at)
 
 -- an answer that gives a number, and one that gives none
 pub record NumberRead (k mark : ℕ) (s : List ℕ) (at : ℕ) (x : Number) (p : Piece) : Type 0 where

@@ -10,15 +10,10 @@ use lib.Dec.{T, eqb}
 use lib.ListN.{length, getD, drop, length-append, drop-of-length-le}
 use lib.Seq.{drop-cons, drop-append-seam}
 use Rattle.numerals.specs.Meaning.Numeral.{isDigit, onlyDigits, digits, starts, has, before, after, negative, unsigned, whole, decimals, isNumber}
+use Rattle.numerals.specs.Meaning.Scan.{Separator}
 
 pub clash : true ≡ false → ⊥
 clash q = subst (λ (t : Bool). T t) q tt
-
--- A SEPARATOR is no byte of a number
-pub record Separator (mark : ℕ) : Type 0 where
-  pub no-digit : isDigit mark ≡ false
-  pub no-sign : eqb mark 45 ≡ false
-  pub no-point : eqb mark 46 ≡ false
 
 -- the text ends here, or the mark stands here
 unfoldable pub stops : ℕ → List ℕ → Bool

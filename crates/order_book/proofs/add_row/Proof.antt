@@ -3,11 +3,12 @@ use mathlib.Core.Path.{_≡_, ap, sym, subst, _∙_}
 use mathlib.Core.Bool.{false}
 use lib.ListN.{length}
 use lib.IntN.{ℤ}
-use Rattle.integers.specs.Size.{Near}
+use Rattle.integers.specs.Steps.Size.{Near}
 use Rattle.orders.specs.declared.Order.{Order}
-use Rattle.order_book.specs.Steps.BookState.{badIn, rowOrder, counted, withRow, OrderIn}
-use Rattle.integers.specs.Ranges.{is-false}
-use Rattle.orders.specs.Admitted.{order-outside, order-held}
+use Rattle.order_book.specs.Meaning.BookState.{badIn, rowOrder, counted, withRow}
+use Rattle.order_book.specs.Steps.BookState.{OrderIn}
+use Rattle.integers.specs.Steps.Ranges.{is-false}
+use Rattle.orders.specs.Steps.Admitted.{order-outside, order-held}
 use Rattle.order_book.specs.Steps.StateLaws.{added-by, order-in, counted-near, next-fits}
 use borrow.Author.Needs.{needs}
 use Rattle.order_book.proofs.add_row.Statement.{statement}

@@ -4,12 +4,12 @@ use mathlib.Core.Option.{none}
 use Prim.Native.Nat.{_-_, _≤_}
 use native.Mathlib.Omega.{arith}
 use lib.ListN.{length}
-use Rattle.integers.specs.Ranges.{outside}
+use Rattle.integers.specs.Meaning.Ranges.{outside}
 use Rattle.measures.specs.Meaning.Limits as limits
 use Rattle.rules.specs.Meaning.Book.{priceAt}
 use Rattle.rows.specs.Meaning.Rows.{firstBelow}
 use Rattle.rows.specs.Promised.RowLaws.{first-here, first-later, first-nowhere}
-use Rattle.order_book.specs.Steps.BookState.{firstPriceOutside}
+use Rattle.order_book.specs.Meaning.BookState.{firstPriceOutside}
 use Rattle.order_book.proofs.first_price_outside.Statement.{statement}
 use Rattle.order_book.proofs.first_price_outside.Tie as tie
 

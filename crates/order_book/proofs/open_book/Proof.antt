@@ -4,11 +4,12 @@ use mathlib.Core.Bool.{false}
 use native.Mathlib.Omega.{arith}
 use lib.ListN.{length}
 use lib.IntN.{pos}
-use Rattle.integers.specs.Ranges.{outside, nat-within}
+use Rattle.integers.specs.Meaning.Ranges.{outside}
+use Rattle.integers.specs.Steps.Ranges.{nat-within}
 use Rattle.rules.specs.Meaning.Layout.{zoneCounts, orderCounts}
-use Rattle.integers.specs.Ranges.{is-false}
+use Rattle.integers.specs.Steps.Ranges.{is-false}
 use Rattle.rows.specs.Promised.RowLaws.{at-place, at-none, place-below}
-use Rattle.order_book.specs.Steps.BookState.{firstPriceOutside}
+use Rattle.order_book.specs.Meaning.BookState.{firstPriceOutside}
 use Rattle.order_book.specs.Steps.StateLaws.{opened-by}
 use borrow.Author.Needs.{needs}
 use Rattle.order_book.proofs.open_book.Statement.{statement}

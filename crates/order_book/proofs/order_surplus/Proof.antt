@@ -1,13 +1,14 @@
 -- `order_book::order_surplus` meets its contract: rule 8 at the zone's price where that is held, else nothing. Assumes nothing.
 use mathlib.Core.Path.{_≡_, ap, sym, _∙_}
 use mathlib.Core.Bool.{false}
-use Rattle.integers.specs.Ranges.{outside, within}
+use Rattle.integers.specs.Meaning.Ranges.{outside}
+use Rattle.integers.specs.Steps.Ranges.{within}
 use Rattle.measures.specs.Meaning.Limits as limits
 use Rattle.measures.specs.Steps.Held.{grains-outside, grains-held}
-use Rattle.orders.specs.Admitted.{surplusAt}
+use Rattle.orders.specs.Meaning.Admitted.{surplusAt}
 use Rattle.rules.specs.Meaning.Book.{priceAt}
 use borrow.Author.Needs.{needs}
-use Rattle.integers.specs.Ranges.{is-false}
+use Rattle.integers.specs.Steps.Ranges.{is-false}
 use Rattle.order_book.specs.Steps.StateLaws.{counted-by}
 use Rattle.order_book.proofs.order_surplus.Statement.{statement}
 use Rattle.order_book.proofs.order_surplus.Tie as tie

@@ -10,8 +10,10 @@ use lib.Dec.{T, eqb, not-T}
 use lib.ListN.{length, getD}
 use lib.IntN.{ℤ, pos}
 use lib.Signed.{ltZ, ltZ-yes, clashℤ}
-use Rattle.integers.specs.Ranges.{Range, outside, Within, not-is}
-use Rattle.integers.specs.Sums.{sumTo, sum-ext}
+use Rattle.integers.specs.Meaning.Ranges.{Range, outside, Within}
+use Rattle.integers.specs.Steps.Ranges.{not-is}
+use Rattle.integers.specs.Meaning.Sums.{sumTo}
+use Rattle.integers.specs.Steps.Sums.{sum-ext}
 use Rattle.measures.specs.Meaning.Limits as limits
 use Rattle.rules.specs.Meaning.Layout.{zoneCounts, orderCounts}
 use Rattle.rules.specs.Meaning.Hour.{Case, Prices, caseOf, pricesOf, zonePrice, buys, surplusOf, orderSurplus, surplus}
@@ -21,7 +23,7 @@ use Rattle.rules.specs.Meaning.Verdict.{badRow, orderFault, caseRows, caseRefus
 use Rattle.rules.specs.Steps.Passed.{case-sound}
 use Rattle.rules.specs.Meaning.Book.{BookRow, noRow, rowAt, priceAt, badBookRow, bookRows, bookRefusal, rowSurplus, bookSurplus, bookAnswerBy, bookAnswer}
 use Rattle.order_book.specs.declared.OrderRow.{OrderRow}
-use Rattle.order_book.specs.Steps.BookState.{answered}
+use Rattle.order_book.specs.Meaning.BookState.{answered}
 use Rattle.order_book.specs.Meaning.Lent.{bookRow, given, lentAnswer}
 use Rattle.order_book.specs.Steps.Closing.{no-cause}
 

@@ -11,9 +11,11 @@ use native.Mathlib.Decide.{decLt}
 use lib.Dec.{T, eqb, ltb, nltb→le}
 use lib.ListN.{length, getD, length-map, List·getD-map}
 use lib.IntN.{ℤ, pos}
-use Rattle.integers.specs.Ranges.{outside, nat-within}
-use Rattle.integers.specs.Sums.{sumTo, sum-ext}
-use Rattle.integers.specs.Size.{Near, near-sum}
+use Rattle.integers.specs.Meaning.Ranges.{outside}
+use Rattle.integers.specs.Steps.Ranges.{nat-within}
+use Rattle.integers.specs.Meaning.Sums.{sumTo}
+use Rattle.integers.specs.Steps.Sums.{sum-ext}
+use Rattle.integers.specs.Steps.Size.{Near, near-sum}
 use Rattle.measures.specs.Meaning.Limits as limits
 use Rattle.rules.specs.Meaning.Layout.{zoneCounts, orderCounts}
 use Rattle.rules.specs.Meaning.Hour.{surplusOf}
@@ -25,8 +27,9 @@ use Rattle.rules.specs.Meaning.Book.{BookRow, priceAt, badBookRow, bookRows, bo
 use Rattle.order_book.specs.declared.BookState.{BookState}
 use Rattle.order_book.specs.declared.OrderRow.{OrderRow}
 use Rattle.order_book.specs.Meaning.Lent.{bookRow, given, lentAnswer}
-use Rattle.order_book.specs.Steps.BookState.{newState, firstPriceOutside, openBy, openOf, counted, badIn, rowOrder, isOpen, asksRow, addBy, addOf, nextOf, closeOf, noOrder, stateAt, Ready}
-use Rattle.integers.specs.Ranges.{is-false, not-is}
+use Rattle.order_book.specs.Meaning.BookState.{newState, firstPriceOutside, openBy, openOf, counted, badIn, rowOrder, isOpen, asksRow, addBy, addOf, closeOf, Ready}
+use Rattle.order_book.specs.Steps.BookState.{nextOf, noOrder, stateAt}
+use Rattle.integers.specs.Steps.Ranges.{is-false, not-is}
 use Rattle.order_book.specs.Steps.StateLaws.{opened-by, next-by, asked, counted-by, order-in, counted-near}
 
 -- after i rows whose surpluses are f, by the first row that is out of range

@@ -11,11 +11,12 @@ use lib.ListN.{length}
 use lib.IntN.{ℤ, pos, _+ℤ_}
 use mir.Syntax.{w64}
 use mir.Val.{SFits}
-use Rattle.integers.specs.Ranges.{outside, within, nat-within, is-true, is-false}
-use Rattle.integers.specs.Size.{Near, near-le, near-pos, near-add, near-fits}
-use Rattle.integers.specs.Sums.{only}
+use Rattle.integers.specs.Meaning.Ranges.{outside}
+use Rattle.integers.specs.Steps.Ranges.{within, nat-within, is-true, is-false}
+use Rattle.integers.specs.Steps.Size.{Near, near-le, near-pos, near-add, near-fits}
+use Rattle.integers.specs.Meaning.Sums.{only}
 use Rattle.measures.specs.Meaning.Limits as limits
-use Rattle.orders.specs.Admitted.{surplusAt}
+use Rattle.orders.specs.Meaning.Admitted.{surplusAt}
 use Rattle.orders.specs.declared.Order.{Order}
 use Rattle.rules.specs.Meaning.Layout.{zoneCounts, orderCounts}
 use Rattle.rules.specs.Meaning.Hour.{surplusOf}
@@ -26,7 +27,8 @@ use Rattle.rules.specs.Promised.Fits.{surplus-near}
 use Rattle.rules.specs.Meaning.Book.{priceAt}
 use Rattle.order_book.specs.declared.BookState.{BookState}
 use Rattle.order_book.specs.declared.OrderRow.{OrderRow}
-use Rattle.order_book.specs.Steps.BookState.{openBy, openOf, firstPriceOutside, counted, badIn, rowOrder, isOpen, asksRow, addBy, addOf, nextOf, answered, closeOf, OrderIn, Ready}
+use Rattle.order_book.specs.Meaning.BookState.{openBy, openOf, firstPriceOutside, counted, badIn, rowOrder, isOpen, asksRow, addBy, addOf, answered, closeOf, Ready}
+use Rattle.order_book.specs.Steps.BookState.{nextOf, OrderIn}
 
 pub opened-by : (count : ℕ) (prices : List ℤ) {a b : Bool} {z : Option ℕ} → outside zoneCounts (pos (length prices)) ≡ a → outside orderCounts (pos count) ≡ b → firstPriceOutside prices ≡ z
     → openBy a b z ≡ openOf count prices

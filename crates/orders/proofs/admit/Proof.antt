@@ -3,12 +3,12 @@ use mathlib.Core.Path.{_≡_, refl, ap, sym, _∙_}
 use mathlib.Core.Bool.{false}
 use borrow.Author.Tests.{le-leb, lt-leb, lt-ltb, le-ltb}
 use lib.IntN.{pos}
-use Rattle.integers.specs.Ranges.{outside}
+use Rattle.integers.specs.Meaning.Ranges.{outside}
 use Rattle.measures.specs.Meaning.Limits as limits
 use Rattle.measures.specs.Meaning.Held.{tenthsIn}
 use Rattle.measures.specs.Steps.Held.{tenths-outside, tenths-held, cents-outside, cents-held}
 use Rattle.orders.specs.Meaning.Answer.{orderOf}
-use Rattle.orders.specs.Admitted.{admitted-by}
+use Rattle.orders.specs.Steps.Admitted.{admitted-by}
 use Rattle.orders.specs.declared.OrderAnswer.the-variants.{Held}
 use borrow.Author.Needs.{needs}
 use Rattle.orders.proofs.admit.Statement.{statement}

@@ -3,10 +3,10 @@ use mathlib.Core.Path.{_≡_, ap, sym, subst, _∙_}
 use native.Mathlib.Omega.{arith}
 use lib.IntN.{ℤ, _*ℤ_}
 use mir.Syntax.{w64}
-use Rattle.integers.specs.Order.{positive}
-use Rattle.integers.specs.Ranges.{Within}
-use Rattle.integers.specs.Size.{near-fits, near-mul, near-within}
-use Rattle.integers.specs.Machine.{sfits-by}
+use Rattle.integers.specs.Meaning.Order.{positive}
+use Rattle.integers.specs.Meaning.Ranges.{Within}
+use Rattle.integers.specs.Steps.Size.{near-fits, near-mul, near-within}
+use Rattle.integers.specs.Steps.Machine.{sfits-by}
 use Rattle.measures.specs.Meaning.Limits.{grainsOf}
 use Rattle.measures.specs.Meaning.Limits as limits
 use Rattle.rules.specs.Meaning.Hour.{above}

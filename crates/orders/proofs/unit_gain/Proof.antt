@@ -3,7 +3,7 @@ use mathlib.Core.Path.{ap, sym, _∙_}
 use mathlib.Core.Bool.{Bool}
 use native.Mathlib.Omega.{arith}
 use mir.Syntax.{w64}
-use Rattle.integers.specs.Size.{near-fits}
+use Rattle.integers.specs.Steps.Size.{near-fits}
 use Rattle.rules.specs.Meaning.Hour as rules
 use Rattle.rules.specs.Promised.Fits.{apart-prices}
 use Rattle.orders.proofs.unit_gain.Statement.{statement}

@@ -4,8 +4,8 @@ use borrow.Author.Needs.{needs}
 use Rattle.rows.specs.Promised.RowLaws.{field-fails, behind}
 use Rattle.proposal_file.specs.declared.ProposalAnswer.the-variants.{Refused}
 use Rattle.proposal_file.specs.Meaning.Answer.{openingOf, proposalBy}
-use Rattle.proposal_file.specs.Answer.{header-taken, header-refused}
-use Rattle.proposal_file.specs.Proposed.{rowsOf, rows-are}
+use Rattle.proposal_file.specs.Steps.Answer.{header-taken, header-refused}
+use Rattle.proposal_file.specs.Steps.Proposed.{rowsOf, rows-are}
 use Rattle.proposal_file.proofs.read_proposal.Statement.{statement}
 use Rattle.proposal_file.proofs.read_proposal.Tie as tie
 

@@ -6,7 +6,7 @@ use borrow.Author.Needs.{needs}
 use Rattle.fields.specs.declared.Cursor.{Cursor}
 use Rattle.fields.specs.declared.Walked.the-variants.{Past}
 use Rattle.fields.specs.Meaning.Field.{cursor}
-use Rattle.fields.specs.Record.{RecordWithin, word-read, word-there}
+use Rattle.fields.specs.Steps.Record.{RecordWithin, word-read, word-there}
 use Rattle.proposal_file.proofs.walk_number.Statement.{statement}
 use Rattle.proposal_file.proofs.walk_number.Tie as tie
 

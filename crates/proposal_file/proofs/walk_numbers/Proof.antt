@@ -7,7 +7,7 @@ use borrow.Author.Needs.{needs}
 use Rattle.fields.specs.declared.Cursor.{Cursor}
 use Rattle.fields.specs.declared.Walked.the-variants.{Past}
 use Rattle.fields.specs.Meaning.Field.{cursor}
-use Rattle.fields.specs.Walked.{never-refused, past-is}
+use Rattle.fields.specs.Steps.Walked.{never-refused, past-is}
 use Rattle.proposal_file.proofs.walk_numbers.Statement.{statement}
 use Rattle.proposal_file.proofs.walk_numbers.Tie as tie
 

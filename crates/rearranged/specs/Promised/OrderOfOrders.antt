@@ -9,8 +9,8 @@ use native.Mathlib.Omega.{arith}
 use lib.Dec.{T}
 use lib.ListN.{length, drop}
 use lib.IntN.{ℤ, pos}
-use Rattle.integers.specs.Bytes.{signed64}
-use Rattle.integers.specs.Ranges.{outside, isZero}
+use Rattle.integers.specs.Meaning.Bytes.{signed64}
+use Rattle.integers.specs.Meaning.Ranges.{outside, isZero}
 use Rattle.rearranged.specs.Meaning.Permutation.{Permutation}
 use Rattle.measures.specs.Meaning.Limits as limits
 use Rattle.rules.specs.Meaning.Layout.{toleranceIn, ordersIn, volumeIn, caseLength, proposalLength, caseHeader, proposalHeader, branchFieldAt, linkFields, linkFieldAt, orderFields, shadowAt, zonePriceAt}

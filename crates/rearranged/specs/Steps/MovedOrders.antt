@@ -4,7 +4,8 @@ use mathlib.Core.Path.{_≡_, refl, ap, _∙_}
 use Prim.Native.Nat.{ℕ, zero, suc, _<_}
 use lib.Dec.{eqb}
 use lib.IntN.{ℤ, pos, _+ℤ_, _-ℤ_, _*ℤ_}
-use Rattle.integers.specs.Sums.{only, sum-ext}
+use Rattle.integers.specs.Meaning.Sums.{only}
+use Rattle.integers.specs.Steps.Sums.{sum-ext}
 use Rattle.measures.specs.Meaning.Limits.{partsInOne}
 use Rattle.rules.specs.Meaning.Hour.{Case, Plan, Prices, buys, signed, orderNet, net, inflow, outflow, ltaPart, fbPart, netSum, branchUse, branchPrice, zonePrice, orderWelfare, welfare, orderSurplus, surplus, branchValue, branchTotal, spread, linkValue, linkTotal, linkOwed, owed, noLink, networkBound, bound, gap, rent}
 use Rattle.rules.specs.Meaning.Verdict.{branchFault, repeated, linkFault}

@@ -7,8 +7,9 @@ use native.Mathlib.Decide.{ℕ-discrete}
 use borrow.Author.Tests.{eq-eqb, ne-eqb}
 use lib.Dec.{eqb}
 use lib.IntN.{ℤ, pos, _*ℤ_}
-use Rattle.integers.specs.Difference.{at, _⊗_, eq-by}
-use Rattle.integers.specs.Sums.{sumTo, only, sum-ext, sum-only, gather}
+use Rattle.integers.specs.Steps.Difference.{at, _⊗_, eq-by}
+use Rattle.integers.specs.Meaning.Sums.{sumTo, only}
+use Rattle.integers.specs.Steps.Sums.{sum-ext, sum-only, gather}
 use Rattle.rearranged.specs.Meaning.Permutation.{Permutation}
 
 module _ {n : ℕ} (π : Permutation n) where

@@ -2,7 +2,7 @@
 use mathlib.Core.Path.{refl}
 use native.Mathlib.Omega.{arith}
 use lib.ListN.{length-set}
-use Rattle.integers.specs.Bytes.{bytesOf}
+use Rattle.integers.specs.Meaning.Bytes.{bytesOf}
 use Rattle.rules.specs.Meaning.Report.{headerBytes}
 use borrow.Author.Needs.{needs}
 use Rattle.report.proofs.put_header.Statement.{statement}

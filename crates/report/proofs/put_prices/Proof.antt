@@ -6,9 +6,10 @@ use borrow.Author.Needs.{needs}
 use denote.Ref.{now}
 use lib.ListN.{length}
 use lib.Seq.{sets, length-sets}
-use Rattle.integers.specs.Bytes.{bytesOf, signed64}
+use Rattle.integers.specs.Meaning.Bytes.{bytesOf, signed64}
 use Rattle.rules.specs.Meaning.Report.{priceBytes}
-use Rattle.report.specs.Written.{priceIn, next-price}
+use Rattle.report.specs.Meaning.Written.{priceIn}
+use Rattle.report.specs.Steps.Written.{next-price}
 use Rattle.report.proofs.put_prices.Statement.{statement}
 use Rattle.report.proofs.put_prices.Tie as tie
 

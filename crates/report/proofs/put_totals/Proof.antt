@@ -2,7 +2,7 @@
 use mathlib.Core.Path.{_≡_, _∙_}
 use denote.Ref.{now}
 use lib.Seq.{sets}
-use Rattle.integers.specs.Bytes.{bytesOf, signed64}
+use Rattle.integers.specs.Meaning.Bytes.{bytesOf, signed64}
 use Rattle.rules.specs.Meaning.Report.{totalBytes}
 use borrow.Author.Needs.{needs}
 use Rattle.report.proofs.put_totals.Statement.{statement}

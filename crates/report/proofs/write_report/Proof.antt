@@ -3,7 +3,8 @@ use mathlib.Core.Path.{_∙_}
 use denote.Ref.{now}
 use lib.Seq.{sets}
 use Rattle.rules.specs.Meaning.Report.{totalBytes, priceBytes}
-use Rattle.report.specs.Written.{totalsIn, priceIn, report-run}
+use Rattle.report.specs.Meaning.Written.{totalsIn, priceIn}
+use Rattle.report.specs.Steps.Written.{report-run}
 use borrow.Author.Needs.{needs}
 use Rattle.report.proofs.write_report.Statement.{statement}
 use Rattle.report.proofs.write_report.Tie as tie

@@ -5,7 +5,7 @@ use native.Mathlib.Omega.{arith}
 use lib.ListN.{length}
 use denote.Ref.{now}
 use borrow.Author.Needs.{needs}
-use Rattle.residual_search.specs.Arcs.{Passed, passed-start, passed-more, next-found, next-none}
+use Rattle.residual_search.specs.Steps.Arcs.{Passed, passed-start, passed-more, next-found, next-none}
 use Rattle.residual_search.proofs.next_arc.Statement.{statement}
 use Rattle.residual_search.proofs.next_arc.Tie as tie
 

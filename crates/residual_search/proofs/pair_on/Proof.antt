@@ -4,7 +4,7 @@ use Prim.Native.Nat.{ℕ, _≤_, _<_}
 use native.Mathlib.Omega.{arith}
 use denote.Ref.{now}
 use borrow.Author.Needs.{needs}
-use Rattle.residual_search.specs.Arcs.{on-missing, on-found, on-not-counted}
+use Rattle.residual_search.specs.Steps.Arcs.{on-missing, on-found, on-not-counted}
 use Rattle.residual_search.proofs.pair_on.Statement.{statement}
 use Rattle.residual_search.proofs.pair_on.Tie as tie
 

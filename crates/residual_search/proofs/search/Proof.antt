@@ -10,9 +10,9 @@ use lib.IntN.{ℤ}
 use denote.Ref.{now}
 use borrow.Author.Needs.{needs}
 use Rattle.residual_search.specs.declared.Arc.{Arc}
-use Rattle.residual_search.specs.Labelling.{queueOf}
-use Rattle.residual_search.specs.Arcs.{NextArc}
-use Rattle.residual_search.specs.Searched.{Progress, progress-start, from-in, from-reached, place-low, progress-next, pair-low, zone-low, count-low, progress-label, searched-sink, searched-none}
+use Rattle.residual_search.specs.Steps.Labelling.{queueOf}
+use Rattle.residual_search.specs.Steps.Arcs.{NextArc}
+use Rattle.residual_search.specs.Steps.Searched.{Progress, progress-start, from-in, from-reached, place-low, progress-next, pair-low, zone-low, count-low, progress-label, searched-sink, searched-none}
 use Rattle.residual_search.proofs.search.Statement.{statement}
 use Rattle.residual_search.proofs.search.Tie as tie
 

@@ -7,7 +7,7 @@ use native.Mathlib.Omega.{arith}
 use lib.ListN.{length}
 use denote.Ref.{now}
 use borrow.Author.Needs.{needs}
-use Rattle.residual_search.specs.Labelling.{Seeded, seeded-none, count-low, seeded-zone, seeded-not}
+use Rattle.residual_search.specs.Steps.Labelling.{Seeded, seeded-none, count-low, seeded-zone, seeded-not}
 use Rattle.residual_search.proofs.seed_zones.Statement.{statement}
 use Rattle.residual_search.proofs.seed_zones.Tie as tie
 

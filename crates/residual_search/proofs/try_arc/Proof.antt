@@ -10,9 +10,9 @@ use lib.IntN.{ℤ}
 use denote.Ref.{now}
 use borrow.Author.Needs.{needs}
 use Rattle.zone_pairs.specs.Meaning.Pairs.{pairCount, firstZone, secondZone}
-use Rattle.zone_pairs.specs.Steps.Table.{pairIn}
+use Rattle.zone_pairs.specs.Meaning.Table.{pairIn}
 use Rattle.flow_scratch.specs.Meaning.Places.{amountAt}
-use Rattle.residual_search.specs.Arcs.{NoArc, along, against, tried-none, tried-some, in-table, not-in-table, none-back}
+use Rattle.residual_search.specs.Steps.Arcs.{NoArc, along, against, tried-none, tried-some, in-table, not-in-table, none-back}
 use Rattle.residual_search.proofs.try_arc.Statement.{statement}
 use Rattle.residual_search.proofs.try_arc.Tie as tie
 

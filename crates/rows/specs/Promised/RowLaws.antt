@@ -10,7 +10,7 @@ use native.Mathlib.Decide.{decLt}
 use lib.ListN.{length, getD}
 use lib.Dec.{T, eqb, ltb, eqb-refl, ltb→lt, T-not}
 use borrow.Author.Count.{below-more}
-use Rattle.integers.specs.Ranges.{nor-left, nor-right, and-left, and-right, is-true, is-false, and-both}
+use Rattle.integers.specs.Steps.Ranges.{nor-left, nor-right, and-left, and-right, is-true, is-false, and-both}
 use Rattle.rows.specs.declared.Outcome.{Outcome}
 use Rattle.rows.specs.declared.Place.{Place}
 use Rattle.rows.specs.declared.Place.the-variants.{At, Nowhere}

@@ -8,8 +8,8 @@ use Prim.Native.Nat.{ℕ, _*_, _≤_}
 use lib.Dec.{eqb, ltb}
 use lib.IntN.{ℤ, pos, negℤ, _+ℤ_, _-ℤ_, _*ℤ_}
 use lib.Signed.{_≤ℤ_, ltZ}
-use Rattle.integers.specs.Order.{larger, positive}
-use Rattle.integers.specs.Sums.{sumTo, only}
+use Rattle.integers.specs.Meaning.Order.{larger, positive}
+use Rattle.integers.specs.Meaning.Sums.{sumTo, only}
 use Rattle.measures.specs.Meaning.Limits.{partsInOne}
 use Rattle.rules.specs.Meaning.Layout.{zonesIn, branchesIn, linksIn, ordersIn, toleranceIn, ramIn, ptdfIn, fromIn, toIn, capacityIn, contractedIn, zoneIn, sideIn, quantityIn, priceIn, shareIn, systemIn, volumeIn, flowIn, shadowIn}
 

@@ -9,7 +9,7 @@ use lib.ListN.{length}
 use lib.Dec.{eqb, leb, ltb}
 use lib.IntN.{ℤ, pos}
 use lib.Signed.{ltZ}
-use Rattle.integers.specs.Ranges.{outside, isZero}
+use Rattle.integers.specs.Meaning.Ranges.{outside, isZero}
 use Rattle.measures.specs.Meaning.Limits as limits
 use Rattle.rules.specs.Meaning.Layout.{u8At, caseHeader, caseVersion, caseLength, proposalHeader, proposalVersion, proposalLength, zoneCounts, branchCounts, linkCounts, orderCounts, reportRoom, branchFieldAt, linkFields, linkFieldAt, orderFields, orderFieldAt, shadowAt}
 use Rattle.rules.specs.Meaning.Hour.{Case, Plan, Prices, caseOf, planOf, pricesOf, netSum, broken, brokenZ, linkRule, branchRule, zonePrice, noLink, gap}

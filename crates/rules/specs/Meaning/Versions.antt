@@ -5,7 +5,7 @@ use mathlib.Core.List.{List, [], _++_}
 use Prim.Native.Nat.{ℕ, zero, suc, _+_, _*_, _-_, _/_}
 use lib.Dec.{eqb}
 use lib.ListN.{take, drop}
-use Rattle.integers.specs.Bytes.{bytesOf}
+use Rattle.integers.specs.Meaning.Bytes.{bytesOf}
 use Rattle.rules.specs.Meaning.Layout.{linksIn, linkAt, orderAt}
 use Rattle.rows.specs.declared.Outcome.{Outcome}
 use Rattle.rows.specs.Meaning.Rows.{verdict}

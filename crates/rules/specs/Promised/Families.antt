@@ -7,7 +7,7 @@ use Prim.Native.Nat.{ℕ, zero, suc, _*_, _≤_, _<_}
 use native.Mathlib.Omega.{arith}
 use lib.ListN.{length, drop}
 use lib.Dec.{T, eqb, eqb→eq, not-T, nltb→le}
-use Rattle.integers.specs.Ranges.{not-is, and-both}
+use Rattle.integers.specs.Steps.Ranges.{not-is, and-both}
 use Rattle.rules.specs.Meaning.Hour.{Case, Plan, Prices, caseOf, planOf, pricesOf}
 use Rattle.rules.specs.Meaning.Families.{parentOf, onward, ancestor, LeadsBack, isOrder, leadsBack, accepted}
 use Rattle.rows.specs.declared.Outcome.{Outcome}

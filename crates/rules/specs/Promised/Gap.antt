@@ -5,9 +5,11 @@ use native.Mathlib.Nat.{mul-le-mul-right}
 use native.Mathlib.Omega.{arith}
 use lib.IntN.{ℤ, pos, _+ℤ_, _-ℤ_, _*ℤ_}
 use lib.Signed.{_≤ℤ_}
-use Rattle.integers.specs.Difference.{up, dn, at, _⊕_, _⊖_, _⊗_, le-by, eq-by, le-fact, eq-fact}
-use Rattle.integers.specs.Order.{le-trans, le-antisym, diff-nonneg, add-nonneg, times-nonneg}
-use Rattle.integers.specs.Sums.{sumTo, sum-sub, sum-scale-l, sum-nonneg, one-le-sum}
+use Rattle.integers.specs.Meaning.Difference.{up, dn}
+use Rattle.integers.specs.Steps.Difference.{at, _⊕_, _⊖_, _⊗_, le-by, eq-by, le-fact, eq-fact}
+use Rattle.integers.specs.Steps.Order.{le-trans, le-antisym, diff-nonneg, add-nonneg, times-nonneg}
+use Rattle.integers.specs.Meaning.Sums.{sumTo}
+use Rattle.integers.specs.Steps.Sums.{sum-sub, sum-scale-l, sum-nonneg, one-le-sum}
 use Rattle.measures.specs.Meaning.Limits.{partsInOne}
 use Rattle.rules.specs.Meaning.Hour.{Case, Plan, Prices, buys, orderNet, linkUse, linkRoom, branchUse, branchRoom, zonePrice, orderWelfare, welfare, surplusOf, orderSurplus, surplus, branchValue, branchTotal, spread, linkValue, linkTotal, networkBound, bound, rent}
 use Rattle.rules.specs.Meaning.Clearing.{Placed, Clearing}

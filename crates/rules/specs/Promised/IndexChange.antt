@@ -8,7 +8,7 @@ use Prim.Native.Nat.{ℕ, zero, suc, _+_}
 use native.Mathlib.Omega.{arith}
 use lib.Dec.{T, eqb}
 use lib.IntN.{ℤ, pos}
-use Rattle.integers.specs.Ranges.{outside}
+use Rattle.integers.specs.Meaning.Ranges.{outside}
 use Rattle.measures.specs.Meaning.Limits as limits
 use Rattle.rules.specs.Meaning.Layout.{linkFields, orderFields}
 use Rattle.rules.specs.Meaning.Hour.{Case, Plan, Prices, caseOf, planOf, pricesOf}

@@ -12,9 +12,10 @@ use lib.Dec.{T, eqb, leb, ltb, leb→le, ltb→lt, nleb→lt, nltb→le, not-T, 
 use lib.ListN.{length, getD}
 use lib.IntN.{ℤ, pos, negℤ, _-ℤ_, _*ℤ_}
 use lib.Signed.{_≤ℤ_}
-use Rattle.integers.specs.Ranges.{outside, within, inside, nat-within, nat-inside, is-false}
-use Rattle.integers.specs.Order.{positive}
-use Rattle.integers.specs.Sums.{sumTo}
+use Rattle.integers.specs.Meaning.Ranges.{outside}
+use Rattle.integers.specs.Steps.Ranges.{within, inside, nat-within, nat-inside, is-false}
+use Rattle.integers.specs.Meaning.Order.{positive}
+use Rattle.integers.specs.Meaning.Sums.{sumTo}
 use Rattle.measures.specs.Meaning.Limits as limits
 use Rattle.rules.specs.Meaning.Layout.{zoneCounts, orderCounts, orderFields}
 use Rattle.rules.specs.Meaning.Hour.{surplusOf}

@@ -8,7 +8,7 @@ use native.Mathlib.Omega.{arith}
 use lib.ListN.{length, getD, take, drop, take-append-drop, length-append, List·getD-append}
 use lib.Seq.{take-length, drop-length, take-append-seam, drop-append-seam}
 use lib.Dec.{nltb→le}
-use Rattle.integers.specs.Ranges.{nat-within, nat-inside}
+use Rattle.integers.specs.Steps.Ranges.{nat-within, nat-inside}
 use Rattle.rows.specs.declared.Outcome.{Outcome}
 use Rattle.rows.specs.Meaning.Rows.{Pass}
 use Rattle.rows.specs.Promised.RowLaws.{Comes, past, none-left, rowOf, isRow, field-at-passes}

@@ -11,7 +11,7 @@ use lib.ListN.{length}
 use lib.Dec.{T, eqb, leb, ltb, eqb→eq, eqb-refl, leb→le, ltb→lt, nltb→le, T-not, not-T}
 use lib.IntN.{pos, negℤ}
 use lib.Signed.{_≤ℤ_}
-use Rattle.integers.specs.Ranges.{inside, nat-within, nat-inside, nor-right, nor-both, and-both, and-left, and-right, is-true, is-false}
+use Rattle.integers.specs.Steps.Ranges.{inside, nat-within, nat-inside, nor-right, nor-both, and-both, and-left, and-right, is-true, is-false}
 use Rattle.measures.specs.Meaning.Limits as limits
 use Rattle.rules.specs.Meaning.Layout.{u8At, caseVersion, zonesIn, branchesIn, linksIn, ordersIn, toleranceIn, ramIn, ptdfIn, fromIn, toIn, capacityIn, contractedIn, zoneIn, sideIn, quantityIn, priceIn, caseLength, proposalVersion, shareIn, shadowIn, proposalLength, linkFields, orderFields}
 use Rattle.rules.specs.Meaning.Hour.{caseOf, planOf, pricesOf}

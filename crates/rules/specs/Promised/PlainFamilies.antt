@@ -13,7 +13,7 @@ use lib.ListN.{length, getD}
 use lib.Dec.{T, eqb, leb, ltb, eqb→eq, eqb-refl, leb→le, le→leb, nleb→lt, ltb→lt, lt→ltb, nltb→le, not-T, T-not}
 use lib.IntN.{pos, _*ℤ_}
 use lib.Signed.{_≤ℤ_, _<ℤ_}
-use Rattle.integers.specs.Ranges.{is-true, is-false, nor-left, nor-right, nor-both}
+use Rattle.integers.specs.Steps.Ranges.{is-true, is-false, nor-left, nor-right, nor-both}
 use Rattle.rules.specs.Meaning.Layout.{u8At, u16At, ordersIn, toleranceIn, quantityIn, volumeIn}
 use Rattle.rules.specs.Meaning.Hour.{Case, caseOf, planOf, pricesOf, gap}
 use Rattle.rules.specs.Meaning.Families.{familyVersion, parentIn, familyLength, named, parentOf, missing, onward, ancestor, LeadsBack, isOrder, leadsBack}

@@ -11,7 +11,7 @@ use lib.Dec.{T, eqb, eqb→eq, T-not}
 use lib.IntN.{ℤ}
 use Rattle.decimal.specs.Meaning.Text.{countText, amountText}
 use Rattle.decimal.specs.Promised.PlainAmounts.{AllDigits, ReadsCount, ReadsAmount, count-reads, amount-reads}
-use Rattle.integers.specs.Ranges.{is-true, is-false, not-is}
+use Rattle.integers.specs.Steps.Ranges.{is-true, is-false, not-is}
 use Rattle.rows.specs.declared.Outcome.{Outcome}
 use Rattle.rules.specs.Meaning.Layout.{u8At, zonesIn}
 use Rattle.rules.specs.Meaning.Hour.{caseOf, planOf, pricesOf, zonePrice, welfare, owed, bound, gap, rent}

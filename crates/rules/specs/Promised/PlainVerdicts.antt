@@ -9,7 +9,8 @@ use native.Mathlib.Omega.{arith}
 use lib.Dec.{T, eqb, ltb, eqb→eq, ltb→lt, lt→ltb, nltb→le, not-T}
 use lib.IntN.{ℤ, pos, negℤ, _*ℤ_}
 use lib.Signed.{_≤ℤ_, _<ℤ_, ltZ, ltZ-yes, ltZ-no, clashℤ}
-use Rattle.integers.specs.Ranges.{outside, inside, nat-within, nat-inside, isZero}
+use Rattle.integers.specs.Meaning.Ranges.{outside, isZero}
+use Rattle.integers.specs.Steps.Ranges.{inside, nat-within, nat-inside}
 use Rattle.measures.specs.Meaning.Limits as limits
 use Rattle.rules.specs.Meaning.Layout.{zonesIn, toleranceIn}
 use Rattle.rules.specs.Meaning.Hour.{Case, Plan, Prices, caseOf, planOf, pricesOf, netSum, linkUse, linkRoom, branchUse, branchRoom, zonePrice, noLink, gap}

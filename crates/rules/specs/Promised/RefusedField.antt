@@ -12,7 +12,8 @@ use borrow.Author.Tests.{lt-leb, lt-ltb, le-ltb}
 use lib.Dec.{T, eqb, eqb→eq, eqb-refl, ltb→lt, T-not}
 use lib.ListN.{length}
 use lib.IntN.{pos}
-use Rattle.integers.specs.Ranges.{outside, is-true, is-false, and-both, and-left, and-right, or-right}
+use Rattle.integers.specs.Meaning.Ranges.{outside}
+use Rattle.integers.specs.Steps.Ranges.{is-true, is-false, and-both, and-left, and-right, or-right}
 use Rattle.measures.specs.Meaning.Limits as limits
 use Rattle.rules.specs.Meaning.Layout.{zonesIn, branchesIn, linksIn, ordersIn, branchSize, branchAt, branchFieldAt, linkAt, linkFields, linkFieldAt, linkFieldSize, contracts, caseVersion, fromIn, toIn, orderAt, orderFields, orderFieldAt, orderFieldSize, shadowAt, caseLength, proposalLength, u8At, u32At, i32At, ramIn, ptdfIn, capacityIn, contractedIn, zoneIn, sideIn, quantityIn, priceIn}
 use Rattle.rules.specs.Meaning.Hour.{caseOf, planOf, pricesOf}

@@ -12,8 +12,9 @@ use borrow.Author.Tests.{le-ltb, lt-ltb, eq-eqb, ne-eqb}
 use lib.Dec.{T, eqb, ltb}
 use lib.ListN.{length, drop}
 use lib.IntN.{ℤ, pos}
-use Rattle.integers.specs.Bytes.{signed64}
-use Rattle.integers.specs.Ranges.{outside, isZero, is-true, is-false}
+use Rattle.integers.specs.Meaning.Bytes.{signed64}
+use Rattle.integers.specs.Meaning.Ranges.{outside, isZero}
+use Rattle.integers.specs.Steps.Ranges.{is-true, is-false}
 use Rattle.measures.specs.Meaning.Limits as limits
 use Rattle.rules.specs.Meaning.Layout.{u32At, caseVersion, linksIn, contracts, capacityIn, contractedIn, branchFieldAt, linkFields, linkFieldAt, orderFields, orderFieldAt, zoneCounts, branchCounts, linkCounts, orderCounts, caseLength, flowIn, shadowAt, shadowIn, shareIn, systemIn, volumeIn, proposalLength}
 use Rattle.rules.specs.Meaning.Hour.{Case, Plan, Prices, caseOf, planOf, pricesOf, zonePrice, noLink}

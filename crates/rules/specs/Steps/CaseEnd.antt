@@ -10,7 +10,7 @@ use borrow.Author.Tests.{leb-true, le-leb, lt-leb, le-ltb}
 use lib.ListN.{length, getD}
 use lib.Dec.{eqb, leb}
 use lib.IntN.{pos}
-use Rattle.integers.specs.Ranges.{outside}
+use Rattle.integers.specs.Meaning.Ranges.{outside}
 use Rattle.measures.specs.Meaning.Limits as limits
 use Rattle.rows.specs.declared.Outcome.{Outcome}
 use Rattle.rows.specs.Meaning.Rows.{Row, refusal, once, field}

@@ -10,7 +10,8 @@ use lib.ListN.{length}
 use lib.Dec.{T, eqb, eqb→eq, eqb-refl, T-not, nleb→lt, nltb→le}
 use lib.IntN.{pos}
 use lib.Signed.{_≤ℤ_, ltZ-no}
-use Rattle.integers.specs.Ranges.{Within, within, nat-within, nor-left, nor-right, and-both, isZero, zero-is}
+use Rattle.integers.specs.Meaning.Ranges.{Within, isZero}
+use Rattle.integers.specs.Steps.Ranges.{within, nat-within, nor-left, nor-right, and-both, zero-is}
 use Rattle.measures.specs.Meaning.Limits as limits
 use Rattle.measures.specs.Meaning.Limits.{partsInOne}
 use Rattle.rules.specs.Meaning.Layout.{reportRoom, linkFields, orderFields, caseLength, proposalLength}

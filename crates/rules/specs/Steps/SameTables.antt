@@ -7,9 +7,10 @@ use native.Mathlib.Omega.{arith}
 use lib.Dec.{eqb, ltb}
 use lib.IntN.{ℤ, pos, _+ℤ_, _-ℤ_, _*ℤ_}
 use lib.Signed.{ltZ}
-use Rattle.integers.specs.Order.{larger, positive}
-use Rattle.integers.specs.Ranges.{outside}
-use Rattle.integers.specs.Sums.{only, sum-ext}
+use Rattle.integers.specs.Meaning.Order.{larger, positive}
+use Rattle.integers.specs.Meaning.Ranges.{outside}
+use Rattle.integers.specs.Meaning.Sums.{only}
+use Rattle.integers.specs.Steps.Sums.{sum-ext}
 use Rattle.measures.specs.Meaning.Limits as limits
 use Rattle.measures.specs.Meaning.Limits.{partsInOne}
 use Rattle.rules.specs.Meaning.Hour.{Case, Plan, Prices, signed, buys, orderNet, net, inflow, outflow, ltaPart, fbPart, netSum, broken, brokenZ, linkUse, linkRoom, linkRule, branchUse, branchRoom, branchRule, branchPrice, zonePrice, orderWelfare, welfare, surplusOf, orderSurplus, surplus, branchValue, branchTotal, spread, linkValue, linkTotal, linkOwed, owed, noLink, networkBound, bound, gap, rent}

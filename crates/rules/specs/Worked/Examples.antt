@@ -7,9 +7,9 @@ use lib.ListN.{length, replicate}
 use lib.IntN.{ℤ, pos}
 use mir.Syntax.{w32}
 use mir.Val.{ofZ}
-use Rattle.integers.specs.Sums.{sumTo}
-use Rattle.integers.specs.Bytes.{bytesOf, signed64}
-use Rattle.integers.specs.Ranges.{minus, outside, isZero}
+use Rattle.integers.specs.Meaning.Sums.{sumTo}
+use Rattle.integers.specs.Meaning.Bytes.{bytesOf, signed64}
+use Rattle.integers.specs.Meaning.Ranges.{minus, outside, isZero}
 use Rattle.decimal.specs.Meaning.Ascii.{ascii}
 use Rattle.decimal.specs.Meaning.Text.{placesIn, places, lastDigits, countText, sizeText, amountText}
 use Rattle.rules.specs.Meaning.Layout.{u8At, u16At, u32At, i32At, caseVersion, zonesIn, branchesIn, linksIn, ordersIn, toleranceIn, branchSize, branchAt, ramIn, ptdfIn, linkAt, fromIn, toIn, capacityIn, contracts, contractedSize, contractedIn, orderAt, zoneIn, sideIn, quantityIn, priceIn, caseLength, proposalVersion, shareIn, systemIn, volumeIn, flowIn, shadowAt, shadowIn, proposalLength}

@@ -9,8 +9,8 @@ use Prim.Native.Nat.{ℕ, zero, suc, _+_, _*_, _<_}
 use lib.ListN.{length, getD}
 use lib.Dec.{eqb}
 use lib.IntN.{ℤ, pos, negℤ}
-use Rattle.integers.specs.Ranges.{Range, outside}
-use Rattle.integers.specs.Bytes.{signed32}
+use Rattle.integers.specs.Meaning.Ranges.{Range, outside}
+use Rattle.integers.specs.Meaning.Bytes.{signed32}
 use Rattle.measures.specs.Meaning.Limits as limits
 use Rattle.rules.specs.Meaning.Layout.{caseHeader, zonesIn, branchesIn, zoneCounts}
 use Rattle.rules.specs.Meaning.Hour.{caseOf}

@@ -13,9 +13,10 @@ use lib.IntN.{ℤ, pos, negsuc, negℤ}
 use lib.Signed.{_≤ℤ_}
 use mir.Syntax.{w32}
 use mir.Val.{SFits, ofZ}
-use Rattle.integers.specs.Size.{Near, near-pos, near-neg, near-le, near-within, near-fits}
-use Rattle.integers.specs.Ranges.{range, minus}
-use Rattle.integers.specs.Bytes.{signed32, byte-at}
+use Rattle.integers.specs.Steps.Size.{Near, near-pos, near-neg, near-le, near-within, near-fits}
+use Rattle.integers.specs.Meaning.Ranges.{range, minus}
+use Rattle.integers.specs.Meaning.Bytes.{signed32}
+use Rattle.integers.specs.Steps.Bytes.{byte-at}
 use Rattle.rows.specs.declared.Outcome.{Outcome}
 use Rattle.rows.specs.Meaning.Rows.{answer}
 use Rattle.rows.specs.Promised.RowLaws.{zero-none, lacks}

@@ -14,8 +14,9 @@ use lib.Dec.{T, eqb, ltb, ltb→lt, lt→ltb, nltb→le, not-T, T-not}
 use lib.ListN.{length, getD}
 use lib.IntN.{ℤ, pos, negℤ}
 use lib.Signed.{_≤ℤ_}
-use Rattle.integers.specs.Difference.{at, ⊝_, le-by, le-fact}
-use Rattle.integers.specs.Ranges.{range, minus, outside, Within, within, inside, nat-within, nat-inside, is-false, not-is, nor-left, nor-right}
+use Rattle.integers.specs.Steps.Difference.{at, ⊝_, le-by, le-fact}
+use Rattle.integers.specs.Meaning.Ranges.{range, minus, outside, Within}
+use Rattle.integers.specs.Steps.Ranges.{within, inside, nat-within, nat-inside, is-false, not-is, nor-left, nor-right}
 use Rattle.measures.specs.Meaning.Limits as limits
 use Rattle.rows.specs.declared.Outcome.{Outcome}
 use Rattle.rows.specs.Meaning.Rows.{Row, Pass, verdict, refusal, answer}

@@ -11,15 +11,16 @@ use lib.Signed.{ltZ}
 use mir.Syntax.{w32}
 use mir.Val.{SFits, toZ}
 use mir.Facts.{toZ-pos}
-use Rattle.integers.specs.Machine.{sfits-by}
-use Rattle.integers.specs.Size.{near-pos, near-neg, near-fits}
-use Rattle.integers.specs.Ranges.{range, minus, outside}
+use Rattle.integers.specs.Steps.Machine.{sfits-by}
+use Rattle.integers.specs.Steps.Size.{near-pos, near-neg, near-fits}
+use Rattle.integers.specs.Meaning.Ranges.{range, minus, outside}
 use Rattle.measures.specs.Meaning.Limits as limits
 use Rattle.numerals.specs.declared.Number.{Number}
 use Rattle.numerals.specs.Meaning.Numeral.{isDigit, negative, units, sign, value}
-use Rattle.numerals.specs.Steps.Scan.{clash, Separator}
+use Rattle.numerals.specs.Meaning.Scan.{Separator}
+use Rattle.numerals.specs.Steps.Scan.{clash}
 use Rattle.numerals.specs.Steps.Capped.{cap, capped, capped-over, capped-within}
-use Rattle.numerals.specs.Steps.Pieces.{heldNumber}
+use Rattle.numerals.specs.Meaning.Pieces.{heldNumber}
 use Rattle.sheet_lines.specs.Meaning.Sheet.{decimalCount, limit, entry}
 
 -- a PTDF's sign is turned, a margin's is not

@@ -12,22 +12,23 @@ use lib.Dec.{eqb, ltb, leb}
 use lib.ListN.{length, getD, drop, length-drop, length-append, drop-of-length-le}
 use lib.IntN.{ℤ}
 use lib.Seq.{getD-drop, drop-drop, sets}
-use Rattle.integers.specs.Ranges.{is-false}
-use Rattle.integers.specs.Bytes.{bytes-length, signed32, sets-append}
+use Rattle.integers.specs.Steps.Ranges.{is-false}
+use Rattle.integers.specs.Meaning.Bytes.{signed32}
+use Rattle.integers.specs.Steps.Bytes.{bytes-length, sets-append}
 use Rattle.rows.specs.Meaning.Rows.{anyBelow, firstBelow}
-use Rattle.rows.specs.Meaning.Place.{placeOf}
 use Rattle.rows.specs.Promised.RowLaws.{any-some}
 use Rattle.numerals.specs.declared.TextCursor.{TextCursor}
 use Rattle.numerals.specs.declared.Piece.{Piece}
 use Rattle.numerals.specs.Meaning.Numeral.{has, before, after, isNumber}
-use Rattle.numerals.specs.Steps.Scan.{clash, Separator}
-use Rattle.numerals.specs.Steps.Pieces.{before-le, pieceTo, pieceAt, Cut, cut}
+use Rattle.numerals.specs.Meaning.Scan.{Separator}
+use Rattle.numerals.specs.Steps.Scan.{clash}
+use Rattle.numerals.specs.Meaning.Pieces.{pieceTo, pieceAt}
+use Rattle.numerals.specs.Steps.Pieces.{before-le, Cut, cut}
 use Rattle.numerals.specs.Steps.Marks.{split-within, within-has, number-lacks}
 use Rattle.sheet_lines.specs.declared.Flaws.{Flaws}
 use Rattle.sheet_lines.specs.declared.LineAnswer.{LineAnswer}
 use Rattle.sheet_lines.specs.declared.LineAnswer.the-variants as answer
-use Rattle.sheet_lines.specs.declared.SheetFaults.{SheetFaults}
-use Rattle.sheet_lines.specs.Meaning.Sheet.{lines, fields, fieldOf, entryOf, malformed, tooFine, outOfRange, lineOf, lineCount, branchPart, entryBytes, lineBytes, sheetBytes}
+use Rattle.sheet_lines.specs.Meaning.Sheet.{lines, fields, fieldOf, entryOf, malformed, tooFine, outOfRange, lineOf, lineCount, branchPart, entryBytes, lineBytes}
 use Rattle.sheet_lines.specs.Steps.Entries.{comma, newline}
 use Rattle.sheet_lines.specs.Steps.Split.{fields-cut, fields-last, fields-some, lines-cut}
 
@@ -286,28 +287,6 @@ module _ (sheet : List ℕ) (n at : ℕ) (f : LinesFrom sheet n at) where
             here = pieces-more (lines sheet) (lines (drop at sheet)) n _ _ (f .here) cut-line ∙ ap lines (sym (ap (λ (k : ℕ). drop k sheet) e ∙ c .rest));
           },
         )
-
--- a cause of line i
-abbrev pub malformedAt : ℕ → List ℕ → ℕ → Bool
-malformedAt zones sheet i = malformed zones (lineOf sheet i)
-
-abbrev pub tooFineAt : ℕ → List ℕ → ℕ → Bool
-tooFineAt zones sheet i = tooFine zones (lineOf sheet i)
-
-abbrev pub outOfRangeAt : ℕ → List ℕ → ℕ → Bool
-outOfRangeAt zones sheet i = outOfRange zones (lineOf sheet i)
-
--- WHAT IS SAID OF A SHEET read into the table `old`. A first malformed line ends the reading; else every line was read, and the first 64 stand at the start where
--- no number is out of range
-pub record LinesRead (zones : ℕ) (sheet old new : List ℕ) (r : SheetFaults) : Type 0 where
-  pub count : r .lines ≡ lineCount sheet
-  pub finer-is : placeOf (r .finer) ≡ firstBelow (lineCount sheet) (tooFineAt zones sheet)
-  pub outside-is : placeOf (r .outside) ≡ firstBelow (lineCount sheet) (outOfRangeAt zones sheet)
-  pub bytes-are : placeOf (r .outside) ≡ none → lineCount sheet ≤ 64 → new ≡ sets old 0 (sheetBytes zones sheet)
-
-pub record SheetRead (zones : ℕ) (sheet old new : List ℕ) (r : SheetFaults) : Type 0 where
-  pub malformed-is : placeOf (r .malformed) ≡ firstBelow (lineCount sheet) (malformedAt zones sheet)
-  pub lines-read : placeOf (r .malformed) ≡ none → LinesRead zones sheet old new r
 
 -- the row of the table for line n: those past the 64th share one more, which is not written
 abbrev pub rowOf : ℕ → ℕ

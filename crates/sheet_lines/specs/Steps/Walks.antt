@@ -10,8 +10,8 @@ use borrow.Author.Tests.{lt-ltb}
 use lib.ListN.{length, drop}
 use lib.Seq.{sets, length-sets}
 use lib.IntN.{ℤ}
-use Rattle.integers.specs.Bytes.{signed32}
-use Rattle.integers.specs.Ranges.{outside}
+use Rattle.integers.specs.Meaning.Bytes.{signed32}
+use Rattle.integers.specs.Meaning.Ranges.{outside}
 use Rattle.rows.specs.Meaning.Rows.{anyBelow, firstBelow}
 use Rattle.rows.specs.Meaning.Place.{placeOf}
 use Rattle.rows.specs.Promised.RowLaws.{any-later, first-here, first-later}
@@ -27,7 +27,8 @@ use Rattle.sheet_lines.specs.declared.LineAnswer.{LineAnswer}
 use Rattle.sheet_lines.specs.declared.LineAnswer.the-variants as answer
 use Rattle.sheet_lines.specs.Meaning.Sheet.{decimalCount, limit, entry, fieldOf, entryOf, malformed, tooFine, outOfRange, lineCount, branchPart, entryBytes, lineBytes, sheetBytes}
 use Rattle.sheet_lines.specs.Steps.Entries.{heldEntry, held-outside, held-exact}
-use Rattle.sheet_lines.specs.Steps.Lines.{lineAt, markOf, commaMissing, FieldsFrom, fields-start, FieldRead, field-no-number, field-unseparated, field-read, noNumber, malformed-no, lineFlaws, lineBy, LineRead, line-read, line-malformed, any-more, LinesFrom, lines-start, lines-done, line-in, line-here, line-next, malformedAt, tooFineAt, outOfRangeAt, SheetRead, rowOf, firstWith, first-more, first-none, next-entry, next-line}
+use Rattle.sheet_lines.specs.Meaning.Lines.{malformedAt, tooFineAt, outOfRangeAt, SheetRead}
+use Rattle.sheet_lines.specs.Steps.Lines.{lineAt, markOf, commaMissing, FieldsFrom, fields-start, FieldRead, field-no-number, field-unseparated, field-read, noNumber, malformed-no, lineFlaws, lineBy, LineRead, line-read, line-malformed, any-more, LinesFrom, lines-start, lines-done, line-in, line-here, line-next, rowOf, firstWith, first-more, first-none, next-entry, next-line}
 
 abbrev pub finerField : List ℕ → ℕ → Bool
 finerField line j = finer (decimalCount j) (fieldOf line j)

@@ -5,8 +5,8 @@ use mathlib.Core.Bool.{cond}
 use Prim.Native.Nat.{ℕ, _<_}
 use lib.IntN.{ℤ, pos, _+ℤ_, _-ℤ_, _*ℤ_}
 use lib.Signed.{_≤ℤ_}
-use Rattle.integers.specs.Order.{positive}
-use Rattle.integers.specs.Sums.{sumTo}
+use Rattle.integers.specs.Meaning.Order.{positive}
+use Rattle.integers.specs.Meaning.Sums.{sumTo}
 use Rattle.measures.specs.Meaning.Limits.{partsInOne}
 use Rattle.rules.specs.Meaning.Hour.{Case, Plan, Prices, buys, above, branchUse, branchRoom, zonePrice, orderSurplus, branchTotal, spread, linkTotal, noLink}
 

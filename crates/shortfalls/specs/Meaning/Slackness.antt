@@ -4,7 +4,7 @@ use mathlib.Core.Path.{_≡_}
 use Prim.Native.Nat.{ℕ, _*_, _<_}
 use lib.IntN.{ℤ, pos, _*ℤ_}
 use lib.Signed.{_≤ℤ_, _<ℤ_}
-use Rattle.integers.specs.Sums.{sumTo}
+use Rattle.integers.specs.Meaning.Sums.{sumTo}
 use Rattle.measures.specs.Meaning.Limits.{partsInOne}
 use Rattle.rules.specs.Meaning.Hour.{Case, buys, above}
 use Rattle.rules.specs.Meaning.Annex.{Solution, Multipliers, Complementary, capacityLTA, marginValue, capacityValue}

@@ -8,9 +8,11 @@ use lib.ListN.{length}
 use lib.Dec.{T}
 use lib.IntN.{ℤ, pos, _+ℤ_, _-ℤ_, _*ℤ_, +ℤ-idr}
 use lib.Signed.{_≤ℤ_}
-use Rattle.integers.specs.Difference.{up, dn, at, _⊕_, _⊖_, _⊗_, le-by, eq-by, le-fact, eq-fact}
-use Rattle.integers.specs.Order.{le-antisym, times-nonneg}
-use Rattle.integers.specs.Sums.{sumTo, sum-ext, sum-scale-l, sum-nonneg, one-le-sum}
+use Rattle.integers.specs.Meaning.Difference.{up, dn}
+use Rattle.integers.specs.Steps.Difference.{at, _⊕_, _⊖_, _⊗_, le-by, eq-by, le-fact, eq-fact}
+use Rattle.integers.specs.Steps.Order.{le-antisym, times-nonneg}
+use Rattle.integers.specs.Meaning.Sums.{sumTo}
+use Rattle.integers.specs.Steps.Sums.{sum-ext, sum-scale-l, sum-nonneg, one-le-sum}
 use Rattle.measures.specs.Meaning.Limits.{partsInOne}
 use Rattle.rules.specs.Meaning.Hour.{Case, Plan, Prices, caseOf, planOf, pricesOf, welfare, bound, gap}
 use Rattle.rules.specs.Meaning.Clearing.{Placed, Clearing}

@@ -10,9 +10,11 @@ use native.Mathlib.Decide.{decLt}
 use lib.Dec.{T, ltb→lt}
 use lib.IntN.{ℤ, pos, negsuc, _+ℤ_, _-ℤ_, _*ℤ_}
 use lib.Signed.{_≤ℤ_, _<ℤ_}
-use Rattle.integers.specs.Difference.{up, dn, at, _⊕_, _⊖_, _⊗_, le-by, eq-by, le-fact, eq-fact}
-use Rattle.integers.specs.Order.{positive, positive-nat, le-antisym, add-nonneg, larger-left, larger-right}
-use Rattle.integers.specs.Sums.{sum-ext, sum-nonneg}
+use Rattle.integers.specs.Meaning.Difference.{up, dn}
+use Rattle.integers.specs.Steps.Difference.{at, _⊕_, _⊖_, _⊗_, le-by, eq-by, le-fact, eq-fact}
+use Rattle.integers.specs.Meaning.Order.{positive}
+use Rattle.integers.specs.Steps.Order.{positive-nat, le-antisym, add-nonneg, larger-left, larger-right}
+use Rattle.integers.specs.Steps.Sums.{sum-ext, sum-nonneg}
 use Rattle.measures.specs.Meaning.Limits.{partsInOne}
 use Rattle.rules.specs.Meaning.Hour.{Case, Plan, Prices, caseOf, planOf, pricesOf, above, fbPart, branchUse, branchRoom, zonePrice, surplusOf, orderSurplus, branchValue, branchTotal, spread, linkTotal, welfare, bound, gap}
 use Rattle.rules.specs.Meaning.Clearing.{Placed, Clearing}

@@ -10,10 +10,11 @@ use lib.Dec.{T}
 use lib.IntN.{ℤ, pos, negsuc, negℤ, natAbs, _+ℤ_, _-ℤ_, _*ℤ_}
 use lib.Signed.{_≤ℤ_}
 use mir.Syntax.{w64}
-use Rattle.integers.specs.Difference.{at, _⊗_, le-by, le-fact}
-use Rattle.integers.specs.Order.{le-trans}
-use Rattle.integers.specs.Size.{Near, near-fits}
-use Rattle.integers.specs.Sums.{sumTo, sum-ext, sum-split}
+use Rattle.integers.specs.Steps.Difference.{at, _⊗_, le-by, le-fact}
+use Rattle.integers.specs.Steps.Order.{le-trans}
+use Rattle.integers.specs.Steps.Size.{Near, near-fits}
+use Rattle.integers.specs.Meaning.Sums.{sumTo}
+use Rattle.integers.specs.Steps.Sums.{sum-ext, sum-split}
 use Rattle.measures.specs.Meaning.Limits.{partsInOne, microcentsOf}
 use Rattle.rules.specs.Meaning.Hour.{Case, Plan, Prices, caseOf, planOf, pricesOf, branchUse, branchRoom, orderSurplus, gap}
 use Rattle.rules.specs.Meaning.Report.{reports}

@@ -12,8 +12,8 @@ use lib.Dec.{eqb}
 use lib.ListN.{getD}
 use lib.IntN.{ℤ, pos, _+ℤ_, _-ℤ_, _*ℤ_}
 use lib.Signed.{_≤ℤ_}
-use Rattle.integers.specs.Order.{positive}
-use Rattle.integers.specs.Sums.{sumTo}
+use Rattle.integers.specs.Meaning.Order.{positive}
+use Rattle.integers.specs.Meaning.Sums.{sumTo}
 use Rattle.rows.specs.declared.Outcome.{Outcome}
 use Rattle.rows.specs.Meaning.Rows.{refusal, answer}
 use Rattle.rows.specs.Promised.RowLaws.{lacks, not-refused}

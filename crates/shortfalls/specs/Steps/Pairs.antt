@@ -8,7 +8,7 @@ use lib.ListN.{length, getD, length-append}
 use lib.Seq.{getD-append-add, getD-at}
 use lib.IntN.{ℤ, pos, negsuc, _+ℤ_, _*ℤ_}
 use lib.Signed.{_≤ℤ_}
-use Rattle.integers.specs.Difference.{at, _⊗_, le-by, le-fact}
+use Rattle.integers.specs.Steps.Difference.{at, _⊗_, le-by, le-fact}
 use Rattle.measures.specs.Meaning.Limits.{partsInOne}
 use Rattle.shortfalls.specs.Meaning.Answer.{wholeOf, partsOf, pairsTo, wholeAt, partsAt, shortfallAt}
 

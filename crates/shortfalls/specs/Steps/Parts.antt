@@ -7,8 +7,10 @@ use native.Mathlib.Omega.{arith}
 use native.Mathlib.Decide.{decLt}
 use borrow.Author.Tests.{eq-eqb, ne-eqb}
 use lib.IntN.{ℤ, pos, _+ℤ_, _-ℤ_, _*ℤ_}
-use Rattle.integers.specs.Difference.{up, dn, at, _⊕_, _⊖_, _⊗_, ⊝_, eq-by}
-use Rattle.integers.specs.Order.{positive, larger-less-left, larger-less-right}
+use Rattle.integers.specs.Meaning.Difference.{up, dn}
+use Rattle.integers.specs.Steps.Difference.{at, _⊕_, _⊖_, _⊗_, ⊝_, eq-by}
+use Rattle.integers.specs.Meaning.Order.{positive}
+use Rattle.integers.specs.Steps.Order.{larger-less-left, larger-less-right}
 use Rattle.measures.specs.Meaning.Limits.{partsInOne}
 use Rattle.rules.specs.Meaning.Hour.{Case, Plan, Prices, signed, buys, above, orderNet, branchUse, branchRoom, zonePrice, orderWelfare, orderSurplus, branchValue, branchTotal, spread, linkValue, linkTotal, noLink, networkBound}
 use Rattle.rules.specs.Meaning.Clearing.{Clearing}

@@ -8,18 +8,20 @@ use denote.Ref.{now}
 use lib.ListN.{getD}
 use lib.IntN.{ℤ, pos, _*ℤ_}
 use mir.Syntax.{w64}
-use Rattle.integers.specs.Ranges.{Within}
-use Rattle.integers.specs.Size.{near-fits}
-use Rattle.integers.specs.Sums.{sumTo, sum-ext}
-use Rattle.integers.specs.Machine.{SumsFit, sfits-by}
+use Rattle.integers.specs.Meaning.Ranges.{Within}
+use Rattle.integers.specs.Steps.Size.{near-fits}
+use Rattle.integers.specs.Meaning.Sums.{sumTo}
+use Rattle.integers.specs.Steps.Sums.{sum-ext}
+use Rattle.integers.specs.Meaning.Machine.{SumsFit}
+use Rattle.integers.specs.Steps.Machine.{sfits-by}
 use Rattle.measures.specs.Meaning.Limits as limits
 use Rattle.measures.specs.Meaning.Limits.{partsInOne, grainsOf}
 use Rattle.rules.specs.Meaning.Hour.{Case, Plan, Prices, caseOf, planOf, pricesOf, fbPart, branchUse, branchRoom}
-use Rattle.case_branches.specs.Table.{table-entry, entry-within}
-use Rattle.clearing.specs.Read.{case-opened, zones-is, branches-is, few-zones}
-use Rattle.clearing.specs.Stages.{fit-ext}
-use Rattle.single_shortfall.specs.Short.{shortOf, shortable-by, exact-by}
-use Rattle.single_shortfall.specs.Judged.{loadOn, rest-is, rest-near, branch-is, loads-fit, branch-shortable}
+use Rattle.case_branches.specs.Steps.Table.{table-entry, entry-within}
+use Rattle.clearing.specs.Steps.Read.{case-opened, zones-is, branches-is, few-zones}
+use Rattle.clearing.specs.Steps.Stages.{fit-ext}
+use Rattle.single_shortfall.specs.Steps.Short.{shortOf, shortable-by, exact-by}
+use Rattle.single_shortfall.specs.Steps.Judged.{loadOn, rest-is, rest-near, branch-is, loads-fit, branch-shortable}
 use Rattle.single_shortfall.proofs.branch_shortfall.Statement.{statement}
 use Rattle.single_shortfall.proofs.branch_shortfall.Tie as tie
 

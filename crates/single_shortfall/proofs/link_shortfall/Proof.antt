@@ -5,15 +5,15 @@ use native.Mathlib.Omega.{arith}
 use denote.Ref.{now}
 use lib.IntN.{ℤ, pos, _-ℤ_, _*ℤ_}
 use mir.Syntax.{w64}
-use Rattle.integers.specs.Size.{near-fits}
-use Rattle.integers.specs.Machine.{sfits-by}
+use Rattle.integers.specs.Steps.Size.{near-fits}
+use Rattle.integers.specs.Steps.Machine.{sfits-by}
 use Rattle.measures.specs.Meaning.Limits.{partsInOne}
 use Rattle.rules.specs.Meaning.Hour.{Case, Plan, Prices, caseOf, planOf, pricesOf, zonePrice, spread}
 use Rattle.case_links.specs.declared.Link.{Link}
-use Rattle.clearing.specs.Read.{case-opened, sound, links-is, share-is}
-use Rattle.network.specs.Prices.{grainsAt}
-use Rattle.single_shortfall.specs.Short.{shortOf, shortable-by, exact-by}
-use Rattle.single_shortfall.specs.Judged.{link-is, spread-near, link-shortable}
+use Rattle.clearing.specs.Steps.Read.{case-opened, sound, links-is, share-is}
+use Rattle.network.specs.Meaning.Prices.{grainsAt}
+use Rattle.single_shortfall.specs.Steps.Short.{shortOf, shortable-by, exact-by}
+use Rattle.single_shortfall.specs.Steps.Judged.{link-is, spread-near, link-shortable}
 use Rattle.single_shortfall.proofs.link_shortfall.Statement.{statement}
 use Rattle.single_shortfall.proofs.link_shortfall.Tie as tie
 

@@ -8,12 +8,12 @@ use lib.IntN.{ℤ, pos, _*ℤ_}
 use mir.Syntax.{w32, w64}
 use mir.Val.{toZ, ofZ}
 use mir.Facts.{toZ-ofZ}
-use Rattle.integers.specs.Ranges.{Within}
-use Rattle.integers.specs.Sums.{sumTo}
-use Rattle.integers.specs.Machine.{step, step-fits, sfits-by}
+use Rattle.integers.specs.Meaning.Ranges.{Within}
+use Rattle.integers.specs.Meaning.Sums.{sumTo}
+use Rattle.integers.specs.Steps.Machine.{step, step-fits, sfits-by}
 use Rattle.measures.specs.Meaning.Limits as limits
-use Rattle.clearing.specs.Held.{tenthsAt}
-use Rattle.single_shortfall.specs.Judged.{loadOn}
+use Rattle.clearing.specs.Meaning.Held.{tenthsAt}
+use Rattle.single_shortfall.specs.Steps.Judged.{loadOn}
 use Rattle.single_shortfall.proofs.load_of.Statement.{statement}
 use Rattle.single_shortfall.proofs.load_of.Tie as tie
 

@@ -5,18 +5,18 @@ use native.Mathlib.Omega.{arith}
 use denote.Ref.{now}
 use lib.IntN.{ℤ, pos, _*ℤ_}
 use mir.Syntax.{w64}
-use Rattle.integers.specs.Ranges.{Within}
-use Rattle.integers.specs.Size.{near-fits}
-use Rattle.integers.specs.Machine.{sfits-by}
+use Rattle.integers.specs.Meaning.Ranges.{Within}
+use Rattle.integers.specs.Steps.Size.{near-fits}
+use Rattle.integers.specs.Steps.Machine.{sfits-by}
 use Rattle.measures.specs.Meaning.Limits as limits
 use Rattle.measures.specs.Meaning.Limits.{partsInOne, grainsOf}
 use Rattle.rules.specs.Meaning.Hour.{Case, Plan, Prices, caseOf, planOf, pricesOf, buys, above, zonePrice}
 use Rattle.rules.specs.Promised.Fits.{in-grains, near-zone-price}
 use Rattle.orders.specs.declared.Order.{Order}
-use Rattle.clearing.specs.Read.{case-opened, sound, orders-is}
-use Rattle.network.specs.Prices.{grainsAt}
-use Rattle.single_shortfall.specs.Short.{shortOf, shortable-by, exact-by}
-use Rattle.single_shortfall.specs.Judged.{gainOf, order-is, order-shortable}
+use Rattle.clearing.specs.Steps.Read.{case-opened, sound, orders-is}
+use Rattle.network.specs.Meaning.Prices.{grainsAt}
+use Rattle.single_shortfall.specs.Steps.Short.{shortOf, shortable-by, exact-by}
+use Rattle.single_shortfall.specs.Steps.Judged.{gainOf, order-is, order-shortable}
 use Rattle.single_shortfall.proofs.order_shortfall.Statement.{statement}
 use Rattle.single_shortfall.proofs.order_shortfall.Tie as tie
 

@@ -6,7 +6,7 @@ use lib.Dec.{T}
 use lib.IntN.{ℤ, pos, _*ℤ_}
 use lib.Signed.{ltZ}
 use Rattle.measures.specs.Meaning.Exact.{Costs}
-use Rattle.single_shortfall.specs.Short.{turned-is, kept-is, turned-costs, turned-fits, left-fits, kept-costs}
+use Rattle.single_shortfall.specs.Steps.Short.{turned-is, kept-is, turned-costs, turned-fits, left-fits, kept-costs}
 use Rattle.single_shortfall.proofs.short.Statement.{statement}
 use Rattle.single_shortfall.proofs.short.Tie as tie
 

@@ -4,7 +4,7 @@ use mathlib.Core.Path.{_≡_}
 use mathlib.Core.Bool.{Bool, true, false}
 use Prim.Native.Nat.{ℕ, _+_, _*_, _≤_, _<_}
 use lib.Dec.{eqb}
-use Rattle.integers.specs.NaturalSums.{sumNat, only}
+use Rattle.integers.specs.Meaning.NaturalSums.{sumNat, only}
 
 pub record Network : Type 0 where
   pub zones : ℕ

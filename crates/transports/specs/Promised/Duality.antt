@@ -4,7 +4,8 @@ use mathlib.Core.Path.{_≡_, refl, sym, ap, _∙_}
 use mathlib.Core.Bool.{Bool, true, false, not}
 use Prim.Native.Nat.{ℕ, _+_, _*_, _≤_, _<_}
 use native.Mathlib.Omega.{arith}
-use Rattle.integers.specs.NaturalSums.{sumNat, only, sum-ext, sum-le, sum-add, only-add, only-mono, gather}
+use Rattle.integers.specs.Meaning.NaturalSums.{sumNat, only}
+use Rattle.integers.specs.Steps.NaturalSums.{sum-ext, sum-le, sum-add, only-add, only-mono, gather}
 use Rattle.transports.specs.Meaning.Network.{Network, Placed, Flow, inflow, outflow, Feasible, carried, allExports, Closed, within, times, Largest, DeficientSet, FeasibleAll}
 
 -- the rest of a set

@@ -7,7 +7,7 @@ use mathlib.Core.Logic.{_↔_}
 use Prim.Native.Nat.{ℕ, _+_, _*_, _≤_, _<_}
 use native.Mathlib.Omega.{arith}
 use lib.Dec.{eqb}
-use Rattle.integers.specs.NaturalSums.{sumNat, only}
+use Rattle.integers.specs.Meaning.NaturalSums.{sumNat, only}
 use Rattle.transports.specs.Meaning.Network.{Network, Placed, Flow, Feasible, carried, allExports, times, Largest, FeasibleAll}
 use Rattle.transports.specs.Promised.Duality.{once}
 use Rattle.transports.specs.Promised.Worth.{every-import}

@@ -8,11 +8,13 @@ use native.Mathlib.Omega.{arith}
 use lib.Dec.{eqb}
 use lib.IntN.{ℤ, pos, _+ℤ_, _-ℤ_, _*ℤ_}
 use lib.Signed.{_≤ℤ_}
-use Rattle.integers.specs.Difference.{at, _⊕_, _⊖_, _⊗_, eq-by, le-by}
-use Rattle.integers.specs.Order.{diff-nonneg, times-nonneg}
-use Rattle.integers.specs.Sums as whole
-use Rattle.integers.specs.Sums.{sumTo}
-use Rattle.integers.specs.NaturalSums.{sumNat, only, each-equal, sum-ext}
+use Rattle.integers.specs.Steps.Difference.{at, _⊕_, _⊖_, _⊗_, eq-by, le-by}
+use Rattle.integers.specs.Steps.Order.{diff-nonneg, times-nonneg}
+use Rattle.integers.specs.Steps.Sums as whole
+use Rattle.integers.specs.Meaning.Sums as meant
+use Rattle.integers.specs.Meaning.Sums.{sumTo}
+use Rattle.integers.specs.Meaning.NaturalSums.{sumNat, only}
+use Rattle.integers.specs.Steps.NaturalSums.{each-equal, sum-ext}
 use Rattle.transports.specs.Promised.Duality.{set-conserved}
 use Rattle.transports.specs.Meaning.Network.{Network, Placed, Flow, inflow, outflow, Feasible, allExports, FeasibleAll}
 
@@ -29,7 +31,7 @@ abbrev pub worth : Flow → (ℕ → ℤ) → ℕ → ℤ
 worth b price z = (pos (b .import-used z) -ℤ pos (b .export-used z)) *ℤ price z
 
 -- a sum of naturals as integers
-only-pos : (b : Bool) (x : ℕ) → pos (only b x) ≡ whole.only b (pos x)
+only-pos : (b : Bool) (x : ℕ) → pos (only b x) ≡ meant.only b (pos x)
 only-pos true x = refl
 only-pos false x = refl
 
@@ -38,12 +40,12 @@ unfolding sumNat sumTo
 sum-pos zero f = refl
 sum-pos (suc n) f = eq-by (at (pos (sumNat n f + f n))) (at (pos (sumNat n f)) ⊕ at (pos (f n))) (omega arith) ∙ ap (λ (x : ℤ). x +ℤ pos (f n)) (sum-pos n f)
 
-keyed-pos : (n : ℕ) (key : ℕ → ℕ) (x : ℕ → ℕ) (z : ℕ) → pos (sumNat n (λ k. only (eqb (key k) z) (x k))) ≡ sumTo n (λ k. whole.only (eqb (key k) z) (pos (x k)))
+keyed-pos : (n : ℕ) (key : ℕ → ℕ) (x : ℕ → ℕ) (z : ℕ) → pos (sumNat n (λ k. only (eqb (key k) z) (x k))) ≡ sumTo n (λ k. meant.only (eqb (key k) z) (pos (x k)))
 keyed-pos n key x z = sum-pos n (λ k. only (eqb (key k) z) (x k)) ∙ whole.sum-ext n _ _ (λ k l. only-pos (eqb (key k) z) (x k))
 
 -- what flows along the pairs whose key is z, as integers
 abbrev keyed : Network → Flow → (ℕ → ℕ) → ℕ → ℤ
-keyed c b key z = sumTo (c .pairs) (λ k. whole.only (eqb (key k) z) (pos (b .flow k)))
+keyed c b key z = sumTo (c .pairs) (λ k. meant.only (eqb (key k) z) (pos (b .flow k)))
 
 -- THE SUM OVER ZONES IS THE SUM OVER PAIRS
 pub worth-is : (c : Network) → Placed c → (b : Flow) → Feasible c b → (price : ℕ → ℤ) → sumTo (c .zones) (worth b price) ≡ sumTo (c .pairs) (gain c b price)

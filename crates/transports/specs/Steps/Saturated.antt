@@ -3,7 +3,8 @@ use mathlib.Core.Path.{_≡_, refl, sym, ap, _∙_}
 use mathlib.Core.Bool.{Bool, true, false, not}
 use Prim.Native.Nat.{ℕ, _+_, _*_, _≤_, _<_}
 use native.Mathlib.Omega.{arith}
-use Rattle.integers.specs.NaturalSums.{sumNat, only, sum-ext, sum-scale, only-scale, each-equal}
+use Rattle.integers.specs.Meaning.NaturalSums.{sumNat, only}
+use Rattle.integers.specs.Steps.NaturalSums.{sum-ext, sum-scale, only-scale, each-equal}
 use Rattle.transports.specs.Meaning.Network.{Network, Placed, Flow, Feasible, carried, allExports, Closed, times, Largest, DeficientSet, FeasibleAll}
 use Rattle.transports.specs.Promised.Duality.{cut, split, set-conserved, flow-stays, at-most}
 

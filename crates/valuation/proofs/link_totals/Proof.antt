@@ -7,15 +7,17 @@ use denote.Ref.{now}
 use lib.IntN.{ℤ, pos, _-ℤ_, _*ℤ_}
 use mir.Syntax.{w64}
 use mir.Val.{SFits}
-use Rattle.integers.specs.Sums.{sumTo}
-use Rattle.integers.specs.Machine.{SumsFit, step, step-fits, sfits-by}
-use Rattle.clearing.specs.Read.{case-opened, sound, links-is, shadow-in}
-use Rattle.integers.specs.Order.{positive, times-positive}
-use Rattle.integers.specs.Size.{near-fits, near-mul, near-unsigned}
+use Rattle.integers.specs.Meaning.Sums.{sumTo}
+use Rattle.integers.specs.Meaning.Machine.{SumsFit}
+use Rattle.integers.specs.Steps.Machine.{step, step-fits, sfits-by}
+use Rattle.clearing.specs.Steps.Read.{case-opened, sound, links-is, shadow-in}
+use Rattle.integers.specs.Meaning.Order.{positive}
+use Rattle.integers.specs.Steps.Order.{times-positive}
+use Rattle.integers.specs.Steps.Size.{near-fits, near-mul, near-unsigned}
 use Rattle.rules.specs.Meaning.Hour.{Case, Prices, caseOf, pricesOf, zonePrice, spread, linkValue, linkTotal, linkOwed, owed}
 use Rattle.rules.specs.Promised.Fits.{system-near, apart-prices, linkTotal-sums, owed-sums}
 use Rattle.case_links.specs.declared.Link.{Link}
-use Rattle.network.specs.Prices.{grainsAt}
+use Rattle.network.specs.Meaning.Prices.{grainsAt}
 use Rattle.valuation.proofs.link_totals.Statement.{statement}
 use Rattle.valuation.proofs.link_totals.Tie as tie
 

@@ -4,7 +4,7 @@ use mathlib.Core.Bool.{Bool, cond}
 use borrow.Author.Needs.{needs}
 use borrow.Author.Tests.{eq-eqb, ne-eqb}
 use lib.IntN.{ℤ}
-use Rattle.integers.specs.Order.{larger}
+use Rattle.integers.specs.Meaning.Order.{larger}
 use Rattle.valuation.proofs.network_bound.Statement.{statement}
 use Rattle.valuation.proofs.network_bound.Tie as tie
 

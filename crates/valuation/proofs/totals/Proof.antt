@@ -7,11 +7,11 @@ use denote.Ref.{now}
 use lib.Dec.{eqb}
 use lib.IntN.{ℤ, _+ℤ_, _-ℤ_}
 use mir.Syntax.{w64}
-use Rattle.integers.specs.Size.{near-fits}
-use Rattle.integers.specs.Machine.{sfits-by}
-use Rattle.clearing.specs.Read.{sound, links-is, shadow-in}
+use Rattle.integers.specs.Steps.Size.{near-fits}
+use Rattle.integers.specs.Steps.Machine.{sfits-by}
+use Rattle.clearing.specs.Steps.Read.{sound, links-is, shadow-in}
 use Rattle.rules.specs.Promised.Fits.{system-near, bound-near, gap-near}
-use Rattle.integers.specs.Order.{larger}
+use Rattle.integers.specs.Meaning.Order.{larger}
 use Rattle.rules.specs.Meaning.Hour.{caseOf, planOf, pricesOf, noLink, networkBound, bound, gap}
 use Rattle.rules.specs.Meaning.Report.{totalsOf}
 use borrow.Author.Needs.{needs}

@@ -5,15 +5,16 @@ use Prim.Native.Nat.{ℕ, _+_, _≤_, _-_}
 use native.Mathlib.Omega.{arith}
 use borrow.Author.Needs.{needs}
 use lib.IntN.{_*ℤ_}
-use Rattle.integers.specs.Ranges.{outside}
-use Rattle.integers.specs.Sums.{sumTo}
-use Rattle.integers.specs.Machine.{SumsFit, step, step-fits}
+use Rattle.integers.specs.Meaning.Ranges.{outside}
+use Rattle.integers.specs.Meaning.Sums.{sumTo}
+use Rattle.integers.specs.Meaning.Machine.{SumsFit}
+use Rattle.integers.specs.Steps.Machine.{step, step-fits}
 use Rattle.measures.specs.Meaning.Limits as limits
 use Rattle.measures.specs.Steps.Held.{grains-outside, grains-held}
 use Rattle.rows.specs.Meaning.Rows.{firstBelow}
 use Rattle.rows.specs.Promised.RowLaws.{first-here, first-later, first-nowhere}
-use Rattle.clearing.specs.Held.{tenthsAt}
-use Rattle.network.specs.Prices.{grainsAt}
+use Rattle.clearing.specs.Meaning.Held.{tenthsAt}
+use Rattle.network.specs.Meaning.Prices.{grainsAt}
 use Rattle.valuation.proofs.zone_sums.Statement.{statement}
 use Rattle.valuation.proofs.zone_sums.Tie as tie
 

@@ -2,7 +2,7 @@
 use mathlib.Core.Path.{ap, _∙_}
 use denote.Ref.{now}
 use lib.Seq.{sets}
-use Rattle.words.specs.Halves.{low-half}
+use Rattle.words.specs.Steps.Halves.{low-half}
 use borrow.Author.Needs.{needs}
 use Rattle.words.proofs.put_low32.Statement.{statement}
 use Rattle.words.proofs.put_low32.Tie as tie

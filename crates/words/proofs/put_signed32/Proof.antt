@@ -3,8 +3,8 @@ use mathlib.Core.Path.{ap, _∙_}
 use Prim.Native.Nat.{ℕ, _%_}
 use denote.Ref.{now}
 use lib.Seq.{sets}
-use Rattle.integers.specs.Bytes.{bytesOf, signed32}
-use Rattle.words.specs.Halves.{low-bits}
+use Rattle.integers.specs.Meaning.Bytes.{bytesOf, signed32}
+use Rattle.words.specs.Steps.Halves.{low-bits}
 use borrow.Author.Needs.{needs}
 use Rattle.words.proofs.put_signed32.Statement.{statement}
 use Rattle.words.proofs.put_signed32.Tie as tie

@@ -3,8 +3,8 @@ use mathlib.Core.Path.{_∙_}
 use Prim.Native.Nat.{_+_, _/_}
 use denote.Ref.{now}
 use lib.Seq.{sets}
-use Rattle.integers.specs.Bytes.{bytesOf}
-use Rattle.words.specs.Halves.{two-halves}
+use Rattle.integers.specs.Meaning.Bytes.{bytesOf}
+use Rattle.words.specs.Steps.Halves.{two-halves}
 use borrow.Author.Needs.{needs}
 use Rattle.words.proofs.put_signed64.Statement.{statement}
 use Rattle.words.proofs.put_signed64.Tie as tie

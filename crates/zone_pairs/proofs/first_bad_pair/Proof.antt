@@ -9,7 +9,7 @@ use denote.Ref.{now}
 use borrow.Author.Needs.{needs}
 use Rattle.rows.specs.Meaning.Rows.{firstBelow}
 use Rattle.rows.specs.Promised.RowLaws.{first-here, first-later, first-nowhere}
-use Rattle.zone_set.specs.Pairs.{Seen, seen-none}
+use Rattle.zone_set.specs.Steps.Pairs.{Seen, seen-none}
 use Rattle.zone_pairs.specs.Meaning.Pairs.{pairCount, firstZone, secondZone, badPair}
 use Rattle.zone_pairs.specs.Steps.Tests.{Good, good}
 use Rattle.zone_pairs.proofs.first_bad_pair.Statement.{statement}

@@ -5,7 +5,8 @@ use native.Mathlib.Omega.{arith}
 use denote.Ref.{now}
 use borrow.Author.Needs.{needs}
 use Rattle.zone_pairs.specs.Meaning.Pairs.{pairCount, firstZone, secondZone}
-use Rattle.zone_pairs.specs.Steps.Table.{Tabled, tabled-none, tabled-more}
+use Rattle.zone_pairs.specs.Meaning.Table.{Tabled}
+use Rattle.zone_pairs.specs.Steps.Table.{tabled-none, tabled-more}
 use Rattle.zone_pairs.proofs.pair_table.Statement.{statement}
 use Rattle.zone_pairs.proofs.pair_table.Tie as tie
 

@@ -5,7 +5,7 @@ use native.Mathlib.Omega.{arith}
 use denote.Ref.{now}
 use lib.ListN.{set}
 use borrow.Author.Needs.{needs}
-use Rattle.zone_set.specs.Pairs.{Seen, seen-more}
+use Rattle.zone_set.specs.Steps.Pairs.{Seen, seen-more}
 use Rattle.zone_pairs.specs.Meaning.Pairs.{firstZone, secondZone}
 use Rattle.zone_pairs.proofs.see_pair.Statement.{statement}
 use Rattle.zone_pairs.proofs.see_pair.Tie as tie

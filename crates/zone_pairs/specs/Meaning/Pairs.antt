@@ -6,8 +6,8 @@ use lib.Dec.{eqb, leb}
 use lib.ListN.{length, getD}
 use lib.IntN.{ℤ, pos, negℤ, _*ℤ_}
 use lib.Signed.{leZ}
-use Rattle.integers.specs.Difference.{up, dn}
-use Rattle.integers.specs.Sums.{sumTo}
+use Rattle.integers.specs.Meaning.Difference.{up, dn}
+use Rattle.integers.specs.Meaning.Sums.{sumTo}
 use Rattle.rows.specs.Meaning.Rows.{anyBelow}
 use Rattle.net_positions.specs.Meaning.Positions.{positionAt}
 use Rattle.transports.specs.Meaning.Network.{Network}

@@ -13,8 +13,8 @@ use lib.Dec.{T, eqb, leb, eqb→eq, leb→le, nleb→lt, not-T, T-not}
 use lib.ListN.{length, getD, List·getD-eq-default}
 use lib.IntN.{ℤ, pos, negℤ}
 use lib.Signed.{_≤ℤ_, leZ, leZ-yes}
-use Rattle.integers.specs.Difference.{up, dn}
-use Rattle.integers.specs.Ranges.{is-true, is-false, nor-left, nor-right, nor-both, and-left, and-right}
+use Rattle.integers.specs.Meaning.Difference.{up, dn}
+use Rattle.integers.specs.Steps.Ranges.{is-true, is-false, nor-left, nor-right, nor-both, and-left, and-right}
 use Rattle.rows.specs.Meaning.Rows.{Pass, each}
 use Rattle.rows.specs.Promised.RowLaws.{First, no-place, any-none}
 use Rattle.zone_pairs.specs.Meaning.Pairs.{pairCount, firstZone, secondZone, repeated, badPair, networkOf}

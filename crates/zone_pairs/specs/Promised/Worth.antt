@@ -9,10 +9,13 @@ use native.Mathlib.Omega.{arith}
 use lib.ListN.{length}
 use lib.IntN.{ℤ, pos, negsuc, negℤ, _-ℤ_, _*ℤ_}
 use lib.Signed.{_≤ℤ_, leZ-yes}
-use Rattle.integers.specs.Difference.{up, dn, at, _⊖_, ⊝_, eq-by}
-use Rattle.integers.specs.Ranges.{is-true}
-use Rattle.integers.specs.Sums.{sumTo, sum-ext}
-use Rattle.integers.specs.NaturalSums.{sumNat, sum-parts}
+use Rattle.integers.specs.Meaning.Difference.{up, dn}
+use Rattle.integers.specs.Steps.Difference.{at, _⊖_, ⊝_, eq-by}
+use Rattle.integers.specs.Steps.Ranges.{is-true}
+use Rattle.integers.specs.Meaning.Sums.{sumTo}
+use Rattle.integers.specs.Steps.Sums.{sum-ext}
+use Rattle.integers.specs.Meaning.NaturalSums.{sumNat}
+use Rattle.integers.specs.Steps.NaturalSums.{sum-parts}
 use Rattle.net_positions.specs.Meaning.Positions.{positionAt}
 use Rattle.transports.specs.Meaning.Network.{Placed, allExports, FeasibleAll}
 use Rattle.transports.specs.Promised.Worth.{Rising, yes-worth, yes-nonneg}

@@ -7,9 +7,9 @@ use native.Mathlib.Omega.{arith}
 use borrow.Author.Tests.{le-leb, lt-leb, eq-eqb, ne-eqb, leb-false}
 use lib.Dec.{T, eqb, leb, T-not}
 use lib.ListN.{length, getD}
-use Rattle.integers.specs.Ranges.{nor-left, nor-right, is-true, is-false, not-is}
+use Rattle.integers.specs.Steps.Ranges.{nor-left, nor-right, is-true, is-false, not-is}
 use Rattle.rows.specs.Promised.RowLaws.{no-place}
-use Rattle.zone_set.specs.Pairs.{holds, Seen, samePair}
+use Rattle.zone_set.specs.Steps.Pairs.{holds, Seen, samePair}
 use Rattle.zone_pairs.specs.Meaning.Pairs.{pairCount, firstZone, secondZone, repeated, badPair}
 
 -- what stands past the last does not matter below it

@@ -3,7 +3,7 @@ use native.Mathlib.Omega.{arith}
 use borrow.Author.Needs.{needs}
 use Rattle.rules.specs.Meaning.Layout.{u16At}
 use Rattle.fields.specs.declared.WordField.the-variants.{Taken, Short}
-use Rattle.fields.specs.Cursor.{field-inside, field-lacks, field-takes}
+use Rattle.fields.specs.Steps.Cursor.{field-inside, field-lacks, field-takes}
 use Rattle.fields.proofs.Cursor.half.Statement.{statement}
 use Rattle.fields.proofs.Cursor.half.Tie as tie
 

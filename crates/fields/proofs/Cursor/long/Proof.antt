@@ -3,7 +3,7 @@ use native.Mathlib.Omega.{arith}
 use borrow.Author.Needs.{needs}
 use Rattle.fields.specs.Meaning.Field.{u64At}
 use Rattle.fields.specs.declared.LongField.the-variants.{Taken, Short}
-use Rattle.fields.specs.Cursor.{field-inside, field-lacks, field-takes}
+use Rattle.fields.specs.Steps.Cursor.{field-inside, field-lacks, field-takes}
 use Rattle.fields.proofs.Cursor.long.Statement.{statement}
 use Rattle.fields.proofs.Cursor.long.Tie as tie
 

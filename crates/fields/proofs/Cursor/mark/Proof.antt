@@ -7,7 +7,7 @@ use lib.ListN.{length}
 use Rattle.rules.specs.Meaning.Layout.{u8At}
 use Rattle.fields.specs.declared.MarkField.the-variants.{Taken, Short}
 use Rattle.fields.specs.Meaning.Field.{markAt}
-use Rattle.fields.specs.Cursor.{field-inside, field-lacks, field-takes}
+use Rattle.fields.specs.Steps.Cursor.{field-inside, field-lacks, field-takes}
 use Rattle.fields.proofs.Cursor.mark.Statement.{statement}
 use Rattle.fields.proofs.Cursor.mark.Tie as tie
 

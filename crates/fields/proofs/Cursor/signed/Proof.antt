@@ -5,7 +5,7 @@ use borrow.Author.Needs.{needs}
 use Rattle.rules.specs.Meaning.Layout.{i32At}
 use Rattle.fields.specs.Meaning.Field.{raw}
 use Rattle.fields.specs.declared.SignedField.the-variants.{Taken, Short}
-use Rattle.fields.specs.Cursor.{field-inside, field-lacks, field-takes}
+use Rattle.fields.specs.Steps.Cursor.{field-inside, field-lacks, field-takes}
 use Rattle.fields.proofs.Cursor.signed.Statement.{statement}
 use Rattle.fields.proofs.Cursor.signed.Tie as tie
 

@@ -1,6 +1,6 @@
 -- `measures::Microcents::held` meets its contract: by the test of the range. Assumes nothing.
 use mathlib.Core.Path.{_≡_, ap, sym, _∙_}
-use Rattle.integers.specs.Ranges.{range, outside}
+use Rattle.integers.specs.Meaning.Ranges.{range, outside}
 use Rattle.measures.specs.Meaning.Held.{microcentsBy}
 use borrow.Author.Needs.{needs}
 use Rattle.measures.proofs.Microcents.held.Statement.{statement}

@@ -1,6 +1,6 @@
 -- `measures::Ptdf::new` meets its contract: by the test of the range. Assumes nothing.
 use mathlib.Core.Path.{_≡_, ap, sym, _∙_}
-use Rattle.integers.specs.Ranges.{range, outside}
+use Rattle.integers.specs.Meaning.Ranges.{range, outside}
 use Rattle.measures.specs.Meaning.Limits as limits
 use Rattle.measures.specs.Meaning.Held.{ptdfBy}
 use Rattle.measures.specs.declared.PtdfAnswer.the-variants.{Held as held}

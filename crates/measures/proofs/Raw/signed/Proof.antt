@@ -2,7 +2,7 @@
 use mathlib.Core.Path.{_∙_}
 use mir.Syntax.{w32, w64}
 use mir.Facts.{toZ-ofZ, sfits-widen}
-use Rattle.integers.specs.Machine.{sfits-by}
+use Rattle.integers.specs.Steps.Machine.{sfits-by}
 use Rattle.measures.proofs.Raw.signed.Statement.{statement}
 use Rattle.measures.proofs.Raw.signed.Tie as tie
 

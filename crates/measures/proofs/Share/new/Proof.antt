@@ -1,6 +1,6 @@
 -- `measures::Share::new` meets its contract: by the test of the range. Assumes nothing.
 use mathlib.Core.Path.{_≡_, ap, sym, _∙_}
-use Rattle.integers.specs.Ranges.{range, outside}
+use Rattle.integers.specs.Meaning.Ranges.{range, outside}
 use Rattle.measures.specs.Meaning.Limits as limits
 use Rattle.measures.specs.Meaning.Held.{shareBy}
 use Rattle.measures.specs.declared.ShareAnswer.the-variants.{Held as held}

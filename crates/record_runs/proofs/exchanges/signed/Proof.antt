@@ -7,8 +7,8 @@ use mir.Syntax.{w64}
 use mir.Val.{SFits, toZ}
 use mir.Facts.{toZ-pos}
 use borrow.Author.Needs.{needs}
-use Rattle.integers.specs.Size.{near-fits, near-sub, near-pos, near-unsigned}
-use Rattle.integers.specs.Machine.{sfits-by}
+use Rattle.integers.specs.Steps.Size.{near-fits, near-sub, near-pos, near-unsigned}
+use Rattle.integers.specs.Steps.Machine.{sfits-by}
 use Rattle.record_runs.proofs.exchanges.signed.Statement.{statement}
 use Rattle.record_runs.proofs.exchanges.signed.Tie as tie
 

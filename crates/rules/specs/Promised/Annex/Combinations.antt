@@ -9,9 +9,10 @@ use native.Mathlib.Decide.{decLt}
 use lib.Dec.{ltb→lt}
 use lib.IntN.{ℤ, pos, negsuc, natAbs, _+ℤ_, _*ℤ_}
 use lib.Signed.{_≤ℤ_, _<ℤ_, yes-nonNeg, pos-natAbs}
-use Rattle.integers.specs.Difference.{at, _⊕_, _⊗_, le-by, eq-by, le-fact, eq-fact}
-use Rattle.integers.specs.Order.{scaled, times-nonneg}
-use Rattle.integers.specs.Sums.{sumTo, sum-ext, sum-scale-l}
+use Rattle.integers.specs.Steps.Difference.{at, _⊕_, _⊗_, le-by, eq-by, le-fact, eq-fact}
+use Rattle.integers.specs.Steps.Order.{scaled, times-nonneg}
+use Rattle.integers.specs.Meaning.Sums.{sumTo}
+use Rattle.integers.specs.Steps.Sums.{sum-ext, sum-scale-l}
 use Rattle.measures.specs.Meaning.Limits.{partsInOne}
 use Rattle.rules.specs.Meaning.Hour.{Case}
 use Rattle.rules.specs.Meaning.Annex.{Solution, Network, FBDomain, TwoPoints, Combines, capacityLTA, netFlow}

@@ -1,0 +1,4 @@
+-- STEPS of the proofs
+pub mod Lacking
+pub mod Links
+pub mod Path

@@ -1,0 +1,56 @@
+-- A readable case with its counts, the two stages before it, and where its parts stand by the counts.
+use mathlib.Core.Path.{_≡_}
+use mathlib.Core.List.{List}
+use mathlib.Core.Option.{none}
+use Prim.Native.Nat.{ℕ, _+_, _*_, _≤_}
+use lib.ListN.{length}
+use Rattle.rules.specs.Meaning.Layout.{caseHeader, linkSize, linkFields, orderSize, orderFields, branchFieldAt, linkFieldAt, orderFieldAt, caseLength, zonesIn, branchesIn, linksIn, ordersIn}
+use Rattle.rules.specs.Meaning.Hour.{caseOf}
+use Rattle.rows.specs.Meaning.Rows.{Row, eachField}
+use Rattle.rules.specs.Meaning.Verdict.{branchFault, linkFault, orderFault, Readable, headerRefusal}
+use Rattle.case_header.specs.declared.Counts.{Counts}
+use Rattle.case_header.specs.Meaning.Answer.{countsOf}
+
+-- the counts of a readable case
+pub record Opened (s : List ℕ) (k : Counts) : Type 0 where
+  pub readable : Readable s
+  pub counts : k ≡ countsOf s
+
+-- the counts of a header that rows 1 to 4 pass
+pub record Headed (s : List ℕ) (k : Counts) : Type 0 where
+  pub passed : headerRefusal s ≡ none
+  pub counts : k ≡ countsOf s
+
+-- and of a case that row 5 passes too
+pub record Whole (s : List ℕ) (k : Counts) : Type 0 where
+  pub headed : Headed s k
+  pub whole : length s ≡ caseLength s
+
+pub record Limited (k : Counts) : Type 0 where
+  pub zones-in : k .zones ≤ 16
+  pub branches-in : k .branches ≤ 64
+  pub links-in : k .links ≤ 64
+  pub orders-in : k .orders ≤ 512
+
+-- where branch m, link l and order i stand, and the length demanded, by the counts
+abbrev pub branchStart : Counts → ℕ → ℕ
+branchStart k m = caseHeader + m * (4 + 4 * k .zones)
+
+abbrev pub linkStart : Counts → ℕ → ℕ
+linkStart k l = caseHeader + k .branches * (4 + 4 * k .zones) + l * linkSize (k .version)
+
+abbrev pub orderStart : Counts → ℕ → ℕ
+orderStart k i = caseHeader + k .branches * (4 + 4 * k .zones) + k .links * linkSize (k .version) + i * orderSize
+
+abbrev pub lengthOf : Counts → ℕ
+lengthOf k = orderStart k (k .orders)
+
+-- ROWS 5 TO 8
+abbrev pub branchRow : List ℕ → Row
+branchRow s = eachField 6 (branchesIn s) (1 + zonesIn s) (branchFault (caseOf s)) (branchFieldAt s)
+
+abbrev pub linkRow : List ℕ → Row
+linkRow s = eachField 7 (linksIn s) linkFields (linkFault (caseOf s)) (linkFieldAt s)
+
+abbrev pub orderRow : List ℕ → Row
+orderRow s = eachField 8 (ordersIn s) orderFields (orderFault (caseOf s)) (orderFieldAt s)

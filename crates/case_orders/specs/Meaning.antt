@@ -1,0 +1,2 @@
+-- THE MEANING of what the contracts cite
+pub mod Order

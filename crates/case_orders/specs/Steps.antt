@@ -1,0 +1,2 @@
+-- STEPS of the proofs
+pub mod Order

@@ -1,0 +1,4 @@
+-- STEPS of the proofs
+pub mod Amounts
+pub mod Scratch
+pub mod Cleared

@@ -1,0 +1,3 @@
+-- STEPS of the proofs
+pub mod Pairs
+pub mod Kept

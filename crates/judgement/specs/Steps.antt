@@ -1,0 +1,4 @@
+-- STEPS of the proofs
+pub mod Judged
+pub mod Packed
+pub mod Promises

@@ -1,0 +1,18 @@
+-- The rent fits as far as the prices lie within their limits. Assumes nothing.
+use mathlib.Core.Path.{_≡_}
+use mathlib.Core.List.{List}
+use mathlib.Core.Option.{none}
+use Prim.Native.Nat.{ℕ, _≤_}
+use lib.IntN.{_*ℤ_}
+use Rattle.integers.specs.Meaning.Ranges.{outside}
+use Rattle.integers.specs.Meaning.Machine.{SumsFit}
+use Rattle.measures.specs.Meaning.Limits as limits
+use Rattle.measures.specs.declared.Tenths.{Tenths}
+use Rattle.measures.specs.declared.Grains.{Grains}
+use Rattle.rows.specs.Meaning.Rows.{firstBelow}
+use Rattle.clearing.specs.Meaning.Held.{tenthsAt}
+use Rattle.network.specs.Meaning.Prices.{grainsAt}
+
+-- of the first n zones, where none of their prices lies outside its limits
+pub record RentFits (nets : List Tenths) (prices : List Grains) (zones : ℕ) : Type 0 where
+  pub sums : (n : ℕ) → n ≤ zones → firstBelow n (λ z. outside limits.zonePrice (grainsAt prices z)) ≡ none → SumsFit (λ z. tenthsAt nets z *ℤ grainsAt prices z) n
