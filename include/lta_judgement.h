@@ -411,7 +411,7 @@ struct lta_carried {
  *   [yes_or_no]  intuitive is 1 or 0, in a refusal too.
  * Of a refusal [refused]: intuitive and total are 0.
  *
- * What follows, proved in crates/transports and crates/intuitive: a yes and a no exclude each other, and yes or no and the
+ * What follows, proved in crates/flow_network and crates/flow_intuitive: a yes and a no exclude each other, and yes or no and the
  * total depend on the input alone. The total of a yes is the sum of all exports, that of a no is less. The sum of [yes_rent] is,
  * for the flows of [yes], the sum over counted pairs of flow * (price of the second zone - price of the first).
  *
@@ -428,7 +428,7 @@ struct lta_carried lta_intuitive(const int64_t *net_exports, size_t net_count,
  * answer and the scratch are those of lta_intuitive for its net positions, turned to export positive, and its zone prices [outcome]
  * [yes] [no] [yes_or_no] [largest] [scratch] [refused]. At a yes the rent that lta_judge reports is at least 0 [yes_rent].
  *
- * What follows, proved in crates/hour_intuitive: of 81 to 85 only LTA_INTUITIVE_PAIR and LTA_INTUITIVE_NO_ROOM can occur.
+ * What follows, proved in crates/flow_hour: of 81 to 85 only LTA_INTUITIVE_PAIR and LTA_INTUITIVE_NO_ROOM can occur.
  *
  *   case_bytes, case_len       a case, as lta_judge takes it
  *   proposal, proposal_len     a proposal for it
@@ -445,7 +445,7 @@ struct lta_carried lta_hour_intuitive(const uint8_t *case_bytes, size_t case_len
  * an answer the first 96 are zero, and all past them as they were [outcome] [yes] [yes_rent] [no] [yes_or_no] [largest]
  * [scratch] [refused].
  *
- * What follows, proved in crates/intuitive and crates/hour_intuitive: on each input that both take, intuitive and total are
+ * What follows, proved in crates/flow_intuitive and crates/flow_hour: on each input that both take, intuitive and total are
  * those of the wide entry; what the wide one takes the smaller takes too, and every refusal but LTA_INTUITIVE_NO_ROOM is the
  * same, number and index.
  */
@@ -542,7 +542,7 @@ enum lta_column_number {
  *   [columns]     The columned file is as said here.
  *   [back]        With room for it lta_case_restored takes it, and gives the case again, byte for byte.
  *   [not_judged]  lta_judge refuses it by LTA_CASE_MARK, whatever the proposal, if there is room for a report.
- * That no other file is as said here, and which case gives which number, both ways, is proved in crates/columns.
+ * That no other file is as said here, and which case gives which number, both ways, is proved in crates/column_file.
  */
 struct lta_written lta_case_columned(const uint8_t *case_bytes, size_t case_len, uint8_t *out, size_t out_len);
 
@@ -597,7 +597,7 @@ enum lta_shortfall_number {
  * branch the second is 0; no shortfall is negative; all together are at most 100,000 times the gap that lta_judge reports, so that none is
  * more than the gap; at gap 0 each is 0.
  * What is left, 100,000 times the gap less all shortfalls, is (100,000 - share) * (larger - branch total) + share * (larger - link total),
- * larger being the larger of the two totals; without links it is 0. It is proved in crates/shortfalls.
+ * larger being the larger of the two totals; without links it is 0. It is proved in crates/short_rules.
  */
 struct lta_written lta_shortfalls(const uint8_t *case_bytes, size_t case_len,
                                   const uint8_t *proposal, size_t proposal_len,
@@ -655,7 +655,7 @@ struct lta_served {
  * and not proved. [queue] says the same of the queue that the bytes are.
  *
  * What holds of all calls on a queue together, from the empty one on and in whatever order, refused ones included. It is proved in
- * crates/desk_queue and crates/queue_bytes, of what [number], [answer] and [bytes] say of each call:
+ * crates/queue_turns and crates/queue_bytes, of what [number], [answer] and [bytes] say of each call:
  *   - An area that has an hour waiting is served by one of the next four serves. An hour is served by one of the next hundred serves after
  *     its posting, whatever else is posted. Both hold from any other bytes too, and neither of a smaller number.
  *   - An area's hours are served in the order posted; none is lost, and none served that was not posted.

@@ -1,5 +1,5 @@
 """What the tests of stored hours and dumps share: what is said of them, by both judges and in the stored output of
-crates/record_runs, and what is counted. It is imported first, since it puts tools/ on the path. The library is there
+crates/prog_records, and what is counted. It is imported first, since it puts tools/ on the path. The library is there
 before.
 """
 
@@ -13,7 +13,7 @@ sys.path.insert(0, str(ROOT / "tools"))
 import build_records
 
 PROGRAM = "cargo run --release --offline --quiet -j2 -p comparison --bin {}"
-LIBRARY, SECOND, STORED = "library", "second", "record_runs"
+LIBRARY, SECOND, STORED = "library", "second", "prog_records"
 WRITTEN = "written"
 
 

@@ -1,5 +1,5 @@
 #!/usr/bin/env python3
-"""Writes what the program crates/record_runs reads and what it must print.
+"""Writes what the program crates/prog_records reads and what it must print.
 
   build_records.py OUTDIR            writes OUTDIR/stdin and OUTDIR/stdout
   build_records.py --check OUTDIR    writes nothing; fails if one of the two is missing or different

@@ -176,7 +176,7 @@ class Expected:
 
     @property
     def line(self):
-        """The line that crates/record_runs prints."""
+        """The line that crates/prog_records prints."""
         judged = "" if self.judged is None else f" judged {self.judged}"
         return f"{self.number} {self.index} {self.length}{judged}"
 

@@ -1,4 +1,4 @@
-"""The records that crates/record_runs reads: their bytes, and the stored texts that they are made from. Each module has
+"""The records that crates/prog_records reads: their bytes, and the stored texts that they are made from. Each module has
 the records of one kind, and the lines that the program must print for them.
 """
 

@@ -1,4 +1,4 @@
-//! The stored output of crates/record_runs for queues, columns and shortfalls: the papers' is the same, and each wrong
+//! The stored output of crates/prog_records for queues, columns and shortfalls: the papers' is the same, and each wrong
 //! build's another.
 
 use paper_hours::{forced_hour, three_zone_hour, Branch, Hour, Link, Version};
@@ -9,8 +9,8 @@ use wrong_builds::columns::Rearrange;
 use wrong_builds::shortfalls::Value;
 use wrong_builds::{columns, queue};
 
-const RECORDS: &[u8] = include_bytes!("../../crates/record_runs/stdin");
-const RECORDS_PRINTED: &str = include_str!("../../crates/record_runs/stdout");
+const RECORDS: &[u8] = include_bytes!("../../crates/prog_records/stdin");
+const RECORDS_PRINTED: &str = include_str!("../../crates/prog_records/stdout");
 
 /// A stored record: the room that is lent, and its three parts.
 struct Record {
@@ -38,7 +38,7 @@ fn records(letter: u8) -> Vec<Record> {
     found
 }
 
-/// What stands under a heading in the stored output of crates/record_runs.
+/// What stands under a heading in the stored output of crates/prog_records.
 fn printed_of(heading: &str) -> String {
     let lines = RECORDS_PRINTED.lines().skip_while(|line| *line != heading).skip(1);
     lines.take_while(|line| !line.starts_with("== ")).map(|line| format!("{line}\n")).collect()

@@ -1,7 +1,7 @@
 //! What both judges say of the dumps on standard input, for tests/stored_dumps.
 //!
 //! A dump is a line: its name, the bytes of its output, its case and itself, both in hexadecimal digits. What is said
-//! of it is printed, two lines for each judge: the name, the judge and the line that crates/record_runs prints; and the
+//! of it is printed, two lines for each judge: the name, the judge and the line that crates/prog_records prints; and the
 //! name, the judge, `written` and the output's bytes that were changed, from its first on.
 
 use comparison::library;

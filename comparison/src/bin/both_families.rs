@@ -1,7 +1,7 @@
 //! What both judges say of the hours with families on standard input, for tests/stored_families.
 //!
 //! An hour is a line: its name, its case, its proposal and its family list, all in hexadecimal digits. What is said
-//! of it is printed, a line for each judge: the name, the judge and the line that crates/record_runs prints.
+//! of it is printed, a line for each judge: the name, the judge and the line that crates/prog_records prints.
 
 use comparison::library;
 use comparison::stored_lines::{bytes, hex, of_each};

@@ -2,7 +2,7 @@
 //!
 //! An hour is a line: its name, the numbers of its output, its case and its proposal, both in hexadecimal digits, a
 //! dash for one of no bytes. What is said of it is printed, two lines for each judge: the name, the judge and the
-//! line that crates/record_runs prints; and the name, the judge, `written` and the output's numbers that were
+//! line that crates/prog_records prints; and the name, the judge, `written` and the output's numbers that were
 //! changed, from its first on.
 
 use comparison::library;

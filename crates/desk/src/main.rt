@@ -44,8 +44,8 @@ fn read_all(buffer: &mut [u8]) -> Input
 }
 
 fn print(input: &[u8]) {
-    let mut out = [0u8; desk_lines::ROOM];
-    let n = desk_lines::lines(input, &mut out).length;
+    let mut out = [0u8; text_lines::ROOM];
+    let n = text_lines::lines(input, &mut out).length;
     if !io::write_all(STDOUT_FILENO, &out[..n]) {
         os::fail(b"standard output");
     }

@@ -5,23 +5,23 @@ ghost use mathlib.Core.Bool.{true};
 ghost use Prim.Native.Nat.{_+_, _≤_, _<_};
 ghost use lib.Dec.{T};
 ghost use lib.Ieee.Scale as float;
-ghost use Rattle.binary64.specs.Meaning.Value.{finite};
+ghost use Rattle.dump_binary64.specs.Meaning.Value.{finite};
 ghost use Rattle.case_header.specs.Meaning.Opened.{Opened};
 ghost use Rattle.dump_values.specs.Meaning.Answer.{fieldOf};
 ghost use Rattle.dump_values.specs.Meaning.Fields.{shareField, systemField, openingFields};
 ghost use Rattle.dump_values.specs.Steps.Fields.{flowField, shadowField};
 ghost use Rattle.dump_values.specs.Meaning.Field.{afterOpening};
-use binary64::WholeAnswer;
-use binary64::cut_to_word;
-use binary64::nearest_up_to;
-use binary64::part_of;
-use binary64::value;
+use dump_binary64::WholeAnswer;
+use dump_binary64::cut_to_word;
+use dump_binary64::nearest_up_to;
+use dump_binary64::part_of;
+use dump_binary64::value;
 use case_header::Counts;
 use case_orders::order_at;
-use measures::Bits;
-use measures::Cents;
-use measures::CentsAnswer;
-use measures::Raw;
+use base_measures::Bits;
+use base_measures::Cents;
+use base_measures::CentsAnswer;
+use base_measures::Raw;
 
 // The number of a field as it is written, or that the value leaves its field.
 pub enum FieldAnswer {

@@ -4,17 +4,17 @@ ghost use Prim.Native.Nat.{_<_};
 ghost use Rattle.rules.specs.Meaning.Hour.{caseOf, planOf};
 ghost use Rattle.rules.specs.Meaning.Families.{parentOf};
 ghost use Rattle.rules.specs.Meaning.Verdict.{exceedsParent, excessFraction};
-ghost use Rattle.rows.specs.Meaning.Rows.{failing};
-ghost use Rattle.rows.specs.Meaning.Place.{placeOf};
+ghost use Rattle.base_causes.specs.Meaning.Rows.{failing};
+ghost use Rattle.base_causes.specs.Meaning.Place.{placeOf};
 ghost use Rattle.proposal_file.specs.Meaning.Proposed.{Proposed};
-ghost use Rattle.clearing.specs.Meaning.Stages.{VolumesIn};
+ghost use Rattle.judge_clearing.specs.Meaning.Stages.{VolumesIn};
 ghost use Rattle.family_list.specs.Meaning.Answer.{Known};
 use case_header::Counts;
 use case_orders::order_at;
 use family_list::NO_PARENT;
 use family_list::parent_at;
 use proposal_file::volume_at;
-use rows::Place;
+use base_causes::Place;
 
 // Whether the fraction of order i exceeds its parent's.
 fn exceeds_parent(case: &[u8], k: Counts, proposal: &[u8], families: &[u8], i: usize) -> bool

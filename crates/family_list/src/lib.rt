@@ -3,10 +3,10 @@ ghost use mathlib.Core.Path.{_≡_};
 ghost use mathlib.Core.Option.{none};
 ghost use Prim.Native.Nat.{_+_, _<_, _≤_};
 ghost use lib.ListN.{length};
-ghost use Rattle.rows.specs.Meaning.Rows.{firstBelow};
-ghost use Rattle.rows.specs.Meaning.Place.{placeOf};
-ghost use Rattle.fields.specs.Meaning.Field.{cursor};
-ghost use Rattle.fields.specs.Meaning.Walk.{pastAt, walked, rowsWalked};
+ghost use Rattle.base_causes.specs.Meaning.Rows.{firstBelow};
+ghost use Rattle.base_causes.specs.Meaning.Place.{placeOf};
+ghost use Rattle.bytes_read.specs.Meaning.Field.{cursor};
+ghost use Rattle.bytes_read.specs.Meaning.Walk.{pastAt, walked, rowsWalked};
 ghost use Rattle.rules.specs.Meaning.Families.{familyHeader, familyLength, named, parentIn, parentOf, missing, leadsBack, LeadsBack};
 ghost use Rattle.family_list.specs.Steps.Round.{Least};
 ghost use Rattle.family_list.specs.Steps.Round as round;
@@ -14,14 +14,14 @@ ghost use Rattle.family_list.specs.Steps.Walk.{held, Trail};
 ghost use Rattle.family_list.specs.Steps.Taken.{Taken, Search};
 ghost use Rattle.family_list.specs.Meaning.Answer.{headerBy, parentRow, listRows, circleAnswer, familyAnswer, wrongList};
 ghost use Rattle.family_list.specs.Meaning.Answer.{Whole, Known};
-use fields::Cursor;
-use fields::Mark;
-use fields::MarkField;
-use fields::Walked;
-use fields::WordField;
-use fields::half_at;
-use rows::Outcome;
-use rows::Place;
+use bytes_read::Cursor;
+use bytes_read::Mark;
+use bytes_read::MarkField;
+use bytes_read::Walked;
+use bytes_read::WordField;
+use bytes_read::half_at;
+use base_causes::Outcome;
+use base_causes::Place;
 
 const MARK: Mark = Mark(
     layout::MARK_FIRST,

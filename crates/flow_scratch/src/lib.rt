@@ -5,7 +5,7 @@ ghost use Prim.Native.Nat.{_+_, _-_, _≤_, _<_};
 ghost use lib.ListN.{length, getD, set};
 ghost use lib.IntN.{pos};
 ghost use lib.Signed.{leZ};
-ghost use Rattle.integers.specs.Meaning.Difference.{up, dn};
+ghost use Rattle.base_integers.specs.Meaning.Difference.{up, dn};
 ghost use Rattle.flow_scratch.specs.Meaning.Places.{amountAt};
 ghost use Rattle.flow_scratch.specs.Meaning.Cleared.{Cleared};
 

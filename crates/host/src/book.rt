@@ -1,10 +1,10 @@
 // The order book lent by the host: its rows beside a list of zone prices in grains.
 ghost use mathlib.Core.Path.{_≡_};
-ghost use Rattle.order_book.specs.Meaning.Lent.{lentAnswer};
-ghost use Rattle.order_book.specs.Promised.PlainLent.{PlainAnswer};
-use lent_book::book_surplus;
-use order_book::OrderRow;
-use order_book::Surplus;
+ghost use Rattle.book_surplus.specs.Meaning.Lent.{lentAnswer};
+ghost use Rattle.book_surplus.specs.Promised.PlainLent.{PlainAnswer};
+use book_lent::book_surplus;
+use book_surplus::OrderRow;
+use book_surplus::Surplus;
 
 // The sum of rule 8 in microcents, or a refusal: 4 index 5, 4 index 8, 8 with the row, 25 with the zone, in that order, with sum 0. `PlainAnswer` says
 // in plain numbers which book is answered how.

@@ -1,11 +1,11 @@
 // A solver's dump as the host has it turned into a proposal for a case (request S-5).
 ghost use mathlib.Core.Path.{_≡_};
 ghost use lib.ListN.{length, take};
-ghost use Rattle.rows.specs.Meaning.Rows.{verdict};
+ghost use Rattle.base_causes.specs.Meaning.Rows.{verdict};
 ghost use Rattle.dump_proposal.specs.Meaning.Dump.{dumpOutcome, dumpWritten, dumpOutput, ProposalHolds, VolumesWithin};
 ghost use Rattle.dump_proposal.specs.Promised.PlainBytes.{WrittenProposal};
 use dump_proposal::dump_proposal;
-use output::Written;
+use base_output::Written;
 
 // The proposal at the start of `out`, and how many bytes it is; or a refusal, 56 to 60 in that order, with length 0
 // and `out` as it was. An answer's bytes have the right length for the case and pass rows 9 to 14; each field holds

@@ -8,9 +8,9 @@ ghost use Rattle.rules.specs.Meaning.Report.{bufferAfter, familyBufferAfter};
 ghost use Rattle.rules.specs.Meaning.Verdict.{outcome, familyOutcome};
 ghost use Rattle.rules.specs.Meaning.AnnexPromise.{AnnexDemand3};
 ghost use Rattle.rules.specs.Promised.PlainReport.{ReportOf};
-ghost use Rattle.judgement.specs.Meaning.Packed.{packed};
-use judgement::judge;
-use judgement::judge_families;
+ghost use Rattle.judge_hour.specs.Meaning.Packed.{packed};
+use judge_hour::judge;
+use judge_hour::judge_families;
 
 fn packed(number: u32, index: u32) -> u64
     ensures { λ r. ⌜ r ≡ number + 256 * index ⌝ }

@@ -4,17 +4,17 @@ ghost use Prim.Native.Nat.{_<_};
 ghost use lib.ListN.{length};
 ghost use lib.IntN.{pos};
 ghost use lib.Signed.{_≤ℤ_};
-ghost use Rattle.rows.specs.Meaning.Rows.{verdict};
-ghost use Rattle.zone_pairs.specs.Meaning.Pairs.{importsWorth, networkOf};
-ghost use Rattle.transports.specs.Meaning.Network.{FeasibleAll, DeficientSet};
-ghost use Rattle.intuitive.specs.Meaning.Intuitive.{scratchRoom, intuitiveOutcome, LargestTotal, intuitiveScratch};
-ghost use Rattle.intuitive.specs.Meaning.SmallScratch.{smallRoom};
-ghost use Rattle.hour_intuitive.specs.Meaning.Hour.{hourOutcome, hourNetwork, hourRent, hourScratch};
-use hour_intuitive::hour_intuitive;
-use hour_intuitive::hour_intuitive_small;
-use intuitive::Carried;
-use intuitive::intuitive;
-use intuitive::intuitive_small;
+ghost use Rattle.base_causes.specs.Meaning.Rows.{verdict};
+ghost use Rattle.flow_pairs.specs.Meaning.Pairs.{importsWorth, networkOf};
+ghost use Rattle.flow_network.specs.Meaning.Network.{FeasibleAll, DeficientSet};
+ghost use Rattle.flow_intuitive.specs.Meaning.Intuitive.{scratchRoom, intuitiveOutcome, LargestTotal, intuitiveScratch};
+ghost use Rattle.flow_intuitive.specs.Meaning.SmallScratch.{smallRoom};
+ghost use Rattle.flow_hour.specs.Meaning.Hour.{hourOutcome, hourNetwork, hourRent, hourScratch};
+use flow_hour::hour_intuitive;
+use flow_hour::hour_intuitive_small;
+use flow_intuitive::Carried;
+use flow_intuitive::intuitive;
+use flow_intuitive::intuitive_small;
 
 // Net positions with export positive, zone prices in grains, and ordered pairs of zones, two bytes to a pair; a pair counts when its first price is at most its
 // second. A yes (1) has flows along counted pairs that carry every export to imports; a no (0) has a set of zones that no counted pair leaves and whose

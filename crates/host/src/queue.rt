@@ -1,6 +1,6 @@
 // The desk queue, which the host holds as 101 bytes (request S-8).
 ghost use mathlib.Core.Path.{_≡_};
-ghost use Rattle.desk_queue.specs.Meaning.Queue.{postNumber, afterPost, serveAnswer, afterServe};
+ghost use Rattle.queue_turns.specs.Meaning.Queue.{postNumber, afterPost, serveAnswer, afterServe};
 ghost use Rattle.queue_bytes.specs.Meaning.Bytes.{queueOf, bytesAfterPost, bytesAfterServe};
 ghost use Rattle.queue_bytes.specs.Meaning.Answer.{given};
 use queue_bytes::Served;

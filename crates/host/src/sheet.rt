@@ -3,12 +3,12 @@ ghost use mathlib.Core.Path.{_≡_};
 ghost use mathlib.Core.List.{List, _++_};
 ghost use Prim.Native.Nat.{ℕ};
 ghost use lib.ListN.{length, take};
-ghost use Rattle.rows.specs.Meaning.Rows.{verdict};
+ghost use Rattle.base_causes.specs.Meaning.Rows.{verdict};
 ghost use Rattle.sheet_lines.specs.Meaning.Sheet.{Header, Holds, lineCount, sheetOutcome, sheetWritten, sheetOutput};
 ghost use Rattle.sheet_lines.specs.Promised.PlainBytes.{BranchesOf};
 ghost use Rattle.sheet_lines.specs.Promised.PlainCauses.{AnswersTo};
-use margin_sheet::sheet_branches;
-use output::Written;
+use sheet_branches::sheet_branches;
+use base_output::Written;
 
 // The branches at the start of `out`, and how many bytes they are; or a refusal, 50 to 55 in that order, with length 0 and `out` as it was. An answer's bytes,
 // behind any header of these zones and that many branches and before whatever follows, hold the sheet's margins and, turned, its PTDFs, and row 6 passes.

@@ -1,11 +1,11 @@
 // The shortfalls of an accepted hour as the host asks for them (request S-14).
 ghost use mathlib.Core.Path.{_≡_};
 ghost use lib.ListN.{length};
-ghost use Rattle.rows.specs.Meaning.Rows.{verdict};
+ghost use Rattle.base_causes.specs.Meaning.Rows.{verdict};
 ghost use Rattle.rules.specs.Meaning.Hour.{caseOf, planOf, pricesOf};
-ghost use Rattle.shortfalls.specs.Meaning.Answer.{shortfallOutcome, shortfallWritten, shortfallOutput, Answers};
-use hour_shortfalls::hour_shortfalls;
-use output::Written;
+ghost use Rattle.short_rules.specs.Meaning.Answer.{shortfallOutcome, shortfallWritten, shortfallOutput, Answers};
+use short_hour::hour_shortfalls;
+use base_output::Written;
 
 // Two numbers for each order, then each branch, then each link, at the start of `out`: whole microcents, and
 // hundred-thousandths of one, below 100,000; and how many numbers that is. An hour that is not accepted is refused by

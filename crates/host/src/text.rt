@@ -2,11 +2,11 @@
 ghost use mathlib.Core.Path.{_≡_};
 ghost use Prim.Native.Nat.{_≤_};
 ghost use lib.ListN.{length, take};
-ghost use Rattle.rows.specs.Meaning.Rows.{verdict};
-ghost use Rattle.desk_lines.specs.Meaning.Printed.{deskOutcome, deskWritten, deskOutput};
-ghost use Rattle.desk_lines.specs.Promised.PlainText.{PlainText};
-use desk_lines::lines;
-use output::Written;
+ghost use Rattle.base_causes.specs.Meaning.Rows.{verdict};
+ghost use Rattle.text_lines.specs.Meaning.Printed.{deskOutcome, deskWritten, deskOutput};
+ghost use Rattle.text_lines.specs.Promised.PlainText.{PlainText};
+use text_lines::lines;
+use base_output::Written;
 
 // The lines for a case and at once its proposal, at the start of `out`, and how many bytes they are; or the refusal by 31, where `out` has less than the
 // desk's room, with length 0 and `out` as it was. The verdict on the hour is the text's first line and not this number.

@@ -3,23 +3,23 @@
 ghost use mathlib.Core.Path.{_≡_};
 ghost use Prim.Native.Nat.{_+_, _*_, _≤_};
 ghost use lib.ListN.{length};
-ghost use Rattle.integers.specs.Meaning.Ranges as ranges;
-ghost use Rattle.rows.specs.Meaning.Place.{placeOf};
-ghost use Rattle.numerals.specs.Steps.Capped.{cap};
+ghost use Rattle.base_integers.specs.Meaning.Ranges as ranges;
+ghost use Rattle.base_causes.specs.Meaning.Place.{placeOf};
+ghost use Rattle.sheet_numbers.specs.Steps.Capped.{cap};
 ghost use Rattle.sheet_lines.specs.Meaning.Sheet.{decimalCount, limit, branchPart};
 ghost use Rattle.sheet_lines.specs.Steps.Entries.{turned, entryOfNumber};
 ghost use Rattle.sheet_lines.specs.Meaning.Lines.{SheetRead};
 ghost use Rattle.sheet_lines.specs.Steps.Lines.{markOf, commaMissing, LineRead, rowOf, firstWith};
-use measures::Ptdf;
-use measures::PtdfAnswer;
-use measures::Raw;
-use measures::Tenths;
-use measures::TenthsAnswer;
-use numerals::Number;
-use numerals::NumberAnswer;
-use numerals::TextCursor;
-use rows::Place;
-use words::put_signed32;
+use base_measures::Ptdf;
+use base_measures::PtdfAnswer;
+use base_measures::Raw;
+use base_measures::Tenths;
+use base_measures::TenthsAnswer;
+use sheet_numbers::Number;
+use sheet_numbers::NumberAnswer;
+use sheet_numbers::TextCursor;
+use base_causes::Place;
+use bytes_write::put_signed32;
 
 // What is wrong with a number: a decimal past ours is not zero; out of range.
 struct Flaws {

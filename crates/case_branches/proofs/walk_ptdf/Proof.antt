@@ -3,16 +3,16 @@ use mathlib.Core.Path.{_≡_, sym, ap, _∙_}
 use Prim.Native.Nat.{ℕ, _+_}
 use native.Mathlib.Omega.{arith}
 use borrow.Author.Needs.{needs}
-use Rattle.integers.specs.Meaning.Ranges.{outside}
-use Rattle.measures.specs.Meaning.Limits as limits
-use Rattle.measures.specs.Steps.Held.{ptdf-outside, ptdf-held}
-use Rattle.measures.specs.declared.Raw.{Raw}
+use Rattle.base_integers.specs.Meaning.Ranges.{outside}
+use Rattle.base_measures.specs.Meaning.Limits as limits
+use Rattle.base_measures.specs.Steps.Held.{ptdf-outside, ptdf-held}
+use Rattle.base_measures.specs.declared.Raw.{Raw}
 use Rattle.rules.specs.Meaning.Layout.{i32At}
-use Rattle.fields.specs.declared.Cursor.{Cursor}
-use Rattle.fields.specs.declared.Walked.the-variants.{Past}
-use Rattle.fields.specs.Meaning.Field.{cursor, raw}
-use Rattle.fields.specs.Meaning.Walk.{refusedAt}
-use Rattle.fields.specs.Steps.Record.{RecordWithin, FieldRead, signed-read, signed-there}
+use Rattle.bytes_read.specs.declared.Cursor.{Cursor}
+use Rattle.bytes_read.specs.declared.Walked.the-variants.{Past}
+use Rattle.bytes_read.specs.Meaning.Field.{cursor, raw}
+use Rattle.bytes_read.specs.Meaning.Walk.{refusedAt}
+use Rattle.bytes_read.specs.Steps.Record.{RecordWithin, FieldRead, signed-read, signed-there}
 use Rattle.case_branches.specs.Steps.Branch.{ptdfBy}
 use Rattle.case_branches.proofs.walk_ptdf.Statement.{statement}
 use Rattle.case_branches.proofs.walk_ptdf.Tie as tie

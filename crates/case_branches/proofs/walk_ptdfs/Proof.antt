@@ -6,11 +6,11 @@ use mathlib.Core.Option.{none}
 use Prim.Native.Nat.{ℕ, _+_, _*_, _-_, _≤_, _<_}
 use native.Mathlib.Omega.{arith}
 use borrow.Author.Needs.{needs}
-use Rattle.rows.specs.Meaning.Rows.{firstBelow}
-use Rattle.rows.specs.Promised.RowLaws.{first-later}
-use Rattle.fields.specs.declared.Cursor.{Cursor}
-use Rattle.fields.specs.declared.Walked.the-variants.{Past}
-use Rattle.fields.specs.Meaning.Field.{cursor}
+use Rattle.base_causes.specs.Meaning.Rows.{firstBelow}
+use Rattle.base_causes.specs.Promised.RowLaws.{first-later}
+use Rattle.bytes_read.specs.declared.Cursor.{Cursor}
+use Rattle.bytes_read.specs.declared.Walked.the-variants.{Past}
+use Rattle.bytes_read.specs.Meaning.Field.{cursor}
 use Rattle.case_branches.specs.Steps.Branch.{ptdfFault, ptdfWalked, one-refused, one-past, ptdfs-stop, ptdfs-end}
 use Rattle.case_branches.proofs.walk_ptdfs.Statement.{statement}
 use Rattle.case_branches.proofs.walk_ptdfs.Tie as tie

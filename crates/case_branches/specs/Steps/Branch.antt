@@ -8,22 +8,22 @@ use native.Mathlib.Nat.{add-mul}
 use native.Mathlib.Numerals.{add-one}
 use native.Mathlib.Omega.{arith}
 use lib.Dec.{T}
-use Rattle.integers.specs.Meaning.Ranges.{outside}
-use Rattle.integers.specs.Steps.Ranges.{is-false}
-use Rattle.measures.specs.Meaning.Limits as limits
+use Rattle.base_integers.specs.Meaning.Ranges.{outside}
+use Rattle.base_integers.specs.Steps.Ranges.{is-false}
+use Rattle.base_measures.specs.Meaning.Limits as limits
 use Rattle.rules.specs.Meaning.Layout.{i32At, zonesIn, branchesIn, branchSize, branchAt, branchFieldAt, linkAt, ramIn, ptdfIn}
 use Rattle.rules.specs.Meaning.Hour.{caseOf}
-use Rattle.rows.specs.Meaning.Rows.{firstBelow}
-use Rattle.rows.specs.Promised.RowLaws.{first-none, first-is, first-here, first-nowhere, not-below}
+use Rattle.base_causes.specs.Meaning.Rows.{firstBelow}
+use Rattle.base_causes.specs.Promised.RowLaws.{first-none, first-is, first-here, first-nowhere, not-below}
 use Rattle.rules.specs.Meaning.Verdict.{branchFault}
-use Rattle.rows.specs.declared.Outcome.{Outcome}
-use Rattle.fields.specs.declared.Cursor.{Cursor}
-use Rattle.fields.specs.declared.Walked.{Walked}
-use Rattle.fields.specs.declared.Walked.the-variants.{Past, Refused}
-use Rattle.fields.specs.Meaning.Field.{cursor}
-use Rattle.fields.specs.Meaning.Walk.{refusedAt, walked}
-use Rattle.fields.specs.Steps.Record.{RecordWithin}
-use Rattle.fields.specs.Steps.Walked.{AtField, at-first, field-stops, record-passes}
+use Rattle.base_causes.specs.declared.Outcome.{Outcome}
+use Rattle.bytes_read.specs.declared.Cursor.{Cursor}
+use Rattle.bytes_read.specs.declared.Walked.{Walked}
+use Rattle.bytes_read.specs.declared.Walked.the-variants.{Past, Refused}
+use Rattle.bytes_read.specs.Meaning.Field.{cursor}
+use Rattle.bytes_read.specs.Meaning.Walk.{refusedAt, walked}
+use Rattle.bytes_read.specs.Steps.Record.{RecordWithin}
+use Rattle.bytes_read.specs.Steps.Walked.{AtField, at-first, field-stops, record-passes}
 use Rattle.case_header.specs.declared.Counts.{Counts}
 use Rattle.case_header.specs.Meaning.Opened.{Whole, branchRow}
 use Rattle.case_header.specs.Steps.Opened.{small, branch-start-is, branch-inside}

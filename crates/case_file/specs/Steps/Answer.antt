@@ -3,7 +3,7 @@ use mathlib.Core.Path.{_≡_, refl, _∙_}
 use mathlib.Core.List.{List}
 use mathlib.Core.Option.{Option, none, some}
 use Prim.Native.Nat.{ℕ}
-use Rattle.rows.specs.declared.Outcome.{Outcome}
+use Rattle.base_causes.specs.declared.Outcome.{Outcome}
 use Rattle.rules.specs.Meaning.Verdict.{caseRefusal, Readable}
 use Rattle.case_header.specs.declared.Counts.{Counts}
 use Rattle.case_header.specs.Meaning.Answer.{countsOf}

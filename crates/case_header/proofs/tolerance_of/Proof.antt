@@ -2,8 +2,8 @@
 use mathlib.Core.Path.{ap, _∙_}
 use native.Mathlib.Omega.{arith}
 use lib.IntN.{ℤ}
-use Rattle.measures.specs.Meaning.Limits as limits
-use Rattle.measures.specs.Meaning.Held.{microcentsIn}
+use Rattle.base_measures.specs.Meaning.Limits as limits
+use Rattle.base_measures.specs.Meaning.Held.{microcentsIn}
 use borrow.Author.Needs.{needs}
 use Rattle.case_header.proofs.tolerance_of.Statement.{statement}
 use Rattle.case_header.proofs.tolerance_of.Tie as tie

@@ -6,14 +6,14 @@ use Prim.Native.Nat.{ℕ}
 use lib.ListN.{length}
 use lib.Dec.{eqb}
 use lib.IntN.{pos}
-use Rattle.integers.specs.Meaning.Ranges.{outside}
-use Rattle.measures.specs.Meaning.Limits as limits
+use Rattle.base_integers.specs.Meaning.Ranges.{outside}
+use Rattle.base_measures.specs.Meaning.Limits as limits
 use Rattle.rules.specs.Meaning.Layout.{caseHeader, caseVersion, zonesIn, branchesIn, linksIn, ordersIn, toleranceIn, zoneCounts, branchCounts, linkCounts, orderCounts}
-use Rattle.rows.specs.declared.Outcome.{Outcome}
-use Rattle.rows.specs.Meaning.Rows.{Row, verdict, once, field}
+use Rattle.base_causes.specs.declared.Outcome.{Outcome}
+use Rattle.base_causes.specs.Meaning.Rows.{Row, verdict, once, field}
 use Rattle.rules.specs.Meaning.Verdict.{under, differ, headerRefusal}
-use Rattle.fields.specs.declared.Cursor.{Cursor}
-use Rattle.fields.specs.Meaning.Field.{cursor, markAt}
+use Rattle.bytes_read.specs.declared.Cursor.{Cursor}
+use Rattle.bytes_read.specs.Meaning.Field.{cursor, markAt}
 use Rattle.case_header.specs.declared.Counts.{Counts}
 use Rattle.case_header.specs.declared.Header.{Header}
 use Rattle.case_header.specs.declared.HeaderField.{HeaderField}

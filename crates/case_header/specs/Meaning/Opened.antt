@@ -6,7 +6,7 @@ use Prim.Native.Nat.{ℕ, _+_, _*_, _≤_}
 use lib.ListN.{length}
 use Rattle.rules.specs.Meaning.Layout.{caseHeader, linkSize, linkFields, orderSize, orderFields, branchFieldAt, linkFieldAt, orderFieldAt, caseLength, zonesIn, branchesIn, linksIn, ordersIn}
 use Rattle.rules.specs.Meaning.Hour.{caseOf}
-use Rattle.rows.specs.Meaning.Rows.{Row, eachField}
+use Rattle.base_causes.specs.Meaning.Rows.{Row, eachField}
 use Rattle.rules.specs.Meaning.Verdict.{branchFault, linkFault, orderFault, Readable, headerRefusal}
 use Rattle.case_header.specs.declared.Counts.{Counts}
 use Rattle.case_header.specs.Meaning.Answer.{countsOf}

@@ -7,9 +7,9 @@ use Prim.Native.Nat.{ℕ}
 use lib.ListN.{length}
 use Rattle.rules.specs.Meaning.Layout.{caseHeader}
 use Rattle.rules.specs.Meaning.Hour.{caseOf}
-use Rattle.rows.specs.declared.Outcome.{Outcome}
-use Rattle.rows.specs.Meaning.Rows.{verdict, refusal}
-use Rattle.rows.specs.Promised.RowLaws.{field-fails, field-passes}
+use Rattle.base_causes.specs.declared.Outcome.{Outcome}
+use Rattle.base_causes.specs.Meaning.Rows.{verdict, refusal}
+use Rattle.base_causes.specs.Promised.RowLaws.{field-fails, field-passes}
 use Rattle.rules.specs.Meaning.Verdict.{under, notMark, headerRefusal}
 use Rattle.case_header.specs.declared.Header.{Header}
 use Rattle.case_header.specs.declared.HeaderField.the-variants as taken

@@ -8,16 +8,16 @@ use Prim.Native.Nat.{ℕ, suc, _+_, _*_, _≤_, _<_}
 use native.Mathlib.Nat.{mul-le-mul, mul-le-mul-right}
 use native.Mathlib.Omega.{arith}
 use lib.ListN.{length}
-use Rattle.integers.specs.Steps.Ranges.{nat-within}
+use Rattle.base_integers.specs.Steps.Ranges.{nat-within}
 use Rattle.rules.specs.Meaning.Layout.{caseHeader, contracts, contractedSize, linkSize, orderSize, caseLength, branchSize, branchAt, linkAt, orderAt, zonesIn, branchesIn, linksIn, ordersIn}
 use Rattle.rules.specs.Meaning.Hour.{caseOf}
-use Rattle.rows.specs.declared.Outcome.{Outcome}
-use Rattle.rows.specs.Meaning.Rows.{Row, refusal, once, Pass}
-use Rattle.rows.specs.Promised.RowLaws.{else-refusal, refusal-append, isRow, rowOf, field-at-passes}
+use Rattle.base_causes.specs.declared.Outcome.{Outcome}
+use Rattle.base_causes.specs.Meaning.Rows.{Row, refusal, once, Pass}
+use Rattle.base_causes.specs.Promised.RowLaws.{else-refusal, refusal-append, isRow, rowOf, field-at-passes}
 use Rattle.rules.specs.Meaning.Verdict.{differ, caseRows, caseRefusal, headerRefusal, caseHeaderRows}
 use Rattle.rules.specs.Steps.Passed.{case-length}
-use Rattle.fields.specs.declared.Cursor.{Cursor}
-use Rattle.fields.specs.Meaning.Field.{cursor}
+use Rattle.bytes_read.specs.declared.Cursor.{Cursor}
+use Rattle.bytes_read.specs.Meaning.Field.{cursor}
 use Rattle.case_header.specs.declared.Counts.{Counts}
 use Rattle.case_header.specs.declared.HeaderAnswer.the-variants as header
 use Rattle.case_header.specs.Meaning.Answer.{countsOf, headerBy, headerAnswer}

@@ -7,9 +7,9 @@ use native.Mathlib.Omega.{arith}
 use borrow.Author.Needs.{needs}
 use lib.ListN.{length}
 use lib.IntN.{ℤ, pos}
-use Rattle.integers.specs.Meaning.Ranges.{Within}
-use Rattle.measures.specs.Meaning.Limits as limits
-use Rattle.measures.specs.declared.Tenths.{Tenths}
+use Rattle.base_integers.specs.Meaning.Ranges.{Within}
+use Rattle.base_measures.specs.Meaning.Limits as limits
+use Rattle.base_measures.specs.declared.Tenths.{Tenths}
 use Rattle.rules.specs.Meaning.Layout.{u32At, caseVersion, contracts, contractedSize, linkAt, capacityIn, contractedIn}
 use Rattle.case_header.specs.declared.Counts.{Counts}
 use Rattle.case_header.specs.Steps.Opened.{headed, whole, limited, link-start-is, link-inside}

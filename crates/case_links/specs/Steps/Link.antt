@@ -4,9 +4,9 @@ use mathlib.Core.List.{List}
 use Prim.Native.Nat.{ℕ, _<_}
 use native.Mathlib.Omega.{arith}
 use lib.IntN.{pos}
-use Rattle.integers.specs.Meaning.Ranges.{Within}
-use Rattle.integers.specs.Steps.Ranges.{within, nat-inside}
-use Rattle.measures.specs.Meaning.Limits as limits
+use Rattle.base_integers.specs.Meaning.Ranges.{Within}
+use Rattle.base_integers.specs.Steps.Ranges.{within, nat-inside}
+use Rattle.base_measures.specs.Meaning.Limits as limits
 use Rattle.rules.specs.Meaning.Layout.{linksIn, capacityIn, contractedIn}
 use Rattle.rules.specs.Meaning.Hour.{caseOf}
 use Rattle.rules.specs.Steps.Passed.{case-sound}

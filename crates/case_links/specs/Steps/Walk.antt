@@ -10,27 +10,27 @@ use lib.Dec.{T, eqb, eqb→eq, leb}
 use lib.IntN.{ℤ, pos}
 use lib.Signed.{ltZ}
 use lib.ListN.{length}
-use Rattle.integers.specs.Meaning.Ranges.{outside}
-use Rattle.integers.specs.Steps.Ranges.{is-true, and-left, and-right}
-use Rattle.measures.specs.Meaning.Limits as limits
+use Rattle.base_integers.specs.Meaning.Ranges.{outside}
+use Rattle.base_integers.specs.Steps.Ranges.{is-true, and-left, and-right}
+use Rattle.base_measures.specs.Meaning.Limits as limits
 use Rattle.rules.specs.Meaning.Layout.{u8At, u32At, caseVersion, zonesIn, linksIn, contracts, contractedSize, linkAt, linkFields, linkFieldAt, orderAt, fromIn, toIn, capacityIn, contractedIn}
 use Rattle.rules.specs.Meaning.Hour.{caseOf}
-use Rattle.rows.specs.Meaning.Rows.{firstBelow, firstField}
-use Rattle.rows.specs.Promised.RowLaws.{not-below, no-place, first-field}
+use Rattle.base_causes.specs.Meaning.Rows.{firstBelow, firstField}
+use Rattle.base_causes.specs.Promised.RowLaws.{not-below, no-place, first-field}
 use Rattle.rules.specs.Meaning.Verdict.{unknown, repeated, linkFault}
-use Rattle.fields.specs.declared.Walked.{Walked}
-use Rattle.fields.specs.declared.Cursor.{Cursor}
-use Rattle.fields.specs.declared.WordField.{WordField}
-use Rattle.fields.specs.declared.WordField.the-variants.{Taken, Short}
-use Rattle.fields.specs.Meaning.Field.{cursor, wordField}
-use Rattle.fields.specs.Steps.Walk.{Took, word-took, word-short}
-use Rattle.fields.specs.Meaning.Walk.{refusedAt, walked}
-use Rattle.fields.specs.Steps.Record.{RecordWithin}
-use Rattle.fields.specs.Steps.Walked.{AtField, at-first, field-stops, field-passes}
+use Rattle.bytes_read.specs.declared.Walked.{Walked}
+use Rattle.bytes_read.specs.declared.Cursor.{Cursor}
+use Rattle.bytes_read.specs.declared.WordField.{WordField}
+use Rattle.bytes_read.specs.declared.WordField.the-variants.{Taken, Short}
+use Rattle.bytes_read.specs.Meaning.Field.{cursor, wordField}
+use Rattle.bytes_read.specs.Steps.Walk.{Took, word-took, word-short}
+use Rattle.bytes_read.specs.Meaning.Walk.{refusedAt, walked}
+use Rattle.bytes_read.specs.Steps.Record.{RecordWithin}
+use Rattle.bytes_read.specs.Steps.Walked.{AtField, at-first, field-stops, field-passes}
 use Rattle.case_header.specs.declared.Counts.{Counts}
 use Rattle.case_header.specs.Meaning.Opened.{Whole, linkRow}
 use Rattle.case_header.specs.Steps.Opened.{small, link-start-is, link-inside}
-use Rattle.zone_set.specs.Steps.Pairs.{holds, samePair, Seen}
+use Rattle.base_zone_set.specs.Steps.Pairs.{holds, samePair, Seen}
 
 -- THE CONTRACTED VOLUME that a walk takes at a cursor: of 32 bits where the version has them, else the capacity, and the cursor stays (S-4)
 abbrev pub contractedAt : List ℕ → ℕ → ℕ → ℕ → ℕ

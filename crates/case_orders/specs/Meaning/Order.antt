@@ -3,8 +3,8 @@ use mathlib.Core.List.{List}
 use Prim.Native.Nat.{ℕ}
 use lib.IntN.{pos}
 use Rattle.rules.specs.Meaning.Layout.{zoneIn, sideIn, quantityIn, priceIn}
-use Rattle.orders.specs.Meaning.Answer as admitted
-use Rattle.orders.specs.declared.Order.{Order}
+use Rattle.book_order.specs.Meaning.Answer as admitted
+use Rattle.book_order.specs.declared.Order.{Order}
 
 -- order i of the case s
 abbrev pub orderOf : List ℕ → ℕ → Order

@@ -6,14 +6,14 @@ use Prim.Native.Nat.{ℕ, _+_, _<_}
 use native.Mathlib.Omega.{arith}
 use lib.Dec.{leb, ltb}
 use lib.IntN.{ℤ, pos}
-use Rattle.integers.specs.Meaning.Ranges.{outside}
-use Rattle.measures.specs.Meaning.Limits as limits
+use Rattle.base_integers.specs.Meaning.Ranges.{outside}
+use Rattle.base_measures.specs.Meaning.Limits as limits
 use Rattle.rules.specs.Meaning.Layout.{u8At, u32At, i32At, zonesIn, ordersIn, orderAt, orderFields, orderFieldAt, caseLength, zoneIn, sideIn, quantityIn, priceIn}
 use Rattle.rules.specs.Meaning.Hour.{caseOf}
-use Rattle.rows.specs.Meaning.Rows.{firstBelow}
+use Rattle.base_causes.specs.Meaning.Rows.{firstBelow}
 use Rattle.rules.specs.Meaning.Verdict.{rowFault, orderFault}
-use Rattle.fields.specs.Steps.Record.{RecordWithin}
-use Rattle.fields.specs.Steps.Walked.{AtField, at-first}
+use Rattle.bytes_read.specs.Steps.Record.{RecordWithin}
+use Rattle.bytes_read.specs.Steps.Walked.{AtField, at-first}
 use Rattle.case_header.specs.declared.Counts.{Counts}
 use Rattle.case_header.specs.Meaning.Opened.{Whole, orderRow}
 use Rattle.case_header.specs.Steps.Opened.{small, order-start-is, order-inside}

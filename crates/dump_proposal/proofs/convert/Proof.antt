@@ -7,9 +7,9 @@ use native.Mathlib.Omega.{arith}
 use borrow.Author.Needs.{needs}
 use denote.Ref.{now}
 use lib.ListN.{length}
-use Rattle.rows.specs.declared.Place.{Place}
-use Rattle.rows.specs.Meaning.Rows.{firstBelow}
-use Rattle.rows.specs.Meaning.Place.{placeOf}
+use Rattle.base_causes.specs.declared.Place.{Place}
+use Rattle.base_causes.specs.Meaning.Rows.{firstBelow}
+use Rattle.base_causes.specs.Meaning.Place.{placeOf}
 use Rattle.case_header.specs.Steps.Opened.{headed, limited}
 use Rattle.dump_proposal.specs.Steps.Walks.{countOf}
 use Rattle.dump_proposal.specs.Steps.Answers.{notFiniteAt, met-57, met-58, finite-dump}

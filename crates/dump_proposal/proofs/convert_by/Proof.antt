@@ -6,10 +6,10 @@ use Prim.Native.Nat.{ℕ}
 use native.Mathlib.Omega.{arith}
 use borrow.Author.Needs.{needs}
 use denote.Ref.{now}
-use Rattle.rows.specs.Meaning.Rows.{firstBelow}
-use Rattle.rows.specs.declared.Place.{Place}
-use Rattle.rows.specs.Meaning.Place.{placeOf}
-use Rattle.rows.specs.Promised.RowLaws.{place-below}
+use Rattle.base_causes.specs.Meaning.Rows.{firstBelow}
+use Rattle.base_causes.specs.declared.Place.{Place}
+use Rattle.base_causes.specs.Meaning.Place.{placeOf}
+use Rattle.base_causes.specs.Promised.RowLaws.{place-below}
 use Rattle.case_header.specs.Steps.Opened.{headed, limited}
 use Rattle.dump_proposal.specs.Steps.Walks.{restOf, faultAfter}
 use Rattle.dump_proposal.specs.Steps.Answers.{met-rest, met-60, met-0}

@@ -7,7 +7,7 @@ use native.Mathlib.Omega.{arith}
 use borrow.Author.Needs.{needs}
 use denote.Ref.{now}
 use Rattle.case_header.specs.Steps.Opened.{headed, limited}
-use Rattle.binary64.specs.Meaning.Value.{bitsAt}
+use Rattle.dump_binary64.specs.Meaning.Value.{bitsAt}
 use Rattle.dump_values.specs.Meaning.Answer.{fieldOf}
 use Rattle.dump_values.specs.Meaning.Field.{kindOf}
 use Rattle.dump_proposal.specs.declared.OpeningField.the-variants as opened

@@ -7,10 +7,10 @@ use mathlib.Core.Option.{none}
 use Prim.Native.Nat.{ℕ, _+_, _-_, _*_, _≤_}
 use native.Mathlib.Omega.{arith}
 use borrow.Author.Needs.{needs}
-use Rattle.rows.specs.Meaning.Rows.{firstBelow}
-use Rattle.rows.specs.Promised.RowLaws.{first-here, first-later, first-nowhere}
-use Rattle.fields.specs.declared.Cursor.{Cursor}
-use Rattle.binary64.specs.Meaning.Value.{bitsAt, finite}
+use Rattle.base_causes.specs.Meaning.Rows.{firstBelow}
+use Rattle.base_causes.specs.Promised.RowLaws.{first-here, first-later, first-nowhere}
+use Rattle.bytes_read.specs.declared.Cursor.{Cursor}
+use Rattle.dump_binary64.specs.Meaning.Value.{bitsAt, finite}
 use Rattle.dump_proposal.specs.Steps.Walks.{none-yet, value-took, value-there}
 use Rattle.dump_proposal.proofs.first_not_finite.Statement.{statement}
 use Rattle.dump_proposal.proofs.first_not_finite.Tie as tie

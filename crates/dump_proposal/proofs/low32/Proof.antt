@@ -1,6 +1,6 @@
 -- `dump_proposal::low32` meets its contract: the low half has the low bytes. Assumes nothing.
 use borrow.Author.Needs.{needs}
-use Rattle.words.specs.Steps.Halves.{low-half}
+use Rattle.bytes_write.specs.Steps.Halves.{low-half}
 use Rattle.dump_proposal.proofs.low32.Statement.{statement}
 use Rattle.dump_proposal.proofs.low32.Tie as tie
 

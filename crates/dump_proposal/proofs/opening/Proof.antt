@@ -5,8 +5,8 @@ use Prim.Native.Nat.{ℕ}
 use native.Mathlib.Omega.{arith}
 use borrow.Author.Needs.{needs}
 use lib.Ieee.{ofBits, binary64}
-use Rattle.fields.specs.declared.Cursor.{Cursor}
-use Rattle.binary64.specs.Meaning.Value.{bitsAt, finite}
+use Rattle.bytes_read.specs.declared.Cursor.{Cursor}
+use Rattle.dump_binary64.specs.Meaning.Value.{bitsAt, finite}
 use Rattle.dump_proposal.specs.declared.OpeningField.the-variants as opened
 use Rattle.dump_proposal.specs.Steps.Walks.{value-took, value-there}
 use Rattle.dump_proposal.proofs.opening.Statement.{statement}

@@ -2,7 +2,7 @@
 use mathlib.Core.Path.{_∙_}
 use denote.Ref.{now}
 use lib.Seq.{sets}
-use Rattle.integers.specs.Meaning.Bytes.{bytesOf}
+use Rattle.base_integers.specs.Meaning.Bytes.{bytesOf}
 use Rattle.dump_proposal.specs.Steps.Walks.{opening-run}
 use borrow.Author.Needs.{needs}
 use Rattle.dump_proposal.proofs.write_opening.Statement.{statement}

@@ -6,7 +6,7 @@ use native.Mathlib.Omega.{arith}
 use denote.Ref.{now}
 use lib.ListN.{length, getD}
 use lib.Seq.{sets, length-sets}
-use Rattle.integers.specs.Meaning.Bytes.{bytesOf}
+use Rattle.base_integers.specs.Meaning.Bytes.{bytesOf}
 use Rattle.dump_proposal.specs.Steps.Walks.{tableBytes, table-run}
 use Rattle.dump_proposal.proofs.write_rest.Statement.{statement}
 use Rattle.dump_proposal.proofs.write_rest.Tie as tie

@@ -9,14 +9,14 @@ use lib.ListN.{length}
 use lib.IntN.{ℤ, pos}
 use mir.Syntax.{w64}
 use mir.Val.{ofZ}
-use Rattle.integers.specs.Meaning.Bytes.{bytesOf}
-use Rattle.rows.specs.declared.Outcome.{Outcome}
-use Rattle.rows.specs.Meaning.Rows.{Row, verdict, refusal, answer, once, field, each}
+use Rattle.base_integers.specs.Meaning.Bytes.{bytesOf}
+use Rattle.base_causes.specs.declared.Outcome.{Outcome}
+use Rattle.base_causes.specs.Meaning.Rows.{Row, verdict, refusal, answer, once, field, each}
 use Rattle.rules.specs.Meaning.Layout.{ordersIn, linksIn, branchesIn, quantityIn, proposalLength, shareIn, systemIn, volumeIn, flowIn, shadowIn}
 use Rattle.rules.specs.Meaning.Verdict.{under, differ, caseRefusal, proposalRefusal}
-use Rattle.output.specs.declared.Written.{Written}
-use Rattle.output.specs.Meaning.Output.{writtenBy, outputAfter}
-use Rattle.binary64.specs.Meaning.Value.{bitsAt, finite, ShareWithin}
+use Rattle.base_output.specs.declared.Written.{Written}
+use Rattle.base_output.specs.Meaning.Output.{writtenBy, outputAfter}
+use Rattle.dump_binary64.specs.Meaning.Value.{bitsAt, finite, ShareWithin}
 use Rattle.dump_values.specs.Meaning.Field.{kindOf, converted, fault}
 
 -- how many values a dump for the case s has, eight bytes each, nothing after

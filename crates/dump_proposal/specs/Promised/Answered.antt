@@ -4,8 +4,8 @@ use mathlib.Core.Path.{_≡_, sym, ap, _∙_, subst}
 use mathlib.Core.List.{List}
 use Prim.Native.Nat.{ℕ}
 use lib.ListN.{length, take}
-use Rattle.rows.specs.declared.Outcome.{Outcome}
-use Rattle.output.specs.declared.Written.{Written}
+use Rattle.base_causes.specs.declared.Outcome.{Outcome}
+use Rattle.base_output.specs.declared.Written.{Written}
 use Rattle.dump_proposal.specs.Meaning.Dump.{dumpOutcome, DumpAnswered, ProposalHolds, VolumesWithin}
 use Rattle.dump_proposal.specs.Promised.PlainBytes.{WrittenProposal, proposal-written}
 use Rattle.dump_proposal.specs.Promised.ReadBack.{written-back}

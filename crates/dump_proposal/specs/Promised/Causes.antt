@@ -7,12 +7,12 @@ use Prim.Native.Nat.{ℕ, _<_}
 use native.Mathlib.Omega.{arith}
 use lib.ListN.{length, getD}
 use lib.Dec.{T}
-use Rattle.rows.specs.declared.Outcome.{Outcome}
-use Rattle.rows.specs.Promised.Asked.{unnamed, at-offset, the-place, ask, Asks}
-use Rattle.rows.specs.Meaning.Rows.{Row, verdict, answer}
-use Rattle.rows.specs.Promised.RowLaws.{empty, Cause, answer-caused, Answered, answered, Soonest, soonest, lacks, zero-none}
+use Rattle.base_causes.specs.declared.Outcome.{Outcome}
+use Rattle.base_causes.specs.Promised.Asked.{unnamed, at-offset, the-place, ask, Asks}
+use Rattle.base_causes.specs.Meaning.Rows.{Row, verdict, answer}
+use Rattle.base_causes.specs.Promised.RowLaws.{empty, Cause, answer-caused, Answered, answered, Soonest, soonest, lacks, zero-none}
 use Rattle.rules.specs.Meaning.Verdict.{caseRefusal}
-use Rattle.output.specs.Meaning.Output.{writtenBy, outputAfter}
+use Rattle.base_output.specs.Meaning.Output.{writtenBy, outputAfter}
 use Rattle.dump_proposal.specs.Meaning.Dump.{numberIn, dumpRows, dumpRefusal, dumpOutcome, proposalBytes, dumpWritten, dumpOutput}
 
 module _ (s d : List ℕ) (room : ℕ) where

@@ -15,14 +15,14 @@ use lib.Seq.{getD-take, getD-drop, getD-append-add}
 use lib.IntN.{ℤ, pos, negsuc}
 use mir.Syntax.{w32, w64}
 use mir.Val.{SFits, ofZ}
-use Rattle.integers.specs.Steps.Bytes.{byte-at}
-use Rattle.integers.specs.Meaning.Ranges.{range, outside}
-use Rattle.integers.specs.Steps.Ranges.{nat-within, is-false}
+use Rattle.base_integers.specs.Steps.Bytes.{byte-at}
+use Rattle.base_integers.specs.Meaning.Ranges.{range, outside}
+use Rattle.base_integers.specs.Steps.Ranges.{nat-within, is-false}
 use Rattle.rules.specs.Meaning.Layout.{u8At, u16At, ordersIn, linksIn, branchesIn, quantityIn, proposalLength}
 use Rattle.rules.specs.Meaning.Hour.{caseOf}
 use Rattle.rules.specs.Steps.Passed.{case-sound}
-use Rattle.binary64.specs.Meaning.Value.{bitsAt}
-use Rattle.binary64.specs.Promised.Taken.{bits-are-bytes}
+use Rattle.dump_binary64.specs.Meaning.Value.{bitsAt}
+use Rattle.dump_binary64.specs.Promised.Taken.{bits-are-bytes}
 use Rattle.dump_values.specs.Meaning.Field.{Kind, share-of, system-price, kindOf, converted, fieldRange, fault}
 use Rattle.dump_values.specs.Promised.Taken.{ShareTaken, FlowTaken, ShadowTaken, SystemTaken, share-taken, flow-taken, shadow-taken, system-taken}
 use Rattle.dump_values.specs.Promised.PlainFaults.{minus-zero}

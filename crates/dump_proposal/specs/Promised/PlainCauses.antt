@@ -14,18 +14,18 @@ use native.Mathlib.Omega.{arith}
 use borrow.Author.Tests.{not-false, eq-eqb, ne-eqb, eqb-true, le-ltb}
 use lib.Dec.{T, ltb→lt, lt→ltb, nltb→le, not-T, T-not}
 use lib.ListN.{length, getD}
-use Rattle.integers.specs.Meaning.NaturalSums.{sumNat}
-use Rattle.integers.specs.Steps.Ranges.{is-true, is-false, not-is}
-use Rattle.rows.specs.declared.Outcome.{Outcome}
-use Rattle.rows.specs.Meaning.Rows.{Pass, verdict, refusal, answer}
-use Rattle.rows.specs.Promised.RowLaws.{Comes, past, none-left, row-by-number, row-answers, number-passes, number-below, numbersBelow, rowNumbered, lacks, before, zero-none}
+use Rattle.base_integers.specs.Meaning.NaturalSums.{sumNat}
+use Rattle.base_integers.specs.Steps.Ranges.{is-true, is-false, not-is}
+use Rattle.base_causes.specs.declared.Outcome.{Outcome}
+use Rattle.base_causes.specs.Meaning.Rows.{Pass, verdict, refusal, answer}
+use Rattle.base_causes.specs.Promised.RowLaws.{Comes, past, none-left, row-by-number, row-answers, number-passes, number-below, numbersBelow, rowNumbered, lacks, before, zero-none}
 use Rattle.rules.specs.Meaning.Layout.{u8At, u16At, ordersIn, linksIn, branchesIn, quantityIn, proposalLength}
 use Rattle.rules.specs.Meaning.Hour.{caseOf}
 use Rattle.rules.specs.Meaning.Verdict.{differ, caseRows, caseRefusal}
 use Rattle.rules.specs.Promised.PlainFacts.{CaseFacts, case-facts, facts-readable}
-use Rattle.binary64.specs.Meaning.Value.{bitsAt, finite}
-use Rattle.binary64.specs.Promised.PlainBits.{not-finite}
-use Rattle.binary64.specs.Promised.Taken.{bits-are-bytes}
+use Rattle.dump_binary64.specs.Meaning.Value.{bitsAt, finite}
+use Rattle.dump_binary64.specs.Promised.PlainBits.{not-finite}
+use Rattle.dump_binary64.specs.Promised.Taken.{bits-are-bytes}
 use Rattle.dump_values.specs.Meaning.Field.{Kind, share-of, flow, system-price, shadow-price, kindOf, fault}
 use Rattle.dump_values.specs.Promised.PlainPlaces.{branches, links, orders, first-value, second-value, order-at, link-at, branch-at}
 use Rattle.dump_values.specs.Promised.PlainFaults.{ShareRefused, FlowRefused, ShadowRefused, SystemRefused, share-refused, flow-refused, shadow-refused, system-refused}

@@ -15,22 +15,22 @@ use lib.IntN.{ℤ, pos, negsuc}
 use lib.Ieee.Scale as float
 use mir.Syntax.{w32, w64}
 use mir.Val.{SFits, ofZ}
-use Rattle.integers.specs.Meaning.Bytes.{bytesOf, signed32}
-use Rattle.integers.specs.Steps.Bytes.{bytes-length}
-use Rattle.integers.specs.Meaning.Ranges.{range, outside}
-use Rattle.integers.specs.Steps.Ranges.{nat-within, nat-inside, is-false, not-is, nor-left, nor-right}
-use Rattle.measures.specs.Meaning.Limits as limits
-use Rattle.rows.specs.declared.Outcome.{Outcome}
-use Rattle.rows.specs.Meaning.Rows.{Row, Pass, firstBelow, refusal, eachAt}
-use Rattle.rows.specs.Promised.RowLaws.{empty, all-pass, first-none, row-clear, field-passes}
+use Rattle.base_integers.specs.Meaning.Bytes.{bytesOf, signed32}
+use Rattle.base_integers.specs.Steps.Bytes.{bytes-length}
+use Rattle.base_integers.specs.Meaning.Ranges.{range, outside}
+use Rattle.base_integers.specs.Steps.Ranges.{nat-within, nat-inside, is-false, not-is, nor-left, nor-right}
+use Rattle.base_measures.specs.Meaning.Limits as limits
+use Rattle.base_causes.specs.declared.Outcome.{Outcome}
+use Rattle.base_causes.specs.Meaning.Rows.{Row, Pass, firstBelow, refusal, eachAt}
+use Rattle.base_causes.specs.Promised.RowLaws.{empty, all-pass, first-none, row-clear, field-passes}
 use Rattle.rules.specs.Meaning.Layout.{u8At, u16At, u32At, i32At, ordersIn, linksIn, branchesIn, quantityIn, proposalVersion, proposalLength, shareIn, systemIn, volumeIn, flowIn, shadowAt, shadowIn}
 use Rattle.rules.specs.Meaning.Hour.{caseOf, planOf, pricesOf}
 use Rattle.rules.specs.Meaning.Verdict.{caseRefusal, Readable, notMark, proposalRows, proposalRefusal}
 use Rattle.rules.specs.Steps.LayoutLaws.{word-there, signed-there}
 use Rattle.rules.specs.Steps.Passed.{case-sound}
-use Rattle.words.specs.Steps.Halves.{low-half, low-bits}
-use Rattle.binary64.specs.Meaning.Value.{bitsAt, finite, negative, aboveOne, cut, nearest, ShareWithin}
-use Rattle.binary64.specs.Promised.Within.{share-within}
+use Rattle.bytes_write.specs.Steps.Halves.{low-half, low-bits}
+use Rattle.dump_binary64.specs.Meaning.Value.{bitsAt, finite, negative, aboveOne, cut, nearest, ShareWithin}
+use Rattle.dump_binary64.specs.Promised.Within.{share-within}
 use Rattle.dump_values.specs.Meaning.Field.{Kind, share-of, flow, shadow-price, kindOf, productOf, converted, forbidden, fieldRange, fault}
 use Rattle.dump_values.specs.Promised.PlainPlaces.{after-kind, order-kind, flow-kind, shadow-kind}
 use Rattle.dump_proposal.specs.Meaning.Dump.{valueCount, refuses, dumpRows, dumpRefusal, dumpOutcome, proposalMark, fieldBytes, fieldsFrom, proposalBytes, dumpWritten, dumpOutput, ProposalHolds, VolumesWithin}

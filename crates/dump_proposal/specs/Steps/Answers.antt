@@ -11,20 +11,20 @@ use lib.ListN.{length, drop, length-append}
 use lib.Seq.{sets}
 use mir.Syntax.{w64}
 use mir.Val.{ofZ}
-use Rattle.integers.specs.Meaning.Bytes.{bytesOf}
-use Rattle.integers.specs.Steps.Bytes.{sets-append}
-use Rattle.integers.specs.Steps.Ranges.{is-true, is-false, not-is}
-use Rattle.measures.specs.declared.Bits.{Bits}
-use Rattle.rows.specs.declared.Outcome.{Outcome}
-use Rattle.rows.specs.Meaning.Rows.{verdict, firstBelow, refusal, each}
-use Rattle.rows.specs.Promised.RowLaws.{first-is, first-some, first-none, not-below, row-found, row-clear, field-fails, field-passes}
+use Rattle.base_integers.specs.Meaning.Bytes.{bytesOf}
+use Rattle.base_integers.specs.Steps.Bytes.{sets-append}
+use Rattle.base_integers.specs.Steps.Ranges.{is-true, is-false, not-is}
+use Rattle.base_measures.specs.declared.Bits.{Bits}
+use Rattle.base_causes.specs.declared.Outcome.{Outcome}
+use Rattle.base_causes.specs.Meaning.Rows.{verdict, firstBelow, refusal, each}
+use Rattle.base_causes.specs.Promised.RowLaws.{first-is, first-some, first-none, not-below, row-found, row-clear, field-fails, field-passes}
 use Rattle.rules.specs.Meaning.Layout.{proposalLength}
 use Rattle.rules.specs.Meaning.Verdict.{caseRefusal}
-use Rattle.output.specs.declared.Written.{Written}
-use Rattle.output.specs.Steps.Met as output
+use Rattle.base_output.specs.declared.Written.{Written}
+use Rattle.base_output.specs.Steps.Met as output
 use Rattle.case_header.specs.declared.Counts.{Counts}
 use Rattle.case_header.specs.Meaning.Opened.{Opened}
-use Rattle.binary64.specs.Meaning.Value.{bitsAt, finite}
+use Rattle.dump_binary64.specs.Meaning.Value.{bitsAt, finite}
 use Rattle.dump_values.specs.declared.FieldAnswer.the-variants as answer
 use Rattle.dump_values.specs.Meaning.Answer.{fieldOf}
 use Rattle.dump_values.specs.Meaning.Field.{kindOf, converted, fault}

@@ -15,20 +15,20 @@ use mir.Val.{ofZ}
 use lib.Seq.{sets, getD-set-same, getD-set-other}
 use lib.Ieee.{Float, binary64, ofBits}
 use lib.Ieee.Scale as float
-use Rattle.integers.specs.Meaning.Bytes.{bytesOf}
-use Rattle.integers.specs.Steps.Bytes.{bytes-length, sets-append}
-use Rattle.rows.specs.Meaning.Rows.{firstBelow}
-use Rattle.measures.specs.declared.Bits.{Bits}
-use Rattle.fields.specs.declared.Cursor.{Cursor}
-use Rattle.fields.specs.declared.LongField.the-variants as long
-use Rattle.fields.specs.Meaning.Field.{cursor, u64At, longField}
-use Rattle.fields.specs.Steps.Part.{partOf, part-length, part-u32}
-use Rattle.fields.specs.Steps.Walk.{long-took, long-short}
+use Rattle.base_integers.specs.Meaning.Bytes.{bytesOf}
+use Rattle.base_integers.specs.Steps.Bytes.{bytes-length, sets-append}
+use Rattle.base_causes.specs.Meaning.Rows.{firstBelow}
+use Rattle.base_measures.specs.declared.Bits.{Bits}
+use Rattle.bytes_read.specs.declared.Cursor.{Cursor}
+use Rattle.bytes_read.specs.declared.LongField.the-variants as long
+use Rattle.bytes_read.specs.Meaning.Field.{cursor, u64At, longField}
+use Rattle.bytes_read.specs.Steps.Part.{partOf, part-length, part-u32}
+use Rattle.bytes_read.specs.Steps.Walk.{long-took, long-short}
 use Rattle.rules.specs.Meaning.Layout.{u32At}
 use Rattle.case_header.specs.declared.Counts.{Counts}
 use Rattle.case_header.specs.Meaning.Opened.{Opened}
-use Rattle.binary64.specs.Meaning.Value.{bitsAt, finite}
-use Rattle.binary64.specs.Steps.Patterns.{finite-value}
+use Rattle.dump_binary64.specs.Meaning.Value.{bitsAt, finite}
+use Rattle.dump_binary64.specs.Steps.Patterns.{finite-value}
 use Rattle.dump_values.specs.declared.DumpOpening.{DumpOpening}
 use Rattle.dump_values.specs.declared.OpeningFields.{OpeningFields}
 use Rattle.dump_values.specs.declared.FieldAnswer.the-variants as answer

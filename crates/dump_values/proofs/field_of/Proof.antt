@@ -10,9 +10,9 @@ use lib.Ieee.Scale as float
 use mir.Syntax.{w64}
 use mir.Val.{ofZ}
 use Rattle.rules.specs.Meaning.Layout.{quantityIn}
-use Rattle.binary64.specs.Steps.Patterns.{finite-value}
+use Rattle.dump_binary64.specs.Steps.Patterns.{finite-value}
 use Rattle.case_header.specs.Steps.Opened.{headed, limited}
-use Rattle.orders.specs.declared.Order.{Order}
+use Rattle.book_order.specs.declared.Order.{Order}
 use Rattle.dump_values.specs.Meaning.Field.{Kind}
 use Rattle.dump_values.specs.Steps.Agree.{share-agrees, flow-agrees, shadow-agrees}
 use Rattle.dump_values.specs.Meaning.Answer.{fieldOf}

@@ -5,11 +5,11 @@ use lib.Dec.{T, lit≤}
 use lib.Ieee.{Float, le, mul, ofBits, binary64}
 use mir.Syntax.{w64}
 use mir.Val.{ofZ}
-use Rattle.integers.specs.Steps.Ranges.{is-true}
-use Rattle.binary64.specs.Meaning.Machine.{zero64, times}
-use Rattle.binary64.specs.Steps.Cutting.{times-not-negative}
-use Rattle.binary64.specs.Steps.Whole.{zero-test}
-use Rattle.binary64.specs.Meaning.Answer.{wholeBelow}
+use Rattle.base_integers.specs.Steps.Ranges.{is-true}
+use Rattle.dump_binary64.specs.Meaning.Machine.{zero64, times}
+use Rattle.dump_binary64.specs.Steps.Cutting.{times-not-negative}
+use Rattle.dump_binary64.specs.Steps.Whole.{zero-test}
+use Rattle.dump_binary64.specs.Meaning.Answer.{wholeBelow}
 use Rattle.dump_values.specs.Steps.Agree.{ten-bits}
 use Rattle.dump_values.specs.Steps.Taken.{bits-are, flow-held, flow-outside, flow-negative}
 use Rattle.dump_values.proofs.flow.Statement.{statement}

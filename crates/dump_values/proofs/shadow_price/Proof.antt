@@ -5,14 +5,14 @@ use lib.Dec.{T, lit≤}
 use lib.Ieee.{Float, le, mul, ofBits, binary64}
 use mir.Syntax.{w64}
 use mir.Val.{ofZ}
-use Rattle.integers.specs.Steps.Ranges.{is-true}
-use Rattle.binary64.specs.Meaning.Machine.{zero64, times}
-use Rattle.binary64.specs.Steps.Cutting.{times-not-negative}
-use Rattle.binary64.specs.Steps.Whole.{zero-test}
-use Rattle.binary64.specs.declared.WholeAnswer.{WholeAnswer}
-use Rattle.measures.specs.Meaning.Limits as limits
-use Rattle.measures.specs.Meaning.Held.{centsIn}
-use Rattle.binary64.specs.Meaning.Answer.{wholeUpTo}
+use Rattle.base_integers.specs.Steps.Ranges.{is-true}
+use Rattle.dump_binary64.specs.Meaning.Machine.{zero64, times}
+use Rattle.dump_binary64.specs.Steps.Cutting.{times-not-negative}
+use Rattle.dump_binary64.specs.Steps.Whole.{zero-test}
+use Rattle.dump_binary64.specs.declared.WholeAnswer.{WholeAnswer}
+use Rattle.base_measures.specs.Meaning.Limits as limits
+use Rattle.base_measures.specs.Meaning.Held.{centsIn}
+use Rattle.dump_binary64.specs.Meaning.Answer.{wholeUpTo}
 use Rattle.dump_values.specs.Steps.Agree.{hundred-bits}
 use Rattle.dump_values.specs.Steps.Taken.{bits-are, shadow-held, shadow-outside, shadow-far, shadow-negative}
 use Rattle.dump_values.proofs.shadow_price.Statement.{statement}

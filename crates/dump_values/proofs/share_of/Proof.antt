@@ -5,10 +5,10 @@ use lib.IntN.{pos}
 use lib.Ieee.{le}
 use mir.Syntax.{w64}
 use mir.Val.{ofZ}
-use Rattle.integers.specs.Steps.Ranges.{is-true}
-use Rattle.binary64.specs.Meaning.Value.{cut}
-use Rattle.binary64.specs.Meaning.Machine.{one64, times}
-use Rattle.binary64.specs.Steps.Whole.{zero-test, one-test}
+use Rattle.base_integers.specs.Steps.Ranges.{is-true}
+use Rattle.dump_binary64.specs.Meaning.Value.{cut}
+use Rattle.dump_binary64.specs.Meaning.Machine.{one64, times}
+use Rattle.dump_binary64.specs.Steps.Whole.{zero-test, one-test}
 use Rattle.dump_values.specs.Meaning.Answer.{fieldBy}
 use borrow.Author.Needs.{needs}
 use Rattle.dump_values.specs.Steps.Taken.{bits-are}

@@ -6,10 +6,10 @@ use borrow.Author.Needs.{needs}
 use lib.Ieee.{Float, mul, ofBits, binary64}
 use mir.Syntax.{w64}
 use mir.Val.{ofZ}
-use Rattle.integers.specs.Steps.Ranges.{is-true}
-use Rattle.binary64.specs.Meaning.Machine.{times}
-use Rattle.binary64.specs.Steps.Products.{Signs}
-use Rattle.binary64.specs.Steps.Whole.{zero-test}
+use Rattle.base_integers.specs.Steps.Ranges.{is-true}
+use Rattle.dump_binary64.specs.Meaning.Machine.{times}
+use Rattle.dump_binary64.specs.Steps.Products.{Signs}
+use Rattle.dump_binary64.specs.Steps.Whole.{zero-test}
 use Rattle.dump_values.specs.Steps.Agree.{hundred-bits, down-from-zero}
 use Rattle.dump_values.specs.Meaning.Fields.{signOf, systemBy}
 use Rattle.dump_values.specs.Steps.Taken.{bits-are, up-held, up-most, up-outside, down-held, down-most, down-outside, price-signs, plus-is, minus-fits, narrow-fits, narrow-is}

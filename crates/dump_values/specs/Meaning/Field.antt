@@ -6,10 +6,10 @@ use lib.Dec.{ltb}
 use lib.IntN.{ℤ, pos, negℤ}
 use lib.Ieee.{Float}
 use lib.Ieee.Scale as float
-use Rattle.integers.specs.Meaning.Ranges.{Range, range, outside}
-use Rattle.measures.specs.Meaning.Limits as limits
+use Rattle.base_integers.specs.Meaning.Ranges.{Range, range, outside}
+use Rattle.base_measures.specs.Meaning.Limits as limits
 use Rattle.rules.specs.Meaning.Layout.{ordersIn, linksIn, quantityIn}
-use Rattle.binary64.specs.Meaning.Value.{minus, negative, aboveOne, product, cut, nearest}
+use Rattle.dump_binary64.specs.Meaning.Value.{minus, negative, aboveOne, product, cut, nearest}
 
 -- a share of a whole, a flow in MW, and the two prices in euros
 pub data Kind : Type 0 where

@@ -4,10 +4,10 @@ use Prim.Native.Nat.{ℕ}
 use lib.IntN.{ℤ, pos, negℤ}
 use lib.Ieee.{Float, nan, inf, fin, le}
 use lib.Ieee.Scale as float
-use Rattle.integers.specs.Meaning.Ranges.{outside}
-use Rattle.measures.specs.Meaning.Limits as limits
-use Rattle.binary64.specs.Meaning.Value.{cut, nearest}
-use Rattle.binary64.specs.Meaning.Machine.{zero64, one64, times}
+use Rattle.base_integers.specs.Meaning.Ranges.{outside}
+use Rattle.base_measures.specs.Meaning.Limits as limits
+use Rattle.dump_binary64.specs.Meaning.Value.{cut, nearest}
+use Rattle.dump_binary64.specs.Meaning.Machine.{zero64, one64, times}
 use Rattle.dump_values.specs.declared.FieldAnswer.{FieldAnswer}
 use Rattle.dump_values.specs.declared.DumpOpening.{DumpOpening}
 use Rattle.dump_values.specs.declared.OpeningFields.{OpeningFields}

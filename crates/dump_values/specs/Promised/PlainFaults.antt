@@ -19,13 +19,13 @@ use lib.Signed.{_<ℤ_}
 use lib.Ieee.{fin, binary64, round}
 use lib.Ieee.Positive.{num, den}
 use lib.Ieee.Scale as float
-use Rattle.integers.specs.Meaning.Ranges.{range, outside}
-use Rattle.integers.specs.Steps.Ranges.{is-true, not-is, nat-inside}
-use Rattle.measures.specs.Meaning.Limits as limits
-use Rattle.binary64.specs.Meaning.Value.{finite, minus, units, negative, aboveOne, product, cut, nearest}
-use Rattle.binary64.specs.Promised.PlainBits.{below-zero, above-one}
-use Rattle.binary64.specs.Promised.Within.{share-within, share-finite}
-use Rattle.binary64.specs.Promised.Taken.{rounded, cut-above, nearest-above}
+use Rattle.base_integers.specs.Meaning.Ranges.{range, outside}
+use Rattle.base_integers.specs.Steps.Ranges.{is-true, not-is, nat-inside}
+use Rattle.base_measures.specs.Meaning.Limits as limits
+use Rattle.dump_binary64.specs.Meaning.Value.{finite, minus, units, negative, aboveOne, product, cut, nearest}
+use Rattle.dump_binary64.specs.Promised.PlainBits.{below-zero, above-one}
+use Rattle.dump_binary64.specs.Promised.Within.{share-within, share-finite}
+use Rattle.dump_binary64.specs.Promised.Taken.{rounded, cut-above, nearest-above}
 use Rattle.dump_values.specs.Meaning.Field.{Kind, share-of, flow, system-price, shadow-price, factor, productOf, converted, forbidden, fieldRange, fault}
 
 -- BELOW ZERO: the sign's bit is set, and another. ABOVE ONE: more than the bits of 1.0

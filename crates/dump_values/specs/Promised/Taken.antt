@@ -10,13 +10,13 @@ use native.Mathlib.Omega.{arith}
 use borrow.Author.Tests.{not-false, lt-leb, le-leb}
 use lib.IntN.{ℤ, pos, negℤ}
 use lib.Ieee.Scale as float
-use Rattle.integers.specs.Steps.Difference.{at, ⊝_, le-fact}
-use Rattle.measures.specs.Meaning.Limits as limits
-use Rattle.integers.specs.Meaning.Ranges.{outside}
-use Rattle.integers.specs.Steps.Ranges.{within, is-false, not-is, nor-left, nor-right, nat-within}
-use Rattle.binary64.specs.Meaning.Value.{finite, minus, negative, aboveOne, product, cut, nearest, ShareWithin}
-use Rattle.binary64.specs.Promised.Within.{share-within}
-use Rattle.binary64.specs.Promised.Taken.{CutOf, NearestOf, WithinOne, cut-of, nearest-of, within-one, nearest-within-one}
+use Rattle.base_integers.specs.Steps.Difference.{at, ⊝_, le-fact}
+use Rattle.base_measures.specs.Meaning.Limits as limits
+use Rattle.base_integers.specs.Meaning.Ranges.{outside}
+use Rattle.base_integers.specs.Steps.Ranges.{within, is-false, not-is, nor-left, nor-right, nat-within}
+use Rattle.dump_binary64.specs.Meaning.Value.{finite, minus, negative, aboveOne, product, cut, nearest, ShareWithin}
+use Rattle.dump_binary64.specs.Promised.Within.{share-within}
+use Rattle.dump_binary64.specs.Promised.Taken.{CutOf, NearestOf, WithinOne, cut-of, nearest-of, within-one, nearest-within-one}
 use Rattle.dump_values.specs.Meaning.Field.{Kind, share-of, flow, system-price, shadow-price, productOf, converted, forbidden, fieldRange, fault}
 
 -- a share of q, as a number of its parts

@@ -10,16 +10,16 @@ use lib.Dec.{T, leb, ltb, lit≤}
 use lib.IntN.{pos, negℤ}
 use lib.Ieee.{Float, nan, inf, fin, binary64, neg, le, lt, ofBits, ofInt, round}
 use lib.Ieee.Scale as float
-use Rattle.integers.specs.Meaning.Ranges.{range, outside}
-use Rattle.integers.specs.Steps.Ranges.{is-true, not-is, nat-inside}
-use Rattle.measures.specs.Meaning.Limits as limits
-use Rattle.binary64.specs.Meaning.Value.{minus, finite, negative, aboveOne, product, cut, nearest}
-use Rattle.binary64.specs.Meaning.Machine.{zero64, one64, times}
-use Rattle.binary64.specs.Steps.Cutting.{times-not-negative, minus-zero}
-use Rattle.binary64.specs.Steps.Half.{nearest-zero}
-use Rattle.binary64.specs.Steps.Patterns.{finite-value}
-use Rattle.binary64.specs.Steps.Products.{Signs, product-is, product-signs, not-negative, not-above-one, plus-from-zero}
-use Rattle.binary64.specs.Steps.Whole.{word-end, word-test}
+use Rattle.base_integers.specs.Meaning.Ranges.{range, outside}
+use Rattle.base_integers.specs.Steps.Ranges.{is-true, not-is, nat-inside}
+use Rattle.base_measures.specs.Meaning.Limits as limits
+use Rattle.dump_binary64.specs.Meaning.Value.{minus, finite, negative, aboveOne, product, cut, nearest}
+use Rattle.dump_binary64.specs.Meaning.Machine.{zero64, one64, times}
+use Rattle.dump_binary64.specs.Steps.Cutting.{times-not-negative, minus-zero}
+use Rattle.dump_binary64.specs.Steps.Half.{nearest-zero}
+use Rattle.dump_binary64.specs.Steps.Patterns.{finite-value}
+use Rattle.dump_binary64.specs.Steps.Products.{Signs, product-is, product-signs, not-negative, not-above-one, plus-from-zero}
+use Rattle.dump_binary64.specs.Steps.Whole.{word-end, word-test}
 use Rattle.dump_values.specs.declared.FieldAnswer.the-variants.{Outside}
 use Rattle.dump_values.specs.Meaning.Field as kind
 use Rattle.dump_values.specs.Meaning.Field.{Kind, productOf, converted, forbidden, fieldRange, fault}

@@ -3,11 +3,11 @@ use mathlib.Core.Bool.{not, _&&_}
 use lib.IntN.{pos}
 use lib.Ieee.{Float, le, lt}
 use lib.Ieee.Scale as float
-use Rattle.integers.specs.Meaning.Ranges.{outside}
-use Rattle.measures.specs.Meaning.Limits as limits
-use Rattle.binary64.specs.Meaning.Value.{cut, nearest}
-use Rattle.binary64.specs.Meaning.Machine.{zero64, times}
-use Rattle.binary64.specs.Steps.Whole.{word-end}
+use Rattle.base_integers.specs.Meaning.Ranges.{outside}
+use Rattle.base_measures.specs.Meaning.Limits as limits
+use Rattle.dump_binary64.specs.Meaning.Value.{cut, nearest}
+use Rattle.dump_binary64.specs.Meaning.Machine.{zero64, times}
+use Rattle.dump_binary64.specs.Steps.Whole.{word-end}
 use Rattle.dump_values.specs.declared.FieldAnswer.{FieldAnswer}
 use Rattle.dump_values.specs.Meaning.Answer.{fieldBy}
 

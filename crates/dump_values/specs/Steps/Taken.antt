@@ -10,22 +10,22 @@ use mir.Syntax.{w32, w64}
 use mir.Val.{SFits, toZ, ofZ}
 use mir.Facts.{toZ-pos, toZ-ofZ, sfits-lit}
 use lib.Ieee.{Float, nan, inf, fin, le, lt, neg}
-use Rattle.integers.specs.Steps.Machine.{sfits-by}
-use Rattle.integers.specs.Steps.Size.{near-pos, near-neg, near-fits}
+use Rattle.base_integers.specs.Steps.Machine.{sfits-by}
+use Rattle.base_integers.specs.Steps.Size.{near-pos, near-neg, near-fits}
 use lib.Ieee.Scale as float
-use Rattle.integers.specs.Meaning.Ranges.{outside}
-use Rattle.integers.specs.Steps.Ranges.{is-true, and-right}
-use Rattle.measures.specs.Meaning.Limits as limits
-use Rattle.measures.specs.declared.Bits.{Bits}
-use Rattle.measures.specs.declared.Cents.{Cents}
-use Rattle.measures.specs.declared.CentsAnswer.the-variants as cents
-use Rattle.measures.specs.Meaning.Held.{centsBy, centsIn}
-use Rattle.binary64.specs.Meaning.Value.{cut, nearest}
-use Rattle.binary64.specs.declared.WholeAnswer.the-variants as whole
-use Rattle.binary64.specs.Meaning.Answer.{wholeBy, wholeBelow, wholeUpTo}
-use Rattle.binary64.specs.Meaning.Machine.{zero64, times}
-use Rattle.binary64.specs.Steps.Products.{Signs, times-signs}
-use Rattle.binary64.specs.Steps.Whole.{word-end}
+use Rattle.base_integers.specs.Meaning.Ranges.{outside}
+use Rattle.base_integers.specs.Steps.Ranges.{is-true, and-right}
+use Rattle.base_measures.specs.Meaning.Limits as limits
+use Rattle.base_measures.specs.declared.Bits.{Bits}
+use Rattle.base_measures.specs.declared.Cents.{Cents}
+use Rattle.base_measures.specs.declared.CentsAnswer.the-variants as cents
+use Rattle.base_measures.specs.Meaning.Held.{centsBy, centsIn}
+use Rattle.dump_binary64.specs.Meaning.Value.{cut, nearest}
+use Rattle.dump_binary64.specs.declared.WholeAnswer.the-variants as whole
+use Rattle.dump_binary64.specs.Meaning.Answer.{wholeBy, wholeBelow, wholeUpTo}
+use Rattle.dump_binary64.specs.Meaning.Machine.{zero64, times}
+use Rattle.dump_binary64.specs.Steps.Products.{Signs, times-signs}
+use Rattle.dump_binary64.specs.Steps.Whole.{word-end}
 use Rattle.dump_values.specs.declared.FieldAnswer.the-variants.{Held, Outside}
 use Rattle.dump_values.specs.Meaning.Answer.{fieldBy}
 use Rattle.dump_values.specs.Meaning.Fields.{signOf, systemBy}

@@ -9,7 +9,7 @@ use mir.Syntax.{w64}
 use mir.Val.{SFits}
 use Rattle.rules.specs.Meaning.Hour.{Case, Plan, caseOf, planOf}
 use Rattle.rules.specs.Steps.Passed.{case-sound}
-use Rattle.orders.specs.declared.Order.{Order}
+use Rattle.book_order.specs.declared.Order.{Order}
 use Rattle.case_header.specs.declared.Counts.{Counts}
 use Rattle.rules.specs.Meaning.Families.{parentOf}
 use Rattle.rules.specs.Meaning.Verdict.{exceedsParent}

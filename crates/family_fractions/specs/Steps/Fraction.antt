@@ -10,11 +10,11 @@ use lib.IntN.{ℤ, pos, _*ℤ_}
 use lib.Signed.{ltZ}
 use mir.Syntax.{w64}
 use mir.Val.{SFits}
-use Rattle.integers.specs.Steps.Size.{near-fits, near-mul, near-unsigned}
-use Rattle.integers.specs.Steps.Machine.{sfits-by}
+use Rattle.base_integers.specs.Steps.Size.{near-fits, near-mul, near-unsigned}
+use Rattle.base_integers.specs.Steps.Machine.{sfits-by}
 use Rattle.rules.specs.Meaning.Hour.{Case, Plan}
 use Rattle.rules.specs.Steps.Passed.{CaseSound}
-use Rattle.clearing.specs.Meaning.Stages.{VolumesIn}
+use Rattle.judge_clearing.specs.Meaning.Stages.{VolumesIn}
 use Rattle.rules.specs.Meaning.Families.{noParent, named, parentIn, parentOf}
 use Rattle.rules.specs.Meaning.Verdict.{exceedsParent}
 

@@ -5,12 +5,12 @@ use mathlib.Core.Option.{none}
 use Prim.Native.Nat.{ℕ}
 use borrow.Author.Needs.{needs}
 use denote.Ref.{now}
-use Rattle.rows.specs.Meaning.Rows.{refusal}
+use Rattle.base_causes.specs.Meaning.Rows.{refusal}
 use Rattle.rules.specs.Meaning.Families.{familyLength}
-use Rattle.fields.specs.declared.Cursor.{Cursor}
-use Rattle.fields.specs.Meaning.Field.{cursor}
-use Rattle.fields.specs.Meaning.Walk.{rowsWalkedBy}
-use Rattle.fields.specs.Steps.Walked.{rows-refused, rows-passed}
+use Rattle.bytes_read.specs.declared.Cursor.{Cursor}
+use Rattle.bytes_read.specs.Meaning.Field.{cursor}
+use Rattle.bytes_read.specs.Meaning.Walk.{rowsWalkedBy}
+use Rattle.bytes_read.specs.Steps.Walked.{rows-refused, rows-passed}
 use Rattle.family_list.specs.Meaning.Answer.{listRows, familyBy}
 use Rattle.family_list.specs.Steps.Answer.{list-refused, list-passed, list-known}
 use Rattle.family_list.proofs.read_families.Statement.{statement}

@@ -6,9 +6,9 @@ use Prim.Native.Nat.{ℕ}
 use borrow.Author.Needs.{needs}
 use denote.Ref.{now}
 use Rattle.rules.specs.Meaning.Families.{familyHeader, familyLength}
-use Rattle.fields.specs.declared.Cursor.{Cursor}
-use Rattle.fields.specs.Meaning.Field.{cursor}
-use Rattle.fields.specs.Steps.Walked.{refused-past}
+use Rattle.bytes_read.specs.declared.Cursor.{Cursor}
+use Rattle.bytes_read.specs.Meaning.Field.{cursor}
+use Rattle.bytes_read.specs.Steps.Walked.{refused-past}
 use Rattle.family_list.specs.Meaning.Answer.{wrongList}
 use Rattle.family_list.specs.Steps.Answer.{whole-of, header-refused, header-past, parents-walked}
 use Rattle.family_list.proofs.walk_list.Statement.{statement}

@@ -10,12 +10,12 @@ use denote.Ref.{now}
 use lib.ListN.{length}
 use Rattle.rules.specs.Meaning.Layout.{u16At}
 use Rattle.rules.specs.Meaning.Families.{familyLength, named, parentIn, parentOf, missing}
-use Rattle.rows.specs.Meaning.Rows.{firstBelow}
-use Rattle.rows.specs.Promised.RowLaws.{first-later}
-use Rattle.fields.specs.declared.Cursor.{Cursor}
-use Rattle.fields.specs.Meaning.Field.{cursor}
-use Rattle.fields.specs.Steps.Record.{RecordWithin, FieldRead, half-read, half-there}
-use Rattle.fields.specs.Steps.Walked.{refused-past, walk-stops, walk-done}
+use Rattle.base_causes.specs.Meaning.Rows.{firstBelow}
+use Rattle.base_causes.specs.Promised.RowLaws.{first-later}
+use Rattle.bytes_read.specs.declared.Cursor.{Cursor}
+use Rattle.bytes_read.specs.Meaning.Field.{cursor}
+use Rattle.bytes_read.specs.Steps.Record.{RecordWithin, FieldRead, half-read, half-there}
+use Rattle.bytes_read.specs.Steps.Walked.{refused-past, walk-stops, walk-done}
 use Rattle.family_list.specs.Meaning.Answer.{absent, parentRow}
 use Rattle.family_list.specs.Steps.Taken.{Taken, take-none, take-more}
 use Rattle.family_list.proofs.walk_parents.Statement.{statement}

@@ -4,11 +4,11 @@ use mathlib.Core.List.{List, [], _∷_}
 use mathlib.Core.Option.{Option, none, some}
 use Prim.Native.Nat.{ℕ}
 use lib.ListN.{length}
-use Rattle.rows.specs.declared.Outcome.{Outcome}
-use Rattle.rows.specs.Meaning.Rows.{Row, verdict, refusal, once, each}
-use Rattle.fields.specs.declared.Walked.{Walked}
-use Rattle.fields.specs.declared.Walked.the-variants as walk
-use Rattle.fields.specs.Meaning.Walk.{pastAt}
+use Rattle.base_causes.specs.declared.Outcome.{Outcome}
+use Rattle.base_causes.specs.Meaning.Rows.{Row, verdict, refusal, once, each}
+use Rattle.bytes_read.specs.declared.Walked.{Walked}
+use Rattle.bytes_read.specs.declared.Walked.the-variants as walk
+use Rattle.bytes_read.specs.Meaning.Walk.{pastAt}
 use Rattle.rules.specs.Meaning.Families.{familyHeader, familyVersion, familyLength, parentOf, missing, leadsBack}
 use Rattle.rules.specs.Meaning.Verdict.{differ, notMark}
 use Rattle.family_list.specs.declared.FamilyAnswer.{FamilyAnswer}
@@ -17,7 +17,7 @@ use mathlib.Core.Path.{_≡_}
 use mathlib.Core.Bool.{Bool, true, false, _||_}
 use mathlib.Core.Option.{Option, none, some}
 use Prim.Native.Nat.{ℕ, _≤_}
-use Rattle.rows.specs.Meaning.Rows.{verdict, refusal}
+use Rattle.base_causes.specs.Meaning.Rows.{verdict, refusal}
 use Rattle.rules.specs.Meaning.Families.{familyHeader, familyVersion, familyLength, parentOf, missing, leadsBack}
 use Rattle.rules.specs.Meaning.Verdict.{differ, notMark}
 use Rattle.family_list.specs.Meaning.Parents.{Exist}

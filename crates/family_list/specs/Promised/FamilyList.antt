@@ -6,9 +6,9 @@ use mathlib.Core.Option.{Option, none, some}
 use Prim.Native.Nat.{ℕ, _<_}
 use native.Mathlib.Omega.{arith}
 use lib.Dec.{T, T-not}
-use Rattle.rows.specs.declared.Outcome.{Outcome}
-use Rattle.rows.specs.Meaning.Rows.{verdict, refusal, answer}
-use Rattle.rows.specs.Promised.RowLaws.{First, field-fails, row-passed, before, hasRow, rowOf, isRow, lacks, row-by-number, number-passes, rowNumbered}
+use Rattle.base_causes.specs.declared.Outcome.{Outcome}
+use Rattle.base_causes.specs.Meaning.Rows.{verdict, refusal, answer}
+use Rattle.base_causes.specs.Promised.RowLaws.{First, field-fails, row-passed, before, hasRow, rowOf, isRow, lacks, row-by-number, number-passes, rowNumbered}
 use Rattle.rules.specs.Meaning.Layout.{u8At}
 use Rattle.rules.specs.Meaning.Hour.{Case, caseOf, planOf, pricesOf}
 use Rattle.rules.specs.Meaning.Families.{parentOf, leadsBack, LeadsBack}

@@ -7,9 +7,9 @@ use mathlib.Core.Option.{none, some}
 use Prim.Native.Nat.{ℕ, _<_}
 use native.Mathlib.Omega.{arith}
 use lib.Dec.{T, T-not, not-T}
-use Rattle.rows.specs.declared.Outcome.{Outcome}
-use Rattle.rows.specs.Meaning.Rows.{verdict, refusal}
-use Rattle.rows.specs.Promised.RowLaws.{Comes, past, none-left, none-both, none-each, row-by-number, row-answers, number-passes, rowNumbered, lacks, before}
+use Rattle.base_causes.specs.declared.Outcome.{Outcome}
+use Rattle.base_causes.specs.Meaning.Rows.{verdict, refusal}
+use Rattle.base_causes.specs.Promised.RowLaws.{Comes, past, none-left, none-both, none-each, row-by-number, row-answers, number-passes, rowNumbered, lacks, before}
 use Rattle.rules.specs.Meaning.Layout.{ordersIn}
 use Rattle.rules.specs.Meaning.Hour.{Case, caseOf, planOf, pricesOf}
 use Rattle.rules.specs.Meaning.Families.{parentOf, leadsBack}

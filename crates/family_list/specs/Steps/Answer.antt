@@ -8,15 +8,15 @@ use native.Mathlib.Omega.{arith}
 use lib.ListN.{length}
 use borrow.Author.Tests.{eqb-true, eq-eqb, ne-eqb, le-leb, lt-leb}
 use lib.Dec.{T, eqb, nleb→lt}
-use Rattle.integers.specs.Steps.Ranges.{not-is}
-use Rattle.rows.specs.declared.Outcome.{Outcome}
-use Rattle.rows.specs.Meaning.Rows.{verdict, firstBelow, refusal}
-use Rattle.rows.specs.Promised.RowLaws.{field-fails, field-passes, row-found, row-clear, else-refusal, refusal-append, none-each, number-passes, rowNumbered}
-use Rattle.fields.specs.declared.Cursor.{Cursor}
-use Rattle.fields.specs.declared.Walked.the-variants as walk
-use Rattle.fields.specs.Meaning.Field.{cursor}
-use Rattle.fields.specs.Meaning.Walk.{walked, rowsWalkedBy, rowsWalked}
-use Rattle.fields.specs.Steps.Walked.{last-part}
+use Rattle.base_integers.specs.Steps.Ranges.{not-is}
+use Rattle.base_causes.specs.declared.Outcome.{Outcome}
+use Rattle.base_causes.specs.Meaning.Rows.{verdict, firstBelow, refusal}
+use Rattle.base_causes.specs.Promised.RowLaws.{field-fails, field-passes, row-found, row-clear, else-refusal, refusal-append, none-each, number-passes, rowNumbered}
+use Rattle.bytes_read.specs.declared.Cursor.{Cursor}
+use Rattle.bytes_read.specs.declared.Walked.the-variants as walk
+use Rattle.bytes_read.specs.Meaning.Field.{cursor}
+use Rattle.bytes_read.specs.Meaning.Walk.{walked, rowsWalkedBy, rowsWalked}
+use Rattle.bytes_read.specs.Steps.Walked.{last-part}
 use Rattle.rules.specs.Meaning.Hour.{Case}
 use Rattle.rules.specs.Meaning.Families.{familyHeader, noParent, familyVersion, familyLength, named, parentIn, parentOf, missing, leadsBack}
 use Rattle.rules.specs.Meaning.Verdict.{differ, notMark, familyRows}

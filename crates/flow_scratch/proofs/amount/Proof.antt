@@ -5,7 +5,7 @@ use lib.IntN.{pos}
 use denote.Ref.{now}
 use mathlib.Core.Path.{_≡_, ap, _∙_}
 use mir.Facts.{toZ-ofZ}
-use Rattle.integers.specs.Meaning.Difference.{up}
+use Rattle.base_integers.specs.Meaning.Difference.{up}
 use borrow.Author.Needs.{needs}
 use Rattle.flow_scratch.proofs.amount.Statement.{statement}
 use Rattle.flow_scratch.proofs.amount.Tie as tie

@@ -5,7 +5,7 @@ use lib.IntN.{pos}
 use denote.Ref.{now}
 use mathlib.Core.Path.{_≡_, ap, _∙_}
 use mir.Facts.{toZ-ofZ}
-use Rattle.integers.specs.Meaning.Difference.{dn}
+use Rattle.base_integers.specs.Meaning.Difference.{dn}
 use borrow.Author.Needs.{needs}
 use Rattle.flow_scratch.proofs.import_of.Statement.{statement}
 use Rattle.flow_scratch.proofs.import_of.Tie as tie

@@ -4,8 +4,8 @@ use mathlib.Core.List.{List}
 use Prim.Native.Nat.{ℕ, _+_}
 use lib.ListN.{getD}
 use lib.IntN.{ℤ, pos}
-use Rattle.integers.specs.Meaning.Difference.{up}
-use Rattle.transports.specs.Meaning.Network.{Flow}
+use Rattle.base_integers.specs.Meaning.Difference.{up}
+use Rattle.flow_network.specs.Meaning.Network.{Flow}
 
 -- the amount at a place: what stands there, or 0 where that is negative
 abbrev pub amountAt : List ℤ → ℕ → ℕ

@@ -6,8 +6,8 @@ use native.Mathlib.Omega.{arith}
 use lib.ListN.{length, getD, set, length-set}
 use lib.Seq.{getD-set-same, getD-set-other}
 use lib.IntN.{ℤ, pos}
-use Rattle.integers.specs.Meaning.Difference.{up}
-use Rattle.transports.specs.Meaning.Network.{Network, Flow}
+use Rattle.base_integers.specs.Meaning.Difference.{up}
+use Rattle.flow_network.specs.Meaning.Network.{Network, Flow}
 use Rattle.flow_scratch.specs.Meaning.Places.{amountAt, flowOf}
 
 -- the same list but for its first 96 numbers

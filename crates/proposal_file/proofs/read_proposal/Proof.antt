@@ -1,7 +1,7 @@
 -- `proposal_file::read_proposal` meets its contract: row 9 by the walk over the header, the others by its fields. Assumes nothing.
 use mathlib.Core.Path.{sym, ap, _∙_}
 use borrow.Author.Needs.{needs}
-use Rattle.rows.specs.Promised.RowLaws.{field-fails, behind}
+use Rattle.base_causes.specs.Promised.RowLaws.{field-fails, behind}
 use Rattle.proposal_file.specs.declared.ProposalAnswer.the-variants.{Refused}
 use Rattle.proposal_file.specs.Meaning.Answer.{openingOf, proposalBy}
 use Rattle.proposal_file.specs.Steps.Answer.{header-taken, header-refused}

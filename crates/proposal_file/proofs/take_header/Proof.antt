@@ -7,14 +7,14 @@ use native.Mathlib.Omega.{arith}
 use borrow.Author.Needs.{needs}
 use borrow.Author.Tests.{lt-ltb, le-ltb}
 use lib.ListN.{length}
-use Rattle.integers.specs.Meaning.Ranges.{outside}
-use Rattle.measures.specs.Meaning.Limits as limits
-use Rattle.measures.specs.Meaning.Held.{centsIn}
-use Rattle.measures.specs.Steps.Held.{cents-outside, cents-held}
-use Rattle.measures.specs.declared.Raw.{Raw}
+use Rattle.base_integers.specs.Meaning.Ranges.{outside}
+use Rattle.base_measures.specs.Meaning.Limits as limits
+use Rattle.base_measures.specs.Meaning.Held.{centsIn}
+use Rattle.base_measures.specs.Steps.Held.{cents-outside, cents-held}
+use Rattle.base_measures.specs.declared.Raw.{Raw}
 use Rattle.rules.specs.Meaning.Layout.{u16At, u32At, i32At, proposalVersion, shareIn, systemIn}
-use Rattle.fields.specs.Meaning.Field.{raw, markAt}
-use Rattle.fields.specs.Steps.Taking.{FieldsTaken, NextTaken, none-taken, mark-next, mark-lacks, half-next, half-lacks, word-next, word-lacks, signed-next, signed-lacks}
+use Rattle.bytes_read.specs.Meaning.Field.{raw, markAt}
+use Rattle.bytes_read.specs.Steps.Taking.{FieldsTaken, NextTaken, none-taken, mark-next, mark-lacks, half-next, half-lacks, word-next, word-lacks, signed-next, signed-lacks}
 use Rattle.proposal_file.specs.declared.HeaderField.the-variants.{Taken}
 use Rattle.proposal_file.specs.Meaning.Answer.{headerIn, takenBy, headerTaken}
 use Rattle.proposal_file.specs.Steps.Answer.{none-outside}

@@ -4,10 +4,10 @@ use mathlib.Core.Path.{_≡_, sym, ap, _∙_}
 use Prim.Native.Nat.{ℕ, _+_, _*_, _-_, _≤_, _<_}
 use native.Mathlib.Omega.{arith}
 use borrow.Author.Needs.{needs}
-use Rattle.fields.specs.declared.Cursor.{Cursor}
-use Rattle.fields.specs.declared.Walked.the-variants.{Past}
-use Rattle.fields.specs.Meaning.Field.{cursor}
-use Rattle.fields.specs.Steps.Walked.{never-refused, past-is}
+use Rattle.bytes_read.specs.declared.Cursor.{Cursor}
+use Rattle.bytes_read.specs.declared.Walked.the-variants.{Past}
+use Rattle.bytes_read.specs.Meaning.Field.{cursor}
+use Rattle.bytes_read.specs.Steps.Walked.{never-refused, past-is}
 use Rattle.proposal_file.proofs.walk_numbers.Statement.{statement}
 use Rattle.proposal_file.proofs.walk_numbers.Tie as tie
 

@@ -3,8 +3,8 @@ use mathlib.Core.Path.{_≡_, sym, ap, _∙_}
 use Prim.Native.Nat.{ℕ, _+_, _*_}
 use native.Mathlib.Omega.{arith}
 use borrow.Author.Needs.{needs}
-use Rattle.fields.specs.declared.Cursor.{Cursor}
-use Rattle.fields.specs.Steps.Walked.{never-refused, past-is}
+use Rattle.bytes_read.specs.declared.Cursor.{Cursor}
+use Rattle.bytes_read.specs.Steps.Walked.{never-refused, past-is}
 use Rattle.case_header.specs.Steps.Opened.{headed, limited}
 use Rattle.proposal_file.specs.Steps.Proposed.{length-is, shadow-at, small}
 use Rattle.proposal_file.proofs.walk_parts.Statement.{statement}

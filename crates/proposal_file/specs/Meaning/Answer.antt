@@ -6,10 +6,10 @@ use Prim.Native.Nat.{ℕ, _-_}
 use lib.ListN.{length}
 use lib.IntN.{pos}
 use Rattle.rules.specs.Meaning.Layout.{proposalHeader, proposalVersion, shareIn, systemIn}
-use Rattle.rows.specs.declared.Outcome.{Outcome}
-use Rattle.rows.specs.Meaning.Rows.{verdict}
+use Rattle.base_causes.specs.declared.Outcome.{Outcome}
+use Rattle.base_causes.specs.Meaning.Rows.{verdict}
 use Rattle.rules.specs.Meaning.Verdict.{under, proposalRefusal}
-use Rattle.fields.specs.Meaning.Field.{cursor, markAt}
+use Rattle.bytes_read.specs.Meaning.Field.{cursor, markAt}
 use Rattle.proposal_file.specs.declared.Opening.{Opening}
 use Rattle.proposal_file.specs.declared.Header.{Header}
 use Rattle.proposal_file.specs.declared.HeaderField.{HeaderField}

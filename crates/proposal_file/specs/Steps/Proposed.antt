@@ -8,13 +8,13 @@ use Prim.Native.Nat.{ℕ, _+_, _*_, _≤_, _<_}
 use native.Mathlib.Omega.{arith}
 use lib.ListN.{length}
 use lib.IntN.{pos}
-use Rattle.integers.specs.Meaning.Ranges.{outside, Within}
-use Rattle.integers.specs.Steps.Ranges.{within, nat-inside}
-use Rattle.measures.specs.Meaning.Limits as limits
+use Rattle.base_integers.specs.Meaning.Ranges.{outside, Within}
+use Rattle.base_integers.specs.Steps.Ranges.{within, nat-inside}
+use Rattle.base_measures.specs.Meaning.Limits as limits
 use Rattle.rules.specs.Meaning.Layout.{u32At, proposalHeader, proposalVersion, proposalLength, branchesIn, shareIn, flowIn, shadowAt, shadowIn}
 use Rattle.rules.specs.Meaning.Hour.{caseOf, planOf, pricesOf}
-use Rattle.rows.specs.declared.Outcome.{Outcome}
-use Rattle.rows.specs.Meaning.Rows.{Row, refusal, once, eachAt}
+use Rattle.base_causes.specs.declared.Outcome.{Outcome}
+use Rattle.base_causes.specs.Meaning.Rows.{Row, refusal, once, eachAt}
 use Rattle.rules.specs.Meaning.Verdict.{under, differ, notMark, proposalRows, proposalRefusal}
 use Rattle.rules.specs.Steps.Passed.{proposal-length, proposal-sound}
 use Rattle.case_header.specs.declared.Counts.{Counts}

@@ -8,7 +8,7 @@ use lib.Dec.{eqb}
 use lib.ListN.{length, getD, drop}
 use borrow.Kind.Array.{eInt, good-length}
 use mir.Syntax.{w8}
-use Rattle.desk_queue.specs.Meaning.Queue.{among}
+use Rattle.queue_turns.specs.Meaning.Queue.{among}
 use Rattle.queue_bytes.specs.Steps.Cells.{among-on, among-end}
 use Rattle.queue_bytes.proofs.is_among.Statement.{statement}
 use Rattle.queue_bytes.proofs.is_among.Tie as tie

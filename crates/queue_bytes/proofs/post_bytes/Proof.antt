@@ -4,7 +4,7 @@ use borrow.Author.Needs.{needs}
 use borrow.Kind.Array.{eInt, good-length}
 use lib.ListN.{length}
 use mir.Syntax.{w8}
-use Rattle.desk_queue.specs.Meaning.Queue.{among}
+use Rattle.queue_turns.specs.Meaning.Queue.{among}
 use Rattle.queue_bytes.specs.Meaning.Bytes.{hoursAt}
 use Rattle.queue_bytes.specs.Steps.Answers.{post-61, post-62, post-63, post-taken, good-hours, among-hour, post-addable, post-stored}
 use Rattle.queue_bytes.proofs.post_bytes.Statement.{statement}

@@ -1,5 +1,5 @@
 -- What a serve answers, in the fields that the host is given. Assumes nothing.
-use Rattle.desk_queue.specs.Meaning.Queue.{ServeAnswer}
+use Rattle.queue_turns.specs.Meaning.Queue.{ServeAnswer}
 use Rattle.queue_bytes.specs.declared.Served.{Served}
 
 abbrev pub given : ServeAnswer → Served

@@ -8,10 +8,10 @@ use Prim.Native.Nat.{ℕ, _+_, _*_, _-_, _%_}
 use lib.Dec.{ltb}
 use lib.ListN.{length, getD, take, drop, set, replicate}
 use lib.Seq.{paste}
-use Rattle.rows.specs.declared.Outcome.{Outcome}
-use Rattle.rows.specs.Meaning.Rows.{refusal}
-use Rattle.desk_queue.specs.Meaning.Queue.{Queue, Pair, among, postRows, next}
-use Rattle.desk_queue.specs.Meaning.Runs.{Event, post, serve}
+use Rattle.base_causes.specs.declared.Outcome.{Outcome}
+use Rattle.base_causes.specs.Meaning.Rows.{refusal}
+use Rattle.queue_turns.specs.Meaning.Queue.{Queue, Pair, among, postRows, next}
+use Rattle.queue_turns.specs.Meaning.Runs.{Event, post, serve}
 
 -- the hours that stand in some cells, the first cell first: a cell counts where it is from 1 to 25 and its hour does not stand in one before it
 unfoldable pub isNew : List ℕ → ℕ → Bool

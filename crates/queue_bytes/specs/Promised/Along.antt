@@ -11,10 +11,10 @@ use native.Mathlib.Decide.{decLt}
 use borrow.Author.Tests.{le-ltb}
 use lib.Dec.{eqb}
 use lib.ListN.{length, getD, drop, replicate, List·getD-map}
-use Rattle.desk_queue.specs.Meaning.Queue.{Queue, empty, Pair, pair, postNumber, afterPost, next, serveAnswer}
-use Rattle.desk_queue.specs.Meaning.Runs.{Event, post, serve, step, after, serves, servings, ServedWithin, postedIn, hoursOf, servedIn}
-use Rattle.desk_queue.specs.Promised.Served.{waiting-area-within-four, posted-hour-within-hundred, none-lost}
-use Rattle.desk_queue.specs.Steps.Invariant.{answer-by}
+use Rattle.queue_turns.specs.Meaning.Queue.{Queue, empty, Pair, pair, postNumber, afterPost, next, serveAnswer}
+use Rattle.queue_turns.specs.Meaning.Runs.{Event, post, serve, step, after, serves, servings, ServedWithin, postedIn, hoursOf, servedIn}
+use Rattle.queue_turns.specs.Promised.Served.{waiting-area-within-four, posted-hour-within-hundred, none-lost}
+use Rattle.queue_turns.specs.Steps.Invariant.{answer-by}
 use Rattle.queue_bytes.specs.declared.Served.{Served}
 use Rattle.queue_bytes.specs.Meaning.Answer.{given}
 use Rattle.queue_bytes.specs.Meaning.Bytes.{hoursIn, cellsAt, hoursAt, queueOf, bytesAfterPost, bytesAfterServe, bytesAfter}

@@ -1,5 +1,5 @@
 -- CALLS ON THE BYTES, one after the other as the host makes them. Bytes that are all zero, changed by the two entries alone as their clauses [bytes] say, mean
--- the queue that the run leads to, so that what `desk_queue` promises of runs holds of the host's calls. Both bounds hold from any 101 bytes too, also such
+-- the queue that the run leads to, so that what `queue_turns` promises of runs holds of the host's calls. Both bounds hold from any 101 bytes too, also such
 -- as no call left. Assumes nothing.
 use mathlib.Core.Path.{_≡_, refl, ap, _∙_}
 use mathlib.Core.Logic.{_⊎_, ⊎-elim}
@@ -7,11 +7,11 @@ use mathlib.Core.List.{List, [], _∷_, _++_}
 use mathlib.Core.Option.{Option}
 use Prim.Native.Nat.{ℕ, _+_, _*_, _≤_, _<_}
 use lib.ListN.{length, getD, replicate}
-use Rattle.rows.specs.declared.Outcome.{Outcome}
-use Rattle.desk_queue.specs.Meaning.Queue.{empty, pair, postNumber, serveAnswer}
-use Rattle.desk_queue.specs.Meaning.Runs.{Event, post, serve, step, after, serves, ServedWithin, AreaServedWithin}
-use Rattle.desk_queue.specs.Steps.Invariant.{Hours, Taken, Refused, posting, hours-more}
-use Rattle.desk_queue.specs.Steps.Fairness.{area-served, hour-served}
+use Rattle.base_causes.specs.declared.Outcome.{Outcome}
+use Rattle.queue_turns.specs.Meaning.Queue.{empty, pair, postNumber, serveAnswer}
+use Rattle.queue_turns.specs.Meaning.Runs.{Event, post, serve, step, after, serves, ServedWithin, AreaServedWithin}
+use Rattle.queue_turns.specs.Steps.Invariant.{Hours, Taken, Refused, posting, hours-more}
+use Rattle.queue_turns.specs.Steps.Fairness.{area-served, hour-served}
 use Rattle.queue_bytes.specs.Meaning.Bytes.{hoursAt, queueOf, bytesUnless, bytesAfterPost, bytesAfterServe, bytesAfter}
 use Rattle.queue_bytes.specs.Steps.ReadBack.{outside, post-means, serve-means, length-post, length-serve, zeros-empty, good-bytes}
 

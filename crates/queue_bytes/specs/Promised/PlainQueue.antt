@@ -11,9 +11,9 @@ use native.Mathlib.Omega.{arith}
 use native.Mathlib.Decide.{decLt}
 use borrow.Author.Tests.{lt-ltb}
 use lib.ListN.{getD, drop, length-take, List·getD-eq-default}
-use Rattle.desk_queue.specs.Meaning.Queue.{among, postNumber, pair, next, serveAnswer}
-use Rattle.desk_queue.specs.Promised.Causes.{is-61, is-62, is-63, is-taken}
-use Rattle.desk_queue.specs.Steps.Invariant.{answer-by}
+use Rattle.queue_turns.specs.Meaning.Queue.{among, postNumber, pair, next, serveAnswer}
+use Rattle.queue_turns.specs.Promised.Causes.{is-61, is-62, is-63, is-taken}
+use Rattle.queue_turns.specs.Steps.Invariant.{answer-by}
 use Rattle.queue_bytes.specs.declared.Served.{Served}
 use Rattle.queue_bytes.specs.Meaning.Answer.{given}
 use Rattle.queue_bytes.specs.Meaning.Bytes.{hoursIn, cellsAt, hoursAt, queueOf}

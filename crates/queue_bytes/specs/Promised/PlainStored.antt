@@ -5,9 +5,9 @@ use mathlib.Core.List.{List}
 use Prim.Native.Nat.{ℕ, _+_, _*_, _≤_, _<_}
 use native.Mathlib.Omega.{arith}
 use lib.ListN.{length, getD, replicate}
-use Rattle.desk_queue.specs.Meaning.Queue.{Queue, empty}
-use Rattle.desk_queue.specs.Meaning.Runs.{Event, after}
-use Rattle.desk_queue.specs.Steps.Invariant.{at-most-25}
+use Rattle.queue_turns.specs.Meaning.Queue.{Queue, empty}
+use Rattle.queue_turns.specs.Meaning.Runs.{Event, after}
+use Rattle.queue_turns.specs.Steps.Invariant.{at-most-25}
 use Rattle.queue_bytes.specs.Meaning.Bytes.{cellsOf, hoursAt, queueOf, bytesAfter}
 use Rattle.queue_bytes.specs.Promised.Calls.{from-zeros}
 use Rattle.queue_bytes.specs.Steps.ReadBack.{good-bytes, getD-cells}

@@ -9,13 +9,13 @@ use Prim.Native.Nat.{ℕ, _+_, _*_, _-_, _%_, _≤_, _<_}
 use native.Mathlib.Omega.{arith}
 use lib.ListN.{length, getD, drop, set}
 use lib.Seq.{paste}
-use Rattle.rows.specs.declared.Outcome.{Outcome}
-use Rattle.rows.specs.Meaning.Rows.{verdict, refusal, answer}
+use Rattle.base_causes.specs.declared.Outcome.{Outcome}
+use Rattle.base_causes.specs.Meaning.Rows.{verdict, refusal, answer}
 use Rattle.queue_bytes.specs.declared.Waiting.{Waiting}
 use Rattle.queue_bytes.specs.declared.AfterPost.{AfterPost}
 use Rattle.queue_bytes.specs.declared.AfterServe.{AfterServe}
-use Rattle.desk_queue.specs.Meaning.Queue.{Pair, pair, among, postRows, postNumber, next, ServeAnswer, serveAnswer}
-use Rattle.desk_queue.specs.Steps.Invariant.{Hours, also, Taken, Refused, posting, at-most-25, Heads, next-heads, refused-61, refused-62, refused-63, not-refused, number-by, answerBy, answer-by}
+use Rattle.queue_turns.specs.Meaning.Queue.{Pair, pair, among, postRows, postNumber, next, ServeAnswer, serveAnswer}
+use Rattle.queue_turns.specs.Steps.Invariant.{Hours, also, Taken, Refused, posting, at-most-25, Heads, next-heads, refused-61, refused-62, refused-63, not-refused, number-by, answerBy, answer-by}
 use Rattle.queue_bytes.specs.Meaning.Bytes.{cellsOf, hoursAt, queueOf, withHours, bytesUnless, bytesAfterPost, bytesWithout, bytesAfterServe}
 use Rattle.queue_bytes.specs.Steps.ReadBack.{good-bytes}
 use Rattle.queue_bytes.specs.Steps.Cells.{waitingOf, Addable, addable, among-of, cells-less}

@@ -11,8 +11,8 @@ use lib.ListN.{length, getD, drop, set, replicate, length-append, length-drop, d
 use lib.Seq.{set-at, drop-cons, paste, paste-zero, paste-suc, getD-drop, take-all}
 use native.Mathlib.Numerals.{add-one}
 use Rattle.queue_bytes.specs.declared.Waiting.{Waiting}
-use Rattle.desk_queue.specs.Meaning.Queue.{among}
-use Rattle.desk_queue.specs.Steps.Invariant.{Hours, at-most-25, room}
+use Rattle.queue_turns.specs.Meaning.Queue.{among}
+use Rattle.queue_turns.specs.Steps.Invariant.{Hours, at-most-25, room}
 use Rattle.queue_bytes.specs.Meaning.Bytes.{isNew, cellsOf, keep}
 use Rattle.queue_bytes.specs.Steps.ReadBack.{New, new-of, length-cells-map, length-cells}
 

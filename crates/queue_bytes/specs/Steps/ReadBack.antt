@@ -11,10 +11,10 @@ use borrow.Author.Tests.{ne-eqb, eqb-false, lt-ltb, le-ltb, ltb-true}
 use lib.Dec.{eqb, ltb}
 use lib.ListN.{length, getD, take, drop, set, replicate, length-append, length-drop, length-set, length-replicate, getD-replicate, List·getD-append}
 use lib.Seq.{paste, length-paste, getD-append-add, getD-take, getD-drop, getD-set-other, getD-set-same, ext-getD, length-take-le}
-use Rattle.rows.specs.declared.Outcome.{Outcome}
-use Rattle.rows.specs.Meaning.Rows.{refusal}
-use Rattle.desk_queue.specs.Meaning.Queue.{empty, Pair, among, put, postRows, taken, afterPost, next, without, afterServe}
-use Rattle.desk_queue.specs.Steps.Invariant.{Hours, nothing, also, Good, Taken, Refused, posting, hours-more, hours-less, at-most-25, or-parts, next-heads, put-here, put-other}
+use Rattle.base_causes.specs.declared.Outcome.{Outcome}
+use Rattle.base_causes.specs.Meaning.Rows.{refusal}
+use Rattle.queue_turns.specs.Meaning.Queue.{empty, Pair, among, put, postRows, taken, afterPost, next, without, afterServe}
+use Rattle.queue_turns.specs.Steps.Invariant.{Hours, nothing, also, Good, Taken, Refused, posting, hours-more, hours-less, at-most-25, or-parts, next-heads, put-here, put-other}
 use Rattle.queue_bytes.specs.Meaning.Bytes.{isNew, keep, keepAll, hoursIn, cellsOf, cellsAt, hoursAt, queueOf, withHours, bytesUnless, bytesAfterPost, bytesWithout, bytesAfterServe}
 
 -- ---- hours in cells

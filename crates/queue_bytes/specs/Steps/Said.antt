@@ -10,7 +10,7 @@ use native.Mathlib.Decide.{decLt, ℕ-discrete}
 use borrow.Author.Tests.{eq-eqb, ne-eqb, eqb-true, lt-ltb, le-ltb}
 use lib.Dec.{eqb, ltb}
 use lib.ListN.{length, getD}
-use Rattle.desk_queue.specs.Meaning.Queue.{among, pair, inTurn, firstWaiting, earliestElse}
+use Rattle.queue_turns.specs.Meaning.Queue.{among, pair, inTurn, firstWaiting, earliestElse}
 use Rattle.queue_bytes.specs.Meaning.Bytes.{isNew, keep, keepAll}
 use Rattle.queue_bytes.specs.Steps.ReadBack.{new-of, is-new}
 

@@ -9,10 +9,10 @@ use native.Mathlib.Omega.{arith}
 use native.Mathlib.Decide.{ℕ-discrete}
 use lib.ListN.{length, getD, set, replicate, length-set}
 use lib.Seq.{getD-set-other, getD-set-same}
-use Rattle.rows.specs.declared.Outcome.{Outcome}
-use Rattle.desk_queue.specs.Meaning.Queue.{Queue, Pair, next}
-use Rattle.desk_queue.specs.Meaning.Runs.{Event, post, serve}
-use Rattle.desk_queue.specs.Steps.Invariant.{Hours, Taken, Refused, posting, hours-more, hours-less, next-heads, put-here, put-other}
+use Rattle.base_causes.specs.declared.Outcome.{Outcome}
+use Rattle.queue_turns.specs.Meaning.Queue.{Queue, Pair, next}
+use Rattle.queue_turns.specs.Meaning.Runs.{Event, post, serve}
+use Rattle.queue_turns.specs.Steps.Invariant.{Hours, Taken, Refused, posting, hours-more, hours-less, next-heads, put-here, put-other}
 use Rattle.queue_bytes.specs.Meaning.Bytes.{cellsOf, cellsAt, hoursAt, queueOf, withHours, bytesUnless, bytesAfterPost, bytesWithout, bytesAfterServe, bytesAfter}
 use Rattle.queue_bytes.specs.Steps.ReadBack.{good-bytes, cells-agree, length-with, cells-own, cells-other, hours-at-with, turn-with, hours-turned, zeros-empty}
 

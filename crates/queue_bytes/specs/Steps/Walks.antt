@@ -10,8 +10,8 @@ use borrow.Author.Tests.{lt-ltb}
 use lib.ListN.{length, getD, take, replicate}
 use lib.Seq.{take-suc, take-all}
 use Rattle.queue_bytes.specs.declared.Waiting.{Waiting}
-use Rattle.desk_queue.specs.Meaning.Queue.{Pair, inTurn, firstWaiting, earliestElse, next}
-use Rattle.desk_queue.specs.Steps.Invariant.{Hours}
+use Rattle.queue_turns.specs.Meaning.Queue.{Pair, inTurn, firstWaiting, earliestElse, next}
+use Rattle.queue_turns.specs.Steps.Invariant.{Hours}
 use Rattle.queue_bytes.specs.Meaning.Bytes.{keep, keepAll, hoursIn, cellsOf, cellsAt, hoursAt, queueOf}
 use Rattle.queue_bytes.specs.Steps.ReadBack.{hours-in, keep-more, length-cells-at, getD-cells}
 use Rattle.queue_bytes.specs.Steps.Cells.{waitingOf, addable-room, countsBehind, kept-addable}

@@ -15,9 +15,9 @@ use Prim.Native.Nat.{ℕ, _+_, _*_, _<_}
 use lib.Dec.{T, eqb}
 use lib.IntN.{ℤ, pos, _+ℤ_, _-ℤ_, _*ℤ_}
 use lib.Signed.{_≤ℤ_, _<ℤ_}
-use Rattle.integers.specs.Meaning.Order.{positive}
-use Rattle.integers.specs.Meaning.Sums.{sumTo, only}
-use Rattle.measures.specs.Meaning.Limits.{partsInOne}
+use Rattle.base_integers.specs.Meaning.Order.{positive}
+use Rattle.base_integers.specs.Meaning.Sums.{sumTo, only}
+use Rattle.base_measures.specs.Meaning.Limits.{partsInOne}
 use Rattle.rules.specs.Meaning.Hour.{Case, signed, buys}
 
 -- VARIABLES: whole numbers over the common positive denominator `den`

@@ -2,7 +2,7 @@
 use mathlib.Core.Path.{_≡_}
 use Prim.Native.Nat.{ℕ, _*_, _≤_, _<_}
 use lib.IntN.{pos}
-use Rattle.measures.specs.Meaning.Limits.{partsInOne}
+use Rattle.base_measures.specs.Meaning.Limits.{partsInOne}
 use Rattle.rules.specs.Meaning.Hour.{Case, Plan, netSum, Kept, KeptZ, linkRule, branchRule}
 
 -- EVERY ZONE EXISTS: each that a link or an order names is a zone of the case, as rows 7 and 8 leave it

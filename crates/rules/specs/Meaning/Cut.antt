@@ -5,7 +5,7 @@ use mathlib.Core.Option.{Option, none, some}
 use Prim.Native.Nat.{ℕ}
 use lib.ListN.{length, take, drop}
 use lib.Dec.{leb}
-use Rattle.rows.specs.declared.Outcome.{Outcome}
+use Rattle.base_causes.specs.declared.Outcome.{Outcome}
 use Rattle.rules.specs.Meaning.Layout.{caseLength}
 use Rattle.rules.specs.Meaning.Verdict.{headerRefusal}
 

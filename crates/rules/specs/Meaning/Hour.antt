@@ -8,9 +8,9 @@ use Prim.Native.Nat.{ℕ, _*_, _≤_}
 use lib.Dec.{eqb, ltb}
 use lib.IntN.{ℤ, pos, negℤ, _+ℤ_, _-ℤ_, _*ℤ_}
 use lib.Signed.{_≤ℤ_, ltZ}
-use Rattle.integers.specs.Meaning.Order.{larger, positive}
-use Rattle.integers.specs.Meaning.Sums.{sumTo, only}
-use Rattle.measures.specs.Meaning.Limits.{partsInOne}
+use Rattle.base_integers.specs.Meaning.Order.{larger, positive}
+use Rattle.base_integers.specs.Meaning.Sums.{sumTo, only}
+use Rattle.base_measures.specs.Meaning.Limits.{partsInOne}
 use Rattle.rules.specs.Meaning.Layout.{zonesIn, branchesIn, linksIn, ordersIn, toleranceIn, ramIn, ptdfIn, fromIn, toIn, capacityIn, contractedIn, zoneIn, sideIn, quantityIn, priceIn, shareIn, systemIn, volumeIn, flowIn, shadowIn}
 
 pub record Case : Type 0 where

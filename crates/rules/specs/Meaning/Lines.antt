@@ -3,9 +3,9 @@ use mathlib.Core.Bool.{cond}
 use mathlib.Core.List.{List, [], _++_}
 use Prim.Native.Nat.{ℕ, zero, suc}
 use lib.IntN.{ℤ}
-use Rattle.decimal.specs.Meaning.Ascii.{ascii}
-use Rattle.decimal.specs.Meaning.Text.{countText, amountText}
-use Rattle.rows.specs.declared.Outcome.{Outcome}
+use Rattle.text_decimal.specs.Meaning.Ascii.{ascii}
+use Rattle.text_decimal.specs.Meaning.Text.{countText, amountText}
+use Rattle.base_causes.specs.declared.Outcome.{Outcome}
 use Rattle.rules.specs.Meaning.Layout.{reportRoom}
 use Rattle.rules.specs.Meaning.Hour.{caseOf, planOf, pricesOf, zonePrice}
 use Rattle.rules.specs.Meaning.Verdict.{outcome}

@@ -6,10 +6,10 @@ use Prim.Native.Nat.{ℕ, zero, suc, _+_, _*_, _<_}
 use lib.ListN.{length, getD, take, drop}
 use lib.Dec.{eqb}
 use lib.IntN.{ℤ}
-use Rattle.integers.specs.Meaning.Bytes.{bytesOf, signed64, i64At}
+use Rattle.base_integers.specs.Meaning.Bytes.{bytesOf, signed64, i64At}
 use Rattle.rules.specs.Meaning.Layout.{reportVersionAt, reportNumberAt, reportZonesAt, reportZeroAt, welfareAt, boundAt, gapAt, rentAt, owedAt, zonePriceAt}
 use Rattle.rules.specs.Meaning.Hour.{Case, Plan, Prices, caseOf, planOf, pricesOf, zonePrice, welfare, owed, bound, gap, rent}
-use Rattle.rows.specs.declared.Outcome.{Outcome}
+use Rattle.base_causes.specs.declared.Outcome.{Outcome}
 use Rattle.rules.specs.Meaning.Verdict.{outcome, familyOutcome}
 
 -- the prices of the zones below n

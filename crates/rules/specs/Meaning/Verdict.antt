@@ -9,13 +9,13 @@ use lib.ListN.{length}
 use lib.Dec.{eqb, leb, ltb}
 use lib.IntN.{ℤ, pos}
 use lib.Signed.{ltZ}
-use Rattle.integers.specs.Meaning.Ranges.{outside, isZero}
-use Rattle.measures.specs.Meaning.Limits as limits
+use Rattle.base_integers.specs.Meaning.Ranges.{outside, isZero}
+use Rattle.base_measures.specs.Meaning.Limits as limits
 use Rattle.rules.specs.Meaning.Layout.{u8At, caseHeader, caseVersion, caseLength, proposalHeader, proposalVersion, proposalLength, zoneCounts, branchCounts, linkCounts, orderCounts, reportRoom, branchFieldAt, linkFields, linkFieldAt, orderFields, orderFieldAt, shadowAt}
 use Rattle.rules.specs.Meaning.Hour.{Case, Plan, Prices, caseOf, planOf, pricesOf, netSum, broken, brokenZ, linkRule, branchRule, zonePrice, noLink, gap}
 use Rattle.rules.specs.Meaning.Families.{familyVersion, familyLength, parentOf, missing, leadsBack, accepted, fractionRule}
-use Rattle.rows.specs.declared.Outcome.{Outcome}
-use Rattle.rows.specs.Meaning.Rows.{Row, anyBelow, refusal, answer, once, field, each, eachAt, eachField}
+use Rattle.base_causes.specs.declared.Outcome.{Outcome}
+use Rattle.base_causes.specs.Meaning.Rows.{Row, anyBelow, refusal, answer, once, field, each, eachAt, eachField}
 
 abbrev pub under : ℕ → ℕ → Bool
 under least x = ltb x least

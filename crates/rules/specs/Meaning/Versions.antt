@@ -5,10 +5,10 @@ use mathlib.Core.List.{List, [], _++_}
 use Prim.Native.Nat.{ℕ, zero, suc, _+_, _*_, _-_, _/_}
 use lib.Dec.{eqb}
 use lib.ListN.{take, drop}
-use Rattle.integers.specs.Meaning.Bytes.{bytesOf}
+use Rattle.base_integers.specs.Meaning.Bytes.{bytesOf}
 use Rattle.rules.specs.Meaning.Layout.{linksIn, linkAt, orderAt}
-use Rattle.rows.specs.declared.Outcome.{Outcome}
-use Rattle.rows.specs.Meaning.Rows.{verdict}
+use Rattle.base_causes.specs.declared.Outcome.{Outcome}
+use Rattle.base_causes.specs.Meaning.Rows.{verdict}
 
 -- link l of a case of version 1 with its capacity once more, as its contracted volume; and the first links so
 unfoldable pub contractedLink : List ℕ → ℕ → List ℕ

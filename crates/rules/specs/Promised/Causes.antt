@@ -10,12 +10,12 @@ use lib.ListN.{getD, take, drop}
 use lib.Dec.{T, eqb}
 use lib.Signed.{_<ℤ_, ltZ-yes}
 use lib.IntN.{ℤ, pos}
-use Rattle.measures.specs.Meaning.Limits as limits
+use Rattle.base_measures.specs.Meaning.Limits as limits
 use Rattle.rules.specs.Meaning.Hour.{Case, Plan, Prices, caseOf, planOf, pricesOf, gap}
-use Rattle.rows.specs.declared.Outcome.{Outcome}
-use Rattle.rows.specs.Promised.Asked.{unnamed, at-offset, the-place, a-field, Asked, ask, Asks, ascending}
-use Rattle.rows.specs.Meaning.Rows.{Row, verdict, refusal, answer, Pass}
-use Rattle.rows.specs.Promised.RowLaws.{empty, Answered, answered, Soonest, soonest, lacks, numbersBelow, number-below, isRow, rowOf, hasRow, before, row-passed, later, Comes, past, clear, none-left, once-passes}
+use Rattle.base_causes.specs.declared.Outcome.{Outcome}
+use Rattle.base_causes.specs.Promised.Asked.{unnamed, at-offset, the-place, a-field, Asked, ask, Asks, ascending}
+use Rattle.base_causes.specs.Meaning.Rows.{Row, verdict, refusal, answer, Pass}
+use Rattle.base_causes.specs.Promised.RowLaws.{empty, Answered, answered, Soonest, soonest, lacks, numbersBelow, number-below, isRow, rowOf, hasRow, before, row-passed, later, Comes, past, clear, none-left, once-passes}
 use Rattle.rules.specs.Meaning.Book.{BookRow, bookRows, bookRefusal, bookSurplus, bookAnswer, bookAnswerBy}
 use Rattle.rules.specs.Meaning.Verdict.{overZ, roomRows, caseRows, proposalRows, wideTolerance, clearingRows, table, outcome, familyOutcome}
 

@@ -6,9 +6,9 @@ use Prim.Native.Nat.{ℕ, _≤_, _<_}
 use native.Mathlib.Omega.{arith}
 use lib.IntN.{ℤ, pos, _*ℤ_}
 use lib.Signed.{_≤ℤ_}
-use Rattle.integers.specs.Steps.Difference.{at, _⊗_, eq-by}
-use Rattle.integers.specs.Meaning.Order.{positive}
-use Rattle.integers.specs.Steps.Sums.{sum-ext, sum-zero, sum-le}
+use Rattle.base_integers.specs.Steps.Difference.{at, _⊗_, eq-by}
+use Rattle.base_integers.specs.Meaning.Order.{positive}
+use Rattle.base_integers.specs.Steps.Sums.{sum-ext, sum-zero, sum-le}
 use Rattle.rules.specs.Meaning.Hour.{Case, Plan, Prices, buys, orderNet, net, inflow, outflow, ltaPart, fbPart, netSum, linkUse, linkRoom, branchUse, branchRoom, branchPrice, zonePrice, orderWelfare, welfare, orderSurplus, surplus, branchValue, branchTotal, spread, linkValue, linkTotal, linkOwed, owed, noLink, networkBound, bound, gap, rent}
 use Rattle.rules.specs.Meaning.Clearing.{Clearing}
 use Rattle.rules.specs.Steps.Duality.{more-le}

@@ -7,12 +7,12 @@ use Prim.Native.Nat.{ℕ, zero, suc, _*_, _≤_, _<_}
 use native.Mathlib.Omega.{arith}
 use lib.ListN.{length, drop}
 use lib.Dec.{T, eqb, eqb→eq, not-T, nltb→le}
-use Rattle.integers.specs.Steps.Ranges.{not-is, and-both}
+use Rattle.base_integers.specs.Steps.Ranges.{not-is, and-both}
 use Rattle.rules.specs.Meaning.Hour.{Case, Plan, Prices, caseOf, planOf, pricesOf}
 use Rattle.rules.specs.Meaning.Families.{parentOf, onward, ancestor, LeadsBack, isOrder, leadsBack, accepted}
-use Rattle.rows.specs.declared.Outcome.{Outcome}
-use Rattle.rows.specs.Meaning.Rows.{Row, Pass, refusal, answer}
-use Rattle.rows.specs.Promised.RowLaws.{any-none, else-refusal, refusal-append, lacks, left-out, row-passed, row-passes, before, hasRow, rowOf, isRow}
+use Rattle.base_causes.specs.declared.Outcome.{Outcome}
+use Rattle.base_causes.specs.Meaning.Rows.{Row, Pass, refusal, answer}
+use Rattle.base_causes.specs.Promised.RowLaws.{any-none, else-refusal, refusal-append, lacks, left-out, row-passed, row-passes, before, hasRow, rowOf, isRow}
 use Rattle.rules.specs.Meaning.Verdict.{roomRows, caseRows, proposalRows, wideTolerance, excessVolume, exchangeRows, exceedsParent, excessFraction, fractionRows, familyRows, clearingRows, table, outcome, familyOutcome}
 use Rattle.rules.specs.Meaning.Report.{reports, reportBytes, reportSize, written, bufferAfter, familyBufferAfter}
 use Rattle.rules.specs.Meaning.Promise.{FractionAtMost, FamilyTotalsReported}

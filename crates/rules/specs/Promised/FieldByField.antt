@@ -3,9 +3,9 @@ use mathlib.Core.Path.{_≡_, sym, ap, _∙_}
 use mathlib.Core.List.{List, [], _∷_, _++_}
 use Prim.Native.Nat.{ℕ, _+_}
 use native.Mathlib.Omega.{arith}
-use Rattle.rows.specs.Meaning.Rows.{Row, rowElse, firstBelow, refusal}
-use Rattle.rows.specs.Promised.RowLaws.{before, behind, else-refusal, refusal-append}
-use Rattle.rows.specs.Promised.InFileOrder.{eachInOrder, field-by-field}
+use Rattle.base_causes.specs.Meaning.Rows.{Row, rowElse, firstBelow, refusal}
+use Rattle.base_causes.specs.Promised.RowLaws.{before, behind, else-refusal, refusal-append}
+use Rattle.base_causes.specs.Promised.InFileOrder.{eachInOrder, field-by-field}
 use Rattle.rules.specs.Meaning.Layout.{zonesIn, branchesIn, linksIn, ordersIn, branchFieldAt, linkFields, linkFieldAt, orderFields, orderFieldAt}
 use Rattle.rules.specs.Meaning.Hour.{caseOf}
 use Rattle.rules.specs.Meaning.Verdict.{branchFault, linkFault, orderFault, branchField, caseRows, caseRefusal}

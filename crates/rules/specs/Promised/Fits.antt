@@ -11,16 +11,16 @@ use lib.Dec.{T, eqb}
 use lib.IntN.{ℤ, pos, _+ℤ_, _-ℤ_, _*ℤ_}
 use mir.Syntax.{w64}
 use mir.Val.{SFits}
-use Rattle.integers.specs.Steps.Difference.{at, _⊗_, le-by, le-fact}
-use Rattle.integers.specs.Meaning.Order.{larger, positive}
-use Rattle.integers.specs.Steps.Order.{cond-ind}
-use Rattle.integers.specs.Meaning.Ranges.{minus, Within}
-use Rattle.integers.specs.Meaning.Sums.{sumTo, only}
-use Rattle.integers.specs.Steps.Size.{Near, near-le, near-pos, near-add, near-neg, near-sub, near-mul, near-sum, near-fits, near-within, near-gathered, apart, near-larger, near-positive, near-only, near-unsigned, near-32}
-use Rattle.integers.specs.Meaning.Machine.{SumsFit}
-use Rattle.integers.specs.Steps.Machine.{small-sums}
-use Rattle.measures.specs.Meaning.Limits as limits
-use Rattle.measures.specs.Meaning.Limits.{partsInOne}
+use Rattle.base_integers.specs.Steps.Difference.{at, _⊗_, le-by, le-fact}
+use Rattle.base_integers.specs.Meaning.Order.{larger, positive}
+use Rattle.base_integers.specs.Steps.Order.{cond-ind}
+use Rattle.base_integers.specs.Meaning.Ranges.{minus, Within}
+use Rattle.base_integers.specs.Meaning.Sums.{sumTo, only}
+use Rattle.base_integers.specs.Steps.Size.{Near, near-le, near-pos, near-add, near-neg, near-sub, near-mul, near-sum, near-fits, near-within, near-gathered, apart, near-larger, near-positive, near-only, near-unsigned, near-32}
+use Rattle.base_integers.specs.Meaning.Machine.{SumsFit}
+use Rattle.base_integers.specs.Steps.Machine.{small-sums}
+use Rattle.base_measures.specs.Meaning.Limits as limits
+use Rattle.base_measures.specs.Meaning.Limits.{partsInOne}
 use Rattle.rules.specs.Meaning.Layout.{u32At, i32At, systemIn}
 use Rattle.rules.specs.Meaning.Hour.{Case, Plan, Prices, caseOf, planOf, pricesOf, signed, buys, above, orderNet, net, inflow, outflow, ltaPart, fbPart, linkUse, linkRoom, branchPrice, zonePrice, orderWelfare, welfare, surplusOf, orderSurplus, surplus, branchValue, branchTotal, spread, linkValue, linkTotal, linkOwed, owed, noLink, networkBound, bound, gap, rent}
 use Rattle.rules.specs.Meaning.Clearing.{Clearing}

@@ -5,12 +5,12 @@ use native.Mathlib.Nat.{mul-le-mul-right}
 use native.Mathlib.Omega.{arith}
 use lib.IntN.{ℤ, pos, _+ℤ_, _-ℤ_, _*ℤ_}
 use lib.Signed.{_≤ℤ_}
-use Rattle.integers.specs.Meaning.Difference.{up, dn}
-use Rattle.integers.specs.Steps.Difference.{at, _⊕_, _⊖_, _⊗_, le-by, eq-by, le-fact, eq-fact}
-use Rattle.integers.specs.Steps.Order.{le-trans, le-antisym, diff-nonneg, add-nonneg, times-nonneg}
-use Rattle.integers.specs.Meaning.Sums.{sumTo}
-use Rattle.integers.specs.Steps.Sums.{sum-sub, sum-scale-l, sum-nonneg, one-le-sum}
-use Rattle.measures.specs.Meaning.Limits.{partsInOne}
+use Rattle.base_integers.specs.Meaning.Difference.{up, dn}
+use Rattle.base_integers.specs.Steps.Difference.{at, _⊕_, _⊖_, _⊗_, le-by, eq-by, le-fact, eq-fact}
+use Rattle.base_integers.specs.Steps.Order.{le-trans, le-antisym, diff-nonneg, add-nonneg, times-nonneg}
+use Rattle.base_integers.specs.Meaning.Sums.{sumTo}
+use Rattle.base_integers.specs.Steps.Sums.{sum-sub, sum-scale-l, sum-nonneg, one-le-sum}
+use Rattle.base_measures.specs.Meaning.Limits.{partsInOne}
 use Rattle.rules.specs.Meaning.Hour.{Case, Plan, Prices, buys, orderNet, linkUse, linkRoom, branchUse, branchRoom, zonePrice, orderWelfare, welfare, surplusOf, orderSurplus, surplus, branchValue, branchTotal, spread, linkValue, linkTotal, networkBound, bound, rent}
 use Rattle.rules.specs.Meaning.Clearing.{Placed, Clearing}
 use Rattle.rules.specs.Steps.Duality.{branches-within, share-within, order-le, link-le, rest, by-orders, rent-is, rent-split, over-links, over-branches, branches-are, in-cents}

@@ -7,9 +7,9 @@ use lib.ListN.{length}
 use lib.Dec.{T}
 use lib.IntN.{ℤ, pos, _+ℤ_, _-ℤ_, _*ℤ_}
 use lib.Signed.{_≤ℤ_}
-use Rattle.integers.specs.Meaning.Difference.{up, dn}
-use Rattle.integers.specs.Steps.Difference.{at, _⊕_, _⊖_, _⊗_, le-by, le-fact, eq-fact}
-use Rattle.measures.specs.Meaning.Limits.{microcentsOf}
+use Rattle.base_integers.specs.Meaning.Difference.{up, dn}
+use Rattle.base_integers.specs.Steps.Difference.{at, _⊕_, _⊖_, _⊗_, le-by, le-fact, eq-fact}
+use Rattle.base_measures.specs.Meaning.Limits.{microcentsOf}
 use Rattle.rules.specs.Meaning.Hour.{Plan, Prices, caseOf, planOf, pricesOf, welfare, linkTotal, owed, bound, gap, rent}
 use Rattle.rules.specs.Meaning.Clearing.{Clearing}
 use Rattle.rules.specs.Meaning.Verdict.{outcome, Readable}

@@ -8,14 +8,14 @@ use Prim.Native.Nat.{ℕ, zero, suc, _+_}
 use native.Mathlib.Omega.{arith}
 use lib.Dec.{T, eqb}
 use lib.IntN.{ℤ, pos}
-use Rattle.integers.specs.Meaning.Ranges.{outside}
-use Rattle.measures.specs.Meaning.Limits as limits
+use Rattle.base_integers.specs.Meaning.Ranges.{outside}
+use Rattle.base_measures.specs.Meaning.Limits as limits
 use Rattle.rules.specs.Meaning.Layout.{linkFields, orderFields}
 use Rattle.rules.specs.Meaning.Hour.{Case, Plan, Prices, caseOf, planOf, pricesOf}
-use Rattle.rows.specs.declared.Outcome.{Outcome}
-use Rattle.rows.specs.Meaning.Rows.{Row, verdict, firstBelow, anyBelow, rowElse, refusal, answer, each}
+use Rattle.base_causes.specs.declared.Outcome.{Outcome}
+use Rattle.base_causes.specs.Meaning.Rows.{Row, verdict, firstBelow, anyBelow, rowElse, refusal, answer, each}
 use Rattle.rules.specs.Meaning.Verdict.{over, unknown, badRow, branchFault, repeated, linkFault, rowFault, orderFault, roomRows, caseRows, proposalRows, judgementRows, table, outcome, branchField, shadowAbove}
-use Rattle.rows.specs.Promised.RowLaws.{before, behind}
+use Rattle.base_causes.specs.Promised.RowLaws.{before, behind}
 
 -- THE TABLE BEFORE, with S-4's contracted volumes among what a link is refused for: rows 6, 7, 8 and 14 named the branch, the link and the order
 unfoldable pub badBranch : Case → ℕ → Bool

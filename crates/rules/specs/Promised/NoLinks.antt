@@ -6,13 +6,13 @@ use Prim.Native.Nat.{ℕ, _+_, _*_, _≤_, _<_}
 use native.Mathlib.Omega.{arith}
 use lib.IntN.{ℤ, pos, _+ℤ_, _-ℤ_, _*ℤ_}
 use lib.Signed.{_≤ℤ_, _<ℤ_}
-use Rattle.integers.specs.Meaning.Difference.{up, dn}
-use Rattle.integers.specs.Steps.Difference.{at, _⊕_, _⊖_, _⊗_, le-by, eq-by, le-fact, eq-fact}
-use Rattle.integers.specs.Meaning.Order.{larger}
-use Rattle.integers.specs.Steps.Order.{le-antisym}
-use Rattle.integers.specs.Meaning.Sums.{sumTo}
-use Rattle.integers.specs.Steps.Sums.{sum-ext}
-use Rattle.measures.specs.Meaning.Limits.{partsInOne}
+use Rattle.base_integers.specs.Meaning.Difference.{up, dn}
+use Rattle.base_integers.specs.Steps.Difference.{at, _⊕_, _⊖_, _⊗_, le-by, eq-by, le-fact, eq-fact}
+use Rattle.base_integers.specs.Meaning.Order.{larger}
+use Rattle.base_integers.specs.Steps.Order.{le-antisym}
+use Rattle.base_integers.specs.Meaning.Sums.{sumTo}
+use Rattle.base_integers.specs.Steps.Sums.{sum-ext}
+use Rattle.base_measures.specs.Meaning.Limits.{partsInOne}
 use Rattle.rules.specs.Meaning.Hour.{Case, Plan, Prices, net, inflow, outflow, ltaPart, fbPart, netSum, branchUse, branchRoom, welfare, surplus, branchTotal, linkTotal, owed, networkBound, bound, gap, rent}
 use Rattle.rules.specs.Meaning.Clearing.{Placed, Clearing}
 use Rattle.rules.specs.Steps.Duality.{without-links-is, with-links-is, welfare-le, rent-le}

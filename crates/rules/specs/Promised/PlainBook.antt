@@ -12,16 +12,16 @@ use lib.Dec.{T, eqb, leb, ltb, leb→le, ltb→lt, nleb→lt, nltb→le, not-T, 
 use lib.ListN.{length, getD}
 use lib.IntN.{ℤ, pos, negℤ, _-ℤ_, _*ℤ_}
 use lib.Signed.{_≤ℤ_}
-use Rattle.integers.specs.Meaning.Ranges.{outside}
-use Rattle.integers.specs.Steps.Ranges.{within, inside, nat-within, nat-inside, is-false}
-use Rattle.integers.specs.Meaning.Order.{positive}
-use Rattle.integers.specs.Meaning.Sums.{sumTo}
-use Rattle.measures.specs.Meaning.Limits as limits
+use Rattle.base_integers.specs.Meaning.Ranges.{outside}
+use Rattle.base_integers.specs.Steps.Ranges.{within, inside, nat-within, nat-inside, is-false}
+use Rattle.base_integers.specs.Meaning.Order.{positive}
+use Rattle.base_integers.specs.Meaning.Sums.{sumTo}
+use Rattle.base_measures.specs.Meaning.Limits as limits
 use Rattle.rules.specs.Meaning.Layout.{zoneCounts, orderCounts, orderFields}
 use Rattle.rules.specs.Meaning.Hour.{surplusOf}
-use Rattle.rows.specs.declared.Outcome.{Outcome}
-use Rattle.rows.specs.Meaning.Rows.{Row, Pass, verdict, refusal}
-use Rattle.rows.specs.Promised.RowLaws.{First, no-less, any-none, no-place, empty, Cause, caused, cause-refuses, passes-none, all-pass, not-refused, lacks}
+use Rattle.base_causes.specs.declared.Outcome.{Outcome}
+use Rattle.base_causes.specs.Meaning.Rows.{Row, Pass, verdict, refusal}
+use Rattle.base_causes.specs.Promised.RowLaws.{First, no-less, any-none, no-place, empty, Cause, caused, cause-refuses, passes-none, all-pass, not-refused, lacks}
 use Rattle.rules.specs.Meaning.Verdict.{rowFault, badRow}
 use Rattle.rules.specs.Meaning.Book.{BookRow, rowAt, priceAt, badBookRow, bookRows, bookRefusal, rowSurplus, BookAnswer, bookSurplus, bookAnswer, bookAnswerBy}
 

@@ -8,10 +8,10 @@ use native.Mathlib.Omega.{arith}
 use lib.ListN.{length, getD, take, drop, take-append-drop, length-append, List·getD-append}
 use lib.Seq.{take-length, drop-length, take-append-seam, drop-append-seam}
 use lib.Dec.{nltb→le}
-use Rattle.integers.specs.Steps.Ranges.{nat-within, nat-inside}
-use Rattle.rows.specs.declared.Outcome.{Outcome}
-use Rattle.rows.specs.Meaning.Rows.{Pass}
-use Rattle.rows.specs.Promised.RowLaws.{Comes, past, none-left, rowOf, isRow, field-at-passes}
+use Rattle.base_integers.specs.Steps.Ranges.{nat-within, nat-inside}
+use Rattle.base_causes.specs.declared.Outcome.{Outcome}
+use Rattle.base_causes.specs.Meaning.Rows.{Pass}
+use Rattle.base_causes.specs.Promised.RowLaws.{Comes, past, none-left, rowOf, isRow, field-at-passes}
 use Rattle.rules.specs.Meaning.Layout.{u8At, u16At, caseVersion, zonesIn, branchesIn, linksIn, ordersIn, toleranceIn, caseLength}
 use Rattle.rules.specs.Meaning.Hour.{caseOf}
 use Rattle.rules.specs.Meaning.Verdict.{headerRefusal, caseHeaderRows}

@@ -11,12 +11,12 @@ use lib.ListN.{length}
 use lib.Dec.{T, eqb, leb, ltb, eqb→eq, eqb-refl, leb→le, ltb→lt, nltb→le, T-not, not-T}
 use lib.IntN.{pos, negℤ}
 use lib.Signed.{_≤ℤ_}
-use Rattle.integers.specs.Steps.Ranges.{inside, nat-within, nat-inside, nor-right, nor-both, and-both, and-left, and-right, is-true, is-false}
-use Rattle.measures.specs.Meaning.Limits as limits
+use Rattle.base_integers.specs.Steps.Ranges.{inside, nat-within, nat-inside, nor-right, nor-both, and-both, and-left, and-right, is-true, is-false}
+use Rattle.base_measures.specs.Meaning.Limits as limits
 use Rattle.rules.specs.Meaning.Layout.{u8At, caseVersion, zonesIn, branchesIn, linksIn, ordersIn, toleranceIn, ramIn, ptdfIn, fromIn, toIn, capacityIn, contractedIn, zoneIn, sideIn, quantityIn, priceIn, caseLength, proposalVersion, shareIn, shadowIn, proposalLength, linkFields, orderFields}
 use Rattle.rules.specs.Meaning.Hour.{caseOf, planOf, pricesOf}
-use Rattle.rows.specs.Meaning.Rows.{anyBelow, Pass}
-use Rattle.rows.specs.Promised.RowLaws.{any-none, no-place, rowNumbered, number-passes, Comes, past, none-left}
+use Rattle.base_causes.specs.Meaning.Rows.{anyBelow, Pass}
+use Rattle.base_causes.specs.Promised.RowLaws.{any-none, no-place, rowNumbered, number-passes, Comes, past, none-left}
 use Rattle.rules.specs.Meaning.Verdict.{differ, unknown, notMark, branchFault, repeated, linkFault, rowFault, orderFault, caseRows, proposalRows, Readable, caseRefusal, proposalRefusal}
 use Rattle.rules.specs.Steps.Passed.{not-not, case-sound, case-length, case-pairs, proposal-sound, proposal-length}
 

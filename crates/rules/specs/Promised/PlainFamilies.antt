@@ -13,13 +13,13 @@ use lib.ListN.{length, getD}
 use lib.Dec.{T, eqb, leb, ltb, eqb→eq, eqb-refl, leb→le, le→leb, nleb→lt, ltb→lt, lt→ltb, nltb→le, not-T, T-not}
 use lib.IntN.{pos, _*ℤ_}
 use lib.Signed.{_≤ℤ_, _<ℤ_}
-use Rattle.integers.specs.Steps.Ranges.{is-true, is-false, nor-left, nor-right, nor-both}
+use Rattle.base_integers.specs.Steps.Ranges.{is-true, is-false, nor-left, nor-right, nor-both}
 use Rattle.rules.specs.Meaning.Layout.{u8At, u16At, ordersIn, toleranceIn, quantityIn, volumeIn}
 use Rattle.rules.specs.Meaning.Hour.{Case, caseOf, planOf, pricesOf, gap}
 use Rattle.rules.specs.Meaning.Families.{familyVersion, parentIn, familyLength, named, parentOf, missing, onward, ancestor, LeadsBack, isOrder, leadsBack}
-use Rattle.rows.specs.declared.Outcome.{Outcome}
-use Rattle.rows.specs.Meaning.Rows.{Pass, verdict, refusal, anyBelow}
-use Rattle.rows.specs.Promised.RowLaws.{any-some, any-place, none-both, none-each, row-passes, row-passed, row-by-number, row-answers, number-passes, rowNumbered, lacks, before, hasRow, rowOf, isRow}
+use Rattle.base_causes.specs.declared.Outcome.{Outcome}
+use Rattle.base_causes.specs.Meaning.Rows.{Pass, verdict, refusal, anyBelow}
+use Rattle.base_causes.specs.Promised.RowLaws.{any-some, any-place, none-both, none-each, row-passes, row-passed, row-by-number, row-answers, number-passes, rowNumbered, lacks, before, hasRow, rowOf, isRow}
 use Rattle.rules.specs.Meaning.Verdict.{differ, notMark, roomRows, caseRows, proposalRows, wrongFamilyList, missingParent, familyRows, excessVolume, exceedsParent, clearingRows, table, outcome, familyOutcome}
 use Rattle.rules.specs.Promised.PlainFacts.{marked, mark-passes}
 use Rattle.rules.specs.Meaning.Report.{reports}

@@ -14,8 +14,8 @@ use lib.IntN.{ℤ, pos, negsuc, negℤ, _-ℤ_}
 use lib.Signed.{_≤ℤ_}
 use mir.Syntax.{w32}
 use mir.Val.{toZ, sel}
-use Rattle.integers.specs.Steps.Difference.{at, _⊖_, eq-by, le-by}
-use Rattle.integers.specs.Steps.Ranges.{is-true, is-false}
+use Rattle.base_integers.specs.Steps.Difference.{at, _⊖_, eq-by, le-by}
+use Rattle.base_integers.specs.Steps.Ranges.{is-true, is-false}
 use Rattle.rules.specs.Meaning.Layout.{u8At, u16At, u32At, i32At, caseVersion, zonesIn, branchesIn, linksIn, ordersIn, toleranceIn, branchSize, branchAt, ramIn, ptdfIn, contracts, contractedSize, linkSize, linkAt, fromIn, toIn, capacityIn, contractedIn, orderAt, zoneIn, sideIn, quantityIn, priceIn, caseLength, proposalVersion, shareIn, systemIn, volumeIn, flowIn, shadowAt, shadowIn, proposalLength}
 
 -- two and four bytes from place k on

@@ -1,5 +1,5 @@
 -- THE DESK'S LINES IN PLAIN BYTES: their names and order, which lines a number has, and what each line says when it is
--- read back (`ReadsCount` and `ReadsAmount` of `decimal`). A line ends with byte 10. Assumes nothing.
+-- read back (`ReadsCount` and `ReadsAmount` of `text_decimal`). A line ends with byte 10. Assumes nothing.
 use mathlib.Core.Path.{_≡_, refl, sym, ap, subst, _∙_}
 use mathlib.Core.Logic.{_⊎_, inl, inr, _≢_}
 use mathlib.Core.Bool.{Bool, true, false, cond}
@@ -9,10 +9,10 @@ use native.Mathlib.Omega.{arith}
 use lib.ListN.{length, getD, length-append, List·getD-append}
 use lib.Dec.{T, eqb, eqb→eq, T-not}
 use lib.IntN.{ℤ}
-use Rattle.decimal.specs.Meaning.Text.{countText, amountText}
-use Rattle.decimal.specs.Promised.PlainAmounts.{AllDigits, ReadsCount, ReadsAmount, count-reads, amount-reads}
-use Rattle.integers.specs.Steps.Ranges.{is-true, is-false, not-is}
-use Rattle.rows.specs.declared.Outcome.{Outcome}
+use Rattle.text_decimal.specs.Meaning.Text.{countText, amountText}
+use Rattle.text_decimal.specs.Promised.PlainAmounts.{AllDigits, ReadsCount, ReadsAmount, count-reads, amount-reads}
+use Rattle.base_integers.specs.Steps.Ranges.{is-true, is-false, not-is}
+use Rattle.base_causes.specs.declared.Outcome.{Outcome}
 use Rattle.rules.specs.Meaning.Layout.{u8At, zonesIn}
 use Rattle.rules.specs.Meaning.Hour.{caseOf, planOf, pricesOf, zonePrice, welfare, owed, bound, gap, rent}
 use Rattle.rules.specs.Meaning.Verdict.{outcome}

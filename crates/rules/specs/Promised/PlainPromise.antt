@@ -7,7 +7,7 @@ use Prim.Native.Nat.{ℕ, _+_, _*_, _≤_, _<_}
 use lib.ListN.{getD, take}
 use lib.IntN.{pos, _+ℤ_, _-ℤ_, _*ℤ_}
 use lib.Signed.{_≤ℤ_}
-use Rattle.integers.specs.Meaning.Bytes.{i64At}
+use Rattle.base_integers.specs.Meaning.Bytes.{i64At}
 use Rattle.rules.specs.Meaning.Layout.{u8At, zonesIn, linksIn, ordersIn, toleranceIn}
 use Rattle.rules.specs.Meaning.Hour.{Plan, caseOf, planOf, pricesOf, zonePrice, welfare, owed, bound, gap, rent}
 use Rattle.rules.specs.Meaning.Clearing.{Clearing}

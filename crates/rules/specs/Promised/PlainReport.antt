@@ -12,9 +12,9 @@ use lib.Seq.{getD-drop, getD-take}
 use lib.IntN.{ℤ, pos, negsuc}
 use mir.Syntax.{w64}
 use mir.Val.{SFits, ofZ}
-use Rattle.integers.specs.Meaning.Bytes.{bytesOf, signed64}
-use Rattle.integers.specs.Steps.Bytes.{byte-at}
-use Rattle.rows.specs.declared.Outcome.{Outcome}
+use Rattle.base_integers.specs.Meaning.Bytes.{bytesOf, signed64}
+use Rattle.base_integers.specs.Steps.Bytes.{byte-at}
+use Rattle.base_causes.specs.declared.Outcome.{Outcome}
 use Rattle.rules.specs.Meaning.Layout.{zonesIn, u8At}
 use Rattle.rules.specs.Meaning.Hour.{caseOf, planOf, pricesOf, zonePrice, welfare, owed, bound, gap, rent}
 use Rattle.rules.specs.Meaning.Verdict.{outcome, familyOutcome}

@@ -9,14 +9,14 @@ use native.Mathlib.Omega.{arith}
 use lib.Dec.{T, eqb, ltb, eqb→eq, ltb→lt, lt→ltb, nltb→le, not-T}
 use lib.IntN.{ℤ, pos, negℤ, _*ℤ_}
 use lib.Signed.{_≤ℤ_, _<ℤ_, ltZ, ltZ-yes, ltZ-no, clashℤ}
-use Rattle.integers.specs.Meaning.Ranges.{outside, isZero}
-use Rattle.integers.specs.Steps.Ranges.{inside, nat-within, nat-inside}
-use Rattle.measures.specs.Meaning.Limits as limits
+use Rattle.base_integers.specs.Meaning.Ranges.{outside, isZero}
+use Rattle.base_integers.specs.Steps.Ranges.{inside, nat-within, nat-inside}
+use Rattle.base_measures.specs.Meaning.Limits as limits
 use Rattle.rules.specs.Meaning.Layout.{zonesIn, toleranceIn}
 use Rattle.rules.specs.Meaning.Hour.{Case, Plan, Prices, caseOf, planOf, pricesOf, netSum, linkUse, linkRoom, branchUse, branchRoom, zonePrice, noLink, gap}
 use Rattle.rules.specs.Meaning.Clearing.{Clearing}
-use Rattle.rows.specs.Meaning.Rows.{Row, verdict, refusal, answer}
-use Rattle.rows.specs.Promised.RowLaws.{Comes, past, none-left, none-both, none-each, row-passes, row-passed, row-by-number, row-answers, number-passes, rowNumbered, lacks, before, hasRow, rowOf, isRow}
+use Rattle.base_causes.specs.Meaning.Rows.{Row, verdict, refusal, answer}
+use Rattle.base_causes.specs.Promised.RowLaws.{Comes, past, none-left, none-both, none-each, row-passes, row-passed, row-by-number, row-answers, number-passes, rowNumbered, lacks, before, hasRow, rowOf, isRow}
 use Rattle.rules.specs.Meaning.Verdict.{over, smallBuffer, roomRows, caseRows, proposalRows, wideTolerance, excessVolume, unbalanced, shareWithoutLink, overusedLink, overloadedBranch, priceOutside, wideGap, clearingRows, table, outcome, familyOutcome, caseRefusal, proposalRefusal}
 use Rattle.rules.specs.Meaning.Report.{reports}
 use Rattle.rules.specs.Steps.Passed.{sound}

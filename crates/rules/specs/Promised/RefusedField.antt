@@ -12,14 +12,14 @@ use borrow.Author.Tests.{lt-leb, lt-ltb, le-ltb}
 use lib.Dec.{T, eqb, eqb→eq, eqb-refl, ltb→lt, T-not}
 use lib.ListN.{length}
 use lib.IntN.{pos}
-use Rattle.integers.specs.Meaning.Ranges.{outside}
-use Rattle.integers.specs.Steps.Ranges.{is-true, is-false, and-both, and-left, and-right, or-right}
-use Rattle.measures.specs.Meaning.Limits as limits
+use Rattle.base_integers.specs.Meaning.Ranges.{outside}
+use Rattle.base_integers.specs.Steps.Ranges.{is-true, is-false, and-both, and-left, and-right, or-right}
+use Rattle.base_measures.specs.Meaning.Limits as limits
 use Rattle.rules.specs.Meaning.Layout.{zonesIn, branchesIn, linksIn, ordersIn, branchSize, branchAt, branchFieldAt, linkAt, linkFields, linkFieldAt, linkFieldSize, contracts, caseVersion, fromIn, toIn, orderAt, orderFields, orderFieldAt, orderFieldSize, shadowAt, caseLength, proposalLength, u8At, u32At, i32At, ramIn, ptdfIn, capacityIn, contractedIn, zoneIn, sideIn, quantityIn, priceIn}
 use Rattle.rules.specs.Meaning.Hour.{caseOf, planOf, pricesOf}
-use Rattle.rows.specs.declared.Outcome.{Outcome}
-use Rattle.rows.specs.Meaning.Rows.{Row, verdict, anyBelow, placeElse, firstField, refusal}
-use Rattle.rows.specs.Promised.RowLaws.{First, no-less, first-some, any-some, any-none, row-fails, else-refusal, refusal-append, first-field, no-place, lacks, row-by-number, number-passes, before, behind, rowNumbered}
+use Rattle.base_causes.specs.declared.Outcome.{Outcome}
+use Rattle.base_causes.specs.Meaning.Rows.{Row, verdict, anyBelow, placeElse, firstField, refusal}
+use Rattle.base_causes.specs.Promised.RowLaws.{First, no-less, first-some, any-some, any-none, row-fails, else-refusal, refusal-append, first-field, no-place, lacks, row-by-number, number-passes, before, behind, rowNumbered}
 use Rattle.rules.specs.Meaning.Verdict.{over, unknown, branchFault, repeated, linkFault, rowFault, orderFault, roomRows, caseRows, proposalRows, clearingRows, table, outcome, caseRefusal, linkField}
 use Rattle.rules.specs.Steps.Passed.{not-not}
 

@@ -11,8 +11,8 @@ use lib.Dec.{T, not-T}
 use lib.IntN.{ℤ}
 use mir.Syntax.{w64}
 use mir.Val.{toZ, ofZ}
-use Rattle.integers.specs.Meaning.Bytes.{bytesOf, signed64, numberOf, i64At}
-use Rattle.integers.specs.Steps.Bytes.{bytes-length, number-signed64}
+use Rattle.base_integers.specs.Meaning.Bytes.{bytesOf, signed64, numberOf, i64At}
+use Rattle.base_integers.specs.Steps.Bytes.{bytes-length, number-signed64}
 use Rattle.rules.specs.Meaning.Layout.{zonePriceAt}
 use Rattle.rules.specs.Meaning.Hour.{Case, Plan, Prices, caseOf, planOf, pricesOf, zonePrice, welfare, owed, bound, gap, rent}
 use Rattle.rules.specs.Meaning.Verdict.{outcome}

@@ -9,14 +9,14 @@ use native.Mathlib.Decide.{decLt}
 use borrow.Author.Tests.{le-ltb}
 use lib.Dec.{T, T-not}
 use lib.IntN.{pos}
-use Rattle.integers.specs.Meaning.Ranges.{outside}
-use Rattle.integers.specs.Steps.Ranges.{is-false, nat-within, nat-inside}
-use Rattle.measures.specs.Meaning.Limits as limits
+use Rattle.base_integers.specs.Meaning.Ranges.{outside}
+use Rattle.base_integers.specs.Steps.Ranges.{is-false, nat-within, nat-inside}
+use Rattle.base_measures.specs.Meaning.Limits as limits
 use Rattle.rules.specs.Meaning.Layout.{reportRoom}
 use Rattle.rules.specs.Meaning.Hour.{Case, Plan, Prices, caseOf, planOf, pricesOf}
-use Rattle.rows.specs.declared.Outcome.{Outcome}
-use Rattle.rows.specs.Meaning.Rows.{Row, Pass, verdict, refusal, answer}
-use Rattle.rows.specs.Promised.RowLaws.{else-refusal, refusal-append, row-found, field-passes, once-fails, lacks, before, rowNumbered, row-by-number}
+use Rattle.base_causes.specs.declared.Outcome.{Outcome}
+use Rattle.base_causes.specs.Meaning.Rows.{Row, Pass, verdict, refusal, answer}
+use Rattle.base_causes.specs.Promised.RowLaws.{else-refusal, refusal-append, row-found, field-passes, once-fails, lacks, before, rowNumbered, row-by-number}
 use Rattle.rules.specs.Meaning.Verdict.{roomRows, caseRows, proposalRows, wideTolerance, clearingRows, judgementRows, table, outcome, familyOutcome, Readable, caseRefusal, proposalRefusal}
 
 -- above 10,000 cents, the paper's number, and no lower: 10,000 itself passes

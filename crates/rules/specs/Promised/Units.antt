@@ -11,8 +11,8 @@ use lib.Dec.{eqb}
 use lib.ListN.{length}
 use lib.IntN.{ℤ, pos, negℤ, _+ℤ_, _*ℤ_}
 use lib.Signed.{_≤ℤ_}
-use Rattle.integers.specs.Steps.Difference.{at, _⊕_, _⊗_, ⊝_, eq-by}
-use Rattle.integers.specs.Meaning.Sums.{sumTo}
+use Rattle.base_integers.specs.Steps.Difference.{at, _⊕_, _⊗_, ⊝_, eq-by}
+use Rattle.base_integers.specs.Meaning.Sums.{sumTo}
 use Rattle.rules.specs.Meaning.Layout.{toleranceIn}
 use Rattle.rules.specs.Meaning.Hour.{Case, Plan, caseOf, buys, signed, orderWelfare, welfare}
 use Rattle.rules.specs.Meaning.Verdict.{outcome}

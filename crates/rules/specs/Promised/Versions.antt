@@ -12,15 +12,15 @@ use borrow.Author.Tests.{le-ltb, lt-ltb, eq-eqb, ne-eqb}
 use lib.Dec.{T, eqb, ltb}
 use lib.ListN.{length, drop}
 use lib.IntN.{ℤ, pos}
-use Rattle.integers.specs.Meaning.Bytes.{signed64}
-use Rattle.integers.specs.Meaning.Ranges.{outside, isZero}
-use Rattle.integers.specs.Steps.Ranges.{is-true, is-false}
-use Rattle.measures.specs.Meaning.Limits as limits
+use Rattle.base_integers.specs.Meaning.Bytes.{signed64}
+use Rattle.base_integers.specs.Meaning.Ranges.{outside, isZero}
+use Rattle.base_integers.specs.Steps.Ranges.{is-true, is-false}
+use Rattle.base_measures.specs.Meaning.Limits as limits
 use Rattle.rules.specs.Meaning.Layout.{u32At, caseVersion, linksIn, contracts, capacityIn, contractedIn, branchFieldAt, linkFields, linkFieldAt, orderFields, orderFieldAt, zoneCounts, branchCounts, linkCounts, orderCounts, caseLength, flowIn, shadowAt, shadowIn, shareIn, systemIn, volumeIn, proposalLength}
 use Rattle.rules.specs.Meaning.Hour.{Case, Plan, Prices, caseOf, planOf, pricesOf, zonePrice, noLink}
-use Rattle.rows.specs.declared.Outcome.{Outcome}
-use Rattle.rows.specs.Meaning.Rows.{Row, verdict, firstBelow, anyBelow, firstField, placeElse, refusal, answer}
-use Rattle.rows.specs.Promised.RowLaws.{First, first-is, first-ext, first-field, row-found, row-clear, field-fails, else-refusal, refusal-append, behind}
+use Rattle.base_causes.specs.declared.Outcome.{Outcome}
+use Rattle.base_causes.specs.Meaning.Rows.{Row, verdict, firstBelow, anyBelow, firstField, placeElse, refusal, answer}
+use Rattle.base_causes.specs.Promised.RowLaws.{First, first-is, first-ext, first-field, row-found, row-clear, field-fails, else-refusal, refusal-append, behind}
 use Rattle.rules.specs.Meaning.Verdict.{overZ, differ, branchFault, linkFault, orderFault, roomRows, caseRows, proposalRows, clearingRows, judgementRows, table, outcome, caseRefusal, Readable, caseHeaderRows, caseBodyRows}
 use Rattle.rules.specs.Meaning.Report.{priceBytes, headerBytes, totalBytes, reportText, reportBytes, reportSize, reports, written, bufferAfter}
 use Rattle.rules.specs.Meaning.Clearing.{Placed}

@@ -10,10 +10,10 @@ use borrow.Author.Tests.{leb-true, le-leb, lt-leb, le-ltb}
 use lib.ListN.{length, getD}
 use lib.Dec.{eqb, leb}
 use lib.IntN.{pos}
-use Rattle.integers.specs.Meaning.Ranges.{outside}
-use Rattle.measures.specs.Meaning.Limits as limits
-use Rattle.rows.specs.declared.Outcome.{Outcome}
-use Rattle.rows.specs.Meaning.Rows.{Row, refusal, once, field}
+use Rattle.base_integers.specs.Meaning.Ranges.{outside}
+use Rattle.base_measures.specs.Meaning.Limits as limits
+use Rattle.base_causes.specs.declared.Outcome.{Outcome}
+use Rattle.base_causes.specs.Meaning.Rows.{Row, refusal, once, field}
 use Rattle.rules.specs.Meaning.Layout.{u8At, u16At, u32At, caseVersion, zonesIn, branchesIn, linksIn, ordersIn, toleranceIn, branchSize, linkSize, caseLength, zoneCounts, branchCounts, linkCounts, orderCounts}
 use Rattle.rules.specs.Meaning.Hour.{caseOf}
 use Rattle.rules.specs.Meaning.Verdict.{headerRefusal, differ, notMark, caseRows}

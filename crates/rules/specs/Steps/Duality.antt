@@ -10,13 +10,13 @@ use borrow.Author.Tests.{eq-eqb, ne-eqb}
 use lib.Dec.{eqb}
 use lib.IntN.{ℤ, pos, negsuc, _+ℤ_, _-ℤ_, _*ℤ_}
 use lib.Signed.{_≤ℤ_, ≤ℤ-refl}
-use Rattle.integers.specs.Meaning.Difference.{up, dn}
-use Rattle.integers.specs.Steps.Difference.{at, _⊕_, _⊖_, _⊗_, ⊝_, le-by, eq-by, le-fact, eq-fact}
-use Rattle.integers.specs.Meaning.Order.{larger, positive}
-use Rattle.integers.specs.Steps.Order.{cond-ind, diff-nonneg, mul-nonneg, larger-left, larger-right, scaled}
-use Rattle.integers.specs.Meaning.Sums.{sumTo, only}
-use Rattle.integers.specs.Steps.Sums.{sum-ext, sum-le, sum-zero, sum-add, sum-sub, sum-scale, sum-scale-l, gather, sum-weights}
-use Rattle.measures.specs.Meaning.Limits.{partsInOne, grainsOf}
+use Rattle.base_integers.specs.Meaning.Difference.{up, dn}
+use Rattle.base_integers.specs.Steps.Difference.{at, _⊕_, _⊖_, _⊗_, ⊝_, le-by, eq-by, le-fact, eq-fact}
+use Rattle.base_integers.specs.Meaning.Order.{larger, positive}
+use Rattle.base_integers.specs.Steps.Order.{cond-ind, diff-nonneg, mul-nonneg, larger-left, larger-right, scaled}
+use Rattle.base_integers.specs.Meaning.Sums.{sumTo, only}
+use Rattle.base_integers.specs.Steps.Sums.{sum-ext, sum-le, sum-zero, sum-add, sum-sub, sum-scale, sum-scale-l, gather, sum-weights}
+use Rattle.base_measures.specs.Meaning.Limits.{partsInOne, grainsOf}
 use Rattle.rules.specs.Meaning.Hour.{Case, Plan, Prices, signed, buys, above, orderNet, net, inflow, outflow, ltaPart, fbPart, netSum, linkUse, linkRoom, branchUse, branchRoom, branchPrice, zonePrice, orderWelfare, welfare, surplusOf, orderSurplus, surplus, branchValue, branchTotal, spread, linkValue, linkTotal, linkOwed, owed, noLink, networkBound, bound, gap, rent}
 use Rattle.rules.specs.Meaning.Clearing.{Placed, Clearing}
 

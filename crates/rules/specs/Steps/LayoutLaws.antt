@@ -9,8 +9,8 @@ use lib.IntN.{ℤ}
 use mir.Syntax.{w32}
 use mir.Val.{SFits, toZ, ofZ}
 use mir.Facts.{fits-ofZ, toZ-ofZ}
-use Rattle.integers.specs.Meaning.Bytes.{bytesOf, numberOf, signed32}
-use Rattle.integers.specs.Steps.Bytes.{number-bytes}
+use Rattle.base_integers.specs.Meaning.Bytes.{bytesOf, numberOf, signed32}
+use Rattle.base_integers.specs.Steps.Bytes.{number-bytes}
 use Rattle.rules.specs.Meaning.Layout.{u32At, i32At}
 
 byte-there : (s b : List ℕ) (k i : ℕ) → take 4 (drop k s) ≡ b → i < 4 → getD s (k + i) 0 ≡ getD b i 0

@@ -10,16 +10,16 @@ use lib.ListN.{length}
 use lib.Dec.{T, eqb, eqb→eq, eqb-refl, T-not, nleb→lt, nltb→le}
 use lib.IntN.{pos}
 use lib.Signed.{_≤ℤ_, ltZ-no}
-use Rattle.integers.specs.Meaning.Ranges.{Within, isZero}
-use Rattle.integers.specs.Steps.Ranges.{within, nat-within, nor-left, nor-right, and-both, zero-is}
-use Rattle.measures.specs.Meaning.Limits as limits
-use Rattle.measures.specs.Meaning.Limits.{partsInOne}
+use Rattle.base_integers.specs.Meaning.Ranges.{Within, isZero}
+use Rattle.base_integers.specs.Steps.Ranges.{within, nat-within, nor-left, nor-right, and-both, zero-is}
+use Rattle.base_measures.specs.Meaning.Limits as limits
+use Rattle.base_measures.specs.Meaning.Limits.{partsInOne}
 use Rattle.rules.specs.Meaning.Layout.{reportRoom, linkFields, orderFields, caseLength, proposalLength}
 use Rattle.rules.specs.Meaning.Hour.{Case, Plan, Prices, caseOf, planOf, pricesOf, netSum, linkUse, linkRoom, zonePrice, noLink, gap}
 use Rattle.rules.specs.Meaning.Clearing.{Placed, Clearing}
 use Rattle.rules.specs.Meaning.Annex.{PairsOnce}
-use Rattle.rows.specs.Meaning.Rows.{refusal, Pass}
-use Rattle.rows.specs.Promised.RowLaws.{has-before, isRow, rowOf, hasRow, before, row-passed, lacks, no-place, later, none-zero, rowNumbered, number-passes, field-at-passes}
+use Rattle.base_causes.specs.Meaning.Rows.{refusal, Pass}
+use Rattle.base_causes.specs.Promised.RowLaws.{has-before, isRow, rowOf, hasRow, before, row-passed, lacks, no-place, later, none-zero, rowNumbered, number-passes, field-at-passes}
 use Rattle.rules.specs.Meaning.Verdict.{over, unknown, branchFault, repeated, linkFault, rowFault, orderFault, roomRows, caseRows, proposalRows, wideTolerance, clearingRows, table, outcome, Readable, caseRefusal, proposalRefusal}
 use Rattle.rules.specs.Meaning.Report.{reports}
 

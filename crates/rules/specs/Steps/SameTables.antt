@@ -7,14 +7,14 @@ use native.Mathlib.Omega.{arith}
 use lib.Dec.{eqb, ltb}
 use lib.IntN.{ℤ, pos, _+ℤ_, _-ℤ_, _*ℤ_}
 use lib.Signed.{ltZ}
-use Rattle.integers.specs.Meaning.Order.{larger, positive}
-use Rattle.integers.specs.Meaning.Ranges.{outside}
-use Rattle.integers.specs.Meaning.Sums.{only}
-use Rattle.integers.specs.Steps.Sums.{sum-ext}
-use Rattle.measures.specs.Meaning.Limits as limits
-use Rattle.measures.specs.Meaning.Limits.{partsInOne}
+use Rattle.base_integers.specs.Meaning.Order.{larger, positive}
+use Rattle.base_integers.specs.Meaning.Ranges.{outside}
+use Rattle.base_integers.specs.Meaning.Sums.{only}
+use Rattle.base_integers.specs.Steps.Sums.{sum-ext}
+use Rattle.base_measures.specs.Meaning.Limits as limits
+use Rattle.base_measures.specs.Meaning.Limits.{partsInOne}
 use Rattle.rules.specs.Meaning.Hour.{Case, Plan, Prices, signed, buys, orderNet, net, inflow, outflow, ltaPart, fbPart, netSum, broken, brokenZ, linkUse, linkRoom, linkRule, branchUse, branchRoom, branchRule, branchPrice, zonePrice, orderWelfare, welfare, surplusOf, orderSurplus, surplus, branchValue, branchTotal, spread, linkValue, linkTotal, linkOwed, owed, noLink, networkBound, bound, gap, rent}
-use Rattle.rows.specs.Meaning.Rows.{anyBelow}
+use Rattle.base_causes.specs.Meaning.Rows.{anyBelow}
 use Rattle.rules.specs.Meaning.Verdict.{over, unknown, branchFault, repeated, linkFault, rowFault, orderFault}
 use Rattle.rules.specs.Meaning.Report.{totalsOf}
 use Rattle.rules.specs.Meaning.Clearing.{Placed}

@@ -13,7 +13,7 @@ use lib.ListN.{length, getD, take, drop, length-append, length-drop, List·getD-
 use lib.Seq.{length-take-le, take-all, getD-take, getD-drop, getD-append-add}
 use mir.Syntax.{w32}
 use mir.Val.{toZ}
-use Rattle.integers.specs.Meaning.Bytes.{bytesOf}
+use Rattle.base_integers.specs.Meaning.Bytes.{bytesOf}
 use Rattle.rules.specs.Meaning.Layout.{u8At, u16At, u32At, i32At, caseVersion, zonesIn, branchesIn, linksIn, ordersIn, toleranceIn, branchSize, branchAt, branchFieldAt, ramIn, ptdfIn, contracts, contractedSize, linkAt, linkFieldAt, fromIn, toIn, capacityIn, contractedIn, orderAt, orderFieldAt, zoneIn, sideIn, quantityIn, priceIn, caseLength}
 use Rattle.rules.specs.Meaning.Hour.{caseOf}
 use Rattle.rules.specs.Meaning.Verdict.{notMark, differ}

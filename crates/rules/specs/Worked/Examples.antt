@@ -7,19 +7,19 @@ use lib.ListN.{length, replicate}
 use lib.IntN.{ℤ, pos}
 use mir.Syntax.{w32}
 use mir.Val.{ofZ}
-use Rattle.integers.specs.Meaning.Sums.{sumTo}
-use Rattle.integers.specs.Meaning.Bytes.{bytesOf, signed64}
-use Rattle.integers.specs.Meaning.Ranges.{minus, outside, isZero}
-use Rattle.decimal.specs.Meaning.Ascii.{ascii}
-use Rattle.decimal.specs.Meaning.Text.{placesIn, places, lastDigits, countText, sizeText, amountText}
+use Rattle.base_integers.specs.Meaning.Sums.{sumTo}
+use Rattle.base_integers.specs.Meaning.Bytes.{bytesOf, signed64}
+use Rattle.base_integers.specs.Meaning.Ranges.{minus, outside, isZero}
+use Rattle.text_decimal.specs.Meaning.Ascii.{ascii}
+use Rattle.text_decimal.specs.Meaning.Text.{placesIn, places, lastDigits, countText, sizeText, amountText}
 use Rattle.rules.specs.Meaning.Layout.{u8At, u16At, u32At, i32At, caseVersion, zonesIn, branchesIn, linksIn, ordersIn, toleranceIn, branchSize, branchAt, ramIn, ptdfIn, linkAt, fromIn, toIn, capacityIn, contracts, contractedSize, contractedIn, orderAt, zoneIn, sideIn, quantityIn, priceIn, caseLength, proposalVersion, shareIn, systemIn, volumeIn, flowIn, shadowAt, shadowIn, proposalLength}
 use Rattle.rules.specs.Meaning.Hour.{caseOf, planOf, pricesOf, buys, orderNet, net, inflow, outflow, ltaPart, fbPart, netSum, linkUse, linkRoom, branchUse, branchRoom, branchPrice, zonePrice, orderWelfare, welfare, surplusOf, orderSurplus, surplus, branchValue, branchTotal, spread, linkValue, linkTotal, linkOwed, owed, noLink, networkBound, bound, gap, rent}
 use Rattle.rules.specs.Meaning.Verdict.{outcome, notMark, branchFault, repeated, linkFault, rowFault, orderFault, roomRows, caseRows, proposalRows, clearingRows, table, headerRefusal}
 use Rattle.rules.specs.Meaning.Report.{priceBytes, headerBytes, totalBytes, reportText, totalsOf, reportBytes, reportSize, reports, written, bufferAfter}
 use Rattle.rules.specs.Meaning.Cut.{caseEnd, casePart, proposalPart}
 use Rattle.rules.specs.Meaning.Lines.{verdictLine, totalLine, totalLines, priceLine, priceLines, hourLines, linesOf, hourText, deskText}
-use Rattle.rows.specs.declared.Outcome.{Outcome}
-use Rattle.rows.specs.Meaning.Rows.{verdict, firstBelow, anyBelow, firstField, refusal}
+use Rattle.base_causes.specs.declared.Outcome.{Outcome}
+use Rattle.base_causes.specs.Meaning.Rows.{verdict, firstBelow, anyBelow, firstField, refusal}
 
 -- the fields of a case and a proposal, to be written as bytes
 pub record Branch : Type 0 where

@@ -2,8 +2,8 @@
 use mathlib.Core.Path.{sym, ap, _∙_}
 use Prim.Native.Nat.{ℕ}
 use borrow.Author.Needs.{needs}
-use Rattle.integers.specs.Meaning.Ranges.{Range, outside}
-use Rattle.measures.specs.Steps.Held.{tenths-outside, tenths-held, ptdf-outside, ptdf-held}
+use Rattle.base_integers.specs.Meaning.Ranges.{Range, outside}
+use Rattle.base_measures.specs.Steps.Held.{tenths-outside, tenths-held, ptdf-outside, ptdf-held}
 use Rattle.sheet_lines.specs.Steps.Entries.{ptdf-limit}
 use Rattle.sheet_lines.specs.Meaning.Sheet.{limit}
 use Rattle.sheet_lines.proofs.out_of_range.Statement.{statement}

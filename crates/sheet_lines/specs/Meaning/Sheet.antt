@@ -9,16 +9,16 @@ use Prim.Native.Nat.{ℕ, zero, suc, _+_, _*_, _<_}
 use lib.ListN.{length, getD}
 use lib.Dec.{eqb}
 use lib.IntN.{ℤ, pos, negℤ}
-use Rattle.integers.specs.Meaning.Ranges.{Range, outside}
-use Rattle.integers.specs.Meaning.Bytes.{signed32}
-use Rattle.measures.specs.Meaning.Limits as limits
+use Rattle.base_integers.specs.Meaning.Ranges.{Range, outside}
+use Rattle.base_integers.specs.Meaning.Bytes.{signed32}
+use Rattle.base_measures.specs.Meaning.Limits as limits
 use Rattle.rules.specs.Meaning.Layout.{caseHeader, zonesIn, branchesIn, zoneCounts}
 use Rattle.rules.specs.Meaning.Hour.{caseOf}
-use Rattle.rows.specs.declared.Outcome.{Outcome}
-use Rattle.rows.specs.Meaning.Rows.{Row, anyBelow, refusal, answer, once, each, Pass}
+use Rattle.base_causes.specs.declared.Outcome.{Outcome}
+use Rattle.base_causes.specs.Meaning.Rows.{Row, anyBelow, refusal, answer, once, each, Pass}
 use Rattle.rules.specs.Meaning.Verdict.{under, over, differ, branchField}
-use Rattle.output.specs.Meaning.Output.{writtenBy, outputAfter}
-use Rattle.numerals.specs.Meaning.Numeral.{isNumber, value, finer}
+use Rattle.base_output.specs.Meaning.Output.{writtenBy, outputAfter}
+use Rattle.sheet_numbers.specs.Meaning.Numeral.{isNumber, value, finer}
 
 -- LINES AND FIELDS. A byte put in front of the first of some pieces
 abbrev pub onto : ℕ → List (List ℕ) → List (List ℕ)

@@ -13,16 +13,16 @@ use lib.IntN.{ℤ, pos, negsuc, negℤ}
 use lib.Signed.{_≤ℤ_}
 use mir.Syntax.{w32}
 use mir.Val.{SFits, ofZ}
-use Rattle.integers.specs.Steps.Size.{Near, near-pos, near-neg, near-le, near-within, near-fits}
-use Rattle.integers.specs.Meaning.Ranges.{range, minus}
-use Rattle.integers.specs.Meaning.Bytes.{signed32}
-use Rattle.integers.specs.Steps.Bytes.{byte-at}
-use Rattle.rows.specs.declared.Outcome.{Outcome}
-use Rattle.rows.specs.Meaning.Rows.{answer}
-use Rattle.rows.specs.Promised.RowLaws.{zero-none, lacks}
-use Rattle.output.specs.Meaning.Output.{writtenBy, outputAfter}
-use Rattle.numerals.specs.Meaning.Numeral.{value}
-use Rattle.numerals.specs.Promised.PlainNumbers.{Times, times-value}
+use Rattle.base_integers.specs.Steps.Size.{Near, near-pos, near-neg, near-le, near-within, near-fits}
+use Rattle.base_integers.specs.Meaning.Ranges.{range, minus}
+use Rattle.base_integers.specs.Meaning.Bytes.{signed32}
+use Rattle.base_integers.specs.Steps.Bytes.{byte-at}
+use Rattle.base_causes.specs.declared.Outcome.{Outcome}
+use Rattle.base_causes.specs.Meaning.Rows.{answer}
+use Rattle.base_causes.specs.Promised.RowLaws.{zero-none, lacks}
+use Rattle.base_output.specs.Meaning.Output.{writtenBy, outputAfter}
+use Rattle.sheet_numbers.specs.Meaning.Numeral.{value}
+use Rattle.sheet_numbers.specs.Promised.PlainNumbers.{Times, times-value}
 use Rattle.sheet_lines.specs.Meaning.Sheet.{entry, fieldOf, entryOf, lineOf, lineCount, branchPart, lineBytes, sheetRows, sheetRefusal, sheetOutcome, sheetBytes, sheetWritten, sheetOutput}
 use Rattle.sheet_lines.specs.Steps.Lines.{lines-length}
 use Rattle.sheet_lines.specs.Steps.Stands.{line-there}

@@ -14,16 +14,16 @@ use lib.Dec.{T, eqb, ltb, ltb→lt, lt→ltb, nltb→le, not-T, T-not}
 use lib.ListN.{length, getD}
 use lib.IntN.{ℤ, pos, negℤ}
 use lib.Signed.{_≤ℤ_}
-use Rattle.integers.specs.Steps.Difference.{at, ⊝_, le-by, le-fact}
-use Rattle.integers.specs.Meaning.Ranges.{range, minus, outside, Within}
-use Rattle.integers.specs.Steps.Ranges.{within, inside, nat-within, nat-inside, is-false, not-is, nor-left, nor-right}
-use Rattle.measures.specs.Meaning.Limits as limits
-use Rattle.rows.specs.declared.Outcome.{Outcome}
-use Rattle.rows.specs.Meaning.Rows.{Row, Pass, verdict, refusal, answer}
-use Rattle.rows.specs.Promised.RowLaws.{empty, First, no-place, any-none, all-pass, Comes, past, none-left, row-by-number, row-answers, zero-none, rowNumbered, lacks, before}
-use Rattle.numerals.specs.Meaning.Numeral.{digits, starts, negative, unsigned, whole, isNumber, value, finer}
-use Rattle.numerals.specs.Meaning.Numeral as numeral
-use Rattle.numerals.specs.Promised.PlainNumbers.{Number, Times, number-bytes, value-times, times-value}
+use Rattle.base_integers.specs.Steps.Difference.{at, ⊝_, le-by, le-fact}
+use Rattle.base_integers.specs.Meaning.Ranges.{range, minus, outside, Within}
+use Rattle.base_integers.specs.Steps.Ranges.{within, inside, nat-within, nat-inside, is-false, not-is, nor-left, nor-right}
+use Rattle.base_measures.specs.Meaning.Limits as limits
+use Rattle.base_causes.specs.declared.Outcome.{Outcome}
+use Rattle.base_causes.specs.Meaning.Rows.{Row, Pass, verdict, refusal, answer}
+use Rattle.base_causes.specs.Promised.RowLaws.{empty, First, no-place, any-none, all-pass, Comes, past, none-left, row-by-number, row-answers, zero-none, rowNumbered, lacks, before}
+use Rattle.sheet_numbers.specs.Meaning.Numeral.{digits, starts, negative, unsigned, whole, isNumber, value, finer}
+use Rattle.sheet_numbers.specs.Meaning.Numeral as numeral
+use Rattle.sheet_numbers.specs.Promised.PlainNumbers.{Number, Times, number-bytes, value-times, times-value}
 use Rattle.sheet_lines.specs.Meaning.Sheet.{fields, decimalCount, limit, entry, fieldOf, entryOf, malformed, tooFine, outOfRange, lineOf, lineCount, branchPart, sheetRows, sheetRefusal, sheetOutcome}
 use Rattle.sheet_lines.specs.Promised.PlainText.{LineText, Cells, fields-bytes, cells-of, cells-are, empty-sheet}
 

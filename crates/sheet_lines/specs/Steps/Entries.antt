@@ -11,16 +11,16 @@ use lib.Signed.{ltZ}
 use mir.Syntax.{w32}
 use mir.Val.{SFits, toZ}
 use mir.Facts.{toZ-pos}
-use Rattle.integers.specs.Steps.Machine.{sfits-by}
-use Rattle.integers.specs.Steps.Size.{near-pos, near-neg, near-fits}
-use Rattle.integers.specs.Meaning.Ranges.{range, minus, outside}
-use Rattle.measures.specs.Meaning.Limits as limits
-use Rattle.numerals.specs.declared.Number.{Number}
-use Rattle.numerals.specs.Meaning.Numeral.{isDigit, negative, units, sign, value}
-use Rattle.numerals.specs.Meaning.Scan.{Separator}
-use Rattle.numerals.specs.Steps.Scan.{clash}
-use Rattle.numerals.specs.Steps.Capped.{cap, capped, capped-over, capped-within}
-use Rattle.numerals.specs.Meaning.Pieces.{heldNumber}
+use Rattle.base_integers.specs.Steps.Machine.{sfits-by}
+use Rattle.base_integers.specs.Steps.Size.{near-pos, near-neg, near-fits}
+use Rattle.base_integers.specs.Meaning.Ranges.{range, minus, outside}
+use Rattle.base_measures.specs.Meaning.Limits as limits
+use Rattle.sheet_numbers.specs.declared.Number.{Number}
+use Rattle.sheet_numbers.specs.Meaning.Numeral.{isDigit, negative, units, sign, value}
+use Rattle.sheet_numbers.specs.Meaning.Scan.{Separator}
+use Rattle.sheet_numbers.specs.Steps.Scan.{clash}
+use Rattle.sheet_numbers.specs.Steps.Capped.{cap, capped, capped-over, capped-within}
+use Rattle.sheet_numbers.specs.Meaning.Pieces.{heldNumber}
 use Rattle.sheet_lines.specs.Meaning.Sheet.{decimalCount, limit, entry}
 
 -- a PTDF's sign is turned, a margin's is not

@@ -12,19 +12,19 @@ use lib.Dec.{eqb, ltb, leb}
 use lib.ListN.{length, getD, drop, length-drop, length-append, drop-of-length-le}
 use lib.IntN.{ℤ}
 use lib.Seq.{getD-drop, drop-drop, sets}
-use Rattle.integers.specs.Steps.Ranges.{is-false}
-use Rattle.integers.specs.Meaning.Bytes.{signed32}
-use Rattle.integers.specs.Steps.Bytes.{bytes-length, sets-append}
-use Rattle.rows.specs.Meaning.Rows.{anyBelow, firstBelow}
-use Rattle.rows.specs.Promised.RowLaws.{any-some}
-use Rattle.numerals.specs.declared.TextCursor.{TextCursor}
-use Rattle.numerals.specs.declared.Piece.{Piece}
-use Rattle.numerals.specs.Meaning.Numeral.{has, before, after, isNumber}
-use Rattle.numerals.specs.Meaning.Scan.{Separator}
-use Rattle.numerals.specs.Steps.Scan.{clash}
-use Rattle.numerals.specs.Meaning.Pieces.{pieceTo, pieceAt}
-use Rattle.numerals.specs.Steps.Pieces.{before-le, Cut, cut}
-use Rattle.numerals.specs.Steps.Marks.{split-within, within-has, number-lacks}
+use Rattle.base_integers.specs.Steps.Ranges.{is-false}
+use Rattle.base_integers.specs.Meaning.Bytes.{signed32}
+use Rattle.base_integers.specs.Steps.Bytes.{bytes-length, sets-append}
+use Rattle.base_causes.specs.Meaning.Rows.{anyBelow, firstBelow}
+use Rattle.base_causes.specs.Promised.RowLaws.{any-some}
+use Rattle.sheet_numbers.specs.declared.TextCursor.{TextCursor}
+use Rattle.sheet_numbers.specs.declared.Piece.{Piece}
+use Rattle.sheet_numbers.specs.Meaning.Numeral.{has, before, after, isNumber}
+use Rattle.sheet_numbers.specs.Meaning.Scan.{Separator}
+use Rattle.sheet_numbers.specs.Steps.Scan.{clash}
+use Rattle.sheet_numbers.specs.Meaning.Pieces.{pieceTo, pieceAt}
+use Rattle.sheet_numbers.specs.Steps.Pieces.{before-le, Cut, cut}
+use Rattle.sheet_numbers.specs.Steps.Marks.{split-within, within-has, number-lacks}
 use Rattle.sheet_lines.specs.declared.Flaws.{Flaws}
 use Rattle.sheet_lines.specs.declared.LineAnswer.{LineAnswer}
 use Rattle.sheet_lines.specs.declared.LineAnswer.the-variants as answer

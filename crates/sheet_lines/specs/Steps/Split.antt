@@ -7,8 +7,8 @@ use Prim.Native.Nat.{ℕ, _<_}
 use native.Mathlib.Omega.{arith}
 use lib.Dec.{eqb}
 use lib.ListN.{length}
-use Rattle.numerals.specs.Meaning.Numeral.{has, before, after}
-use Rattle.numerals.specs.Steps.Scan.{clash}
+use Rattle.sheet_numbers.specs.Meaning.Numeral.{has, before, after}
+use Rattle.sheet_numbers.specs.Steps.Scan.{clash}
 use Rattle.sheet_lines.specs.Meaning.Sheet.{onto, lines, fields}
 
 -- LINES

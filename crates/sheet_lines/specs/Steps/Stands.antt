@@ -6,7 +6,7 @@ use native.Mathlib.Decide.{decLt}
 use native.Mathlib.Omega.{arith}
 use lib.ListN.{length, take, drop}
 use lib.Seq.{drop-append-add, drop-append-seam, take-append-seam}
-use Rattle.integers.specs.Meaning.Bytes.{signed32}
+use Rattle.base_integers.specs.Meaning.Bytes.{signed32}
 use Rattle.sheet_lines.specs.Meaning.Sheet.{entryOf, lineOf, branchPart, entryBytes, lineBytes}
 use Rattle.sheet_lines.specs.Steps.Lines.{signed-length, entries-length, lines-length}
 

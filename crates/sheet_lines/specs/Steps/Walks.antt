@@ -10,18 +10,18 @@ use borrow.Author.Tests.{lt-ltb}
 use lib.ListN.{length, drop}
 use lib.Seq.{sets, length-sets}
 use lib.IntN.{ℤ}
-use Rattle.integers.specs.Meaning.Bytes.{signed32}
-use Rattle.integers.specs.Meaning.Ranges.{outside}
-use Rattle.rows.specs.Meaning.Rows.{anyBelow, firstBelow}
-use Rattle.rows.specs.Meaning.Place.{placeOf}
-use Rattle.rows.specs.Promised.RowLaws.{any-later, first-here, first-later}
-use Rattle.rows.specs.declared.Place.{Place}
-use Rattle.rows.specs.declared.Place.the-variants.{At, Nowhere}
-use Rattle.numerals.specs.declared.TextCursor.{TextCursor}
-use Rattle.numerals.specs.declared.Piece.{Piece}
-use Rattle.numerals.specs.Meaning.Numeral.{before, isNumber, finer}
-use Rattle.numerals.specs.Steps.Scan.{clash}
-use Rattle.numerals.specs.Steps.Pieces.{Cut}
+use Rattle.base_integers.specs.Meaning.Bytes.{signed32}
+use Rattle.base_integers.specs.Meaning.Ranges.{outside}
+use Rattle.base_causes.specs.Meaning.Rows.{anyBelow, firstBelow}
+use Rattle.base_causes.specs.Meaning.Place.{placeOf}
+use Rattle.base_causes.specs.Promised.RowLaws.{any-later, first-here, first-later}
+use Rattle.base_causes.specs.declared.Place.{Place}
+use Rattle.base_causes.specs.declared.Place.the-variants.{At, Nowhere}
+use Rattle.sheet_numbers.specs.declared.TextCursor.{TextCursor}
+use Rattle.sheet_numbers.specs.declared.Piece.{Piece}
+use Rattle.sheet_numbers.specs.Meaning.Numeral.{before, isNumber, finer}
+use Rattle.sheet_numbers.specs.Steps.Scan.{clash}
+use Rattle.sheet_numbers.specs.Steps.Pieces.{Cut}
 use Rattle.sheet_lines.specs.declared.Flaws.{Flaws}
 use Rattle.sheet_lines.specs.declared.LineAnswer.{LineAnswer}
 use Rattle.sheet_lines.specs.declared.LineAnswer.the-variants as answer

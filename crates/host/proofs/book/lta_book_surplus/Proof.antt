@@ -39,17 +39,17 @@ use denote.Triple.Spec.{Meets, tripleOf}
 use denote.Triple.Table.{entered, cited}
 use denote.Triple.Walked.{says, Stays, stay-none-slice, walkOf, Walks, ends-at, walked, goes-none-slice, walk-meets}
 use denote.Exit.{yes}
-use Rattle.order_book.specs.Meaning.Lent.{lentAnswer}
-use Rattle.order_book.specs.Promised.PlainLent.{PlainAnswer, lent-plain}
-use Rattle.order_book.specs.declared.OrderRow.{OrderRow}
-use Rattle.order_book.specs.declared.Surplus.{Surplus}
-use Rattle.order_book.proofs.OrderRow as T
-use Rattle.order_book.proofs.Surplus as S
-use Rattle.order_book.proofs.Surplus.Laws as S′
-use Rattle.lent_book.proofs.book_surplus as sums
-use Rattle.lent_book.proofs.book_surplus.Symbol as sums-def
-use Rattle.lent_book.proofs.book_surplus.Symbol.{name as #lent-book·book-surplus}
-use Rattle.lent_book.proofs.book_surplus.Met as sums-thm
+use Rattle.book_surplus.specs.Meaning.Lent.{lentAnswer}
+use Rattle.book_surplus.specs.Promised.PlainLent.{PlainAnswer, lent-plain}
+use Rattle.book_surplus.specs.declared.OrderRow.{OrderRow}
+use Rattle.book_surplus.specs.declared.Surplus.{Surplus}
+use Rattle.book_surplus.proofs.OrderRow as T
+use Rattle.book_surplus.proofs.Surplus as S
+use Rattle.book_surplus.proofs.Surplus.Laws as S′
+use Rattle.book_lent.proofs.book_surplus as sums
+use Rattle.book_lent.proofs.book_surplus.Symbol as sums-def
+use Rattle.book_lent.proofs.book_surplus.Symbol.{name as #book-lent·book-surplus}
+use Rattle.book_lent.proofs.book_surplus.Met as sums-thm
 use Rattle.host.proofs.book.lta_book_surplus.Key.{name as #host·book·lta-book-surplus}
 use Rattle.host.proofs.book.lta_book_surplus as f
 use Rattle.host.proofs.book.lta_book_surplus.Statement as stated
@@ -137,7 +137,7 @@ module _ {M : Type 1} (𝓤 : URA M) (H : Heap 𝓤) (A : Atoms 𝓤) (W : Given
   says-sum : (r : Surplus) → ent 𝓤 (ensured 𝓤 H A sums.ended (sums.clauses 𝓤 H A mem run) κs (x, (p, tt)) tt r) (fact 𝓤 (is-answer r))
   says-sum r = exE 𝓤 _ (λ ws. snd∗ 𝓤 (sem 𝓤 H A (lasts sums.ended κs (x, (p, tt)) ws)) (fact 𝓤 (is-answer r)))
 
-  module _ (𝓣 : Tables 𝓤 H) (known-sum : Triple 𝓤 (𝓣 .C #lent-book·book-surplus) (Sums 𝓤 H A mem run)) (g : Room T.the-row (length (x .now))) (gp : Room i64 (length (p .now))) where
+  module _ (𝓣 : Tables 𝓤 H) (known-sum : Triple 𝓤 (𝓣 .C #book-lent·book-surplus) (Sums 𝓤 H A mem run)) (g : Room T.the-row (length (x .now))) (gp : Room i64 (length (p .now))) where
     module _ (l₀ l₁ l₂ : ℕ) where
       abbrev En : Env 𝓤 H
       En = (S′.mir, l₀) ∷ (slice, l₁) ∷ (slice₂, l₂) ∷ []
@@ -170,7 +170,7 @@ module _ {M : Type 1} (𝓤 : URA M) (H : Heap 𝓤) (A : Atoms 𝓤) (W : Given
         alloc1 ! (λ l₀. alloc1 ! (λ l₁. alloc1 ! (λ l₂. alloc0 ! $ params1 ! $
         pass1 ! (init ! 2 refl (tt, (tt, (record { fits = g .0 }, tt)))) $ pass1 ! (init ! 0 refl (tt, (tt, (record { fits = gp .0 }, tt)))) $ pass0 ! $ by ! (body l₀ l₁ l₂))))
 
-module _ {M : Type 1} (𝓤 : URA M) (H : Heap 𝓤) (A : Atoms 𝓤) (W : Given 𝓤 H A) (mem : Memory → SProp 𝓤) (run : Routine → Fun 𝓤) (𝓣 : Tables 𝓤 H) (known-sum : Triple 𝓤 (𝓣 .C #lent-book·book-surplus) (Sums 𝓤 H A mem run)) where
+module _ {M : Type 1} (𝓤 : URA M) (H : Heap 𝓤) (A : Atoms 𝓤) (W : Given 𝓤 H A) (mem : Memory → SProp 𝓤) (run : Routine → Fun 𝓤) (𝓣 : Tables 𝓤 H) (known-sum : Triple 𝓤 (𝓣 .C #book-lent·book-surplus) (Sums 𝓤 H A mem run)) where
   surplus-walks : Walks 𝓤 H A f.ended stayed (WpFn 𝓤 H (𝓣 .C) (𝓣 .Λ) code.function) (f.clauses 𝓤 H A mem run)
   surplus-walks = walked 𝓤 H A f.ended stayed (f.clauses 𝓤 H A mem run) (WpFn 𝓤 H (𝓣 .C) (𝓣 .Λ) code.function) (λ κs. (slice-vals, (slice-vals, tt))) (λ κs. (shr-slice-tells (named 0) (κs .0) T.the-row, (shr-slice-tells (named 1) (κs .1 .0) i64, tt)))
       (λ κs qs bounds a g are. via 𝓤 _ (fst∗ 𝓤 _ (emp 𝓤))
@@ -185,4 +185,4 @@ lta-book-surplus-spec 𝓤 H 𝓜 𝓖 𝓡 =
     entered 𝓤 H (tripleOf 𝓤 H (𝓖 .A) f.signature (f.spec 𝓤 H (𝓖 .A) (𝓜 .mem) (𝓡 .run)))
     (tables 𝓤 H 𝓜 𝓡 code.env .C) (tables 𝓤 H 𝓜 𝓡 code.env .Λ) #host·book·lta-book-surplus code.function (code.unfolded 𝓤 H 𝓜 𝓡)
     (surplus-meets 𝓤 H (𝓖 .A) (givenOf 𝓤 H 𝓜 𝓖) (𝓜 .mem) (𝓡 .run) (tablesOf 𝓤 H 𝓜 (tables 𝓤 H 𝓜 𝓡 code.env))
-    (cited 𝓤 H (Sums 𝓤 H (𝓖 .A) (𝓜 .mem) (𝓡 .run)) 𝓜 𝓡 code.env #lent-book·book-surplus sums-def.routine code.calls-lent-book·book-surplus (sums-thm.met 𝓤 H 𝓜 𝓖 𝓡)))
+    (cited 𝓤 H (Sums 𝓤 H (𝓖 .A) (𝓜 .mem) (𝓡 .run)) 𝓜 𝓡 code.env #book-lent·book-surplus sums-def.routine code.calls-book-lent·book-surplus (sums-thm.met 𝓤 H 𝓜 𝓖 𝓡)))

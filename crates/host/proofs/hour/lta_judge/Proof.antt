@@ -1,7 +1,7 @@
 -- `host::hour::lta_judge` meets its contract: the clauses are those of the verdict that `judge` gives, packed. Assumes nothing.
 use denote.Ref.{now}
 use borrow.Author.Needs.{needs}
-use Rattle.judgement.specs.Steps.Promises.{clauses}
+use Rattle.judge_hour.specs.Steps.Promises.{clauses}
 use Rattle.host.proofs.hour.lta_judge.Statement.{statement}
 use Rattle.host.proofs.hour.lta_judge.Tie as tie
 

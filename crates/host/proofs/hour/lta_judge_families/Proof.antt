@@ -1,7 +1,7 @@
 -- `host::hour::lta_judge_families` meets its contract: the clauses are those of the verdict that `judge_families` gives, packed. Assumes nothing.
 use denote.Ref.{now}
 use borrow.Author.Needs.{needs}
-use Rattle.judgement.specs.Steps.Promises.{family-clauses}
+use Rattle.judge_hour.specs.Steps.Promises.{family-clauses}
 use Rattle.host.proofs.hour.lta_judge_families.Statement.{statement}
 use Rattle.host.proofs.hour.lta_judge_families.Tie as tie
 

@@ -1,8 +1,8 @@
--- `host::intuitive_hours::lta_hour_intuitive` meets its contract: the clauses of what `hour_intuitive` answers,
+-- `host::intuitive_hours::lta_hour_intuitive` meets its contract: the clauses of what `flow_hour` answers,
 -- and the eighth, which follows. Assumes nothing.
 use borrow.Author.Needs.{needs}
-use Rattle.intuitive.specs.Steps.Answers.{clauses}
-use Rattle.hour_intuitive.specs.Promised.Rent.{yes-rent}
+use Rattle.flow_intuitive.specs.Steps.Answers.{clauses}
+use Rattle.flow_hour.specs.Promised.Rent.{yes-rent}
 use Rattle.host.proofs.intuitive_hours.lta_hour_intuitive.Statement.{statement}
 use Rattle.host.proofs.intuitive_hours.lta_hour_intuitive.Tie as tie
 

@@ -1,6 +1,6 @@
 -- `host::sheet::lta_sheet_branches` meets its contract: its clauses are taken out of what `sheet_branches` says of its answer. Assumes nothing.
 use borrow.Author.Needs.{needs}
-use Rattle.margin_sheet.specs.Promised.Clauses.{branches-held, causes-plain, bytes-plain}
+use Rattle.sheet_branches.specs.Promised.Clauses.{branches-held, causes-plain, bytes-plain}
 use Rattle.host.proofs.sheet.lta_sheet_branches.Statement.{statement}
 use Rattle.host.proofs.sheet.lta_sheet_branches.Tie as tie
 

@@ -11,10 +11,10 @@ use lib.ListN.{length}
 use lib.Dec.{T}
 use lib.IntN.{ℤ, pos, _+ℤ_, _-ℤ_, _*ℤ_}
 use lib.Signed.{_≤ℤ_}
-use Rattle.integers.specs.Steps.Difference.{at, _⊖_, _⊗_, eq-by, eq-fact}
-use Rattle.integers.specs.Meaning.Order.{positive}
-use Rattle.integers.specs.Steps.Order.{scaled, le-trans}
-use Rattle.integers.specs.Steps.Sums.{sum-ext}
+use Rattle.base_integers.specs.Steps.Difference.{at, _⊖_, _⊗_, eq-by, eq-fact}
+use Rattle.base_integers.specs.Meaning.Order.{positive}
+use Rattle.base_integers.specs.Steps.Order.{scaled, le-trans}
+use Rattle.base_integers.specs.Steps.Sums.{sum-ext}
 use Rattle.rules.specs.Meaning.Hour.{Case, Plan, Prices, caseOf, planOf, pricesOf, zonePrice, welfare, spread, linkValue, linkTotal, linkOwed, owed, bound, gap}
 use Rattle.rules.specs.Meaning.Clearing.{Placed, Clearing}
 use Rattle.rules.specs.Meaning.Annex.{Solution, Feasible, PairsOnce, Connected, everyPair, capacityLTA, congestionRent, liabilities}

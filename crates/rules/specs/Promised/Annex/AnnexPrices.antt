@@ -8,13 +8,13 @@ use native.Mathlib.Omega.{arith}
 use lib.Dec.{T, eqb, ltb→lt}
 use lib.IntN.{ℤ, pos, negsuc, _+ℤ_, _-ℤ_, _*ℤ_}
 use lib.Signed.{_≤ℤ_, _<ℤ_, ≤ℤ-refl, ltZ, ltZ-no}
-use Rattle.integers.specs.Meaning.Difference.{up, dn}
-use Rattle.integers.specs.Steps.Difference.{at, _⊕_, _⊖_, _⊗_, le-by, eq-by, le-fact, eq-fact}
-use Rattle.integers.specs.Meaning.Order.{positive}
-use Rattle.integers.specs.Steps.Order.{cond-ind, diff-nonneg, mul-nonneg, larger-left, larger-right, le-trans, le-antisym}
-use Rattle.integers.specs.Meaning.Sums.{sumTo, only}
-use Rattle.integers.specs.Steps.Sums.{sum-ext, sum-le, sum-zero, sum-add, sum-sub, sum-scale, sum-scale-l, sum-swap, sum-only, only-both, only-swap, sum-weights}
-use Rattle.measures.specs.Meaning.Limits.{partsInOne}
+use Rattle.base_integers.specs.Meaning.Difference.{up, dn}
+use Rattle.base_integers.specs.Steps.Difference.{at, _⊕_, _⊖_, _⊗_, le-by, eq-by, le-fact, eq-fact}
+use Rattle.base_integers.specs.Meaning.Order.{positive}
+use Rattle.base_integers.specs.Steps.Order.{cond-ind, diff-nonneg, mul-nonneg, larger-left, larger-right, le-trans, le-antisym}
+use Rattle.base_integers.specs.Meaning.Sums.{sumTo, only}
+use Rattle.base_integers.specs.Steps.Sums.{sum-ext, sum-le, sum-zero, sum-add, sum-sub, sum-scale, sum-scale-l, sum-swap, sum-only, only-both, only-swap, sum-weights}
+use Rattle.base_measures.specs.Meaning.Limits.{partsInOne}
 use Rattle.rules.specs.Meaning.Hour.{Case, Plan, Prices, zonePrice, branchPrice, welfare, surplus, branchValue, branchTotal, spread, linkValue, linkTotal, networkBound, bound, gap, rent}
 use Rattle.rules.specs.Meaning.Clearing.{Placed, Clearing}
 use Rattle.rules.specs.Meaning.Annex.{Solution, Network, Feasible, PairsOnce, AlongLines, Route, here, onward, Connected, Multipliers, PriceConditions, Complementary, joins, byPair, capacityLTA, netFlow, congestionRent, marginValue, capacityValue, liabilities}

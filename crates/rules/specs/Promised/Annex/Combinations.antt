@@ -9,11 +9,11 @@ use native.Mathlib.Decide.{decLt}
 use lib.Dec.{ltb→lt}
 use lib.IntN.{ℤ, pos, negsuc, natAbs, _+ℤ_, _*ℤ_}
 use lib.Signed.{_≤ℤ_, _<ℤ_, yes-nonNeg, pos-natAbs}
-use Rattle.integers.specs.Steps.Difference.{at, _⊕_, _⊗_, le-by, eq-by, le-fact, eq-fact}
-use Rattle.integers.specs.Steps.Order.{scaled, times-nonneg}
-use Rattle.integers.specs.Meaning.Sums.{sumTo}
-use Rattle.integers.specs.Steps.Sums.{sum-ext, sum-scale-l}
-use Rattle.measures.specs.Meaning.Limits.{partsInOne}
+use Rattle.base_integers.specs.Steps.Difference.{at, _⊕_, _⊗_, le-by, eq-by, le-fact, eq-fact}
+use Rattle.base_integers.specs.Steps.Order.{scaled, times-nonneg}
+use Rattle.base_integers.specs.Meaning.Sums.{sumTo}
+use Rattle.base_integers.specs.Steps.Sums.{sum-ext, sum-scale-l}
+use Rattle.base_measures.specs.Meaning.Limits.{partsInOne}
 use Rattle.rules.specs.Meaning.Hour.{Case}
 use Rattle.rules.specs.Meaning.Annex.{Solution, Network, FBDomain, TwoPoints, Combines, capacityLTA, netFlow}
 use Rattle.rules.specs.Promised.Annex.CommercialFlows.{net-ext, net-zero, net-scale}

@@ -9,11 +9,11 @@ use native.Mathlib.Omega.{arith}
 use lib.Dec.{T, eqb, eqb→eq, eqb-refl, T-not}
 use lib.IntN.{ℤ, pos, negsuc, _+ℤ_, _-ℤ_, _*ℤ_}
 use lib.Signed.{_≤ℤ_, ≤ℤ-refl}
-use Rattle.integers.specs.Steps.Difference.{at, _⊕_, _⊖_, _⊗_, le-by, eq-by}
-use Rattle.integers.specs.Steps.Order.{add-nonneg, times-nonneg}
-use Rattle.integers.specs.Steps.Ranges.{or-left, or-right}
-use Rattle.integers.specs.Meaning.Sums.{sumTo, only}
-use Rattle.integers.specs.Steps.Sums.{sum-ext, sum-zero, sum-add, sum-sub, sum-scale, sum-scale-l, sum-swap, only-on, only-off, only-swap, sum-one, sum-key, sum-exchanged}
+use Rattle.base_integers.specs.Steps.Difference.{at, _⊕_, _⊖_, _⊗_, le-by, eq-by}
+use Rattle.base_integers.specs.Steps.Order.{add-nonneg, times-nonneg}
+use Rattle.base_integers.specs.Steps.Ranges.{or-left, or-right}
+use Rattle.base_integers.specs.Meaning.Sums.{sumTo, only}
+use Rattle.base_integers.specs.Steps.Sums.{sum-ext, sum-zero, sum-add, sum-sub, sum-scale, sum-scale-l, sum-swap, only-on, only-off, only-swap, sum-one, sum-key, sum-exchanged}
 use Rattle.rules.specs.Meaning.Annex.{Route, here, onward, Connected, everyPair, netFlow}
 
 -- NET FLOWS

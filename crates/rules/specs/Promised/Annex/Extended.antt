@@ -9,18 +9,18 @@ use native.Mathlib.Omega.{arith}
 use lib.Dec.{T, eqb, eqb→eq, eqb-refl, T-not}
 use lib.IntN.{ℤ, pos, natAbs, _+ℤ_, _-ℤ_, _*ℤ_}
 use lib.Signed.{_≤ℤ_, ≤ℤ-refl, yes-nonNeg, pos-natAbs}
-use Rattle.integers.specs.Steps.Difference.{at, _⊕_, _⊖_, _⊗_, le-by, eq-by, le-fact, eq-fact}
-use Rattle.integers.specs.Steps.Ranges.{and-both, and-left, and-right}
-use Rattle.integers.specs.Meaning.Sums.{sumTo, only}
-use Rattle.integers.specs.Steps.Sums.{sum-ext, sum-zero, sum-add, sum-sub, sum-scale-l, sum-swap, sum-nonneg, sum-le, only-on, only-off, only-both, only-swap, sum-one, sum-key}
-use Rattle.measures.specs.Meaning.Limits.{partsInOne}
+use Rattle.base_integers.specs.Steps.Difference.{at, _⊕_, _⊖_, _⊗_, le-by, eq-by, le-fact, eq-fact}
+use Rattle.base_integers.specs.Steps.Ranges.{and-both, and-left, and-right}
+use Rattle.base_integers.specs.Meaning.Sums.{sumTo, only}
+use Rattle.base_integers.specs.Steps.Sums.{sum-ext, sum-zero, sum-add, sum-sub, sum-scale-l, sum-swap, sum-nonneg, sum-le, only-on, only-off, only-both, only-swap, sum-one, sum-key}
+use Rattle.base_measures.specs.Meaning.Limits.{partsInOne}
 use Rattle.rules.specs.Meaning.Hour.{Case, Plan, signed, buys, orderNet, net, inflow, outflow, ltaPart, fbPart, netSum, linkUse, linkRoom, branchUse, branchRoom, orderWelfare, welfare}
 use Rattle.rules.specs.Meaning.Clearing.{Placed, Clearing}
 use Rattle.rules.specs.Meaning.Annex.{Solution, Feasible, PairsOnce, Connected, joins, byPair, capacityLTA, netFlow, objective}
 use Rattle.rules.specs.Meaning.AnnexPromise.{Same, Agree, IsClearing, IsFeasible}
 use Rattle.rules.specs.Steps.Duality.{signed-times}
-use Rattle.rows.specs.Meaning.Rows.{firstBelow}
-use Rattle.rows.specs.Promised.RowLaws.{first-is, not-below}
+use Rattle.base_causes.specs.Meaning.Rows.{firstBelow}
+use Rattle.base_causes.specs.Promised.RowLaws.{first-is, not-below}
 use Rattle.rules.specs.Promised.Annex.CommercialFlows.{net-plain, net-sum, net-ext, Carried, balanced-carried}
 
 -- LINKS BY ORDERED PAIR

@@ -8,8 +8,8 @@ use native.Mathlib.Omega.{arith}
 use lib.Dec.{T}
 use lib.IntN.{ℤ, pos, _+ℤ_, _-ℤ_}
 use lib.Signed.{_≤ℤ_}
-use Rattle.integers.specs.Steps.Difference.{at, _⊕_, _⊖_, le-fact, eq-fact}
-use Rattle.integers.specs.Meaning.Sums.{sumTo}
+use Rattle.base_integers.specs.Steps.Difference.{at, _⊕_, _⊖_, le-fact, eq-fact}
+use Rattle.base_integers.specs.Meaning.Sums.{sumTo}
 use Rattle.rules.specs.Meaning.Hour.{Case, Plan, buys, orderNet, net, inflow, outflow, ltaPart, fbPart, netSum}
 use Rattle.rules.specs.Meaning.Clearing.{Placed, Clearing}
 use Rattle.rules.specs.Meaning.Annex.{Solution, Feasible, PairsOnce, AlongLines, netFlow}

@@ -1,0 +1,53 @@
+-- A table as a list of numbers with the kinds of their indices, and the order of such a list: the words of `table-order`.
+use mathlib.Core.Path.{_≡_}
+use mathlib.Core.Bool.{Bool, true, false, _&&_, _||_}
+use mathlib.Core.List.{List, [], _∷_}
+use Prim.Native.Nat.{ℕ}
+use lib.Dec.{eqb, ltb}
+use Rattle.base_causes.specs.Meaning.Rows.{Row}
+
+-- THE ORDER OF A TABLE, as a list beside it: each row's number, and what its index is: none named (0), a given offset, the place, or the offset of the
+-- first field at fault, of which `RefusedField` says which it is (S-2)
+pub data Index : Type 0 where
+  unnamed : Index
+  at-offset : ℕ → Index
+  the-place : Index
+  a-field : Index
+
+pub record Asked : Type 0 where
+  pub number : ℕ
+  pub index : Index
+
+abbrev pub ask : ℕ → Index → Asked
+ask n i = record { number = n; index = i }
+
+abbrev pub Indexed : Index → (ℕ → ℕ) → Type 0
+Indexed unnamed f = (k : ℕ) → f k ≡ 0
+Indexed (at-offset n) f = (k : ℕ) → f k ≡ n
+Indexed the-place f = (k : ℕ) → f k ≡ k
+Indexed a-field f = Unit {0}
+
+-- the rows of a table are these, in this order
+abbrev pub Asks : List Row → List Asked → Type 0
+Asks [] [] = Unit {0}
+Asks [] (a ∷ rest) = ⊥
+Asks (r ∷ rs) [] = ⊥
+Asks (r ∷ rs) (a ∷ rest) = (r .number ≡ a .number) × (Indexed (a .index) (r .index) × Asks rs rest)
+
+-- numbers ascend, and of one number the offsets do
+abbrev pub offsetsAscend : Index → Index → Bool
+offsetsAscend (at-offset n) (at-offset m) = ltb n m
+offsetsAscend (at-offset n) unnamed = false
+offsetsAscend (at-offset n) the-place = false
+offsetsAscend (at-offset n) a-field = false
+offsetsAscend unnamed i = false
+offsetsAscend the-place i = false
+offsetsAscend a-field i = false
+
+abbrev pub precedes : Asked → Asked → Bool
+precedes a b = ltb (a .number) (b .number) || (eqb (a .number) (b .number) && offsetsAscend (a .index) (b .index))
+
+unfoldable pub ascending : List Asked → Bool
+ascending [] = true
+ascending (a ∷ []) = true
+ascending (a ∷ (b ∷ bs)) = precedes a b && ascending (b ∷ bs)

@@ -1,0 +1,37 @@
+// A table of causes in code: what it answers, where a search of a cause's places ends, the test of a count, and two tests in one. Its meaning stands in specs/.
+ghost use mathlib.Core.Path.{_≡_};
+ghost use mathlib.Core.Bool.{_||_};
+ghost use lib.IntN.{pos};
+ghost use Rattle.base_integers.specs.Meaning.Ranges.{range, outside};
+
+// What a table answers: the number of the first cause that holds, and the index that goes with it; or 0 and 0.
+pub struct Outcome {
+    pub number: u32,
+    pub index: u32,
+}
+
+// The first place at which a cause holds.
+pub enum Place {
+    At(usize),
+    Nowhere,
+}
+
+// The test of every count.
+pub fn count_outside(least: usize, greatest: usize, count: usize) -> bool
+    ensures { λ r. ⌜ r ≡ outside (range (pos least) (pos greatest)) (pos count) ⌝ }
+{
+    if count < least {
+        return true;
+    }
+    greatest < count
+}
+
+// Either of two tests. Both are made, so that a loop over it ends by its count alone.
+pub fn either(a: bool, b: bool) -> bool
+    ensures { λ r. ⌜ r ≡ a || b ⌝ }
+{
+    if a {
+        return true;
+    }
+    b
+}

@@ -1,0 +1,31 @@
+-- `bytes_read::Cursor::long` meets its contract: the field is there, or it is not. Assumes nothing.
+use native.Mathlib.Omega.{arith}
+use borrow.Author.Needs.{needs}
+use Rattle.bytes_read.specs.Meaning.Field.{u64At}
+use Rattle.bytes_read.specs.declared.LongField.the-variants.{Taken, Short}
+use Rattle.bytes_read.specs.Steps.Cursor.{field-inside, field-lacks, field-takes}
+use Rattle.bytes_read.proofs.Cursor.long.Statement.{statement}
+use Rattle.bytes_read.proofs.Cursor.long.Tie as tie
+
+field-fits-requires : tie.Need-field-fits-requires
+field-fits-requires c κs = search needs
+
+returns : tie.Need-returns
+returns c =
+    let a = c .before .before .before .args in
+    field-lacks (a .s .now) (a .self .at) 8 (c .before .field-fits .ensures) Taken Short (u64At (a .s .now) (a .self .at)) (c .if1 .taken)
+
+long-at-requires : tie.Need-long-at-requires
+long-at-requires c κs = let a = c .before .before .before .args in field-inside (a .s .now) (a .self .at) 8 (c .before .field-fits .ensures) (c .if1 .left)
+
+add-t7 : tie.Need-add-t7
+add-t7 c = let e = c .before in let a = e .before .before .before .args in omega (arith, field-inside (a .s .now) (a .self .at) 8 (e .before .field-fits .ensures) (e .if1 .left))
+
+returns-2 : tie.Need-returns-2
+returns-2 c =
+    let e = c .before in
+    let a = e .before .before .before .args in
+    field-takes (a .s .now) (a .self .at) 8 (e .before .field-fits .ensures) Taken Short (u64At (a .s .now) (a .self .at)) (e .if1 .left) (c .long-at .ensures)
+
+pub long-spec : {M : Type 1} → statement M
+long-spec = tie.close (tie.spec field-fits-requires returns long-at-requires add-t7 returns-2)

@@ -1,0 +1,41 @@
+-- `bytes_read::long_at` meets its contract: two words of 32 bits, the low one first. Assumes nothing.
+use borrow.Author.Needs.{needs}
+use Rattle.bytes_read.proofs.long_at.Statement.{statement}
+use Rattle.bytes_read.proofs.long_at.Tie as tie
+
+word-at-requires : tie.Need-word-at-requires
+word-at-requires c κs = search needs
+
+add-word-at : tie.Need-add-word-at
+add-word-at c = search needs
+
+word-at-requires-2 : tie.Need-word-at-requires-2
+word-at-requires-2 c κs = search needs
+
+cast-result : tie.Need-cast-result
+cast-result c = search needs
+
+cast-result-2 : tie.Need-cast-result-2
+cast-result-2 c = search needs
+
+mul-result : tie.Need-mul-result
+mul-result c = search needs
+
+add-result : tie.Need-add-result
+add-result c = search needs
+
+returns : tie.Need-returns
+returns c = search needs
+
+pub long-at-spec : {M : Type 1} → statement M
+long-at-spec =
+    tie.close
+    (tie.spec
+    word-at-requires
+    add-word-at
+    word-at-requires-2
+    cast-result
+    cast-result-2
+    mul-result
+    add-result
+    returns)

@@ -1,0 +1,51 @@
+// Numbers put into a lent buffer as little-endian bytes: 32 and 64 bits, signed ones in two's complement.
+ghost use mathlib.Core.Path.{_≡_};
+ghost use Prim.Native.Nat.{_+_, _≤_};
+ghost use lib.ListN.{length};
+ghost use lib.Seq.{sets};
+ghost use mir.Syntax.{w32};
+ghost use mir.Val.{SFits};
+ghost use Rattle.base_integers.specs.Meaning.Bytes.{bytesOf, signed32};
+use base_measures::Bits;
+use base_measures::Raw;
+
+// The four bytes of a number, the lowest first.
+pub fn put_word(out: &mut [u8], at: usize, x: u32)
+    requires { ⌜ at + 4 ≤ length (now out) ⌝ }
+    ensures { λ _. ⌜ now (out .exit) ≡ sets (now (out .entry)) at (bytesOf 4 x) ⌝ }
+{
+    out[at] = (x % 256) as u8;
+    let x1 = x / 256;
+    out[at + 1] = (x1 % 256) as u8;
+    let x2 = x1 / 256;
+    out[at + 2] = (x2 % 256) as u8;
+    let x3 = x2 / 256;
+    out[at + 3] = (x3 % 256) as u8;
+}
+
+// Signed 32 bits.
+pub fn put_signed32(out: &mut [u8], at: usize, x: Raw)
+    requires { ⌜ at + 4 ≤ length (now out) ⌝ }
+    requires { ⌜ SFits w32 (x .0) ⌝ }
+    ensures { λ _. ⌜ now (out .exit) ≡ sets (now (out .entry)) at (signed32 (x .0)) ⌝ }
+{
+    let b = x.bits();
+    put_word(out, at, (b.0 % layout::WORD_VALUES) as u32);
+}
+
+// The low 32 bits of a measure's, which are all of a field's number.
+pub fn put_low32(out: &mut [u8], at: usize, x: Bits)
+    requires { ⌜ at + 4 ≤ length (now out) ⌝ }
+    ensures { λ _. ⌜ now (out .exit) ≡ sets (now (out .entry)) at (bytesOf 4 (x .0)) ⌝ }
+{
+    put_word(out, at, (x.0 % layout::WORD_VALUES) as u32);
+}
+
+// Signed 64 bits, which are a measure's: the low half, and then the high one.
+pub fn put_signed64(out: &mut [u8], at: usize, x: Bits)
+    requires { ⌜ at + 8 ≤ length (now out) ⌝ }
+    ensures { λ _. ⌜ now (out .exit) ≡ sets (now (out .entry)) at (bytesOf 8 (x .0)) ⌝ }
+{
+    put_word(out, at, (x.0 % layout::WORD_VALUES) as u32);
+    put_word(out, at + 4, (x.0 / layout::WORD_VALUES) as u32);
+}

@@ -1,0 +1,113 @@
+// Whether an hour is intuitive (requests S-3 and S-13): it is judged, and where it is accepted its net positions, turned, and its zone prices are asked.
+ghost use mathlib.Core.Path.{_≡_};
+ghost use Prim.Native.Nat.{_≤_};
+ghost use lib.IntN.{pos, _-ℤ_};
+ghost use mir.Syntax.{w64};
+ghost use mir.Val.{toZ};
+ghost use Rattle.judge_clearing.specs.Meaning.Held.{tenthsAt};
+ghost use Rattle.judge_network.specs.Meaning.Prices.{grainsAt};
+ghost use Rattle.flow_intuitive.specs.Meaning.Intuitive.{scratchRoom};
+ghost use Rattle.flow_intuitive.specs.Meaning.SmallScratch.{smallRoom};
+ghost use Rattle.flow_hour.specs.Meaning.Hour.{HourAnswer};
+ghost use Rattle.flow_hour.specs.Steps.Lent.{FitsTo, Lists, refusedAs};
+use judge_stages::find;
+use flow_intuitive::Carried;
+use flow_intuitive::SCRATCH;
+use flow_intuitive::SMALL_SCRATCH;
+use flow_intuitive::intuitive_of;
+use base_measures::Bits;
+use base_measures::Grains;
+use base_measures::Tenths;
+use base_causes::Outcome;
+
+// The number that 64 bits stand for in two's complement, as a list of numbers has it that is lent.
+fn lent(x: Bits) -> i64
+    ensures { λ r. ⌜ r ≡ toZ w64 (x .0) ⌝ }
+{
+    if x.0 < 9223372036854775808 {
+        return x.0 as i64;
+    }
+    -((18446744073709551615 - x.0) as i64) - 1
+}
+
+// The net positions of the zones with export positive: ours are import positive.
+fn turned(nets: [Tenths; 16], zones: usize) -> [i64; 16]
+    requires { ⌜ zones ≤ 16 ⌝ }
+    requires { ⌜ FitsTo (λ z. pos 0 -ℤ tenthsAt nets z) zones ⌝ }
+    ensures { λ r. ⌜ Lists (λ z. pos 0 -ℤ tenthsAt nets z) zones r ⌝ }
+{
+    let mut exports = [0i64; 16];
+    for z in 0..zones {
+        let net = nets[z];
+        exports[z] = lent(Tenths::ZERO.minus(net).bits());
+    }
+    exports
+}
+
+// The zones' prices.
+fn listed(prices: [Grains; 16], zones: usize) -> [i64; 16]
+    requires { ⌜ zones ≤ 16 ⌝ }
+    requires { ⌜ FitsTo (λ z. grainsAt prices z) zones ⌝ }
+    ensures { λ r. ⌜ Lists (λ z. grainsAt prices z) zones r ⌝ }
+{
+    let mut list = [0i64; 16];
+    for z in 0..zones {
+        let price = prices[z];
+        list[z] = lent(price.bits());
+    }
+    list
+}
+
+fn refused(verdict: Outcome) -> Carried
+    ensures { λ r. ⌜ r ≡ refusedAs verdict ⌝ }
+{
+    Carried {
+        number: verdict.number,
+        index: verdict.index,
+        intuitive: 0,
+        total: Tenths::ZERO,
+    }
+}
+
+// With n numbers of scratch: the judgement's refusal, or the answer for the accepted hour's exports, its prices and these pairs.
+fn hour_intuitive_in(
+    case: &[u8],
+    proposal: &[u8],
+    pairs: &[u8],
+    scratch: &mut [i64],
+    n: usize,
+) -> Carried
+    requires { ⌜ 96 ≤ n ⌝ }
+    ensures { λ r. ⌜ HourAnswer (now («case» .entry)) (now (proposal .entry)) (now (pairs .entry)) n (now (scratch .entry)) r (now (scratch .exit)) ⌝ }
+{
+    let found = find(case, proposal);
+    let judged = found.verdict;
+    if judged.number != 0 {
+        return refused(judged);
+    }
+    let zones = found.hour.counts.zones;
+    let nets = found.cleared.nets;
+    let prices = found.prices;
+    let exports = turned(nets, zones);
+    let list = listed(prices, zones);
+    intuitive_of(&exports[..zones], &list[..zones], pairs, scratch, n)
+}
+
+// The judgement's number and index where the hour is not accepted; else the answer for its exports, its prices and these pairs.
+pub fn hour_intuitive(case: &[u8], proposal: &[u8], pairs: &[u8], scratch: &mut [i64]) -> Carried
+    ensures { λ r. ⌜ HourAnswer (now («case» .entry)) (now (proposal .entry)) (now (pairs .entry)) scratchRoom (now (scratch .entry)) r (now (scratch .exit)) ⌝ }
+{
+    hour_intuitive_in(case, proposal, pairs, scratch, SCRATCH)
+}
+
+// The same from 96 numbers of scratch (S-13).
+pub fn hour_intuitive_small(
+    case: &[u8],
+    proposal: &[u8],
+    pairs: &[u8],
+    scratch: &mut [i64],
+) -> Carried
+    ensures { λ r. ⌜ HourAnswer (now («case» .entry)) (now (proposal .entry)) (now (pairs .entry)) smallRoom (now (scratch .entry)) r (now (scratch .exit)) ⌝ }
+{
+    hour_intuitive_in(case, proposal, pairs, scratch, SMALL_SCRATCH)
+}

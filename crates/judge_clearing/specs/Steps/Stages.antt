@@ -1,0 +1,42 @@
+-- What the verdicts before a stage leave, and that the sums of the stage fit. Assumes nothing.
+use mathlib.Core.Path.{_≡_}
+use mathlib.Core.List.{List}
+use mathlib.Core.Option.{none}
+use Prim.Native.Nat.{ℕ, _+_, _≤_, _<_}
+use native.Mathlib.Omega.{arith}
+use lib.ListN.{getD}
+use lib.Dec.{nltb→le}
+use lib.IntN.{ℤ}
+use mir.Syntax.{w64}
+use Rattle.base_integers.specs.Steps.Sums.{sum-ext}
+use Rattle.base_integers.specs.Meaning.Machine.{SumsFit}
+use Rattle.base_integers.specs.Steps.Machine.{sfits-by}
+use Rattle.rules.specs.Meaning.Layout.{u32At}
+use Rattle.rules.specs.Meaning.Hour.{Case, Plan, linkUse, linkRoom}
+use Rattle.base_causes.specs.Meaning.Rows.{failing}
+use Rattle.base_causes.specs.Promised.RowLaws.{not-below}
+use Rattle.rules.specs.Meaning.Verdict.{excessVolume, overusedLink}
+use Rattle.rules.specs.Steps.Passed.{CaseSound}
+use Rattle.rules.specs.Promised.Fits.{flow-in}
+use Rattle.judge_clearing.specs.Meaning.Stages.{VolumesIn, FlowsIn}
+
+pub volumes-in : {c : Case} {p : Plan} → failing (excessVolume c p) ≡ none → VolumesIn c p
+volumes-in {c} {p} e = record { within = λ i h. nltb→le (c .quantity i) (p .volume i) (not-below _ _ e i h) }
+
+pub flows-in : {c : Case} {p : Plan} → CaseSound c → p .share ≤ 100000 → failing (overusedLink c p) ≡ none → FlowsIn c p
+flows-in {c} {p} cs share e = record { within = λ l h. flow-in c cs p share l h (nltb→le (linkRoom c p l) (linkUse c p l) (not-below _ _ e l h)) }
+
+-- an unsigned field of 32 bits, whose bytes are bytes
+pub record Bytes (s : List ℕ) : Type 0 where
+  pub byte : (i : ℕ) → getD s i 0 < 256
+
+pub word-small : (s : List ℕ) (k : ℕ) → Bytes s → u32At s k ≤ 4294967295
+unfolding u32At
+word-small s k b = omega (arith, b .byte k, b .byte (k + 1), b .byte (k + 2), b .byte (k + 3))
+
+-- sums that fit, of terms that are equal
+pub fit-ext : (f g : ℕ → ℤ) (n : ℕ) → ((i : ℕ) → i < n → g i ≡ f i) → SumsFit f n → SumsFit g n
+fit-ext f g n e h = record {
+  term = λ i l. sfits-by w64 (e i l) (h .term i l);
+  fits = λ i l. sfits-by w64 (sum-ext i g f (λ j m. e j (omega arith))) (h .fits i l);
+}

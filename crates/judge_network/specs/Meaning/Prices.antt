@@ -1,0 +1,23 @@
+-- Sixteen prices that hold the zone prices, and zone prices within their limits.
+use mathlib.Core.Path.{_≡_}
+use mathlib.Core.List.{List}
+use Prim.Native.Nat.{ℕ, _<_}
+use lib.ListN.{getD}
+use lib.IntN.{ℤ, pos}
+use Rattle.base_integers.specs.Meaning.Ranges.{Within}
+use Rattle.base_measures.specs.Meaning.Limits as limits
+use Rattle.base_measures.specs.declared.Grains.{Grains}
+use Rattle.rules.specs.Meaning.Hour.{Case, Prices, zonePrice}
+
+abbrev pub noGrains : Grains
+noGrains = record { 0 = pos 0 }
+
+abbrev pub grainsAt : List Grains → ℕ → ℤ
+grainsAt prices z = (getD prices z noGrains) .0
+
+-- the zone prices of a case, held in an array; and row 25 passed
+pub record Priced (c : Case) (d : Prices) (prices : List Grains) : Type 0 where
+  pub each : (z : ℕ) → z < c .zones → grainsAt prices z ≡ zonePrice c d z
+
+pub record PricesIn (c : Case) (d : Prices) : Type 0 where
+  pub within : (z : ℕ) → z < c .zones → Within limits.zonePrice (zonePrice c d z)

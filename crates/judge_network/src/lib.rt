@@ -1,0 +1,83 @@
+// Branches in one pass, with the branch rule, zone prices and branch total (verdict 24, rules 5, 6 and 9).
+ghost use mathlib.Core.Path.{_≡_};
+ghost use mathlib.Core.Option.{none};
+ghost use Rattle.rules.specs.Meaning.Hour.{caseOf, planOf, pricesOf, fbPart};
+ghost use Rattle.rules.specs.Meaning.Hour as rules;
+ghost use Rattle.base_causes.specs.Meaning.Rows.{failing};
+ghost use Rattle.base_causes.specs.Meaning.Place.{placeOf};
+ghost use Rattle.rules.specs.Meaning.Verdict.{overloadedBranch};
+ghost use Rattle.case_branches.specs.Meaning.Table.{tableOf};
+ghost use Rattle.judge_clearing.specs.Meaning.Stages.{VolumesIn, FlowsIn};
+ghost use Rattle.judge_clearing.specs.Meaning.Held.{Holds};
+ghost use Rattle.judge_clearing.specs.Meaning.Read.{HourReadFrom};
+ghost use Rattle.judge_network.specs.Meaning.Prices.{Priced};
+use case_branches::margin_at;
+use judge_clearing::HourRead;
+use base_measures::Grains;
+use base_measures::Load;
+use base_measures::Microcents;
+use base_measures::Ptdf;
+use base_measures::Tenths;
+use proposal_file::shadow_at;
+use base_causes::Place;
+
+// What one pass over the branches yields: the first that is overloaded; where none is, the price of each zone and the branch total.
+pub struct Network {
+    pub overloaded: Place,
+    pub prices: [Grains; 16],
+    pub total: Microcents,
+}
+
+// Rules 5, 6 and 9 over the branches, and verdict 24: the first branch loaded above its margin, scaled by the flow-based share.
+pub fn branch_sums(
+    case: &[u8],
+    proposal: &[u8],
+    hour: HourRead,
+    table: [[i32; 16]; 64],
+    parts: [Tenths; 16],
+) -> Network
+    requires { ⌜ HourReadFrom (now «case») (now proposal) hour ⌝ }
+    requires { ⌜ VolumesIn (caseOf (now «case»)) (planOf (now «case») (now proposal)) ⌝ }
+    requires { ⌜ FlowsIn (caseOf (now «case»)) (planOf (now «case») (now proposal)) ⌝ }
+    requires { ⌜ table ≡ tableOf (now «case») ⌝ }
+    requires { ⌜ Holds (fbPart (caseOf (now «case»)) (planOf (now «case») (now proposal))) parts ⌝ }
+    ensures overloaded { λ r. ⌜ placeOf (r .overloaded) ≡ failing (overloadedBranch (caseOf (now («case» .entry))) (planOf (now («case» .entry)) (now (proposal .entry)))) ⌝ }
+    ensures prices { λ r. ⌜ (placeOf (r .overloaded) ≡ none → Priced (caseOf (now («case» .entry))) (pricesOf (now («case» .entry)) (now (proposal .entry))) (r .prices)) ⌝ }
+    ensures total { λ r. ⌜ (placeOf (r .overloaded) ≡ none → r .total .0 ≡ rules.branchTotal (caseOf (now («case» .entry))) (pricesOf (now («case» .entry)) (now (proposal .entry)))) ⌝ }
+{
+    let k = hour.counts;
+    let share = hour.opening.share;
+    let flow_based = share.flow_based();
+    let system = hour.opening.system;
+    let zones = k.zones;
+    let branches = k.branches;
+    let base = system.in_grains();
+    let mut prices = [base; 16];
+    let mut total = Microcents::ZERO;
+    for m in 0..branches {
+        let shadow = shadow_at(case, k, proposal, m);
+        let margin = margin_at(case, k, m);
+        let mut load = Load::ZERO;
+        for z in 0..zones {
+            let ptdf = Ptdf::of_entry(table[m][z]);
+            let part = parts[z];
+            load = load.plus(ptdf.load(part));
+            let price = prices[z];
+            let next = price.plus(ptdf.price(shadow));
+            prices[z] = next;
+        }
+        if load.exceeds(flow_based.of_volume(margin)) {
+            return Network {
+                overloaded: Place::At(m),
+                prices,
+                total: Microcents::ZERO,
+            };
+        }
+        total = total.plus(margin.cost(shadow.in_grains()));
+    }
+    Network {
+        overloaded: Place::Nowhere,
+        prices,
+        total,
+    }
+}

@@ -1,0 +1,159 @@
+-- `judge_stages::read` meets its contract: rows 1 to 8, 9 to 14, and 15 to 18. Assumes nothing.
+use mathlib.Core.Path.{_≡_, sym, ap, _∙_}
+use mathlib.Core.List.{List, _++_}
+use mathlib.Core.Option.{Option, none, some}
+use Prim.Native.Nat.{ℕ}
+use borrow.Author.Needs.{needs}
+use denote.Ref.{now}
+use Rattle.rules.specs.Meaning.Hour.{caseOf, planOf, pricesOf}
+use Rattle.rules.specs.Meaning.Verdict.{caseRows, caseRefusal, proposalRows, proposalRefusal}
+use Rattle.base_causes.specs.declared.Outcome.{Outcome}
+use Rattle.base_causes.specs.Meaning.Rows.{Row, refusal, answer}
+use Rattle.base_causes.specs.Promised.RowLaws.{not-refused}
+use Rattle.case_header.specs.Meaning.Opened.{Opened}
+use Rattle.case_file.specs.Steps.Answer.{opened-of}
+use Rattle.case_file.specs.Steps.Answer as case-answer
+use Rattle.proposal_file.specs.Meaning.Proposed.{Proposed}
+use Rattle.proposal_file.specs.Steps.Proposed.{opening-is, proposed-of}
+use Rattle.proposal_file.specs.Steps.Proposed as proposal-answer
+use Rattle.proposal_file.specs.Meaning.Answer.{proposalAnswer}
+use Rattle.proposal_file.specs.declared.ProposalAnswer.the-variants as proposal
+use Rattle.judge_clearing.specs.Meaning.Read.{HourReadFrom}
+use Rattle.family_list.specs.Meaning.Answer.{Known}
+use Rattle.judge_stages.specs.declared.FamilyList.{FamilyList}
+use Rattle.judge_stages.specs.declared.FamilyList.the-variants.{Given}
+use Rattle.judge_stages.specs.declared.Reading.{Reading}
+use Rattle.judge_stages.specs.Meaning.Found.{listOf}
+use Rattle.judge_stages.specs.Steps.Found.{admittedRows, readRows, unreadAs, read-silent, first-refuses, first-passes}
+use Rattle.judge_stages.specs.Steps.Facts.{counted, few-orders}
+use Rattle.judge_stages.proofs.read.Statement.{statement}
+use Rattle.judge_stages.proofs.read.Tie as tie
+
+-- the files, and their rows
+abbrev file : tie.Start → List ℕ
+file a = now (a .args .«case»)
+
+abbrev plan : tie.Start → List ℕ
+plan a = now (a .args .proposal)
+
+abbrev of-case : tie.Start → List Row
+of-case a = caseRows (file a) (caseOf (file a))
+
+abbrev of-proposal : tie.Start → List Row
+of-proposal a = proposalRows (file a) (plan a) (caseOf (file a)) (planOf (file a) (plan a)) (pricesOf (file a) (plan a))
+
+abbrev list : tie.Start → Option (List ℕ)
+list a = listOf (a .args .list) (now (a .args .families))
+
+abbrev of-lists : tie.Start → List Row
+of-lists a = admittedRows (list a) (caseOf (file a))
+
+-- A REFUSAL, whose number is not 0
+module _ (s t f : List ℕ) (list : FamilyList) {o : Outcome} (q : refusal (readRows (listOf list f) s t) ≡ some o) where
+  never : {X : Type 0} {v : Outcome} → v ≡ o → v .number ≡ 0 → X
+  never e z = absurd (not-refused 0 (readRows (listOf list f) s t) ((read-silent (listOf list f) s t) .not-0) o q (sym (ap (λ (x : Outcome). x .number) e) ∙ z))
+
+  refused : {r : Reading} → r ≡ unreadAs o → (r .verdict ≡ answer (refusal (readRows (listOf list f) s t)))
+      × ((r .verdict .number ≡ 0 → HourReadFrom s t (r .hour)) × (r .verdict .number ≡ 0 → list ≡ Given → Known f (r .hour .counts .orders)))
+  refused e = let v = ap (λ (f : Reading). f .verdict) e in (v ∙ sym (ap answer q), (never v, never v))
+
+-- 1 TO 8
+read-case-requires : tie.Need-read-case-requires
+read-case-requires c κs = search needs
+
+enum-known-refusal : tie.Need-enum-known-refusal
+enum-known-refusal c = search needs
+
+not-read-requires : tie.Need-not-read-requires
+not-read-requires c κs = search needs
+
+returns : tie.Need-returns
+unfolding caseRefusal
+returns c =
+    let o = c .before .before in
+    let p = o .before .before in
+    let a = p .before .before .before .before in
+    refused (file a) (plan a) (now (a .args .families)) (a .args .list) (first-refuses (of-case a) (of-proposal a ++ of-lists a) _ (case-answer.refused-of (file a) (sym (p .read-case .ensures) ∙ o .refusal .given .1))) (c .not-read .ensures)
+
+enum-known-counts : tie.Need-enum-known-counts
+enum-known-counts c = search needs
+
+abbrev case-entry : tie.After-counts → tie.Start
+case-entry c = c .before .before .before .before .before .before
+
+opened : (c : tie.After-counts) → Opened (file (case-entry c)) (c .counts .given .0 .0)
+opened c = opened-of (file (case-entry c)) (sym (c .before .before .read-case .ensures) ∙ c .counts .given .1)
+
+past-case : (c : tie.After-counts) → let a = case-entry c in refusal (readRows (list a) (file a) (plan a)) ≡ refusal (of-proposal a ++ of-lists a)
+unfolding caseRefusal
+past-case c = let a = case-entry c in first-passes (of-case a) (of-proposal a ++ of-lists a) ((opened c) .readable .none-holds)
+
+-- 9 TO 14
+read-proposal-requires : tie.Need-read-proposal-requires
+read-proposal-requires c κs = opened (c .before)
+
+enum-known-refusal-2 : tie.Need-enum-known-refusal-2
+enum-known-refusal-2 c = search needs
+
+abbrev case-of : tie.After-read-proposal → tie.After-counts
+case-of c = c .before .before
+
+not-read-requires-2 : tie.Need-not-read-requires-2
+not-read-requires-2 c κs = search needs
+
+returns-2 : tie.Need-returns-2
+unfolding proposalRefusal
+returns-2 c =
+    let o = c .before .before in
+    let p = o .before .before in
+    let a = case-entry (case-of p) in
+    refused (file a) (plan a) (now (a .args .families)) (a .args .list)
+    (past-case (case-of p) ∙ first-refuses (of-proposal a) (of-lists a) _ (proposal-answer.refused-of (file a) (plan a) (sym (p .read-proposal .ensures) ∙ o .refusal2 .given .1)))
+    (c .not-read2 .ensures)
+
+enum-known-opening : tie.Need-enum-known-opening
+enum-known-opening c = search needs
+
+-- 15 TO 18
+abbrev read : tie.After-opening → tie.After-read-proposal
+read o = o .before .before
+
+abbrev proposal-entry : tie.After-opening → tie.Start
+proposal-entry o = case-entry (case-of (read o))
+
+sound : (o : tie.After-opening) → proposalAnswer (file (proposal-entry o)) (plan (proposal-entry o)) ≡ proposal.Sound (o .opening .given .0 .0)
+sound o = sym (read o .read-proposal .ensures) ∙ o .opening .given .1
+
+proposed : (o : tie.After-opening) → Proposed (file (proposal-entry o)) (case-of (read o) .counts .given .0 .0) (plan (proposal-entry o))
+proposed o = proposed-of (plan (proposal-entry o)) (opened (case-of (read o))) (sound o)
+
+admit-requires : tie.Need-admit-requires
+admit-requires c κs = few-orders (proposed (c .before))
+
+returns-3 : tie.Need-returns-3
+unfolding proposalRefusal
+returns-3 c =
+    let o = c .before .before in
+    let a = proposal-entry o in
+    let w = proposed o in
+    let h = counted w in (
+      c .admit .ensures .verdict-is (caseOf (file a)) h ∙ sym (ap answer (past-case (case-of (read o)) ∙ first-passes (of-proposal a) (of-lists a) (w .passed))),
+      (λ z. record { proposed = w; opening-is = opening-is (file a) (plan a) (sound o) }, c .admit .ensures .known (caseOf (file a)) h),
+    )
+
+pub read-spec : {M : Type 1} → statement M
+read-spec =
+    tie.close
+    (tie.spec
+    read-case-requires
+    enum-known-refusal
+    not-read-requires
+    enum-known-counts
+    read-proposal-requires
+    enum-known-refusal-2
+    not-read-requires-2
+    enum-known-opening
+    admit-requires
+    returns
+    returns-2
+    returns-3)

@@ -1,0 +1,388 @@
+// THE DRIVER: what the verdict table from row 1 to row 26 finds in an hour. `find_with_families`, at the end, asks three stages in the table's order: `read`
+// (1 to 18), `clear` (21, 28, 22, 27, 23) and `value` (24 to 26). The verdict of a stage is 0 where its rows pass, and a stage may rest on what those before
+// it passed.
+ghost use mathlib.Core.Path.{_≡_};
+ghost use mathlib.Core.Bool.{true, not, cond, _&&_};
+ghost use mathlib.Core.Option.{none, some};
+ghost use Prim.Native.Nat.{ℕ, _<_, _≤_};
+ghost use lib.Dec.{eqb};
+ghost use lib.IntN.{pos};
+ghost use lib.Signed.{ltZ};
+ghost use Rattle.base_integers.specs.Meaning.Ranges.{isZero};
+ghost use Rattle.base_integers.specs.Meaning.Sums.{sumTo};
+ghost use Rattle.base_integers.specs.Meaning.Machine.{SumsFit};
+ghost use Rattle.rules.specs.Meaning.Hour.{caseOf, planOf, pricesOf, net, fbPart};
+ghost use Rattle.rules.specs.Meaning.Hour as rules;
+ghost use Rattle.base_causes.specs.Meaning.Place.{placeOf};
+ghost use Rattle.base_causes.specs.Meaning.Rows.{verdict, failing, refusal, answer};
+ghost use Rattle.rules.specs.Meaning.Verdict.{excessVolume};
+ghost use Rattle.family_list.specs.Meaning.Answer.{Known};
+ghost use Rattle.judge_clearing.specs.Meaning.Held.{tenthsAt};
+ghost use Rattle.judge_clearing.specs.Meaning.Read.{HourReadFrom};
+ghost use Rattle.judge_clearing.specs.Meaning.Stages.{VolumesIn};
+ghost use Rattle.judge_stages.specs.declared.FamilyList.the-variants.{Given};
+ghost use Rattle.judge_stages.specs.Meaning.Found.{Finds, HourCleared, hourRows, listOf};
+ghost use Rattle.judge_stages.specs.Steps.Found.{readRows, clearRows, orderRows, linkAnswer, valueRows, unreadAs, unclearedAs, refusedAs};
+ghost use Rattle.judge_stages.specs.Steps.Listed.{Admitted, listedAnswer, fractionPlace};
+use case_branches::ptdf_table;
+use case_file::CaseAnswer;
+use case_file::read_case;
+use case_header::Counts;
+use judge_clearing::HourRead;
+use judge_clearing::link_sums;
+use judge_clearing::net_sum;
+use judge_clearing::order_sums;
+use family_fractions::first_over_parent;
+use family_list::FamilyAnswer;
+use family_list::read_families;
+use base_measures::Cents;
+use base_measures::Grains;
+use base_measures::Microcents;
+use base_measures::MicrocentsAnswer;
+use base_measures::Share;
+use base_measures::Tenths;
+use judge_network::branch_sums;
+use proposal_file::Opening;
+use proposal_file::ProposalAnswer;
+use proposal_file::read_proposal;
+use report_file::Totals;
+use base_causes::Outcome;
+use base_causes::Place;
+use judge_totals::totals;
+use judge_totals::zone_sums;
+
+// Whether there is a family list (S-11). An enum holds no slice, so the list goes next to this mark, and where it is absent the slice next to it is empty.
+pub enum FamilyList {
+    Given,
+    Absent,
+}
+
+// What `read` answers: the verdict of rows 1 to 18 and, where they pass, what was read.
+struct Reading {
+    verdict: Outcome,
+    hour: HourRead,
+}
+
+// What `clear` answers: the verdict of rows 21, 28, 22, 27 and 23 and, where they pass, net positions, flow-based parts and welfare.
+pub struct Cleared {
+    pub verdict: Outcome,
+    pub nets: [Tenths; 16],
+    pub parts: [Tenths; 16],
+    pub welfare: Microcents,
+}
+
+// The verdict and, of an hour that is valued, which is one of verdict 0 or 26, what was read, its clearing, prices and totals. What `clear` answered is kept
+// whole: its arrays are copied once.
+pub struct Found {
+    pub verdict: Outcome,
+    pub valued: bool,
+    pub hour: HourRead,
+    pub cleared: Cleared,
+    pub prices: [Grains; 16],
+    pub totals: Totals,
+}
+
+// What the rows of a stage answer that all pass.
+const PASSED: Outcome = Outcome {
+    number: 0,
+    index: 0,
+};
+
+const NOTHING_READ: HourRead = HourRead {
+    counts: Counts {
+        version: 0,
+        zones: 0,
+        branches: 0,
+        links: 0,
+        orders: 0,
+        tolerance: Microcents::ZERO,
+    },
+    opening: Opening {
+        share: Share::LEAST,
+        system: Cents::SHADOW_PRICE_LEAST,
+    },
+};
+
+const NO_TOTALS: Totals = Totals {
+    welfare: Microcents::ZERO,
+    bound: Microcents::ZERO,
+    gap: Microcents::ZERO,
+    rent: Microcents::ZERO,
+    owed: Microcents::ZERO,
+};
+
+// Refused before anything is cleared.
+fn uncleared(verdict: Outcome) -> Cleared
+    ensures { λ r. ⌜ r ≡ unclearedAs verdict ⌝ }
+{
+    Cleared {
+        verdict,
+        nets: [Tenths::ZERO; 16],
+        parts: [Tenths::ZERO; 16],
+        welfare: Microcents::ZERO,
+    }
+}
+
+// Refused, so that there is nothing to report.
+fn refused_by(verdict: Outcome) -> Found
+    ensures { λ r. ⌜ r ≡ refusedAs verdict ⌝ }
+{
+    let cleared = uncleared(verdict);
+    Found {
+        verdict,
+        valued: false,
+        hour: NOTHING_READ,
+        cleared,
+        prices: [Grains::ZERO; 16],
+        totals: NO_TOTALS,
+    }
+}
+
+// A row that fails at a place.
+fn outcome(number: u32, place: usize) -> Outcome
+    requires { ⌜ place < 4294967296 ⌝ }
+    ensures { λ r. ⌜ r ≡ verdict number place ⌝ }
+{
+    Outcome {
+        number,
+        index: place as u32,
+    }
+}
+
+// Rows 16 to 18, where there is a family list.
+fn read_with_families(families: &[u8], list: FamilyList, orders: usize) -> FamilyAnswer
+    requires { ⌜ orders ≤ 512 ⌝ }
+    ensures { λ r. ⌜ r ≡ listedAnswer list (now (families .entry)) orders ⌝ }
+{
+    match list {
+        FamilyList::Given => read_families(families, orders),
+        FamilyList::Absent => FamilyAnswer::Sound,
+    }
+}
+
+// Rows 15 to 18: a tolerance too wide to be accepted (S-12), and the family list.
+fn admit(k: Counts, families: &[u8], list: FamilyList) -> Outcome
+    requires { ⌜ k .orders ≤ 512 ⌝ }
+    ensures { λ r. ⌜ Admitted k list (now (families .entry)) r ⌝ }
+{
+    let tolerance = k.tolerance;
+    let MicrocentsAnswer::Held(_) = tolerance.accepted_tolerance() else {
+        return outcome(15, 0);
+    };
+    match read_with_families(families, list, k.orders) {
+        FamilyAnswer::Refused(refusal) => refusal,
+        FamilyAnswer::Sound => PASSED,
+    }
+}
+
+fn not_read(verdict: Outcome) -> Reading
+    ensures { λ r. ⌜ r ≡ unreadAs verdict ⌝ }
+{
+    Reading {
+        verdict,
+        hour: NOTHING_READ,
+    }
+}
+
+// ROWS 1 TO 18: the case, the proposal, and what is asked of them and the family list alone.
+fn read(case: &[u8], proposal: &[u8], families: &[u8], list: FamilyList) -> Reading
+    ensures verdict { λ r. ⌜ r .verdict ≡ answer (refusal (readRows (listOf list (now (families .entry))) (now («case» .entry)) (now (proposal .entry)))) ⌝ }
+    ensures hour { λ r. ⌜ (r .verdict .number ≡ 0 → HourReadFrom (now («case» .entry)) (now (proposal .entry)) (r .hour)) ⌝ }
+    ensures families { λ r. ⌜ (r .verdict .number ≡ 0 → list ≡ Given → Known (now (families .entry)) (r .hour .counts .orders)) ⌝ }
+{
+    // Reborrow: handed on as it came, the slice is reloaded by 16 bytes right after it was stored by 8 and 8, for which the processor waits.
+    match read_case(&case[..]) {
+        CaseAnswer::Refused(refusal) => not_read(refusal),
+        CaseAnswer::Readable(counts) => match read_proposal(case, counts, proposal) {
+            ProposalAnswer::Refused(refusal) => not_read(refusal),
+            ProposalAnswer::Sound(opening) => Reading {
+                verdict: admit(counts, families, list),
+                hour: HourRead { counts, opening },
+            },
+        },
+    }
+}
+
+// Row 28, where there is a family list.
+fn first_over(
+    case: &[u8],
+    proposal: &[u8],
+    families: &[u8],
+    list: FamilyList,
+    hour: HourRead,
+) -> Place
+    requires { ⌜ HourReadFrom (now «case») (now proposal) hour ⌝ }
+    requires { ⌜ VolumesIn (caseOf (now «case»)) (planOf (now «case») (now proposal)) ⌝ }
+    requires { ⌜ (list ≡ Given → Known (now families) (hour .counts .orders)) ⌝ }
+    ensures { λ r. ⌜ placeOf r ≡ fractionPlace (listOf list (now (families .entry))) (caseOf (now («case» .entry))) (planOf (now («case» .entry)) (now (proposal .entry))) ⌝ }
+{
+    let k = hour.counts;
+    match list {
+        FamilyList::Given => first_over_parent(case, k, proposal, families),
+        FamilyList::Absent => Place::Nowhere,
+    }
+}
+
+// Rows 21 and 28, of the orders: the first volume above its quantity, and the families.
+fn order_verdict(
+    case: &[u8],
+    proposal: &[u8],
+    families: &[u8],
+    list: FamilyList,
+    hour: HourRead,
+    excess: Place,
+) -> Outcome
+    requires { ⌜ HourReadFrom (now «case») (now proposal) hour ⌝ }
+    requires { ⌜ (list ≡ Given → Known (now families) (hour .counts .orders)) ⌝ }
+    requires { ⌜ placeOf excess ≡ failing (excessVolume (caseOf (now «case»)) (planOf (now «case») (now proposal))) ⌝ }
+    ensures verdict { λ r. ⌜ r ≡ answer (refusal (orderRows (listOf list (now (families .entry))) (caseOf (now («case» .entry))) (planOf (now («case» .entry)) (now (proposal .entry))))) ⌝ }
+    ensures volumes { λ r. ⌜ (r .number ≡ 0 → placeOf excess ≡ none) ⌝ }
+{
+    if let Place::At(i) = excess {
+        return outcome(21, i);
+    }
+    let over = first_over(case, proposal, families, list, hour);
+    if let Place::At(i) = over {
+        return outcome(28, i);
+    }
+    PASSED
+}
+
+// Row 27 (S-6): a share of the LTA domain, which an hour without links does not have.
+fn share_without_link(links: usize, share: Share) -> bool
+    ensures { λ r. ⌜ r ≡ (eqb links 0 && ltZ (pos 0) (share .0)) ⌝ }
+{
+    if links == 0 {
+        return share.is_above_zero();
+    }
+    false
+}
+
+// Rows 22, 27 and 23: the balance, the share without links, and the first link that is overused.
+fn link_verdict(hour: HourRead, nets: [Tenths; 16], overused: Place) -> Outcome
+    requires { ⌜ hour .counts .zones ≤ 16 ⌝ }
+    requires { ⌜ SumsFit (λ z. tenthsAt nets z) (hour .counts .zones) ⌝ }
+    requires { ⌜ ((l : ℕ) → placeOf overused ≡ some l → l < 4294967296) ⌝ }
+    ensures { λ r. ⌜ r ≡ linkAnswer (not (isZero (sumTo (hour .counts .zones) (λ z. tenthsAt nets z)))) (eqb (hour .counts .links) 0 && ltZ (pos 0) (hour .opening .share .0)) (placeOf overused) ⌝ }
+{
+    let k = hour.counts;
+    let share = hour.opening.share;
+    let unbalanced = !net_sum(nets, k.zones).is_zero();
+    let no_domain = share_without_link(k.links, share);
+    if unbalanced {
+        return outcome(22, 0);
+    }
+    if no_domain {
+        return outcome(27, 0);
+    }
+    if let Place::At(l) = overused {
+        return outcome(23, l);
+    }
+    PASSED
+}
+
+// ROWS 21, 28, 22, 27 AND 23: the orders and the links, with net positions, flow-based parts and welfare.
+fn clear(case: &[u8], proposal: &[u8], families: &[u8], list: FamilyList, hour: HourRead) -> Cleared
+    requires { ⌜ HourReadFrom (now «case») (now proposal) hour ⌝ }
+    requires { ⌜ (list ≡ Given → Known (now families) (hour .counts .orders)) ⌝ }
+    ensures verdict { λ r. ⌜ r .verdict ≡ answer (refusal (clearRows (listOf list (now (families .entry))) (caseOf (now («case» .entry))) (planOf (now («case» .entry)) (now (proposal .entry))))) ⌝ }
+    ensures cleared { λ r. ⌜ (r .verdict .number ≡ 0 → HourCleared (caseOf (now («case» .entry))) (planOf (now («case» .entry)) (now (proposal .entry))) r) ⌝ }
+{
+    // 21, the volumes; 28, the families.
+    let accepted = order_sums(case, proposal, hour);
+    let excess = accepted.excess;
+    let unfilled = order_verdict(case, proposal, families, list, hour, excess);
+    if unfilled.number != 0 {
+        return uncleared(unfilled);
+    }
+    let nets = accepted.nets;
+    // 22, the balance; 27, the share without links; 23, the links.
+    let exchange = link_sums(case, proposal, hour, nets);
+    let overused = exchange.overused;
+    let verdict = link_verdict(hour, nets, overused);
+    let parts = exchange.parts;
+    let welfare = accepted.welfare;
+    Cleared {
+        verdict,
+        nets,
+        parts,
+        welfare,
+    }
+}
+
+// Row 26: its number where the gap exceeds the tolerance, else 0.
+fn gap_verdict(gap: Microcents, tolerance: Microcents) -> u32
+    ensures { λ r. ⌜ r ≡ cond (ltZ (tolerance .0) (gap .0)) 26 0 ⌝ }
+{
+    if gap.exceeds(tolerance) { 26 } else { 0 }
+}
+
+// ROWS 24 TO 26: the branches, the zone prices and the gap, with all that is found in an hour that is valued.
+fn value(case: &[u8], proposal: &[u8], hour: HourRead, cleared: Cleared) -> Found
+    requires { ⌜ HourReadFrom (now «case») (now proposal) hour ⌝ }
+    requires { ⌜ HourCleared (caseOf (now «case»)) (planOf (now «case») (now proposal)) cleared ⌝ }
+    ensures { λ r. ⌜ Finds (valueRows (caseOf (now («case» .entry))) (planOf (now («case» .entry)) (now (proposal .entry))) (pricesOf (now («case» .entry)) (now (proposal .entry)))) (now («case» .entry)) (now (proposal .entry)) r ⌝ }
+{
+    let k = hour.counts;
+    let nets = cleared.nets;
+    let parts = cleared.parts;
+    let table = ptdf_table(case, k);
+    let branches = branch_sums(case, proposal, hour, table, parts);
+    let overloaded = branches.overloaded;
+    if let Place::At(m) = overloaded {
+        return refused_by(outcome(24, m));
+    }
+    let prices = branches.prices;
+    let zoned = zone_sums(nets, prices, k.zones);
+    let outside = zoned.outside;
+    if let Place::At(z) = outside {
+        return refused_by(outcome(25, z));
+    }
+    let totals = totals(
+        case,
+        proposal,
+        hour,
+        cleared.welfare,
+        prices,
+        branches.total,
+        zoned.rent,
+    );
+    let gap = totals.gap;
+    let number = gap_verdict(gap, k.tolerance);
+    Found {
+        verdict: Outcome { number, index: 0 },
+        valued: true,
+        hour,
+        cleared,
+        prices,
+        totals,
+    }
+}
+
+// The hour, from its first byte: the table's rows top to bottom, stage by stage.
+pub fn find_with_families(case: &[u8], proposal: &[u8], families: &[u8], list: FamilyList) -> Found
+    ensures { λ r. ⌜ Finds (hourRows (listOf list (now (families .entry))) (now («case» .entry)) (now (proposal .entry))) (now («case» .entry)) (now (proposal .entry)) r ⌝ }
+{
+    // 1 to 8, the case; 9 to 14, the proposal; 15, the tolerance; 16 to 18, the family list where there is one (S-11).
+    let reading = read(case, proposal, families, list);
+    let unread = reading.verdict;
+    if unread.number != 0 {
+        return refused_by(unread);
+    }
+    let hour = reading.hour;
+    // 21, the volumes; 28, the families; 22, the balance; 27, the share without links; 23, the links.
+    let cleared = clear(case, proposal, families, list, hour);
+    let not_cleared = cleared.verdict;
+    if not_cleared.number != 0 {
+        return refused_by(not_cleared);
+    }
+    // 24, the branches; 25, the zone prices; 26, the gap.
+    value(case, proposal, hour, cleared)
+}
+
+// The same without a family list.
+pub fn find(case: &[u8], proposal: &[u8]) -> Found
+    ensures { λ r. ⌜ Finds (hourRows none (now («case» .entry)) (now (proposal .entry))) (now («case» .entry)) (now (proposal .entry)) r ⌝ }
+{
+    find_with_families(case, proposal, &case[..0], FamilyList::Absent)
+}

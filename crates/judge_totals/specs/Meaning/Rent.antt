@@ -1,0 +1,18 @@
+-- The rent fits as far as the prices lie within their limits. Assumes nothing.
+use mathlib.Core.Path.{_≡_}
+use mathlib.Core.List.{List}
+use mathlib.Core.Option.{none}
+use Prim.Native.Nat.{ℕ, _≤_}
+use lib.IntN.{_*ℤ_}
+use Rattle.base_integers.specs.Meaning.Ranges.{outside}
+use Rattle.base_integers.specs.Meaning.Machine.{SumsFit}
+use Rattle.base_measures.specs.Meaning.Limits as limits
+use Rattle.base_measures.specs.declared.Tenths.{Tenths}
+use Rattle.base_measures.specs.declared.Grains.{Grains}
+use Rattle.base_causes.specs.Meaning.Rows.{firstBelow}
+use Rattle.judge_clearing.specs.Meaning.Held.{tenthsAt}
+use Rattle.judge_network.specs.Meaning.Prices.{grainsAt}
+
+-- of the first n zones, where none of their prices lies outside its limits
+pub record RentFits (nets : List Tenths) (prices : List Grains) (zones : ℕ) : Type 0 where
+  pub sums : (n : ℕ) → n ≤ zones → firstBelow n (λ z. outside limits.zonePrice (grainsAt prices z)) ≡ none → SumsFit (λ z. tenthsAt nets z *ℤ grainsAt prices z) n

@@ -1,0 +1,87 @@
+-- WHAT THE ENTRY ANSWERS (S-14): of an accepted hour its shortfalls, each as two numbers, whole microcents and the hundred-thousandths of one past them.
+-- An hour that is not accepted is answered as the judgement answers it, with room enough for a report, so that 30 does not occur. Assumes nothing.
+use mathlib.Core.Path.{_≡_}
+use mathlib.Core.List.{List, [], _∷_, _++_}
+use mathlib.Core.Option.{Option, none, some}
+use Prim.Native.Nat.{ℕ, zero, suc, _+_, _*_, _/_, _%_, _<_}
+use lib.ListN.{length, getD, drop}
+use lib.IntN.{ℤ, pos, natAbs, _+ℤ_, _*ℤ_}
+use lib.Signed.{_≤ℤ_}
+use mir.Syntax.{w64}
+use mir.Val.{SFits}
+use Rattle.base_integers.specs.Meaning.Sums.{sumTo}
+use Rattle.base_measures.specs.Meaning.Limits.{partsInOne}
+use Rattle.base_causes.specs.declared.Outcome.{Outcome}
+use Rattle.base_causes.specs.Meaning.Rows.{Row, refusal, answer, once}
+use Rattle.rules.specs.Meaning.Layout.{reportRoom}
+use Rattle.rules.specs.Meaning.Hour.{Case, Plan, Prices, caseOf, planOf, pricesOf, gap}
+use Rattle.rules.specs.Meaning.Verdict.{under, table}
+use Rattle.short_rules.specs.Meaning.Shortfalls.{orderShortfall, branchShortfall, linkShortfall}
+
+-- TWO NUMBERS for a shortfall, which is never negative, so that whole microcents can be read off; and as one it would fit 64 bits only by the tolerance's limit
+unfoldable pub wholeOf : ℤ → ℤ
+wholeOf x = pos (natAbs x / partsInOne)
+
+unfoldable pub partsOf : ℤ → ℤ
+partsOf x = pos (natAbs x % partsInOne)
+
+-- those of n shortfalls, in order
+unfoldable pub pairsTo : ℕ → (ℕ → ℤ) → List ℤ
+pairsTo zero f = []
+pairsTo (suc n) f = pairsTo n f ++ (wholeOf (f n) ∷ partsOf (f n) ∷ [])
+
+-- each order, then each branch, then each link, in file order
+unfoldable pub shortfallNumbers : Case → Plan → Prices → List ℤ
+shortfallNumbers c p d =
+    pairsTo (c .orders) (λ i. orderShortfall c p d i)
+    ++ (pairsTo (c .branches) (λ m. branchShortfall c p d m)
+    ++ pairsTo (c .links) (λ l. linkShortfall c p d l))
+
+-- so many of them
+unfoldable pub shortfallCount : Case → ℕ
+shortfallCount c = c .orders + c .branches + c .links
+
+-- THE TABLE, for a case s, a proposal t and an output of `room` numbers: the verdict table, and then 86: the output is too short
+unfoldable pub shortfallRows : List ℕ → List ℕ → ℕ → List Row
+shortfallRows s t room = table none s t reportRoom (caseOf s) (planOf s t) (pricesOf s t) ++ (once 86 (under (2 * shortfallCount (caseOf s)) room) ∷ [])
+
+unfoldable pub shortfallOutcome : List ℕ → List ℕ → ℕ → Outcome
+shortfallOutcome s t room = answer (refusal (shortfallRows s t room))
+
+-- what is written, or for a refusal nothing; the output afterwards, and past what is written as it was
+abbrev pub writtenBy : Option Outcome → List ℤ → List ℤ
+writtenBy (some o) numbers = []
+writtenBy none numbers = numbers
+
+unfoldable pub shortfallWritten : List ℕ → List ℕ → ℕ → List ℤ
+shortfallWritten s t room = writtenBy (refusal (shortfallRows s t room)) (shortfallNumbers (caseOf s) (planOf s t) (pricesOf s t))
+
+unfoldable pub shortfallOutput : List ℕ → List ℕ → List ℤ → List ℤ
+shortfallOutput s t out = let w = shortfallWritten s t (length out) in w ++ drop (length w) out
+
+-- READ BACK: the n-th pair of an output
+unfoldable pub wholeAt : List ℤ → ℕ → ℤ
+wholeAt out n = getD out (2 * n) (pos 0)
+
+unfoldable pub partsAt : List ℤ → ℕ → ℤ
+partsAt out n = getD out (2 * n + 1) (pos 0)
+
+unfoldable pub shortfallAt : List ℤ → ℕ → ℤ
+shortfallAt out n = wholeAt out n *ℤ pos partsInOne +ℤ partsAt out n
+
+-- WHAT IS PROMISED OF AN ANSWER
+pub record Answers (c : Case) (p : Plan) (d : Prices) (out : List ℤ) : Type 0 where
+  -- each pair is its order's, branch's or link's shortfall
+  pub order-is : (i : ℕ) → i < c .orders → shortfallAt out i ≡ orderShortfall c p d i
+  pub branch-is : (m : ℕ) → m < c .branches → shortfallAt out (c .orders + m) ≡ branchShortfall c p d m
+  pub link-is : (l : ℕ) → l < c .links → shortfallAt out (c .orders + c .branches + l) ≡ linkShortfall c p d l
+  -- with parts of one microcent, none of an order or a branch, and a whole that fits 64 bits
+  pub order-whole : (i : ℕ) → i < c .orders → partsAt out i ≡ pos 0
+  pub branch-whole : (m : ℕ) → m < c .branches → partsAt out (c .orders + m) ≡ pos 0
+  pub parts-in : (n : ℕ) → n < shortfallCount c → (pos 0 ≤ℤ partsAt out n) × (partsAt out n ≤ℤ pos 99999)
+  pub whole-in : (n : ℕ) → n < shortfallCount c → (pos 0 ≤ℤ wholeAt out n) × (wholeAt out n ≤ℤ gap c p d)
+  pub whole-fits : (n : ℕ) → n < shortfallCount c → SFits w64 (wholeAt out n)
+  -- none is negative, all together are at most the gap, and at gap zero each number is zero
+  pub none-negative : (n : ℕ) → n < shortfallCount c → pos 0 ≤ℤ shortfallAt out n
+  pub together : sumTo (shortfallCount c) (λ n. shortfallAt out n) ≤ℤ (pos partsInOne *ℤ gap c p d)
+  pub all-zero : gap c p d ≡ pos 0 → (n : ℕ) → n < shortfallCount c → (wholeAt out n ≡ pos 0) × (partsAt out n ≡ pos 0)

@@ -1,0 +1,80 @@
+-- `text_lines::put_lines` meets its contract: the verdict's line, and of an hour that is valued the lines of what was
+-- found. Assumes nothing.
+use mathlib.Core.Path.{_≡_, sym, ap}
+use mathlib.Core.List.{List}
+use mathlib.Core.Option.{none}
+use Prim.Native.Nat.{ℕ}
+use native.Mathlib.Omega.{arith}
+use lib.ListN.{length, length-append}
+use Rattle.text_decimal.specs.Steps.Put.{put-as, put-length, put-then}
+use Rattle.rules.specs.Meaning.Lines.{verdictLine}
+use Rattle.judge_stages.specs.Meaning.Found.{Finds, hourRows}
+use Rattle.text_lines.specs.Steps.Judged.{verdict-found, line-found, lines-found}
+use Rattle.text_lines.specs.Promised.Room.{first-room, hour-room}
+use Rattle.base_causes.specs.declared.Outcome.{Outcome}
+use borrow.Author.Needs.{needs}
+use Rattle.text_lines.proofs.put_lines.Statement.{statement}
+use Rattle.text_lines.proofs.put_lines.Tie as tie
+
+abbrev start : tie.After-find → tie.Start
+start c = c .before .before .before .before
+
+abbrev file : tie.After-find → List ℕ
+file c = start c .args .«case» .now
+
+abbrev plan : tie.After-find → List ℕ
+plan c = start c .args .proposal .now
+
+found : (c : tie.After-find) → Finds (hourRows none (file c) (plan c)) (file c) (plan c) (c .find .result)
+found c = c .find .ensures
+
+find-requires : tie.Need-find-requires
+find-requires c κs = search needs
+
+put-verdict-requires : tie.Need-put-verdict-requires
+put-verdict-requires c κs =
+    let f = c .before .before in
+    omega (arith, ap (λ (o : Outcome). length (verdictLine o)) (verdict-found (found f)), first-room (file f) (plan f), start f .pre)
+
+-- the driver's answer before the first line
+abbrev driven : tie.After-put-verdict → tie.After-find
+driven c = c .before .before .before
+
+put-hour-requires : tie.Need-put-hour-requires
+put-hour-requires c κs =
+    let test = c .before .before .before in
+    let v = test .before .before .before in
+    let f = driven v in
+    let p = v .put-verdict .ensures in
+    let text = lines-found (found f) (test .if1 .taken) in
+    ((found f) .few-zones, omega (arith, simp length-append at (ap length text), hour-room (file f) (plan f), p .position, put-length p, start f .pre))
+
+same-length : tie.Need-same-length
+same-length c = search needs
+
+returns : tie.Need-returns
+returns c =
+    let h = c .before .before in
+    let test = h .before .before .before .before in
+    let v = test .before .before .before in
+    put-as (lines-found (found (driven v)) (test .if1 .taken)) (put-then (v .put-verdict .ensures) (h .put-hour .ensures))
+
+same-length-2 : tie.Need-same-length-2
+same-length-2 c = search needs
+
+returns-2 : tie.Need-returns-2
+returns-2 c =
+    let v = c .before .before .before in
+    put-as (line-found (found (driven v)) (c .if1 .left)) (v .put-verdict .ensures)
+
+pub put-lines-spec : {M : Type 1} → statement M
+put-lines-spec =
+    tie.close
+    (tie.spec
+    find-requires
+    put-verdict-requires
+    put-hour-requires
+    same-length
+    returns
+    same-length-2
+    returns-2)

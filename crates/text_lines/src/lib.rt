@@ -1,0 +1,176 @@
+// The lines of text that the desk prints for one input: it is cut into case and proposal, judged, and the lines are
+// put into a lent buffer, from the totals and prices that the driver finds.
+ghost use mathlib.Core.Path.{_≡_};
+ghost use mathlib.Core.List.{_++_};
+ghost use Prim.Native.Nat.{_+_, _≤_};
+ghost use lib.ListN.{length, take};
+ghost use Rattle.text_decimal.specs.Meaning.Ascii.{ascii};
+ghost use Rattle.text_decimal.specs.Meaning.Text.{countText};
+ghost use Rattle.text_decimal.specs.Meaning.Put.{Put};
+ghost use Rattle.base_causes.specs.Meaning.Rows.{verdict};
+ghost use Rattle.rules.specs.Meaning.Verdict.{under};
+ghost use Rattle.rules.specs.Meaning.Cut.{caseEnd};
+ghost use Rattle.rules.specs.Meaning.Lines.{verdictLine, totalLine, totalLines, priceLine, priceLines, hourLines, hourText};
+ghost use Rattle.report_file.specs.Meaning.Written.{totalsIn, priceIn};
+ghost use Rattle.text_lines.specs.Meaning.Printed.{deskRoom, deskOutcome, deskWritten, deskOutput};
+ghost use Rattle.text_lines.specs.Promised.PlainText.{PlainText};
+use case_header::HeaderAnswer;
+use case_header::read_header;
+use text_decimal::put_count;
+use text_decimal::put_money;
+use text_decimal::put_price;
+use judge_stages::find;
+use base_measures::Grains;
+use base_measures::Microcents;
+use base_output::Written;
+use base_output::refused;
+use report_file::Totals;
+use base_causes::Outcome;
+
+// A text as it stands.
+fn put_text(out: &mut [u8], at: usize, text: &[u8]) -> usize
+    requires { ⌜ at + length (now text) ≤ length (now out) ⌝ }
+    ensures { λ r. ⌜ Put (now (out .entry)) at (now (text .entry)) (now (out .exit)) r ⌝ }
+{
+    let mut i = 0;
+    while i < text.len() {
+        out[at + i] = text[i];
+        i += 1;
+    }
+    at + text.len()
+}
+
+// A line's name, a count and a space.
+fn put_named(out: &mut [u8], at: usize, name: &[u8], n: u64) -> usize
+    requires { ⌜ at + length (now name ++ countText n ++ ascii " ") ≤ length (now out) ⌝ }
+    ensures { λ r. ⌜ Put (now (out .entry)) at (now (name .entry) ++ countText n ++ ascii " ") (now (out .exit)) r ⌝ }
+{
+    let count = put_text(out, at, name);
+    let end = put_count(out, count, n);
+    put_text(out, end, b" ")
+}
+
+// First line: number, index.
+fn put_verdict(out: &mut [u8], at: usize, v: Outcome) -> usize
+    requires { ⌜ at + length (verdictLine v) ≤ length (now out) ⌝ }
+    ensures { λ r. ⌜ Put (now (out .entry)) at (verdictLine v) (now (out .exit)) r ⌝ }
+{
+    let index = put_named(out, at, b"verdict ", v.number as u64);
+    let end = put_count(out, index, v.index as u64);
+    put_text(out, end, b"\n")
+}
+
+// A total's name, and its amount in euros.
+fn put_total(out: &mut [u8], at: usize, name: &[u8], total: Microcents) -> usize
+    requires { ⌜ at + length (totalLine (now name) (total .0)) ≤ length (now out) ⌝ }
+    ensures { λ r. ⌜ Put (now (out .entry)) at (totalLine (now (name .entry)) (total .0)) (now (out .exit)) r ⌝ }
+{
+    let amount = put_text(out, at, name);
+    let end = put_money(out, amount, total.bits());
+    put_text(out, end, b"\n")
+}
+
+fn put_totals(out: &mut [u8], at: usize, totals: Totals) -> usize
+    requires { ⌜ at + length (totalLines (totalsIn totals)) ≤ length (now out) ⌝ }
+    ensures { λ r. ⌜ Put (now (out .entry)) at (totalLines (totalsIn totals)) (now (out .exit)) r ⌝ }
+{
+    let bound = put_total(out, at, b"welfare ", totals.welfare);
+    let gap = put_total(out, bound, b"bound ", totals.bound);
+    let rent = put_total(out, gap, b"gap ", totals.gap);
+    let owed = put_total(out, rent, b"rent ", totals.rent);
+    put_total(out, owed, b"owed ", totals.owed)
+}
+
+// A zone, and its price in euros per MWh.
+fn put_zone(out: &mut [u8], at: usize, zone: usize, price: Grains) -> usize
+    requires { ⌜ at + length (priceLine zone (price .0)) ≤ length (now out) ⌝ }
+    ensures { λ r. ⌜ Put (now (out .entry)) at (priceLine zone (price .0)) (now (out .exit)) r ⌝ }
+{
+    let amount = put_named(out, at, b"price ", zone as u64);
+    let end = put_price(out, amount, price.bits());
+    put_text(out, end, b"\n")
+}
+
+fn put_prices(out: &mut [u8], at: usize, zones: usize, prices: [Grains; 16]) -> usize
+    requires { ⌜ zones ≤ 16 ⌝ }
+    requires { ⌜ at + length (priceLines zones (priceIn prices)) ≤ length (now out) ⌝ }
+    ensures { λ r. ⌜ Put (now (out .entry)) at (priceLines zones (priceIn prices)) (now (out .exit)) r ⌝ }
+{
+    let mut next = at;
+    for z in 0..zones {
+        next = put_zone(out, next, z, prices[z]);
+    }
+    next
+}
+
+// The lines after the first.
+fn put_hour(out: &mut [u8], at: usize, zones: usize, totals: Totals, prices: [Grains; 16]) -> usize
+    requires { ⌜ zones ≤ 16 ⌝ }
+    requires { ⌜ at + length (hourLines zones (totalsIn totals) (priceIn prices)) ≤ length (now out) ⌝ }
+    ensures { λ r. ⌜ Put (now (out .entry)) at (hourLines zones (totalsIn totals) (priceIn prices)) (now (out .exit)) r ⌝ }
+{
+    let first_price = put_totals(out, at, totals);
+    put_prices(out, first_price, zones, prices)
+}
+
+// All lines for a case and a proposal.
+fn put_lines(case: &[u8], proposal: &[u8], out: &mut [u8]) -> usize
+    requires { ⌜ deskRoom ≤ length (now out) ⌝ }
+    ensures { λ r. ⌜ Put (now (out .entry)) 0 (hourText (now («case» .entry)) (now (proposal .entry))) (now (out .exit)) r ⌝ }
+{
+    let found = find(case, proposal);
+    let verdict = found.verdict;
+    let at = put_verdict(out, 0, verdict);
+    if found.valued {
+        let totals = found.totals;
+        let prices = found.prices;
+        return put_hour(out, at, found.hour.counts.zones, totals, prices);
+    }
+    at
+}
+
+// Where the case ends and the proposal begins. The driver reads the header again: handed on by value it would be copied
+// by sixteen bytes that were written by eight, for which the processor waits longer than the reading takes.
+fn cut(input: &[u8]) -> usize
+    ensures { λ r. ⌜ r ≡ caseEnd (now (input .entry)) ⌝ }
+{
+    let HeaderAnswer::Good(counts, _) = read_header(input) else {
+        return input.len();
+    };
+    let end = counts.demanded();
+    if input.len() < end {
+        return input.len();
+    }
+    end
+}
+
+// The room that the lines of every input have.
+pub const ROOM: usize = layout::DESK_ROOM;
+
+// Whether an output is too short for them.
+fn too_short(room: usize) -> bool
+    ensures { λ r. ⌜ r ≡ under deskRoom room ⌝ }
+{
+    room < ROOM
+}
+
+// The lines for an input, at the start of `out`, and how many bytes they are; or, where `out` has less than that
+// room, the refusal by 31, with length 0 and `out` as it was.
+pub fn lines(input: &[u8], out: &mut [u8]) -> Written
+    ensures outcome { λ r. ⌜ verdict (r .number) (r .index) ≡ deskOutcome (length (now (out .entry))) ⌝ }
+    ensures length { λ r. ⌜ r .length ≡ length (deskWritten (length (now (out .entry))) (now (input .entry))) ⌝ }
+    ensures output { λ r. ⌜ now (out .exit) ≡ deskOutput (now (input .entry)) (now (out .entry)) ⌝ }
+    ensures within { λ r. ⌜ (r .length ≤ length (now (out .exit))) × (r .length ≡ length (take (r .length) (now (out .exit)))) ⌝ }
+    ensures text { λ r. ⌜ (1024 ≤ length (now (out .entry)) → PlainText (now (input .entry)) (take (r .length) (now (out .exit)))) ⌝ }
+{
+    if too_short(out.len()) {
+        return refused(31, 0);
+    }
+    let end = cut(input);
+    let length = put_lines(&input[..end], &input[end..], out);
+    Written {
+        number: 0,
+        index: 0,
+        length,
+    }
+}
