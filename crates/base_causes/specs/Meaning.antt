@@ -1,3 +1,3 @@
 -- THE MEANING of a table of causes
-pub mod Rows
+pub mod Causes
 pub mod Place

@@ -1,4 +1,4 @@
 -- WHAT HOLDS of every such table: what is answered is the first row that fails, and nothing for another cause
 pub mod Asked
-pub mod RowLaws
+pub mod CauseLaws
 pub mod InFileOrder

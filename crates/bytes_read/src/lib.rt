@@ -82,14 +82,14 @@ fn wide(x: u8) -> u32
 }
 
 // A FIELD THAT IS THERE, by its offset.
-pub fn byte_at(s: &[u8], at: usize) -> u8
+pub fn u8_at(s: &[u8], at: usize) -> u8
     requires { ⌜ at + 1 ≤ length (now s) ⌝ }
     ensures { λ r. ⌜ r ≡ u8At (now (s .entry)) at ⌝ }
 {
     s[at]
 }
 
-pub fn half_at(s: &[u8], at: usize) -> u32
+pub fn u16_at(s: &[u8], at: usize) -> u32
     requires { ⌜ at + 2 ≤ length (now s) ⌝ }
     ensures { λ r. ⌜ r ≡ u16At (now (s .entry)) at ⌝ }
     ensures { λ r. ⌜ r < 65536 ⌝ }
@@ -97,7 +97,7 @@ pub fn half_at(s: &[u8], at: usize) -> u32
     wide(s[at]) + 256 * wide(s[at + 1])
 }
 
-pub fn word_at(s: &[u8], at: usize) -> u32
+pub fn u32_at(s: &[u8], at: usize) -> u32
     requires { ⌜ at + 4 ≤ length (now s) ⌝ }
     ensures { λ r. ⌜ r ≡ u32At (now (s .entry)) at ⌝ }
 {
@@ -107,12 +107,12 @@ pub fn word_at(s: &[u8], at: usize) -> u32
 }
 
 // Two words of 32 bits, the low one first.
-fn long_at(s: &[u8], at: usize) -> u64
+fn u64_at(s: &[u8], at: usize) -> u64
     requires { ⌜ at + 8 ≤ length (now s) ⌝ }
     ensures { λ r. ⌜ r ≡ u64At (now (s .entry)) at ⌝ }
 {
-    let low = word_at(s, at);
-    let high = word_at(s, at + 4);
+    let low = u32_at(s, at);
+    let high = u32_at(s, at + 4);
     (low as u64) + layout::WORD_VALUES * (high as u64)
 }
 
@@ -127,18 +127,18 @@ fn signed(v: u32) -> i32
 }
 
 // 32 signed bits as they are, and as a number of no measure yet.
-pub fn entry_at(s: &[u8], at: usize) -> i32
+pub fn i32_at(s: &[u8], at: usize) -> i32
     requires { ⌜ at + 4 ≤ length (now s) ⌝ }
     ensures { λ r. ⌜ r ≡ i32At (now (s .entry)) at ⌝ }
 {
-    signed(word_at(s, at))
+    signed(u32_at(s, at))
 }
 
-pub fn signed_at(s: &[u8], at: usize) -> Raw
+pub fn raw_i32_at(s: &[u8], at: usize) -> Raw
     requires { ⌜ at + 4 ≤ length (now s) ⌝ }
     ensures { λ r. ⌜ r .0 ≡ i32At (now (s .entry)) at ⌝ }
 {
-    Raw::signed(entry_at(s, at))
+    Raw::signed(i32_at(s, at))
 }
 
 // Whether a field of so many bytes stands there.
@@ -208,7 +208,7 @@ impl Cursor {
         if !field_fits(s, at, 1) {
             return ByteField::Short;
         }
-        ByteField::Taken(byte_at(s, at), Cursor { at: at + 1 })
+        ByteField::Taken(u8_at(s, at), Cursor { at: at + 1 })
     }
 
     pub fn half(self, s: &[u8]) -> WordField
@@ -218,7 +218,7 @@ impl Cursor {
         if !field_fits(s, at, 2) {
             return WordField::Short;
         }
-        WordField::Taken(half_at(s, at), Cursor { at: at + 2 })
+        WordField::Taken(u16_at(s, at), Cursor { at: at + 2 })
     }
 
     pub fn word(self, s: &[u8]) -> WordField
@@ -228,7 +228,7 @@ impl Cursor {
         if !field_fits(s, at, 4) {
             return WordField::Short;
         }
-        WordField::Taken(word_at(s, at), Cursor { at: at + 4 })
+        WordField::Taken(u32_at(s, at), Cursor { at: at + 4 })
     }
 
     pub fn signed(self, s: &[u8]) -> SignedField
@@ -238,7 +238,7 @@ impl Cursor {
         if !field_fits(s, at, 4) {
             return SignedField::Short;
         }
-        SignedField::Taken(signed_at(s, at), Cursor { at: at + 4 })
+        SignedField::Taken(raw_i32_at(s, at), Cursor { at: at + 4 })
     }
 
     pub fn long(self, s: &[u8]) -> LongField
@@ -248,6 +248,6 @@ impl Cursor {
         if !field_fits(s, at, 8) {
             return LongField::Short;
         }
-        LongField::Taken(long_at(s, at), Cursor { at: at + 8 })
+        LongField::Taken(u64_at(s, at), Cursor { at: at + 8 })
     }
 }

@@ -1,3 +1,3 @@
 -- THE MEANING of the answers to a header
 pub mod Answer
-pub mod Opened
+pub mod CaseReadable

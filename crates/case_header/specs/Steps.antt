@@ -1,3 +1,3 @@
 -- STEPS of the proofs
 pub mod Answer
-pub mod Opened
+pub mod CaseReadable

@@ -5,7 +5,7 @@ ghost use mathlib.Core.List.{_++_};
 ghost use Prim.Native.Nat.{ℕ, _+_, _*_, _^_, _≤_, _<_};
 ghost use lib.ListN.{length, take, drop};
 ghost use lib.Seq.{sets};
-ghost use Rattle.base_causes.specs.Meaning.Rows.{verdict};
+ghost use Rattle.base_causes.specs.Meaning.Causes.{verdict};
 ghost use Rattle.column_file.specs.Meaning.Columns.{arranged, restoredOf, notRestored, columnedOutcome, columnedWritten, columnedOutput, restoredOutcome, restoredWritten, restoredOutput, Columned, ComesBack, NotJudged, Restored};
 ghost use Rattle.column_file.specs.Meaning.Answer.{restoreBy};
 ghost use Rattle.column_file.specs.Steps.Stored.{every, orders};

@@ -7,9 +7,9 @@ ghost use Prim.Native.Nat.{_+_, _*_, _≤_};
 ghost use lib.ListN.{length};
 ghost use lib.Seq.{sets};
 ghost use Rattle.base_integers.specs.Meaning.Bytes.{bytesOf};
-ghost use Rattle.base_causes.specs.Meaning.Rows.{firstBelow};
+ghost use Rattle.base_causes.specs.Meaning.Causes.{firstBelow};
 ghost use Rattle.base_causes.specs.Meaning.Place.{placeOf};
-ghost use Rattle.case_header.specs.Meaning.Opened.{Opened, Limited};
+ghost use Rattle.case_header.specs.Meaning.CaseReadable.{CaseReadable, CountsInRange};
 ghost use Rattle.dump_binary64.specs.Meaning.Value.{bitsAt, finite};
 ghost use Rattle.dump_proposal.specs.Meaning.Dump.{proposalMark, DumpAnswered};
 ghost use Rattle.dump_proposal.specs.Steps.Walks.{restOf, openingTaken, tableBytes, FiniteDump, OpeningHeld, RestConverted};
@@ -65,7 +65,7 @@ struct OpeningNumbers {
 
 // The values after the opening.
 fn rest_of(k: Counts) -> usize
-    requires { ⌜ Limited k ⌝ }
+    requires { ⌜ CountsInRange k ⌝ }
     ensures { λ r. ⌜ r ≡ restOf k ⌝ }
 {
     k.orders + k.links + k.branches
@@ -239,7 +239,7 @@ fn convert_finite(case: &[u8], k: Counts, dump: &[u8], out: &mut [u8]) -> Writte
 
 // Rows 57 to 60, for a readable case, and the proposal.
 fn convert(case: &[u8], k: Counts, dump: &[u8], out: &mut [u8]) -> Written
-    requires { ⌜ Opened (now «case») k ⌝ }
+    requires { ⌜ CaseReadable (now «case») k ⌝ }
     ensures { λ r. ⌜ DumpAnswered (now («case» .entry)) (now (dump .entry)) (now (out .entry)) r (now (out .exit)) ⌝ }
 {
     let count = OPENING + rest_of(k);

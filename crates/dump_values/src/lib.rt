@@ -6,7 +6,7 @@ ghost use Prim.Native.Nat.{_+_, _≤_, _<_};
 ghost use lib.Dec.{T};
 ghost use lib.Ieee.Scale as float;
 ghost use Rattle.dump_binary64.specs.Meaning.Value.{finite};
-ghost use Rattle.case_header.specs.Meaning.Opened.{Opened};
+ghost use Rattle.case_header.specs.Meaning.CaseReadable.{CaseReadable};
 ghost use Rattle.dump_values.specs.Meaning.Answer.{fieldOf};
 ghost use Rattle.dump_values.specs.Meaning.Fields.{shareField, systemField, openingFields};
 ghost use Rattle.dump_values.specs.Steps.Fields.{flowField, shadowField};
@@ -126,7 +126,7 @@ pub fn opening_fields(o: DumpOpening) -> OpeningFields
 // The field of the i-th value after the opening: the orders' shares, then the links' flows, then the branches' shadow
 // prices.
 pub fn field_of(case: &[u8], k: Counts, i: usize, bits: u64) -> FieldAnswer
-    requires { ⌜ Opened (now «case») k ⌝ }
+    requires { ⌜ CaseReadable (now «case») k ⌝ }
     requires { ⌜ i < k .orders + k .links + k .branches ⌝ }
     requires { ⌜ finite bits ≡ true ⌝ }
     ensures { λ r. ⌜ r ≡ fieldOf (afterOpening (now («case» .entry)) i) bits ⌝ }

@@ -4,11 +4,11 @@ ghost use Prim.Native.Nat.{_<_};
 ghost use Rattle.rules.specs.Meaning.Hour.{caseOf, planOf};
 ghost use Rattle.rules.specs.Meaning.Families.{parentOf};
 ghost use Rattle.rules.specs.Meaning.Verdict.{exceedsParent, excessFraction};
-ghost use Rattle.base_causes.specs.Meaning.Rows.{failing};
+ghost use Rattle.base_causes.specs.Meaning.Causes.{failing};
 ghost use Rattle.base_causes.specs.Meaning.Place.{placeOf};
-ghost use Rattle.proposal_file.specs.Meaning.Proposed.{Proposed};
-ghost use Rattle.judge_clearing.specs.Meaning.Stages.{VolumesIn};
-ghost use Rattle.family_list.specs.Meaning.Answer.{Known};
+ghost use Rattle.proposal_file.specs.Meaning.ProposalValid.{ProposalValid};
+ghost use Rattle.judge_clearing.specs.Meaning.InRange.{VolumesInRange};
+ghost use Rattle.family_list.specs.Meaning.Answer.{FamiliesReadable};
 use case_header::Counts;
 use case_orders::order_at;
 use family_list::NO_PARENT;
@@ -18,9 +18,9 @@ use base_causes::Place;
 
 // Whether the fraction of order i exceeds its parent's.
 fn exceeds_parent(case: &[u8], k: Counts, proposal: &[u8], families: &[u8], i: usize) -> bool
-    requires { ⌜ Proposed (now «case») k (now proposal) ⌝ }
-    requires { ⌜ VolumesIn (caseOf (now «case»)) (planOf (now «case») (now proposal)) ⌝ }
-    requires { ⌜ Known (now families) (k .orders) ⌝ }
+    requires { ⌜ ProposalValid (now «case») k (now proposal) ⌝ }
+    requires { ⌜ VolumesInRange (caseOf (now «case»)) (planOf (now «case») (now proposal)) ⌝ }
+    requires { ⌜ FamiliesReadable (now families) (k .orders) ⌝ }
     requires { ⌜ i < k .orders ⌝ }
     ensures { λ r. ⌜ r ≡ exceedsParent (caseOf (now («case» .entry))) (planOf (now («case» .entry)) (now (proposal .entry))) i (parentOf (now (families .entry)) i) ⌝ }
 {
@@ -40,9 +40,9 @@ fn exceeds_parent(case: &[u8], k: Counts, proposal: &[u8], families: &[u8], i: u
 
 // The first child whose fraction exceeds its parent's, of a proposal that row 21 passes and a family list that rows 16 and 17 pass.
 pub fn first_over_parent(case: &[u8], k: Counts, proposal: &[u8], families: &[u8]) -> Place
-    requires { ⌜ Proposed (now «case») k (now proposal) ⌝ }
-    requires { ⌜ VolumesIn (caseOf (now «case»)) (planOf (now «case») (now proposal)) ⌝ }
-    requires { ⌜ Known (now families) (k .orders) ⌝ }
+    requires { ⌜ ProposalValid (now «case») k (now proposal) ⌝ }
+    requires { ⌜ VolumesInRange (caseOf (now «case»)) (planOf (now «case») (now proposal)) ⌝ }
+    requires { ⌜ FamiliesReadable (now families) (k .orders) ⌝ }
     ensures { λ r. ⌜ placeOf r ≡ failing (excessFraction (now (families .entry)) (caseOf (now («case» .entry))) (planOf (now («case» .entry)) (now (proposal .entry)))) ⌝ }
 {
     let orders = k.orders;

@@ -3,7 +3,7 @@ ghost use mathlib.Core.Path.{_≡_};
 ghost use mathlib.Core.Option.{none};
 ghost use Prim.Native.Nat.{_+_, _<_, _≤_};
 ghost use lib.ListN.{length};
-ghost use Rattle.base_causes.specs.Meaning.Rows.{firstBelow};
+ghost use Rattle.base_causes.specs.Meaning.Causes.{firstBelow};
 ghost use Rattle.base_causes.specs.Meaning.Place.{placeOf};
 ghost use Rattle.bytes_read.specs.Meaning.Field.{cursor};
 ghost use Rattle.bytes_read.specs.Meaning.Walk.{pastAt, walked, rowsWalked};
@@ -12,14 +12,14 @@ ghost use Rattle.family_list.specs.Steps.Round.{Least};
 ghost use Rattle.family_list.specs.Steps.Round as round;
 ghost use Rattle.family_list.specs.Steps.Walk.{held, Trail};
 ghost use Rattle.family_list.specs.Steps.Taken.{Taken, Search};
-ghost use Rattle.family_list.specs.Meaning.Answer.{headerBy, parentRow, listRows, circleAnswer, familyAnswer, wrongList};
-ghost use Rattle.family_list.specs.Meaning.Answer.{Whole, Known};
+ghost use Rattle.family_list.specs.Meaning.Answer.{headerBy, parentCause, listCauses, circleAnswer, familyAnswer, wrongList};
+ghost use Rattle.family_list.specs.Meaning.Answer.{ListLengthValid, FamiliesReadable};
 use bytes_read::Cursor;
 use bytes_read::Mark;
 use bytes_read::MarkField;
 use bytes_read::Walked;
 use bytes_read::WordField;
-use bytes_read::half_at;
+use bytes_read::u16_at;
 use base_causes::Outcome;
 use base_causes::Place;
 
@@ -72,16 +72,16 @@ fn walk_header(families: &[u8], orders: usize) -> Walked
 
 // The number that order i gives for its parent, of a list that row 16 passes.
 fn number_at(families: &[u8], orders: usize, i: usize) -> u32
-    requires { ⌜ Whole (now families) orders ⌝ }
+    requires { ⌜ ListLengthValid (now families) orders ⌝ }
     requires { ⌜ i < orders ⌝ }
     ensures { λ r. ⌜ r ≡ parentIn (now (families .entry)) i ⌝ }
     ensures { λ r. ⌜ r < 65536 ⌝ }
 {
-    half_at(families, layout::FAMILY_HEADER + layout::PARENT * i)
+    u16_at(families, layout::FAMILY_HEADER + layout::PARENT * i)
 }
 
 pub fn parent_at(families: &[u8], orders: usize, i: usize) -> usize
-    requires { ⌜ Whole (now families) orders ⌝ }
+    requires { ⌜ ListLengthValid (now families) orders ⌝ }
     requires { ⌜ i < orders ⌝ }
     ensures { λ r. ⌜ r ≡ parentIn (now (families .entry)) i ⌝ }
 {
@@ -106,10 +106,10 @@ fn walk_parents(
     start: Cursor,
     up: &mut [u32; layout::ORDERS],
 ) -> Walked
-    requires { ⌜ Whole (now families) orders ⌝ }
+    requires { ⌜ ListLengthValid (now families) orders ⌝ }
     requires { ⌜ start .at ≡ familyHeader ⌝ }
     requires { ⌜ length (now up) ≡ 512 ⌝ }
-    ensures walk { λ r. ⌜ r ≡ walked (parentRow (now (families .entry)) orders) (cursor (familyLength orders)) ⌝ }
+    ensures walk { λ r. ⌜ r ≡ walked (parentCause (now (families .entry)) orders) (cursor (familyLength orders)) ⌝ }
     ensures taken { λ r. ⌜ (r ≡ pastAt (familyLength orders) → Taken (now (families .entry)) orders (now (up .exit))) ⌝ }
 {
     let count = orders as u32;
@@ -136,7 +136,7 @@ fn walk_parents(
 fn walk_list(families: &[u8], orders: usize, up: &mut [u32; layout::ORDERS]) -> Walked
     requires { ⌜ orders ≤ 512 ⌝ }
     requires { ⌜ length (now up) ≡ 512 ⌝ }
-    ensures walk { λ r. ⌜ r ≡ rowsWalked (listRows (now (families .entry)) orders) (cursor (familyLength orders)) ⌝ }
+    ensures walk { λ r. ⌜ r ≡ rowsWalked (listCauses (now (families .entry)) orders) (cursor (familyLength orders)) ⌝ }
     ensures taken { λ r. ⌜ (r ≡ pastAt (familyLength orders) → Taken (now (families .entry)) orders (now (up .exit))) ⌝ }
 {
     let header = walk_header(families, orders);
@@ -179,7 +179,7 @@ fn smaller(a: usize, b: usize) -> usize
 // The least order of the circle that walk i came upon at the order tip, once around. Where it came back to order i, this is the least: walks have been at every
 // order before it.
 fn least_on_circle(families: &[u8], orders: usize, i: usize, tip: usize) -> usize
-    requires { ⌜ Known (now families) orders ⌝ }
+    requires { ⌜ FamiliesReadable (now families) orders ⌝ }
     requires { ⌜ tip < orders ⌝ }
     requires { ⌜ LeadsBack (parentOf (now families)) tip ⌝ }
     ensures { λ r. ⌜ Least (parentOf (now (families .entry))) orders i tip r ⌝ }
@@ -207,7 +207,7 @@ fn first_after(
     i: usize,
     first: usize,
 ) -> usize
-    requires { ⌜ Known (now families) orders ⌝ }
+    requires { ⌜ FamiliesReadable (now families) orders ⌝ }
     requires { ⌜ i < orders ⌝ }
     requires { ⌜ Search (now families) orders i first (now up) ⌝ }
     ensures { λ r. ⌜ Search (now (families .entry)) orders (i + 1) r (now (up .exit)) ⌝ }
@@ -225,7 +225,7 @@ fn first_after(
 
 // The first order that leads back to itself. One that leads into a circle does so only where it lies on it.
 fn first_on_circle(families: &[u8], orders: usize, up: &mut [u32; layout::ORDERS]) -> Place
-    requires { ⌜ Known (now families) orders ⌝ }
+    requires { ⌜ FamiliesReadable (now families) orders ⌝ }
     requires { ⌜ Taken (now families) orders (now up) ⌝ }
     ensures { λ r. ⌜ placeOf r ≡ firstBelow orders (leadsBack orders (parentOf (now (families .entry)))) ⌝ }
 {
@@ -243,7 +243,7 @@ fn first_on_circle(families: &[u8], orders: usize, up: &mut [u32; layout::ORDERS
 
 // ROW 18 of a family list that rows 16 and 17 pass.
 fn hold_circles(families: &[u8], orders: usize, up: &mut [u32; layout::ORDERS]) -> FamilyAnswer
-    requires { ⌜ Known (now families) orders ⌝ }
+    requires { ⌜ FamiliesReadable (now families) orders ⌝ }
     requires { ⌜ Taken (now families) orders (now up) ⌝ }
     ensures { λ r. ⌜ r ≡ circleAnswer (now (families .entry)) orders ⌝ }
 {

@@ -4,7 +4,7 @@ ghost use Prim.Native.Nat.{_≤_};
 ghost use lib.IntN.{pos, _-ℤ_};
 ghost use mir.Syntax.{w64};
 ghost use mir.Val.{toZ};
-ghost use Rattle.judge_clearing.specs.Meaning.Held.{tenthsAt};
+ghost use Rattle.judge_clearing.specs.Meaning.TenthsHold.{tenthsAt};
 ghost use Rattle.judge_network.specs.Meaning.Prices.{grainsAt};
 ghost use Rattle.flow_intuitive.specs.Meaning.Intuitive.{scratchRoom};
 ghost use Rattle.flow_intuitive.specs.Meaning.SmallScratch.{smallRoom};

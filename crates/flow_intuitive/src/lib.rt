@@ -3,11 +3,11 @@ ghost use mathlib.Core.Path.{_≡_};
 ghost use Prim.Native.Nat.{_≤_, _<_};
 ghost use lib.ListN.{length};
 ghost use lib.IntN.{pos};
-ghost use Rattle.base_causes.specs.Meaning.Rows.{verdict, refusal, answer};
+ghost use Rattle.base_causes.specs.Meaning.Causes.{verdict, refusal, answer};
 ghost use Rattle.flow_intuitive.specs.Meaning.Intuitive.{scratchRoom, intuitiveOutcome, IntuitiveAnswer};
 ghost use Rattle.flow_intuitive.specs.Meaning.SmallScratch.{smallRoom};
 ghost use Rattle.flow_intuitive.specs.Meaning.Answers.{ListsPass};
-ghost use Rattle.flow_intuitive.specs.Steps.Answers.{restRows, flagOf};
+ghost use Rattle.flow_intuitive.specs.Steps.Answers.{restCauses, flagOf};
 use flow_max::max_flow;
 use base_measures::Tenths;
 use flow_positions::first_position_outside;
@@ -47,7 +47,7 @@ fn outcome(number: u32, index: usize) -> Outcome
 // 84 and 85 with their index, or 0, for a scratch of `room` numbers of which n are asked for.
 fn examine_rest(pairs: &[u8], zones: usize, n: usize, room: usize) -> Outcome
     requires { ⌜ zones ≤ 16 ⌝ }
-    ensures { λ r. ⌜ r ≡ answer (refusal (restRows zones (now (pairs .entry)) n room)) ⌝ }
+    ensures { λ r. ⌜ r ≡ answer (refusal (restCauses zones (now (pairs .entry)) n room)) ⌝ }
 {
     let pair = first_bad_pair(pairs, zones);
     if let Place::At(k) = pair {

@@ -2,7 +2,7 @@
 ghost use mathlib.Core.Path.{_≡_};
 ghost use Prim.Native.Nat.{_+_, _*_, _≤_, _<_};
 ghost use lib.ListN.{length, getD};
-ghost use Rattle.base_causes.specs.Meaning.Rows.{firstBelow};
+ghost use Rattle.base_causes.specs.Meaning.Causes.{firstBelow};
 ghost use Rattle.base_causes.specs.Meaning.Place.{placeOf};
 ghost use Rattle.base_zone_set.specs.Steps.Pairs.{Seen};
 ghost use Rattle.flow_pairs.specs.Meaning.Table.{Distinct, pairIn, Tabled};

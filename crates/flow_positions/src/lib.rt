@@ -6,7 +6,7 @@ ghost use lib.ListN.{length};
 ghost use Rattle.base_integers.specs.Meaning.Sums.{sumTo};
 ghost use Rattle.base_measures.specs.Meaning.Limits as limits;
 ghost use Rattle.base_measures.specs.Meaning.Held.{tenthsIn};
-ghost use Rattle.base_causes.specs.Meaning.Rows.{firstBelow};
+ghost use Rattle.base_causes.specs.Meaning.Causes.{firstBelow};
 ghost use Rattle.base_causes.specs.Meaning.Place.{placeOf};
 ghost use Rattle.flow_positions.specs.Meaning.Positions.{positionAt, positionOutside, unbalanced};
 use base_measures::Raw;

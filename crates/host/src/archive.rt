@@ -1,7 +1,7 @@
 // A case for the archive, its order part column by column, and the way back, as the host calls them (request S-10).
 ghost use mathlib.Core.Path.{_≡_};
 ghost use lib.ListN.{length, take};
-ghost use Rattle.base_causes.specs.Meaning.Rows.{verdict};
+ghost use Rattle.base_causes.specs.Meaning.Causes.{verdict};
 ghost use Rattle.column_file.specs.Meaning.Columns.{columnedOutcome, columnedWritten, columnedOutput, restoredOutcome, restoredWritten, restoredOutput, Columned, ComesBack, NotJudged, Restored};
 use column_file::columned;
 use column_file::restored;

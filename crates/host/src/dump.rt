@@ -1,7 +1,7 @@
 // A solver's dump as the host has it turned into a proposal for a case (request S-5).
 ghost use mathlib.Core.Path.{_≡_};
 ghost use lib.ListN.{length, take};
-ghost use Rattle.base_causes.specs.Meaning.Rows.{verdict};
+ghost use Rattle.base_causes.specs.Meaning.Causes.{verdict};
 ghost use Rattle.dump_proposal.specs.Meaning.Dump.{dumpOutcome, dumpWritten, dumpOutput, ProposalHolds, VolumesWithin};
 ghost use Rattle.dump_proposal.specs.Promised.PlainBytes.{WrittenProposal};
 use dump_proposal::dump_proposal;

@@ -4,7 +4,7 @@ ghost use Prim.Native.Nat.{_<_};
 ghost use lib.ListN.{length};
 ghost use lib.IntN.{pos};
 ghost use lib.Signed.{_≤ℤ_};
-ghost use Rattle.base_causes.specs.Meaning.Rows.{verdict};
+ghost use Rattle.base_causes.specs.Meaning.Causes.{verdict};
 ghost use Rattle.flow_pairs.specs.Meaning.Pairs.{importsWorth, networkOf};
 ghost use Rattle.flow_network.specs.Meaning.Network.{FeasibleAll, DeficientSet};
 ghost use Rattle.flow_intuitive.specs.Meaning.Intuitive.{scratchRoom, intuitiveOutcome, LargestTotal, intuitiveScratch};

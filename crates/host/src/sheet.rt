@@ -3,7 +3,7 @@ ghost use mathlib.Core.Path.{_≡_};
 ghost use mathlib.Core.List.{List, _++_};
 ghost use Prim.Native.Nat.{ℕ};
 ghost use lib.ListN.{length, take};
-ghost use Rattle.base_causes.specs.Meaning.Rows.{verdict};
+ghost use Rattle.base_causes.specs.Meaning.Causes.{verdict};
 ghost use Rattle.sheet_lines.specs.Meaning.Sheet.{Header, Holds, lineCount, sheetOutcome, sheetWritten, sheetOutput};
 ghost use Rattle.sheet_lines.specs.Promised.PlainBytes.{BranchesOf};
 ghost use Rattle.sheet_lines.specs.Promised.PlainCauses.{AnswersTo};

@@ -1,7 +1,7 @@
 // The shortfalls of an accepted hour as the host asks for them (request S-14).
 ghost use mathlib.Core.Path.{_≡_};
 ghost use lib.ListN.{length};
-ghost use Rattle.base_causes.specs.Meaning.Rows.{verdict};
+ghost use Rattle.base_causes.specs.Meaning.Causes.{verdict};
 ghost use Rattle.rules.specs.Meaning.Hour.{caseOf, planOf, pricesOf};
 ghost use Rattle.short_rules.specs.Meaning.Answer.{shortfallOutcome, shortfallWritten, shortfallOutput, Answers};
 use short_hour::hour_shortfalls;

@@ -2,7 +2,7 @@
 ghost use mathlib.Core.Path.{_≡_};
 ghost use Prim.Native.Nat.{_≤_};
 ghost use lib.ListN.{length, take};
-ghost use Rattle.base_causes.specs.Meaning.Rows.{verdict};
+ghost use Rattle.base_causes.specs.Meaning.Causes.{verdict};
 ghost use Rattle.text_lines.specs.Meaning.Printed.{deskOutcome, deskWritten, deskOutput};
 ghost use Rattle.text_lines.specs.Promised.PlainText.{PlainText};
 use text_lines::lines;

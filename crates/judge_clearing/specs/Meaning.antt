@@ -1,4 +1,4 @@
 -- THE MEANING of what the contracts cite
 pub mod Read
-pub mod Held
-pub mod Stages
+pub mod TenthsHold
+pub mod InRange

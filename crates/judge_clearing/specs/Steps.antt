@@ -1,5 +1,5 @@
 -- STEPS of the proofs
 pub mod Read
-pub mod Held
+pub mod TenthsHold
 pub mod Parts
-pub mod Stages
+pub mod InRange

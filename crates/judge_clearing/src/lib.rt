@@ -9,18 +9,18 @@ ghost use Rattle.base_integers.specs.Meaning.Machine.{SumsFit};
 ghost use Rattle.base_integers.specs.Meaning.Sums.{sumTo};
 ghost use Rattle.rules.specs.Meaning.Hour.{caseOf, planOf, net, fbPart};
 ghost use Rattle.rules.specs.Meaning.Hour as rules;
-ghost use Rattle.base_causes.specs.Meaning.Rows.{failing};
+ghost use Rattle.base_causes.specs.Meaning.Causes.{failing};
 ghost use Rattle.base_causes.specs.Meaning.Place.{placeOf};
 ghost use Rattle.rules.specs.Meaning.Verdict.{excessVolume, overusedLink};
-ghost use Rattle.judge_clearing.specs.Meaning.Held.{tenthsAt, Holds};
+ghost use Rattle.judge_clearing.specs.Meaning.TenthsHold.{tenthsAt, TenthsHold};
 ghost use Rattle.judge_clearing.specs.Meaning.Read.{HourReadFrom};
-ghost use Rattle.judge_clearing.specs.Meaning.Stages.{VolumesIn};
+ghost use Rattle.judge_clearing.specs.Meaning.InRange.{VolumesInRange};
 use case_header::Counts;
 use case_links::link_at;
 use case_orders::order_at;
 use base_measures::Microcents;
 use base_measures::Tenths;
-use proposal_file::Opening;
+use proposal_file::ProposalOpening;
 use proposal_file::flow_at;
 use proposal_file::volume_at;
 use base_causes::Place;
@@ -29,7 +29,7 @@ use base_causes::Place;
 // hold a slice.
 pub struct HourRead {
     pub counts: Counts,
-    pub opening: Opening,
+    pub opening: ProposalOpening,
 }
 
 // What an order adds to its zone's net position: a buy its volume, a sell its volume taken off.
@@ -54,7 +54,7 @@ pub struct OrderSums {
 pub fn order_sums(case: &[u8], proposal: &[u8], hour: HourRead) -> OrderSums
     requires { ⌜ HourReadFrom (now «case») (now proposal) hour ⌝ }
     ensures excess { λ r. ⌜ placeOf (r .excess) ≡ failing (excessVolume (caseOf (now («case» .entry))) (planOf (now («case» .entry)) (now (proposal .entry)))) ⌝ }
-    ensures nets { λ r. ⌜ (placeOf (r .excess) ≡ none → Holds (net (caseOf (now («case» .entry))) (planOf (now («case» .entry)) (now (proposal .entry)))) (r .nets)) ⌝ }
+    ensures nets { λ r. ⌜ (placeOf (r .excess) ≡ none → TenthsHold (net (caseOf (now («case» .entry))) (planOf (now («case» .entry)) (now (proposal .entry)))) (r .nets)) ⌝ }
     ensures welfare { λ r. ⌜ (placeOf (r .excess) ≡ none → r .welfare .0 ≡ rules.welfare (caseOf (now («case» .entry))) (planOf (now («case» .entry)) (now (proposal .entry)))) ⌝ }
 {
     let k = hour.counts;
@@ -110,10 +110,10 @@ pub struct Exchange {
 // Rules 2 and 4, and verdict 23.
 pub fn link_sums(case: &[u8], proposal: &[u8], hour: HourRead, nets: [Tenths; 16]) -> Exchange
     requires { ⌜ HourReadFrom (now «case») (now proposal) hour ⌝ }
-    requires { ⌜ VolumesIn (caseOf (now «case»)) (planOf (now «case») (now proposal)) ⌝ }
-    requires { ⌜ Holds (net (caseOf (now «case»)) (planOf (now «case») (now proposal))) nets ⌝ }
+    requires { ⌜ VolumesInRange (caseOf (now «case»)) (planOf (now «case») (now proposal)) ⌝ }
+    requires { ⌜ TenthsHold (net (caseOf (now «case»)) (planOf (now «case») (now proposal))) nets ⌝ }
     ensures overused { λ r. ⌜ placeOf (r .overused) ≡ failing (overusedLink (caseOf (now («case» .entry))) (planOf (now («case» .entry)) (now (proposal .entry)))) ⌝ }
-    ensures parts { λ r. ⌜ (placeOf (r .overused) ≡ none → Holds (fbPart (caseOf (now («case» .entry))) (planOf (now («case» .entry)) (now (proposal .entry)))) (r .parts)) ⌝ }
+    ensures parts { λ r. ⌜ (placeOf (r .overused) ≡ none → TenthsHold (fbPart (caseOf (now («case» .entry))) (planOf (now («case» .entry)) (now (proposal .entry)))) (r .parts)) ⌝ }
 {
     let k = hour.counts;
     let share = hour.opening.share;

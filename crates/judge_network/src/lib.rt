@@ -3,14 +3,14 @@ ghost use mathlib.Core.Path.{_≡_};
 ghost use mathlib.Core.Option.{none};
 ghost use Rattle.rules.specs.Meaning.Hour.{caseOf, planOf, pricesOf, fbPart};
 ghost use Rattle.rules.specs.Meaning.Hour as rules;
-ghost use Rattle.base_causes.specs.Meaning.Rows.{failing};
+ghost use Rattle.base_causes.specs.Meaning.Causes.{failing};
 ghost use Rattle.base_causes.specs.Meaning.Place.{placeOf};
 ghost use Rattle.rules.specs.Meaning.Verdict.{overloadedBranch};
 ghost use Rattle.case_branches.specs.Meaning.Table.{tableOf};
-ghost use Rattle.judge_clearing.specs.Meaning.Stages.{VolumesIn, FlowsIn};
-ghost use Rattle.judge_clearing.specs.Meaning.Held.{Holds};
+ghost use Rattle.judge_clearing.specs.Meaning.InRange.{VolumesInRange, FlowsInRange};
+ghost use Rattle.judge_clearing.specs.Meaning.TenthsHold.{TenthsHold};
 ghost use Rattle.judge_clearing.specs.Meaning.Read.{HourReadFrom};
-ghost use Rattle.judge_network.specs.Meaning.Prices.{Priced};
+ghost use Rattle.judge_network.specs.Meaning.Prices.{PricesHold};
 use case_branches::margin_at;
 use judge_clearing::HourRead;
 use base_measures::Grains;
@@ -37,12 +37,12 @@ pub fn branch_sums(
     parts: [Tenths; 16],
 ) -> Network
     requires { ⌜ HourReadFrom (now «case») (now proposal) hour ⌝ }
-    requires { ⌜ VolumesIn (caseOf (now «case»)) (planOf (now «case») (now proposal)) ⌝ }
-    requires { ⌜ FlowsIn (caseOf (now «case»)) (planOf (now «case») (now proposal)) ⌝ }
+    requires { ⌜ VolumesInRange (caseOf (now «case»)) (planOf (now «case») (now proposal)) ⌝ }
+    requires { ⌜ FlowsInRange (caseOf (now «case»)) (planOf (now «case») (now proposal)) ⌝ }
     requires { ⌜ table ≡ tableOf (now «case») ⌝ }
-    requires { ⌜ Holds (fbPart (caseOf (now «case»)) (planOf (now «case») (now proposal))) parts ⌝ }
+    requires { ⌜ TenthsHold (fbPart (caseOf (now «case»)) (planOf (now «case») (now proposal))) parts ⌝ }
     ensures overloaded { λ r. ⌜ placeOf (r .overloaded) ≡ failing (overloadedBranch (caseOf (now («case» .entry))) (planOf (now («case» .entry)) (now (proposal .entry)))) ⌝ }
-    ensures prices { λ r. ⌜ (placeOf (r .overloaded) ≡ none → Priced (caseOf (now («case» .entry))) (pricesOf (now («case» .entry)) (now (proposal .entry))) (r .prices)) ⌝ }
+    ensures prices { λ r. ⌜ (placeOf (r .overloaded) ≡ none → PricesHold (caseOf (now («case» .entry))) (pricesOf (now («case» .entry)) (now (proposal .entry))) (r .prices)) ⌝ }
     ensures total { λ r. ⌜ (placeOf (r .overloaded) ≡ none → r .total .0 ≡ rules.branchTotal (caseOf (now («case» .entry))) (pricesOf (now («case» .entry)) (now (proposal .entry)))) ⌝ }
 {
     let k = hour.counts;

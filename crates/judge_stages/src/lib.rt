@@ -14,15 +14,15 @@ ghost use Rattle.base_integers.specs.Meaning.Machine.{SumsFit};
 ghost use Rattle.rules.specs.Meaning.Hour.{caseOf, planOf, pricesOf, net, fbPart};
 ghost use Rattle.rules.specs.Meaning.Hour as rules;
 ghost use Rattle.base_causes.specs.Meaning.Place.{placeOf};
-ghost use Rattle.base_causes.specs.Meaning.Rows.{verdict, failing, refusal, answer};
+ghost use Rattle.base_causes.specs.Meaning.Causes.{verdict, failing, refusal, answer};
 ghost use Rattle.rules.specs.Meaning.Verdict.{excessVolume};
-ghost use Rattle.family_list.specs.Meaning.Answer.{Known};
-ghost use Rattle.judge_clearing.specs.Meaning.Held.{tenthsAt};
+ghost use Rattle.family_list.specs.Meaning.Answer.{FamiliesReadable};
+ghost use Rattle.judge_clearing.specs.Meaning.TenthsHold.{tenthsAt};
 ghost use Rattle.judge_clearing.specs.Meaning.Read.{HourReadFrom};
-ghost use Rattle.judge_clearing.specs.Meaning.Stages.{VolumesIn};
+ghost use Rattle.judge_clearing.specs.Meaning.InRange.{VolumesInRange};
 ghost use Rattle.judge_stages.specs.declared.FamilyList.the-variants.{Given};
-ghost use Rattle.judge_stages.specs.Meaning.Found.{Finds, HourCleared, hourRows, listOf};
-ghost use Rattle.judge_stages.specs.Steps.Found.{readRows, clearRows, orderRows, linkAnswer, valueRows, unreadAs, unclearedAs, refusedAs};
+ghost use Rattle.judge_stages.specs.Meaning.Found.{Finds, HourCleared, hourCauses, listOf};
+ghost use Rattle.judge_stages.specs.Steps.Found.{readCauses, clearCauses, orderCauses, linkAnswer, valueCauses, unreadAs, unclearedAs, refusedAs};
 ghost use Rattle.judge_stages.specs.Steps.Listed.{Admitted, listedAnswer, fractionPlace};
 use case_branches::ptdf_table;
 use case_file::CaseAnswer;
@@ -42,7 +42,7 @@ use base_measures::MicrocentsAnswer;
 use base_measures::Share;
 use base_measures::Tenths;
 use judge_network::branch_sums;
-use proposal_file::Opening;
+use proposal_file::ProposalOpening;
 use proposal_file::ProposalAnswer;
 use proposal_file::read_proposal;
 use report_file::Totals;
@@ -97,7 +97,7 @@ const NOTHING_READ: HourRead = HourRead {
         orders: 0,
         tolerance: Microcents::ZERO,
     },
-    opening: Opening {
+    opening: ProposalOpening {
         share: Share::LEAST,
         system: Cents::SHADOW_PRICE_LEAST,
     },
@@ -186,9 +186,9 @@ fn not_read(verdict: Outcome) -> Reading
 
 // ROWS 1 TO 18: the case, the proposal, and what is asked of them and the family list alone.
 fn read(case: &[u8], proposal: &[u8], families: &[u8], list: FamilyList) -> Reading
-    ensures verdict { λ r. ⌜ r .verdict ≡ answer (refusal (readRows (listOf list (now (families .entry))) (now («case» .entry)) (now (proposal .entry)))) ⌝ }
+    ensures verdict { λ r. ⌜ r .verdict ≡ answer (refusal (readCauses (listOf list (now (families .entry))) (now («case» .entry)) (now (proposal .entry)))) ⌝ }
     ensures hour { λ r. ⌜ (r .verdict .number ≡ 0 → HourReadFrom (now («case» .entry)) (now (proposal .entry)) (r .hour)) ⌝ }
-    ensures families { λ r. ⌜ (r .verdict .number ≡ 0 → list ≡ Given → Known (now (families .entry)) (r .hour .counts .orders)) ⌝ }
+    ensures families { λ r. ⌜ (r .verdict .number ≡ 0 → list ≡ Given → FamiliesReadable (now (families .entry)) (r .hour .counts .orders)) ⌝ }
 {
     // Reborrow: handed on as it came, the slice is reloaded by 16 bytes right after it was stored by 8 and 8, for which the processor waits.
     match read_case(&case[..]) {
@@ -212,8 +212,8 @@ fn first_over(
     hour: HourRead,
 ) -> Place
     requires { ⌜ HourReadFrom (now «case») (now proposal) hour ⌝ }
-    requires { ⌜ VolumesIn (caseOf (now «case»)) (planOf (now «case») (now proposal)) ⌝ }
-    requires { ⌜ (list ≡ Given → Known (now families) (hour .counts .orders)) ⌝ }
+    requires { ⌜ VolumesInRange (caseOf (now «case»)) (planOf (now «case») (now proposal)) ⌝ }
+    requires { ⌜ (list ≡ Given → FamiliesReadable (now families) (hour .counts .orders)) ⌝ }
     ensures { λ r. ⌜ placeOf r ≡ fractionPlace (listOf list (now (families .entry))) (caseOf (now («case» .entry))) (planOf (now («case» .entry)) (now (proposal .entry))) ⌝ }
 {
     let k = hour.counts;
@@ -233,9 +233,9 @@ fn order_verdict(
     excess: Place,
 ) -> Outcome
     requires { ⌜ HourReadFrom (now «case») (now proposal) hour ⌝ }
-    requires { ⌜ (list ≡ Given → Known (now families) (hour .counts .orders)) ⌝ }
+    requires { ⌜ (list ≡ Given → FamiliesReadable (now families) (hour .counts .orders)) ⌝ }
     requires { ⌜ placeOf excess ≡ failing (excessVolume (caseOf (now «case»)) (planOf (now «case») (now proposal))) ⌝ }
-    ensures verdict { λ r. ⌜ r ≡ answer (refusal (orderRows (listOf list (now (families .entry))) (caseOf (now («case» .entry))) (planOf (now («case» .entry)) (now (proposal .entry))))) ⌝ }
+    ensures verdict { λ r. ⌜ r ≡ answer (refusal (orderCauses (listOf list (now (families .entry))) (caseOf (now («case» .entry))) (planOf (now («case» .entry)) (now (proposal .entry))))) ⌝ }
     ensures volumes { λ r. ⌜ (r .number ≡ 0 → placeOf excess ≡ none) ⌝ }
 {
     if let Place::At(i) = excess {
@@ -284,8 +284,8 @@ fn link_verdict(hour: HourRead, nets: [Tenths; 16], overused: Place) -> Outcome
 // ROWS 21, 28, 22, 27 AND 23: the orders and the links, with net positions, flow-based parts and welfare.
 fn clear(case: &[u8], proposal: &[u8], families: &[u8], list: FamilyList, hour: HourRead) -> Cleared
     requires { ⌜ HourReadFrom (now «case») (now proposal) hour ⌝ }
-    requires { ⌜ (list ≡ Given → Known (now families) (hour .counts .orders)) ⌝ }
-    ensures verdict { λ r. ⌜ r .verdict ≡ answer (refusal (clearRows (listOf list (now (families .entry))) (caseOf (now («case» .entry))) (planOf (now («case» .entry)) (now (proposal .entry))))) ⌝ }
+    requires { ⌜ (list ≡ Given → FamiliesReadable (now families) (hour .counts .orders)) ⌝ }
+    ensures verdict { λ r. ⌜ r .verdict ≡ answer (refusal (clearCauses (listOf list (now (families .entry))) (caseOf (now («case» .entry))) (planOf (now («case» .entry)) (now (proposal .entry))))) ⌝ }
     ensures cleared { λ r. ⌜ (r .verdict .number ≡ 0 → HourCleared (caseOf (now («case» .entry))) (planOf (now («case» .entry)) (now (proposal .entry))) r) ⌝ }
 {
     // 21, the volumes; 28, the families.
@@ -321,7 +321,7 @@ fn gap_verdict(gap: Microcents, tolerance: Microcents) -> u32
 fn value(case: &[u8], proposal: &[u8], hour: HourRead, cleared: Cleared) -> Found
     requires { ⌜ HourReadFrom (now «case») (now proposal) hour ⌝ }
     requires { ⌜ HourCleared (caseOf (now «case»)) (planOf (now «case») (now proposal)) cleared ⌝ }
-    ensures { λ r. ⌜ Finds (valueRows (caseOf (now («case» .entry))) (planOf (now («case» .entry)) (now (proposal .entry))) (pricesOf (now («case» .entry)) (now (proposal .entry)))) (now («case» .entry)) (now (proposal .entry)) r ⌝ }
+    ensures { λ r. ⌜ Finds (valueCauses (caseOf (now («case» .entry))) (planOf (now («case» .entry)) (now (proposal .entry))) (pricesOf (now («case» .entry)) (now (proposal .entry)))) (now («case» .entry)) (now (proposal .entry)) r ⌝ }
 {
     let k = hour.counts;
     let nets = cleared.nets;
@@ -361,7 +361,7 @@ fn value(case: &[u8], proposal: &[u8], hour: HourRead, cleared: Cleared) -> Foun
 
 // The hour, from its first byte: the table's rows top to bottom, stage by stage.
 pub fn find_with_families(case: &[u8], proposal: &[u8], families: &[u8], list: FamilyList) -> Found
-    ensures { λ r. ⌜ Finds (hourRows (listOf list (now (families .entry))) (now («case» .entry)) (now (proposal .entry))) (now («case» .entry)) (now (proposal .entry)) r ⌝ }
+    ensures { λ r. ⌜ Finds (hourCauses (listOf list (now (families .entry))) (now («case» .entry)) (now (proposal .entry))) (now («case» .entry)) (now (proposal .entry)) r ⌝ }
 {
     // 1 to 8, the case; 9 to 14, the proposal; 15, the tolerance; 16 to 18, the family list where there is one (S-11).
     let reading = read(case, proposal, families, list);
@@ -382,7 +382,7 @@ pub fn find_with_families(case: &[u8], proposal: &[u8], families: &[u8], list: F
 
 // The same without a family list.
 pub fn find(case: &[u8], proposal: &[u8]) -> Found
-    ensures { λ r. ⌜ Finds (hourRows none (now («case» .entry)) (now (proposal .entry))) (now («case» .entry)) (now (proposal .entry)) r ⌝ }
+    ensures { λ r. ⌜ Finds (hourCauses none (now («case» .entry)) (now (proposal .entry))) (now («case» .entry)) (now (proposal .entry)) r ⌝ }
 {
     find_with_families(case, proposal, &case[..0], FamilyList::Absent)
 }

@@ -12,12 +12,12 @@ ghost use Rattle.base_measures.specs.Meaning.Limits as limits;
 ghost use Rattle.rules.specs.Meaning.Hour.{caseOf, planOf, pricesOf};
 ghost use Rattle.rules.specs.Meaning.Hour as rules;
 ghost use Rattle.rules.specs.Meaning.Report.{totalsOf};
-ghost use Rattle.base_causes.specs.Meaning.Rows.{firstBelow};
+ghost use Rattle.base_causes.specs.Meaning.Causes.{firstBelow};
 ghost use Rattle.base_causes.specs.Meaning.Place.{placeOf};
-ghost use Rattle.judge_clearing.specs.Meaning.Stages.{VolumesIn};
-ghost use Rattle.judge_clearing.specs.Meaning.Held.{tenthsAt};
+ghost use Rattle.judge_clearing.specs.Meaning.InRange.{VolumesInRange};
+ghost use Rattle.judge_clearing.specs.Meaning.TenthsHold.{tenthsAt};
 ghost use Rattle.judge_clearing.specs.Meaning.Read.{HourReadFrom};
-ghost use Rattle.judge_network.specs.Meaning.Prices.{grainsAt, Priced, PricesIn};
+ghost use Rattle.judge_network.specs.Meaning.Prices.{grainsAt, PricesHold, PricesInRange};
 ghost use Rattle.report_file.specs.Meaning.Written.{totalsIn};
 ghost use Rattle.judge_totals.specs.Meaning.Rent.{RentFits};
 use case_links::contracted_at;
@@ -66,8 +66,8 @@ pub fn zone_sums(nets: [Tenths; 16], prices: [Grains; 16], zones: usize) -> Zone
 // Rule 8: all order surpluses.
 pub fn surpluses(case: &[u8], proposal: &[u8], hour: HourRead, prices: [Grains; 16]) -> Microcents
     requires { ⌜ HourReadFrom (now «case») (now proposal) hour ⌝ }
-    requires { ⌜ Priced (caseOf (now «case»)) (pricesOf (now «case») (now proposal)) prices ⌝ }
-    requires { ⌜ PricesIn (caseOf (now «case»)) (pricesOf (now «case») (now proposal)) ⌝ }
+    requires { ⌜ PricesHold (caseOf (now «case»)) (pricesOf (now «case») (now proposal)) prices ⌝ }
+    requires { ⌜ PricesInRange (caseOf (now «case»)) (pricesOf (now «case») (now proposal)) ⌝ }
     ensures { λ r. ⌜ r .0 ≡ rules.surplus (caseOf (now («case» .entry))) (pricesOf (now («case» .entry)) (now (proposal .entry))) ⌝ }
 {
     let k = hour.counts;
@@ -91,8 +91,8 @@ pub struct LinkTotals {
 // Rule 9: capacities and contracted volumes (S-4) at the positive spreads. A volume times a negative spread is as negative, so that the product is held at zero.
 pub fn link_totals(case: &[u8], proposal: &[u8], hour: HourRead, prices: [Grains; 16]) -> LinkTotals
     requires { ⌜ HourReadFrom (now «case») (now proposal) hour ⌝ }
-    requires { ⌜ Priced (caseOf (now «case»)) (pricesOf (now «case») (now proposal)) prices ⌝ }
-    requires { ⌜ PricesIn (caseOf (now «case»)) (pricesOf (now «case») (now proposal)) ⌝ }
+    requires { ⌜ PricesHold (caseOf (now «case»)) (pricesOf (now «case») (now proposal)) prices ⌝ }
+    requires { ⌜ PricesInRange (caseOf (now «case»)) (pricesOf (now «case») (now proposal)) ⌝ }
     ensures total { λ r. ⌜ r .total .0 ≡ rules.linkTotal (caseOf (now («case» .entry))) (pricesOf (now («case» .entry)) (now (proposal .entry))) ⌝ }
     ensures owed { λ r. ⌜ r .owed .0 ≡ rules.owed (caseOf (now («case» .entry))) (pricesOf (now («case» .entry)) (now (proposal .entry))) ⌝ }
 {
@@ -134,9 +134,9 @@ pub fn totals(
     congestion: Microcents,
 ) -> Totals
     requires { ⌜ HourReadFrom (now «case») (now proposal) hour ⌝ }
-    requires { ⌜ VolumesIn (caseOf (now «case»)) (planOf (now «case») (now proposal)) ⌝ }
-    requires { ⌜ Priced (caseOf (now «case»)) (pricesOf (now «case») (now proposal)) prices ⌝ }
-    requires { ⌜ PricesIn (caseOf (now «case»)) (pricesOf (now «case») (now proposal)) ⌝ }
+    requires { ⌜ VolumesInRange (caseOf (now «case»)) (planOf (now «case») (now proposal)) ⌝ }
+    requires { ⌜ PricesHold (caseOf (now «case»)) (pricesOf (now «case») (now proposal)) prices ⌝ }
+    requires { ⌜ PricesInRange (caseOf (now «case»)) (pricesOf (now «case») (now proposal)) ⌝ }
     requires { ⌜ «on_branches» .0 ≡ rules.branchTotal (caseOf (now «case»)) (pricesOf (now «case») (now proposal)) ⌝ }
     requires { ⌜ «total_welfare» .0 ≡ rules.welfare (caseOf (now «case»)) (planOf (now «case») (now proposal)) ⌝ }
     requires { ⌜ congestion .0 ≡ rules.rent (caseOf (now «case»)) (planOf (now «case») (now proposal)) (pricesOf (now «case») (now proposal)) ⌝ }

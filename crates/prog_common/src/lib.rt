@@ -19,7 +19,7 @@ pub fn number_at(input: &[u8], at: usize) -> usize
     if input.len() - 4 < at {
         return 0;
     }
-    bytes_read::word_at(input, at) as usize
+    bytes_read::u32_at(input, at) as usize
 }
 
 // How many of the first n bytes there are.

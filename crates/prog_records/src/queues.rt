@@ -1,7 +1,7 @@
 // A run of the desk queue (S-8), which begins with an empty queue. A record has its events, each a letter and two
 // numbers: `p` posts an hour of an area, `s` serves, and any other changes a byte to what no call would leave.
 // Printed is a line for each: the event, behind a post its number, and behind a serve number, index, area and hour.
-use bytes_read::word_at;
+use bytes_read::u32_at;
 use prog_common::print;
 use prog_common::print_next;
 
@@ -52,8 +52,8 @@ pub fn run(events: &[u8]) {
         act(
             &mut queue,
             events[at],
-            word_at(events, at + 1),
-            word_at(events, at + 5),
+            u32_at(events, at + 1),
+            u32_at(events, at + 5),
         );
         at += EVENT;
     }

@@ -20,7 +20,7 @@ fn print_numbers(out: &[u8], n: usize) {
     let mut at = 0;
     let mut left = n;
     while 4 <= out.len() - at {
-        print_signed(bytes_read::word_at(out, at));
+        print_signed(bytes_read::u32_at(out, at));
         at += 4;
         if left <= 1 {
             left = n;

@@ -1,3 +1,3 @@
 -- THE MEANING of the answers to a proposal
 pub mod Answer
-pub mod Proposed
+pub mod ProposalValid

@@ -5,11 +5,11 @@ ghost use lib.ListN.{length};
 ghost use lib.Seq.{sets};
 ghost use Rattle.rules.specs.Meaning.Hour.{caseOf, planOf, pricesOf, fbPart};
 ghost use Rattle.case_branches.specs.Meaning.Table.{tableOf};
-ghost use Rattle.judge_clearing.specs.Meaning.Held.{Holds};
-ghost use Rattle.judge_network.specs.Meaning.Prices.{Priced};
+ghost use Rattle.judge_clearing.specs.Meaning.TenthsHold.{TenthsHold};
+ghost use Rattle.judge_network.specs.Meaning.Prices.{PricesHold};
 ghost use Rattle.short_rules.specs.Meaning.Shortfalls.{orderShortfall, branchShortfall, linkShortfall};
 ghost use Rattle.short_rules.specs.Meaning.Answer.{pairsTo, shortfallNumbers};
-ghost use Rattle.short_single.specs.Meaning.Judged.{HourAccepted};
+ghost use Rattle.short_single.specs.Meaning.HourAccepted.{HourAccepted};
 ghost use Rattle.short_hour.specs.Meaning.HourShortfalls.{HourShortfalls};
 ghost use Rattle.short_hour.specs.Steps.Pairs.{numbersIn, Writable, countOf};
 use case_branches::ptdf_table;
@@ -38,7 +38,7 @@ fn put(out: &mut [i64], n: usize, x: ExactMicrocents)
 
 fn put_orders(case: &[u8], proposal: &[u8], hour: HourRead, prices: [Grains; 16], out: &mut [i64])
     requires { ⌜ HourAccepted (now «case») (now proposal) hour ⌝ }
-    requires { ⌜ Priced (caseOf (now «case»)) (pricesOf (now «case») (now proposal)) prices ⌝ }
+    requires { ⌜ PricesHold (caseOf (now «case»)) (pricesOf (now «case») (now proposal)) prices ⌝ }
     requires { ⌜ 2 * hour .counts .orders ≤ length (now out) ⌝ }
     ensures { λ _. ⌜ now (out .exit) ≡ sets (now (out .entry)) 0 (pairsTo (hour .counts .orders)
         (orderShortfall (caseOf (now («case» .entry))) (planOf (now («case» .entry)) (now (proposal .entry))) (pricesOf (now («case» .entry)) (now (proposal .entry))))) ⌝ }
@@ -58,7 +58,7 @@ fn put_branches(
 )
     requires { ⌜ HourAccepted (now «case») (now proposal) hour ⌝ }
     requires { ⌜ table ≡ tableOf (now «case») ⌝ }
-    requires { ⌜ Holds (fbPart (caseOf (now «case»)) (planOf (now «case») (now proposal))) parts ⌝ }
+    requires { ⌜ TenthsHold (fbPart (caseOf (now «case»)) (planOf (now «case») (now proposal))) parts ⌝ }
     requires { ⌜ 2 * (hour .counts .orders + hour .counts .branches) ≤ length (now out) ⌝ }
     ensures { λ _. ⌜ now (out .exit) ≡ sets (now (out .entry)) (2 * hour .counts .orders) (pairsTo (hour .counts .branches)
         (branchShortfall (caseOf (now («case» .entry))) (planOf (now («case» .entry)) (now (proposal .entry))) (pricesOf (now («case» .entry)) (now (proposal .entry))))) ⌝ }
@@ -75,7 +75,7 @@ fn put_branches(
 
 fn put_links(case: &[u8], proposal: &[u8], hour: HourRead, prices: [Grains; 16], out: &mut [i64])
     requires { ⌜ HourAccepted (now «case») (now proposal) hour ⌝ }
-    requires { ⌜ Priced (caseOf (now «case»)) (pricesOf (now «case») (now proposal)) prices ⌝ }
+    requires { ⌜ PricesHold (caseOf (now «case»)) (pricesOf (now «case») (now proposal)) prices ⌝ }
     requires { ⌜ 2 * countOf (hour .counts) ≤ length (now out) ⌝ }
     ensures { λ _. ⌜ now (out .exit) ≡ sets (now (out .entry)) (2 * (hour .counts .orders + hour .counts .branches)) (pairsTo (hour .counts .links)
         (linkShortfall (caseOf (now («case» .entry))) (planOf (now («case» .entry)) (now (proposal .entry))) (pricesOf (now («case» .entry)) (now (proposal .entry))))) ⌝ }
@@ -92,8 +92,8 @@ fn put_links(case: &[u8], proposal: &[u8], hour: HourRead, prices: [Grains; 16],
 // All of them, of an accepted hour, from what was found in it.
 fn put_all(case: &[u8], proposal: &[u8], found: Found, out: &mut [i64])
     requires { ⌜ HourAccepted (now «case») (now proposal) (found .hour) ⌝ }
-    requires { ⌜ Holds (fbPart (caseOf (now «case»)) (planOf (now «case») (now proposal))) (found .cleared .parts) ⌝ }
-    requires { ⌜ Priced (caseOf (now «case»)) (pricesOf (now «case») (now proposal)) (found .prices) ⌝ }
+    requires { ⌜ TenthsHold (fbPart (caseOf (now «case»)) (planOf (now «case») (now proposal))) (found .cleared .parts) ⌝ }
+    requires { ⌜ PricesHold (caseOf (now «case»)) (pricesOf (now «case») (now proposal)) (found .prices) ⌝ }
     requires { ⌜ 2 * countOf (found .hour .counts) ≤ length (now out) ⌝ }
     ensures { λ _. ⌜ now (out .exit) ≡ sets (now (out .entry)) 0 (shortfallNumbers (caseOf (now («case» .entry))) (planOf (now («case» .entry)) (now (proposal .entry))) (pricesOf (now («case» .entry)) (now (proposal .entry)))) ⌝ }
 {

@@ -1,3 +1,3 @@
 -- THE MEANING of what the contracts cite
 pub mod Short
-pub mod Judged
+pub mod HourAccepted

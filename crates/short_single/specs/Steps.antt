@@ -1,3 +1,3 @@
 -- STEPS of the proofs
 pub mod Short
-pub mod Judged
+pub mod HourAccepted

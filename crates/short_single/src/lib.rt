@@ -11,13 +11,13 @@ ghost use Rattle.base_integers.specs.Meaning.Sums.{sumTo};
 ghost use Rattle.base_measures.specs.Meaning.Limits as limits;
 ghost use Rattle.rules.specs.Meaning.Hour.{caseOf, planOf, pricesOf, fbPart};
 ghost use Rattle.case_branches.specs.Meaning.Table.{tableOf};
-ghost use Rattle.judge_clearing.specs.Meaning.Held.{Holds};
-ghost use Rattle.judge_network.specs.Meaning.Prices.{Priced};
+ghost use Rattle.judge_clearing.specs.Meaning.TenthsHold.{TenthsHold};
+ghost use Rattle.judge_network.specs.Meaning.Prices.{PricesHold};
 ghost use Rattle.short_rules.specs.Meaning.Shortfalls.{orderShortfall, branchShortfall, linkShortfall};
 ghost use Rattle.short_single.specs.Meaning.Short.{Exact};
 ghost use Rattle.short_single.specs.Steps.Short.{shortOf, Shortable};
-ghost use Rattle.short_single.specs.Meaning.Judged.{HourAccepted};
-ghost use Rattle.short_single.specs.Steps.Judged.{loadOn};
+ghost use Rattle.short_single.specs.Meaning.HourAccepted.{HourAccepted};
+ghost use Rattle.short_single.specs.Steps.HourAccepted.{loadOn};
 use case_branches::margin_at;
 use case_links::link_at;
 use case_orders::order_at;
@@ -53,7 +53,7 @@ pub fn order_shortfall(
     i: usize,
 ) -> ExactMicrocents
     requires { ⌜ HourAccepted (now «case») (now proposal) hour ⌝ }
-    requires { ⌜ Priced (caseOf (now «case»)) (pricesOf (now «case») (now proposal)) prices ⌝ }
+    requires { ⌜ PricesHold (caseOf (now «case»)) (pricesOf (now «case») (now proposal)) prices ⌝ }
     requires { ⌜ i < hour .counts .orders ⌝ }
     ensures { λ r. ⌜ Exact (orderShortfall (caseOf (now («case» .entry))) (planOf (now («case» .entry)) (now (proposal .entry))) (pricesOf (now («case» .entry)) (now (proposal .entry))) i) r ⌝ }
 {
@@ -94,7 +94,7 @@ pub fn branch_shortfall(
     requires { ⌜ HourAccepted (now «case») (now proposal) hour ⌝ }
     requires { ⌜ m < hour .counts .branches ⌝ }
     requires { ⌜ row ≡ getD (tableOf (now «case»)) m [] ⌝ }
-    requires { ⌜ Holds (fbPart (caseOf (now «case»)) (planOf (now «case») (now proposal))) parts ⌝ }
+    requires { ⌜ TenthsHold (fbPart (caseOf (now «case»)) (planOf (now «case») (now proposal))) parts ⌝ }
     ensures { λ r. ⌜ Exact (branchShortfall (caseOf (now («case» .entry))) (planOf (now («case» .entry)) (now (proposal .entry))) (pricesOf (now («case» .entry)) (now (proposal .entry))) m) r ⌝ }
 {
     let k = hour.counts;
@@ -118,7 +118,7 @@ pub fn link_shortfall(
     l: usize,
 ) -> ExactMicrocents
     requires { ⌜ HourAccepted (now «case») (now proposal) hour ⌝ }
-    requires { ⌜ Priced (caseOf (now «case»)) (pricesOf (now «case») (now proposal)) prices ⌝ }
+    requires { ⌜ PricesHold (caseOf (now «case»)) (pricesOf (now «case») (now proposal)) prices ⌝ }
     requires { ⌜ l < hour .counts .links ⌝ }
     ensures { λ r. ⌜ Exact (linkShortfall (caseOf (now («case» .entry))) (planOf (now («case» .entry)) (now (proposal .entry))) (pricesOf (now («case» .entry)) (now (proposal .entry))) l) r ⌝ }
 {

@@ -7,8 +7,8 @@ ghost use lib.ListN.{length, take};
 ghost use Rattle.text_decimal.specs.Meaning.Ascii.{ascii};
 ghost use Rattle.text_decimal.specs.Meaning.Text.{countText};
 ghost use Rattle.text_decimal.specs.Meaning.Put.{Put};
-ghost use Rattle.base_causes.specs.Meaning.Rows.{verdict};
-ghost use Rattle.rules.specs.Meaning.Verdict.{under};
+ghost use Rattle.base_causes.specs.Meaning.Causes.{verdict};
+ghost use Rattle.rules.specs.Meaning.Verdict.{_under_};
 ghost use Rattle.rules.specs.Meaning.Cut.{caseEnd};
 ghost use Rattle.rules.specs.Meaning.Lines.{verdictLine, totalLine, totalLines, priceLine, priceLines, hourLines, hourText};
 ghost use Rattle.report_file.specs.Meaning.Written.{totalsIn, priceIn};
@@ -149,7 +149,7 @@ pub const ROOM: usize = layout::DESK_ROOM;
 
 // Whether an output is too short for them.
 fn too_short(room: usize) -> bool
-    ensures { λ r. ⌜ r ≡ under deskRoom room ⌝ }
+    ensures { λ r. ⌜ r ≡ room under deskRoom ⌝ }
 {
     room < ROOM
 }

@@ -4,7 +4,7 @@ use mathlib.Core.Bool.{Bool, true, false, _&&_, _||_}
 use mathlib.Core.List.{List, [], _∷_}
 use Prim.Native.Nat.{ℕ}
 use lib.Dec.{eqb, ltb}
-use Rattle.base_causes.specs.Meaning.Rows.{Row}
+use Rattle.base_causes.specs.Meaning.Causes.{Cause}
 
 -- THE ORDER OF A TABLE, as a list beside it: each row's number, and what its index is: none named (0), a given offset, the place, or the offset of the
 -- first field at fault, of which `RefusedField` says which it is (S-2)
@@ -28,7 +28,7 @@ Indexed the-place f = (k : ℕ) → f k ≡ k
 Indexed a-field f = Unit {0}
 
 -- the rows of a table are these, in this order
-abbrev pub Asks : List Row → List Asked → Type 0
+abbrev pub Asks : List Cause → List Asked → Type 0
 Asks [] [] = Unit {0}
 Asks [] (a ∷ rest) = ⊥
 Asks (r ∷ rs) [] = ⊥

@@ -10,18 +10,18 @@ use native.Mathlib.Decide.{decLt}
 use native.Mathlib.Omega.{arith}
 use lib.Arith.{digits-lt, digits-div, digits-mod}
 use lib.Dec.{T}
-use Rattle.base_causes.specs.Meaning.Rows.{Row, verdict, firstBelow, firstField, refusal, eachAt, eachField}
-use Rattle.base_causes.specs.Promised.RowLaws.{First, first-none, first-some, first-is, not-below, no-place, first-field, row-found, row-clear}
+use Rattle.base_causes.specs.Meaning.Causes.{Cause, verdict, firstBelow, firstField, refusal, eachAt, eachField}
+use Rattle.base_causes.specs.Promised.CauseLaws.{First, first-none, first-some, first-is, not-below, no-place, first-field, row-found, row-clear}
 
 -- the k-th field of n rows of w fields: field k % w of row k / w
-abbrev pub eachInOrder : ℕ → ℕ → ℕ → (ℕ → ℕ → Bool) → (ℕ → ℕ → ℕ) → Row
+abbrev pub eachInOrder : ℕ → ℕ → ℕ → (ℕ → ℕ → Bool) → (ℕ → ℕ → ℕ) → Cause
 eachInOrder number n w fault offset = eachAt number (n * w) (λ k. fault (k / w) (k % w)) (λ k. offset (k / w) (k % w))
 
 module _ (number n w : ℕ) (some-field : 0 < w) (fault : ℕ → ℕ → Bool) (offset : ℕ → ℕ → ℕ) where
-  abbrev rows : Row
+  abbrev rows : Cause
   rows = eachField number n w fault offset
 
-  abbrev inOrder : Row
+  abbrev inOrder : Cause
   inOrder = eachInOrder number n w fault offset
 
   clear-row : (i : ℕ) → T (not (rows .fails i)) → (k : ℕ) → k / w ≡ i → T (not (inOrder .fails k))
@@ -75,7 +75,7 @@ module _ (number n w : ℕ) (some-field : 0 < w) (fault : ℕ → ℕ → Bool) 
     index-in-order = λ k. offset (row-is k) (field-is k)
 
   -- THE SAME REFUSAL, whatever rows come after
-  pub field-by-field : (rs : List Row) → refusal (rows ∷ rs) ≡ refusal (inOrder ∷ rs)
+  pub field-by-field : (rs : List Cause) → refusal (rows ∷ rs) ≡ refusal (inOrder ∷ rs)
   field-by-field rs = by (firstBelow n (rows .fails)) refl
     where
       by : (o : Option ℕ) → firstBelow n (rows .fails) ≡ o → refusal (rows ∷ rs) ≡ refusal (inOrder ∷ rs)

@@ -9,7 +9,7 @@ use lib.Dec.{eqb}
 use lib.ListN.{length, getD, set, replicate, length-set}
 use lib.Seq.{getD-set-same, getD-set-other}
 use borrow.Author.Tests.{eqb-true, eqb-false}
-use Rattle.base_causes.specs.Meaning.Rows.{anyBelow}
+use Rattle.base_causes.specs.Meaning.Causes.{anyBelow}
 use Rattle.base_zone_set.specs.Meaning.Zones.{member, added}
 use Rattle.base_zone_set.specs.Steps.Zones.{member-added, member-none}
 

@@ -9,10 +9,10 @@ use lib.ListN.{length, length-append, length-map}
 use lib.IntN.{ℤ, _+ℤ_}
 use Rattle.base_integers.specs.Steps.Difference.{at, _⊕_, eq-by}
 use Rattle.base_causes.specs.declared.Outcome.{Outcome}
-use Rattle.base_causes.specs.Meaning.Rows.{refusal}
-use Rattle.base_causes.specs.Promised.RowLaws.{isRow, rowOf, lacks, zero-none, rowNumbered, number-passes, field-at-passes}
+use Rattle.base_causes.specs.Meaning.Causes.{refusal}
+use Rattle.base_causes.specs.Promised.CauseLaws.{isCause, rowOf, lacks, zero-none, causeNumbered, number-passes, field-at-passes}
 use Rattle.rules.specs.Promised.Causes.{book-outcome}
-use Rattle.rules.specs.Meaning.Book.{BookRow, bookRows, bookRefusal, bookSurplus, bookAnswerBy, bookAnswer}
+use Rattle.rules.specs.Meaning.Book.{BookRow, bookCauses, bookRefusal, bookSurplus, bookAnswerBy, bookAnswer}
 use Rattle.book_surplus.specs.Meaning.Lent.{bookRow, given, lentAnswer}
 use Rattle.book_surplus.specs.Meaning.BookState.{answered}
 use Rattle.book_surplus.specs.declared.OrderRow.{OrderRow}
@@ -77,9 +77,9 @@ either-order prices a b g h l =
 
 -- AS A HOST MEETS IT: two books that are answered with 0 at the same prices, at most 512 rows together, are answered with 0 joined
 pub accepted-good : (prices : List ℤ) (orders : List OrderRow) → (lentAnswer orders prices) .number ≡ 0 → GoodRows orders prices × GoodPrices prices
-unfolding lentAnswer bookRefusal bookRows lacks rowNumbered rowOf isRow
+unfolding lentAnswer bookRefusal bookCauses lacks causeNumbered rowOf isCause
 accepted-good prices orders e =
-    let rows = bookRows (map bookRow orders) prices in
+    let rows = bookCauses (map bookRow orders) prices in
     let passed : refusal rows ≡ none = zero-none rows tt (sym (ap (λ (o : Outcome). o .number) (book-outcome (map bookRow orders) prices)) ∙ e) in (
       record { good = (number-passes rows passed 8) .pass },
       record { count-in = (field-at-passes rows passed 4 5) .pass 0 (omega arith); price-in = (number-passes rows passed 25) .pass },

@@ -20,10 +20,10 @@ use Rattle.base_measures.specs.Meaning.Limits as limits
 use Rattle.rules.specs.Meaning.Layout.{zoneCounts, orderCounts}
 use Rattle.rules.specs.Meaning.Hour.{surplusOf}
 use Rattle.base_causes.specs.declared.Outcome.{Outcome}
-use Rattle.base_causes.specs.Meaning.Rows.{Row, failing, rowElse, refusal, field, each}
-use Rattle.base_causes.specs.Promised.RowLaws.{field-passes, row-passes}
+use Rattle.base_causes.specs.Meaning.Causes.{Cause, failing, causeElse, refusal, field, each}
+use Rattle.base_causes.specs.Promised.CauseLaws.{field-passes, row-passes}
 use Rattle.rules.specs.Meaning.Verdict.{badRow}
-use Rattle.rules.specs.Meaning.Book.{BookRow, rowAt, priceAt, badBookRow, bookRows, bookRefusal, rowSurplus, bookSurplus, noRow}
+use Rattle.rules.specs.Meaning.Book.{BookRow, rowAt, priceAt, badBookRow, bookCauses, bookRefusal, rowSurplus, bookSurplus, noRow}
 use Rattle.book_joined.specs.Meaning.GoodBook.{GoodPrices}
 
 abbrev pub AllGood : List BookRow → List ℤ → Type 0
@@ -67,23 +67,23 @@ few : (n : ℕ) → n ≤ 512 → outside orderCounts (pos n) ≡ false
 unfolding outside
 few n h = λ j. le-ltb n 0 (omega arith) j || le-ltb 512 n h j
 
-after-row : (r : Row) (rs rs′ : List Row) → refusal rs ≡ refusal rs′ → refusal (r ∷ rs) ≡ refusal (r ∷ rs′)
+after-row : (r : Cause) (rs rs′ : List Cause) → refusal rs ≡ refusal rs′ → refusal (r ∷ rs) ≡ refusal (r ∷ rs′)
 unfolding refusal
-after-row r rs rs′ e = ap (rowElse r (failing r)) e
+after-row r rs rs′ e = ap (causeElse r (failing r)) e
 
 module _ (prices : List ℤ) where
-  abbrev priceRows : List Row
-  priceRows = each 25 (length prices) (λ z. outside limits.zonePrice (priceAt prices z)) ∷ []
+  abbrev priceCauses : List Cause
+  priceCauses = each 25 (length prices) (λ z. outside limits.zonePrice (priceAt prices z)) ∷ []
 
   abbrev pub priceRefusal : Option Outcome
-  priceRefusal = refusal (field 4 5 (outside zoneCounts (pos (length prices))) ∷ priceRows)
+  priceRefusal = refusal (field 4 5 (outside zoneCounts (pos (length prices))) ∷ priceCauses)
 
   pub by-prices : (rows : List BookRow) → AllGood rows prices → length rows ≤ 512 → bookRefusal rows prices ≡ priceRefusal
-  unfolding bookRefusal bookRows
-  by-prices rows g l = after-row (field 4 5 (outside zoneCounts (pos (length prices)))) _ priceRows
-      (field-passes 4 8 (each 8 (length rows) (badBookRow rows prices) ∷ priceRows) (few (length rows) l) ∙ row-passes (each 8 (length rows) (badBookRow rows prices)) priceRows (record { pass = g }))
+  unfolding bookRefusal bookCauses
+  by-prices rows g l = after-row (field 4 5 (outside zoneCounts (pos (length prices)))) _ priceCauses
+      (field-passes 4 8 (each 8 (length rows) (badBookRow rows prices) ∷ priceCauses) (few (length rows) l) ∙ row-passes (each 8 (length rows) (badBookRow rows prices)) priceCauses (record { pass = g }))
 
   pub good-prices : GoodPrices prices → priceRefusal ≡ none
   unfolding refusal
-  good-prices p = field-passes 4 5 priceRows (not-is (outside zoneCounts (pos (length prices))) (p .count-in))
+  good-prices p = field-passes 4 5 priceCauses (not-is (outside zoneCounts (pos (length prices))) (p .count-in))
       ∙ row-passes (each 25 (length prices) (λ z. outside limits.zonePrice (priceAt prices z))) [] (record { pass = p .price-in })

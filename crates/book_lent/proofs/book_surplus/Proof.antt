@@ -405,12 +405,12 @@ module _ {M : Type 1} (𝓤 : URA M) (H : Heap 𝓤) (A : Atoms 𝓤) (W : Given
           ∷ ‵ (fat fullShare slice₂ l₂ 0 pv) ∷ ‵ (fdies slice₂ l₂) ∷ ‵ (fat fullShare slice l₁ 0 xv) ∷ ‵ (fdies slice l₁) ∷ ‵ (froom S′.mir l₀ 0) ∷ ‵ (fdies S′.mir l₀) ∷ []
 
       -- from the first call's return to the loop
-      abbrev Opened : Val → List (Item 𝓤)
-      Opened u = (‵ (flft κ′ q′) ⊛ ‵ ftrue) ∷ ‵ (flft κ q) ∷ ‵ Own₂ ∷ ‵ Own ∷ Locals (fat fullShare N′.mir l₃ 0 u)
+      abbrev CaseReadable : Val → List (Item 𝓤)
+      CaseReadable u = (‵ (flft κ′ q′) ⊛ ‵ ftrue) ∷ ‵ (flft κ q) ∷ ‵ Own₂ ∷ ‵ Own ∷ Locals (fat fullShare N′.mir l₃ 0 u)
 
-      opened : (r : BookState) (u : Val) → r ≡ acc 0 → Is N.the-row r (u ∷ []) → ent 𝓤 (⋆ 𝓤 H A (Opened u)) (Wp 𝓤 H C Λ En code-mir.t-3 (atReturn 𝓤 H En Post))
+      opened : (r : BookState) (u : Val) → r ≡ acc 0 → Is N.the-row r (u ∷ []) → ent 𝓤 (⋆ 𝓤 H A (CaseReadable u)) (Wp 𝓤 H C Λ En code-mir.t-3 (atReturn 𝓤 H En Post))
       opened r u e is =
-          qed W (Opened u) ∵ exec ! C Λ En code-mir.t-3 (atRet En Post) $
+          qed W (CaseReadable u) ∵ exec ! C Λ En code-mir.t-3 (atRet En Post) $
           assigns ! (of-opd ! (lit ! tt)) (from ! (stop !)) (init ! 14 refl (tt, record { fits = lit< tt })) $
           split ! $ rewrite ! 17 (λ (v : Val). ‵ (fat fullShare N′.mir l₃ 0 v)) (low-is r u is ∙ ap low e) refl $
           -- [the other token; true; the token; what prices owns; what orders owns; _9; …]

@@ -6,7 +6,7 @@ use lib.Dec.{leb, ltb}
 use lib.IntN.{ℤ, pos}
 use Rattle.base_integers.specs.Meaning.Ranges.{outside}
 use Rattle.base_measures.specs.Meaning.Limits as limits
-use Rattle.base_causes.specs.Meaning.Rows.{anyBelow}
+use Rattle.base_causes.specs.Meaning.Causes.{anyBelow}
 use Rattle.rules.specs.Meaning.Verdict.{rowFault, badRow}
 use Rattle.book_order.specs.declared.Order.{Order}
 use Rattle.book_order.specs.declared.OrderAnswer.the-variants.{Held, Outside}

@@ -7,8 +7,8 @@ use lib.ListN.{length}
 use Rattle.base_integers.specs.Meaning.Ranges.{outside}
 use Rattle.base_measures.specs.Meaning.Limits as limits
 use Rattle.rules.specs.Meaning.Book.{priceAt}
-use Rattle.base_causes.specs.Meaning.Rows.{firstBelow}
-use Rattle.base_causes.specs.Promised.RowLaws.{first-here, first-later, first-nowhere}
+use Rattle.base_causes.specs.Meaning.Causes.{firstBelow}
+use Rattle.base_causes.specs.Promised.CauseLaws.{first-here, first-later, first-nowhere}
 use Rattle.book_surplus.specs.Meaning.BookState.{firstPriceOutside}
 use Rattle.book_surplus.proofs.first_price_outside.Statement.{statement}
 use Rattle.book_surplus.proofs.first_price_outside.Tie as tie

@@ -8,7 +8,7 @@ use Rattle.base_integers.specs.Meaning.Ranges.{outside}
 use Rattle.base_integers.specs.Steps.Ranges.{nat-within}
 use Rattle.rules.specs.Meaning.Layout.{zoneCounts, orderCounts}
 use Rattle.base_integers.specs.Steps.Ranges.{is-false}
-use Rattle.base_causes.specs.Promised.RowLaws.{at-place, at-none, place-below}
+use Rattle.base_causes.specs.Promised.CauseLaws.{at-place, at-none, place-below}
 use Rattle.book_surplus.specs.Meaning.BookState.{firstPriceOutside}
 use Rattle.book_surplus.specs.Steps.StateLaws.{opened-by}
 use borrow.Author.Needs.{needs}

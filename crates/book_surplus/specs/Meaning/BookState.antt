@@ -14,7 +14,7 @@ use Rattle.book_order.specs.Meaning.Answer.{orderOf}
 use Rattle.book_order.specs.Meaning.Admitted.{surplusAt}
 use Rattle.book_order.specs.declared.Order.{Order}
 use Rattle.rules.specs.Meaning.Layout.{zoneCounts, orderCounts}
-use Rattle.base_causes.specs.Meaning.Rows.{firstBelow}
+use Rattle.base_causes.specs.Meaning.Causes.{firstBelow}
 use Rattle.rules.specs.Meaning.Verdict.{badRow}
 use Rattle.rules.specs.Meaning.Book.{priceAt}
 use Rattle.book_surplus.specs.declared.BookState.{BookState}

@@ -17,11 +17,11 @@ use Rattle.base_integers.specs.Steps.Sums.{sum-ext}
 use Rattle.base_measures.specs.Meaning.Limits as limits
 use Rattle.rules.specs.Meaning.Layout.{zoneCounts, orderCounts}
 use Rattle.rules.specs.Meaning.Hour.{Case, Prices, caseOf, pricesOf, zonePrice, buys, surplusOf, orderSurplus, surplus}
-use Rattle.base_causes.specs.Meaning.Rows.{each, Pass}
-use Rattle.base_causes.specs.Promised.RowLaws.{no-less, row-passed, none-zero, field-passes, row-passes, isRow, rowOf, hasRow, before, rowNumbered, number-passes}
-use Rattle.rules.specs.Meaning.Verdict.{badRow, orderFault, caseRows, caseRefusal, Readable}
+use Rattle.base_causes.specs.Meaning.Causes.{each, Pass}
+use Rattle.base_causes.specs.Promised.CauseLaws.{no-less, row-passed, none-zero, field-passes, row-passes, isCause, rowOf, hasCause, before, causeNumbered, number-passes}
+use Rattle.rules.specs.Meaning.Verdict.{badRow, orderFault, caseCauses, caseRefusal, Readable}
 use Rattle.rules.specs.Steps.Passed.{case-sound}
-use Rattle.rules.specs.Meaning.Book.{BookRow, noRow, rowAt, priceAt, badBookRow, bookRows, bookRefusal, rowSurplus, bookSurplus, bookAnswerBy, bookAnswer}
+use Rattle.rules.specs.Meaning.Book.{BookRow, noRow, rowAt, priceAt, badBookRow, bookCauses, bookRefusal, rowSurplus, bookSurplus, bookAnswerBy, bookAnswer}
 use Rattle.book_surplus.specs.declared.OrderRow.{OrderRow}
 use Rattle.book_surplus.specs.Meaning.BookState.{answered}
 use Rattle.book_surplus.specs.Meaning.Lent.{bookRow, given, lentAnswer}
@@ -89,21 +89,21 @@ module _ (s t : List ℕ) (readable : Readable s) (in-limits : (z : ℕ) → z <
   prices-count = length-listed (c .zones) _
 
   -- the case's own rows of the verdict table passed
-  passed : (n k : ℕ) → T (hasRow n k (before 0 (caseRows s c))) → Pass (rowOf n k (caseRows s c))
+  passed : (n k : ℕ) → T (hasCause n k (before 0 (caseCauses s c))) → Pass (rowOf n k (caseCauses s c))
   unfolding caseRefusal
-  passed = row-passed 0 (caseRows s c) (none-zero (caseRows s c) (readable .none-holds))
+  passed = row-passed 0 (caseCauses s c) (none-zero (caseCauses s c) (readable .none-holds))
 
   zones-in : T (not (outside zoneCounts (pos (c .zones))))
-  unfolding caseRows before hasRow rowOf isRow
+  unfolding caseCauses before hasCause rowOf isCause
   zones-in = (passed 4 5 tt) .pass 0 (omega arith)
 
   orders-in : T (not (outside orderCounts (pos (c .orders))))
-  unfolding caseRows before hasRow rowOf isRow
+  unfolding caseCauses before hasCause rowOf isCause
   orders-in = (passed 4 8 tt) .pass 0 (omega arith)
 
   order-in : (i : ℕ) → i < c .orders → T (not (badRow (c .zones) (c .zone i) (c .side i) (c .quantity i) (c .price i)))
-  unfolding caseRefusal caseRows rowNumbered orderFault badRow
-  order-in i h = (number-passes (caseRows s c) (readable .none-holds) 8) .pass i h
+  unfolding caseRefusal caseCauses causeNumbered orderFault badRow
+  order-in i h = (number-passes (caseCauses s c) (readable .none-holds) 8) .pass i h
 
   -- and so do the book's
   zones-pass : outside zoneCounts (pos (length prices)) ≡ false
@@ -123,7 +123,7 @@ module _ (s t : List ℕ) (readable : Readable s) (in-limits : (z : ℕ) → z <
 
   -- REFUSED NOTHING
   pub accepted : bookRefusal rows prices ≡ none
-  unfolding bookRefusal bookRows
+  unfolding bookRefusal bookCauses
   accepted = field-passes 4 5 _ zones-pass ∙ field-passes 4 8 _ orders-pass ∙ row-passes (each 8 (length rows) (badBookRow rows prices)) _ (record { pass = row-pass })
       ∙ row-passes (each 25 (length prices) (λ z. outside limits.zonePrice (priceAt prices z))) [] (record { pass = price-pass }) ∙ no-cause
 

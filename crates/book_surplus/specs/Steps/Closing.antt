@@ -20,10 +20,10 @@ use Rattle.base_measures.specs.Meaning.Limits as limits
 use Rattle.rules.specs.Meaning.Layout.{zoneCounts, orderCounts}
 use Rattle.rules.specs.Meaning.Hour.{surplusOf}
 use Rattle.base_causes.specs.declared.Outcome.{Outcome}
-use Rattle.base_causes.specs.Meaning.Rows.{Row, firstBelow, refusal, field, each}
-use Rattle.base_causes.specs.Promised.RowLaws.{field-fails, field-passes, row-found, row-clear, first-is, not-below}
+use Rattle.base_causes.specs.Meaning.Causes.{Cause, firstBelow, refusal, field, each}
+use Rattle.base_causes.specs.Promised.CauseLaws.{field-fails, field-passes, row-found, row-clear, first-is, not-below}
 use Rattle.rules.specs.Meaning.Verdict.{badRow}
-use Rattle.rules.specs.Meaning.Book.{BookRow, priceAt, badBookRow, bookRows, bookRefusal, rowSurplus, bookSurplus, bookAnswerBy, bookAnswer}
+use Rattle.rules.specs.Meaning.Book.{BookRow, priceAt, badBookRow, bookCauses, bookRefusal, rowSurplus, bookSurplus, bookAnswerBy, bookAnswer}
 use Rattle.book_surplus.specs.declared.BookState.{BookState}
 use Rattle.book_surplus.specs.declared.OrderRow.{OrderRow}
 use Rattle.book_surplus.specs.Meaning.Lent.{bookRow, given, lentAnswer}
@@ -104,11 +104,11 @@ module _ (orders : List OrderRow) (prices : List ℤ) where
   abbrev rows : List BookRow
   rows = map bookRow orders
 
-  abbrev tests : List Row
+  abbrev tests : List Cause
   tests = field 4 5 (outside zoneCounts (pos (length prices))) ∷ field 4 8 (outside orderCounts (pos (length orders))) ∷ each 8 (length orders) bad ∷ each 25 (length prices) priceOutside ∷ []
 
-  tests-are : bookRows rows prices ≡ tests
-  unfolding bookRows badBookRow
+  tests-are : bookCauses rows prices ≡ tests
+  unfolding bookCauses badBookRow
   tests-are = λ j. field 4 5 (outside zoneCounts (pos (length prices)))
       ∷ field 4 8 (outside orderCounts (pos (length-map orders bookRow j)))
       ∷ each 8 (length-map orders bookRow j) (λ i. badOf (List·getD-map bookRow orders i noOrder j))

@@ -20,7 +20,7 @@ use Rattle.book_order.specs.Meaning.Admitted.{surplusAt}
 use Rattle.book_order.specs.declared.Order.{Order}
 use Rattle.rules.specs.Meaning.Layout.{zoneCounts, orderCounts}
 use Rattle.rules.specs.Meaning.Hour.{surplusOf}
-use Rattle.base_causes.specs.Meaning.Rows.{anyBelow}
+use Rattle.base_causes.specs.Meaning.Causes.{anyBelow}
 use Rattle.rules.specs.Meaning.Verdict.{rowFault, badRow}
 use Rattle.rules.specs.Steps.Passed.{nor-4}
 use Rattle.rules.specs.Promised.Fits.{surplus-near}

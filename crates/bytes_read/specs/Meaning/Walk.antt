@@ -2,7 +2,7 @@
 use mathlib.Core.List.{List}
 use mathlib.Core.Option.{Option, none, some}
 use Prim.Native.Nat.{ℕ}
-use Rattle.base_causes.specs.Meaning.Rows.{Row, firstBelow, refusal}
+use Rattle.base_causes.specs.Meaning.Causes.{Cause, firstBelow, refusal}
 use Rattle.base_causes.specs.declared.Outcome.{Outcome}
 use Rattle.bytes_read.specs.declared.Cursor.{Cursor}
 use Rattle.bytes_read.specs.declared.Walked.{Walked}
@@ -17,12 +17,12 @@ abbrev pub pastAt : ℕ → Walked
 pastAt at = Past (record { at = at })
 
 -- by the first place at which a row fails
-abbrev pub walkedBy : Row → Cursor → Option ℕ → Walked
+abbrev pub walkedBy : Cause → Cursor → Option ℕ → Walked
 walkedBy r past (some k) = refusedAt (r .number) (r .index k)
 walkedBy r past none = Past past
 
 -- the walk that a row of the table stands for, and ends at a cursor
-abbrev pub walked : Row → Cursor → Walked
+abbrev pub walked : Cause → Cursor → Walked
 walked r past = walkedBy r past (firstBelow (r .places) (r .fails))
 
 -- A WALK OVER SEVERAL PARTS, by the rows that are asked of them
@@ -30,5 +30,5 @@ abbrev pub rowsWalkedBy : Cursor → Option Outcome → Walked
 rowsWalkedBy past (some o) = Refused o
 rowsWalkedBy past none = Past past
 
-abbrev pub rowsWalked : List Row → Cursor → Walked
+abbrev pub rowsWalked : List Cause → Cursor → Walked
 rowsWalked rs past = rowsWalkedBy past (refusal rs)

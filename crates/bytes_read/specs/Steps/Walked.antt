@@ -5,8 +5,8 @@ use mathlib.Core.List.{List, [], _∷_}
 use mathlib.Core.Option.{Option, none, some}
 use Prim.Native.Nat.{ℕ, _+_, _≤_, _<_}
 use native.Mathlib.Omega.{arith}
-use Rattle.base_causes.specs.Meaning.Rows.{Row, firstBelow, firstField, placeElse, refusal, eachField}
-use Rattle.base_causes.specs.Promised.RowLaws.{not-below, any-none, any-here, first-here, first-later, first-nowhere, row-found, row-clear}
+use Rattle.base_causes.specs.Meaning.Causes.{Cause, firstBelow, firstField, placeElse, refusal, eachField}
+use Rattle.base_causes.specs.Promised.CauseLaws.{not-below, any-none, any-here, first-here, first-later, first-nowhere, row-found, row-clear}
 use Rattle.base_causes.specs.declared.Outcome.{Outcome}
 use Rattle.bytes_read.specs.declared.Cursor.{Cursor}
 use Rattle.bytes_read.specs.declared.Walked.{Walked}
@@ -30,7 +30,7 @@ pub refused-past : {at : ℕ} {x : Outcome} → Refused x ≡ pastAt at → (A :
 refused-past e A = absurd (subst isPast (sym e) tt)
 
 -- A WALK that is under way: the places before k passed
-module _ (r : Row) (past : Cursor) (k : ℕ) (clear : firstBelow k (r .fails) ≡ none) where
+module _ (r : Cause) (past : Cursor) (k : ℕ) (clear : firstBelow k (r .fails) ≡ none) where
   pub walk-stops : k < r .places → r .fails k ≡ true → refusedAt (r .number) (r .index k) ≡ walked r past
   walk-stops h e = sym (ap (walkedBy r past) (first-here (r .fails) k h clear e))
 
@@ -38,22 +38,22 @@ module _ (r : Row) (past : Cursor) (k : ℕ) (clear : firstBelow k (r .fails) �
   walk-ends h l = sym (ap (walkedBy r past) (first-nowhere (r .fails) k h l clear))
 
 -- a walk over records that is done: the cursor stood at each in its turn, and stands where the last ends
-pub walk-done : (r : Row) (place : ℕ → ℕ) {at i end : ℕ} → at ≡ place i → firstBelow i (r .fails) ≡ none → i ≡ r .places → place (r .places) ≡ end → pastAt at ≡ walked r (cursor end)
+pub walk-done : (r : Cause) (place : ℕ → ℕ) {at i end : ℕ} → at ≡ place i → firstBelow i (r .fails) ≡ none → i ≡ r .places → place (r .places) ≡ end → pastAt at ≡ walked r (cursor end)
 walk-done r place {at} {i} {end} p e q f = ap pastAt (p ∙ ap place q ∙ f) ∙ walk-ends r (cursor end) i e (omega (arith, q)) (omega (arith, q))
 
 -- AN ANSWER READ BACK
-module _ (r : Row) (past : Cursor) where
-  pub walk-refused : {x : Outcome} → walked r past ≡ Refused x → (rs : List Row) → refusal (r ∷ rs) ≡ some x
+module _ (r : Cause) (past : Cursor) where
+  pub walk-refused : {x : Outcome} → walked r past ≡ Refused x → (rs : List Cause) → refusal (r ∷ rs) ≡ some x
   walk-refused {x} e rs = by (firstBelow (r .places) (r .fails)) refl e
     where
       by : (o : Option ℕ) → firstBelow (r .places) (r .fails) ≡ o → walkedBy r past o ≡ Refused x → refusal (r ∷ rs) ≡ some x
       by (some k) q e = row-found r rs k q ∙ cc
       by none q e = cc
 
-  pub walk-past : {c : Cursor} → walked r past ≡ Past c → ((rs : List Row) → refusal (r ∷ rs) ≡ refusal rs) × (c ≡ past)
+  pub walk-past : {c : Cursor} → walked r past ≡ Past c → ((rs : List Cause) → refusal (r ∷ rs) ≡ refusal rs) × (c ≡ past)
   walk-past {c} e = by (firstBelow (r .places) (r .fails)) refl e
     where
-      by : (o : Option ℕ) → firstBelow (r .places) (r .fails) ≡ o → walkedBy r past o ≡ Past c → ((rs : List Row) → refusal (r ∷ rs) ≡ refusal rs) × (c ≡ past)
+      by : (o : Option ℕ) → firstBelow (r .places) (r .fails) ≡ o → walkedBy r past o ≡ Past c → ((rs : List Cause) → refusal (r ∷ rs) ≡ refusal rs) × (c ≡ past)
       by (some k) q e = (λ rs. cc, cc)
       by none q e = (λ rs. row-clear r rs q, cc)
 
@@ -85,7 +85,7 @@ module _ {number n w : ℕ} {fault : ℕ → ℕ → Bool} {offset : ℕ → ℕ
   pub record-passes : w ≡ j → firstBelow (i + 1) (eachField number n w fault offset .fails) ≡ none
   record-passes e = first-later (eachField number n w fault offset .fails) i (t .records-clear) (any-none w (fault i) (not-below w (fault i) (ap (λ (k : ℕ). firstBelow k (fault i)) e ∙ t .fields-clear)))
 
-module _ (r : Row) (rs : List Row) (next past : Cursor) where
+module _ (r : Cause) (rs : List Cause) (next past : Cursor) where
   -- the first part refuses
   pub part-refused : {x : Outcome} → walked r next ≡ Refused x → Refused x ≡ rowsWalked (r ∷ rs) past
   part-refused e = sym (ap (rowsWalkedBy past) (walk-refused r next e rs))
@@ -95,7 +95,7 @@ module _ (r : Row) (rs : List Row) (next past : Cursor) where
   part-passed e = sym (ap (rowsWalkedBy past) ((walk-past r next e) .0 rs))
 
 -- the last part
-pub last-part : (r : Row) (past : Cursor) → walked r past ≡ rowsWalked (r ∷ []) past
+pub last-part : (r : Cause) (past : Cursor) → walked r past ≡ rowsWalked (r ∷ []) past
 unfolding refusal
 last-part r past = by (walked r past) refl
   where
@@ -104,14 +104,14 @@ last-part r past = by (walked r past) refl
     by (Refused x) e = part-refused r [] past past e
 
 -- an answer read back
-pub rows-refused : (rs : List Row) (past : Cursor) {x : Outcome} → rowsWalked rs past ≡ Refused x → refusal rs ≡ some x
+pub rows-refused : (rs : List Cause) (past : Cursor) {x : Outcome} → rowsWalked rs past ≡ Refused x → refusal rs ≡ some x
 rows-refused rs past {x} e = by (refusal rs) refl e
   where
     by : (o : Option Outcome) → refusal rs ≡ o → rowsWalkedBy past o ≡ Refused x → refusal rs ≡ some x
     by (some o) q e = q ∙ cc
     by none q e = cc
 
-pub rows-passed : (rs : List Row) (past : Cursor) {c : Cursor} → rowsWalked rs past ≡ Past c → refusal rs ≡ none
+pub rows-passed : (rs : List Cause) (past : Cursor) {c : Cursor} → rowsWalked rs past ≡ Past c → refusal rs ≡ none
 rows-passed rs past {c} e = by (refusal rs) refl e
   where
     by : (o : Option Outcome) → refusal rs ≡ o → rowsWalkedBy past o ≡ Past c → refusal rs ≡ none

@@ -13,8 +13,8 @@ use Rattle.base_integers.specs.Steps.Ranges.{is-false}
 use Rattle.base_measures.specs.Meaning.Limits as limits
 use Rattle.rules.specs.Meaning.Layout.{i32At, zonesIn, branchesIn, branchSize, branchAt, branchFieldAt, linkAt, ramIn, ptdfIn}
 use Rattle.rules.specs.Meaning.Hour.{caseOf}
-use Rattle.base_causes.specs.Meaning.Rows.{firstBelow}
-use Rattle.base_causes.specs.Promised.RowLaws.{first-none, first-is, first-here, first-nowhere, not-below}
+use Rattle.base_causes.specs.Meaning.Causes.{firstBelow}
+use Rattle.base_causes.specs.Promised.CauseLaws.{first-none, first-is, first-here, first-nowhere, not-below}
 use Rattle.rules.specs.Meaning.Verdict.{branchFault}
 use Rattle.base_causes.specs.declared.Outcome.{Outcome}
 use Rattle.bytes_read.specs.declared.Cursor.{Cursor}
@@ -25,8 +25,8 @@ use Rattle.bytes_read.specs.Meaning.Walk.{refusedAt, walked}
 use Rattle.bytes_read.specs.Steps.Record.{RecordWithin}
 use Rattle.bytes_read.specs.Steps.Walked.{AtField, at-first, field-stops, record-passes}
 use Rattle.case_header.specs.declared.Counts.{Counts}
-use Rattle.case_header.specs.Meaning.Opened.{Whole, branchRow}
-use Rattle.case_header.specs.Steps.Opened.{small, branch-start-is, branch-inside}
+use Rattle.case_header.specs.Meaning.CaseReadable.{LengthValid, branchCause}
+use Rattle.case_header.specs.Steps.CaseReadable.{small, branch-start-is, branch-inside}
 
 -- WHERE BRANCHES STAND: one begins where the one before ends, and the links begin where the last ends
 pub branch-next : (s : List ℕ) (m : ℕ) → branchAt s m + 4 + 4 * zonesIn s ≡ branchAt s (m + 1)
@@ -38,7 +38,7 @@ unfolding branchAt linkAt
 links-begin s = omega arith
 
 -- a branch of the walk stands within the file
-pub branch-within : {s : List ℕ} {k : Counts} → Whole s k → (m : ℕ) → m < k .branches → RecordWithin s (branchAt s m) (4 + 4 * k .zones)
+pub branch-within : {s : List ℕ} {k : Counts} → LengthValid s k → (m : ℕ) → m < k .branches → RecordWithin s (branchAt s m) (4 + 4 * k .zones)
 branch-within w m h = record { inside = omega (arith, branch-start-is (w .headed) m, branch-inside w m h); small = small w }
 
 -- THE PTDFS of a branch, where they stand: each, and where the walk over them ends
@@ -94,7 +94,7 @@ none-behind f n e q = first-none (n + 1) f holds
     holds (suc z) h = not-below n (λ z. f (suc z)) q z (omega arith)
 
 -- THE WALK that stands at branch m: no branch before it has a field at fault
-module _ (s : List ℕ) (m : ℕ) (h : m < branchesIn s) (clear : firstBelow m (branchRow s .fails) ≡ none) where
+module _ (s : List ℕ) (m : ℕ) (h : m < branchesIn s) (clear : firstBelow m (branchCause s .fails) ≡ none) where
   abbrev at : ℕ
   at = branchAt s m
 
@@ -102,7 +102,7 @@ module _ (s : List ℕ) (m : ℕ) (h : m < branchesIn s) (clear : firstBelow m (
   fault = branchFault (caseOf s) m
 
   abbrev walk : Walked
-  walk = walked (branchRow s) (cursor (linkAt s 0))
+  walk = walked (branchCause s) (cursor (linkAt s 0))
 
   abbrev Stands : ℕ → Type 0
   Stands j = AtField 6 (branchesIn s) (1 + zonesIn s) (branchFault (caseOf s)) (branchFieldAt s) m j
@@ -114,7 +114,7 @@ module _ (s : List ℕ) (m : ℕ) (h : m < branchesIn s) (clear : firstBelow m (
   unfolding branchFault caseOf ramIn
   margin-stops e = let t : Stands 0 = at-first h clear in field-stops t (cursor (linkAt s 0)) (omega arith) e refl
 
-  branch-passes : firstBelow (zonesIn s + 1) fault ≡ none → firstBelow (m + 1) (branchRow s .fails) ≡ none
+  branch-passes : firstBelow (zonesIn s + 1) fault ≡ none → firstBelow (m + 1) (branchCause s .fails) ≡ none
   branch-passes q = let t : Stands (zonesIn s + 1) = record { one-of = h; records-clear = clear; fields-clear = q } in record-passes t (omega arith)
 
   -- the margin passed: the walk over the PTDFs ends at one, or passes them
@@ -132,11 +132,11 @@ module _ (s : List ℕ) (m : ℕ) (h : m < branchesIn s) (clear : firstBelow m (
             sym e ∙ stops (suc z) (omega (arith, f .place-in)) (ap (λ (n : ℕ). firstBelow n fault) (sym (add-one z)) ∙ none-behind fault z margin (first-none z (ptdfFault s (at + 4)) (f .none-before))) (held (ptdfFault s (at + 4) z) (f .holds))
         by none q e = cc
 
-    pub ptdfs-pass : {d : Cursor} → ptdfsWalked s (at + 4) (zonesIn s) ≡ Past d → (d .at ≡ branchAt s (m + 1)) × (firstBelow (m + 1) (branchRow s .fails) ≡ none)
+    pub ptdfs-pass : {d : Cursor} → ptdfsWalked s (at + 4) (zonesIn s) ≡ Past d → (d .at ≡ branchAt s (m + 1)) × (firstBelow (m + 1) (branchCause s .fails) ≡ none)
     unfolding branchFault caseOf ramIn ptdfIn
     ptdfs-pass {d} e = by found refl e
       where
-        by : (o : Option ℕ) → found ≡ o → ptdfsBy (at + 4) (zonesIn s) o ≡ Past d → (d .at ≡ branchAt s (m + 1)) × (firstBelow (m + 1) (branchRow s .fails) ≡ none)
+        by : (o : Option ℕ) → found ≡ o → ptdfsBy (at + 4) (zonesIn s) o ≡ Past d → (d .at ≡ branchAt s (m + 1)) × (firstBelow (m + 1) (branchCause s .fails) ≡ none)
         by (some z) q e = (cc, cc)
         by none q e =
             let p : d ≡ cursor (at + 4 + 4 * zonesIn s) = cc in

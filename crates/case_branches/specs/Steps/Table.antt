@@ -14,8 +14,8 @@ use Rattle.rules.specs.Meaning.Layout.{zonesIn, branchesIn, ptdfIn}
 use Rattle.rules.specs.Meaning.Hour.{caseOf}
 use Rattle.rules.specs.Steps.Passed.{case-sound}
 use Rattle.case_header.specs.declared.Counts.{Counts}
-use Rattle.case_header.specs.Meaning.Opened.{Opened, Limited}
-use Rattle.case_header.specs.Steps.Opened.{headed, limited}
+use Rattle.case_header.specs.Meaning.CaseReadable.{CaseReadable, CountsInRange}
+use Rattle.case_header.specs.Steps.CaseReadable.{headed, limited}
 use Rattle.case_branches.specs.Meaning.Table.{filled, emptyRow, rowOf, tableOf}
 
 -- a turn of the loop that fills it
@@ -60,8 +60,8 @@ entry-set {A = A} t u m z row v w e d h =
 abbrev pub entryOf : List ℕ → ℕ → ℕ → ℤ
 entryOf s m z = getD (getD (tableOf s) m []) z (pos 0)
 
-module _ {s : List ℕ} {k : Counts} (o : Opened s k) where
-  few : Limited k
+module _ {s : List ℕ} {k : Counts} (o : CaseReadable s k) where
+  few : CountsInRange k
   few = limited (headed o)
 
   branches-is : k .branches ≡ branchesIn s

@@ -7,15 +7,15 @@ use Rattle.base_causes.specs.declared.Outcome.{Outcome}
 use Rattle.rules.specs.Meaning.Verdict.{caseRefusal, Readable}
 use Rattle.case_header.specs.declared.Counts.{Counts}
 use Rattle.case_header.specs.Meaning.Answer.{countsOf}
-use Rattle.case_header.specs.Meaning.Opened.{Opened}
+use Rattle.case_header.specs.Meaning.CaseReadable.{CaseReadable}
 use Rattle.case_file.specs.declared.CaseAnswer.the-variants as answer
 use Rattle.case_file.specs.Meaning.Answer.{caseBy, caseAnswer}
 
 -- AN ANSWER READ BACK
-pub opened-of : (s : List ℕ) {k : Counts} → caseAnswer s ≡ answer.Readable k → Opened s k
+pub opened-of : (s : List ℕ) {k : Counts} → caseAnswer s ≡ answer.Readable k → CaseReadable s k
 opened-of s {k} e = by (caseRefusal s) refl e
   where
-    by : (o : Option Outcome) → caseRefusal s ≡ o → caseBy (countsOf s) o ≡ answer.Readable k → Opened s k
+    by : (o : Option Outcome) → caseRefusal s ≡ o → caseBy (countsOf s) o ≡ answer.Readable k → CaseReadable s k
     by (some o) q e = record { readable = record { none-holds = cc }; counts = cc }
     by none q e = record { readable = record { none-holds = q }; counts = cc }
 

@@ -10,8 +10,8 @@ use Rattle.base_integers.specs.Meaning.Ranges.{outside}
 use Rattle.base_measures.specs.Meaning.Limits as limits
 use Rattle.rules.specs.Meaning.Layout.{caseHeader, caseVersion, zonesIn, branchesIn, linksIn, ordersIn, toleranceIn, zoneCounts, branchCounts, linkCounts, orderCounts}
 use Rattle.base_causes.specs.declared.Outcome.{Outcome}
-use Rattle.base_causes.specs.Meaning.Rows.{Row, verdict, once, field}
-use Rattle.rules.specs.Meaning.Verdict.{under, differ, headerRefusal}
+use Rattle.base_causes.specs.Meaning.Causes.{Cause, verdict, once, field}
+use Rattle.rules.specs.Meaning.Verdict.{_under_, differ, headerRefusal}
 use Rattle.bytes_read.specs.declared.Cursor.{Cursor}
 use Rattle.bytes_read.specs.Meaning.Field.{cursor, markAt}
 use Rattle.case_header.specs.declared.Counts.{Counts}
@@ -41,11 +41,11 @@ takenBy h true = taken.Refused (verdict 1 0)
 takenBy h false = taken.Taken h
 
 abbrev pub headerTaken : List ℕ → HeaderField
-headerTaken s = takenBy (headerIn s) (under caseHeader (length s))
+headerTaken s = takenBy (headerIn s) (length s under caseHeader)
 
 -- ROWS 2 TO 4 of a header
-abbrev pub headerRows : Header → List Row
-headerRows h =
+abbrev pub headerCauses : Header → List Cause
+headerCauses h =
     once 2 (not (eqb (h .mark .0) 76 && eqb (h .mark .1) 84 && eqb (h .mark .2) 67))
     ∷ once 3 (differ (h .version) 1 && differ (h .version) 2)
     ∷ field 4 5 (outside zoneCounts (pos (h .zones)))

@@ -8,32 +8,32 @@ use lib.ListN.{length}
 use Rattle.rules.specs.Meaning.Layout.{caseHeader}
 use Rattle.rules.specs.Meaning.Hour.{caseOf}
 use Rattle.base_causes.specs.declared.Outcome.{Outcome}
-use Rattle.base_causes.specs.Meaning.Rows.{verdict, refusal}
-use Rattle.base_causes.specs.Promised.RowLaws.{field-fails, field-passes}
-use Rattle.rules.specs.Meaning.Verdict.{under, notMark, headerRefusal}
+use Rattle.base_causes.specs.Meaning.Causes.{verdict, refusal}
+use Rattle.base_causes.specs.Promised.CauseLaws.{field-fails, field-passes}
+use Rattle.rules.specs.Meaning.Verdict.{_under_, notMark, headerRefusal}
 use Rattle.case_header.specs.declared.Header.{Header}
 use Rattle.case_header.specs.declared.HeaderField.the-variants as taken
-use Rattle.case_header.specs.Meaning.Answer.{headerIn, takenBy, headerTaken, headerRows}
+use Rattle.case_header.specs.Meaning.Answer.{headerIn, takenBy, headerTaken, headerCauses}
 
 -- A HEADER READ BACK: taken where row 1 passes, and then rows 2 to 4 of its fields are the table's
-pub header-taken : (s : List ℕ) {h : Header} → headerTaken s ≡ taken.Taken h → (under caseHeader (length s) ≡ false) × (h ≡ headerIn s)
-header-taken s {h} e = by (under caseHeader (length s)) refl e
+pub header-taken : (s : List ℕ) {h : Header} → headerTaken s ≡ taken.Taken h → (length s under caseHeader ≡ false) × (h ≡ headerIn s)
+header-taken s {h} e = by (length s under caseHeader) refl e
   where
-    by : (b : Bool) → under caseHeader (length s) ≡ b → takenBy (headerIn s) b ≡ taken.Taken h → (under caseHeader (length s) ≡ false) × (h ≡ headerIn s)
+    by : (b : Bool) → length s under caseHeader ≡ b → takenBy (headerIn s) b ≡ taken.Taken h → (length s under caseHeader ≡ false) × (h ≡ headerIn s)
     by true q e = (cc, cc)
     by false q e = (q, cc)
 
-pub header-refused : (s : List ℕ) {r : Outcome} → headerTaken s ≡ taken.Refused r → (under caseHeader (length s) ≡ true) × (r ≡ verdict 1 0)
-header-refused s {r} e = by (under caseHeader (length s)) refl e
+pub header-refused : (s : List ℕ) {r : Outcome} → headerTaken s ≡ taken.Refused r → (length s under caseHeader ≡ true) × (r ≡ verdict 1 0)
+header-refused s {r} e = by (length s under caseHeader) refl e
   where
-    by : (b : Bool) → under caseHeader (length s) ≡ b → takenBy (headerIn s) b ≡ taken.Refused r → (under caseHeader (length s) ≡ true) × (r ≡ verdict 1 0)
+    by : (b : Bool) → length s under caseHeader ≡ b → takenBy (headerIn s) b ≡ taken.Refused r → (length s under caseHeader ≡ true) × (r ≡ verdict 1 0)
     by true q e = (q, cc)
     by false q e = (cc, cc)
 
-pub header-short : (s : List ℕ) → under caseHeader (length s) ≡ true → headerRefusal s ≡ some (verdict 1 0)
+pub header-short : (s : List ℕ) → length s under caseHeader ≡ true → headerRefusal s ≡ some (verdict 1 0)
 unfolding headerRefusal caseOf notMark
-header-short s e = field-fails 1 0 (headerRows (headerIn s)) e
+header-short s e = field-fails 1 0 (headerCauses (headerIn s)) e
 
-pub header-long : (s : List ℕ) → under caseHeader (length s) ≡ false → headerRefusal s ≡ refusal (headerRows (headerIn s))
+pub header-long : (s : List ℕ) → length s under caseHeader ≡ false → headerRefusal s ≡ refusal (headerCauses (headerIn s))
 unfolding headerRefusal caseOf notMark
-header-long s e = field-passes 1 0 (headerRows (headerIn s)) e
+header-long s e = field-passes 1 0 (headerCauses (headerIn s)) e

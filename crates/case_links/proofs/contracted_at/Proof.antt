@@ -12,7 +12,7 @@ use Rattle.base_measures.specs.Meaning.Limits as limits
 use Rattle.base_measures.specs.declared.Tenths.{Tenths}
 use Rattle.rules.specs.Meaning.Layout.{u32At, caseVersion, contracts, contractedSize, linkAt, capacityIn, contractedIn}
 use Rattle.case_header.specs.declared.Counts.{Counts}
-use Rattle.case_header.specs.Steps.Opened.{headed, whole, limited, link-start-is, link-inside}
+use Rattle.case_header.specs.Steps.CaseReadable.{headed, whole, limited, link-start-is, link-inside}
 use Rattle.case_links.specs.Steps.Link.{contracted-within}
 use Rattle.case_links.proofs.contracted_at.Statement.{statement}
 use Rattle.case_links.proofs.contracted_at.Tie as tie
@@ -46,8 +46,8 @@ place c = c .link-start .ensures ∙ link-start-is (headed (start c .pre .0)) (s
 add-at : tie.Need-add-at
 add-at c = omega (arith, inside c)
 
-word-at-requires : tie.Need-word-at-requires
-word-at-requires c κs = omega (arith, inside c)
+u32-at-requires : tie.Need-u32-at-requires
+u32-at-requires c κs = omega (arith, inside c)
 
 unsigned-requires : tie.Need-unsigned-requires
 unsigned-requires c κs = search needs
@@ -63,7 +63,7 @@ contracted-is c =
     let s = start l .args .«case» .now in
     let i = start l .args .l in
     c .unsigned .ensures
-    ∙ ap pos (w .word-at .ensures ∙ ap (λ (n : ℕ). u32At s (n + 6)) (place l) ∙ ap (λ (b : Bool). cond b (u32At s (linkAt s i + 6)) (capacityIn s i)) (sym (version (l .before .before) ∙ l .before .if1 .taken)))
+    ∙ ap pos (w .u32-at .ensures ∙ ap (λ (n : ℕ). u32At s (n + 6)) (place l) ∙ ap (λ (b : Bool). cond b (u32At s (linkAt s i + 6)) (capacityIn s i)) (sym (version (l .before .before) ∙ l .before .if1 .taken)))
 
 -- row 7 passed: it is at most the capacity
 of-capacity-requires : tie.Need-of-capacity-requires
@@ -87,7 +87,7 @@ contracted-at-spec =
     contracts-requires
     link-start-requires
     add-at
-    word-at-requires
+    u32-at-requires
     unsigned-requires
     of-capacity-requires
     returns

@@ -11,9 +11,9 @@ use Rattle.rules.specs.Meaning.Layout.{linksIn, capacityIn, contractedIn}
 use Rattle.rules.specs.Meaning.Hour.{caseOf}
 use Rattle.rules.specs.Steps.Passed.{case-sound}
 use Rattle.case_header.specs.declared.Counts.{Counts}
-use Rattle.case_header.specs.Meaning.Opened.{Opened}
+use Rattle.case_header.specs.Meaning.CaseReadable.{CaseReadable}
 
-module _ {s : List ℕ} {k : Counts} (o : Opened s k) (l : ℕ) (h : l < k .links) where
+module _ {s : List ℕ} {k : Counts} (o : CaseReadable s k) (l : ℕ) (h : l < k .links) where
   one-of : l < linksIn s
   one-of = omega (arith, h, ap (λ (k : Counts). k .links) (o .counts))
 

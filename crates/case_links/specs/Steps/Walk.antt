@@ -15,8 +15,8 @@ use Rattle.base_integers.specs.Steps.Ranges.{is-true, and-left, and-right}
 use Rattle.base_measures.specs.Meaning.Limits as limits
 use Rattle.rules.specs.Meaning.Layout.{u8At, u32At, caseVersion, zonesIn, linksIn, contracts, contractedSize, linkAt, linkFields, linkFieldAt, orderAt, fromIn, toIn, capacityIn, contractedIn}
 use Rattle.rules.specs.Meaning.Hour.{caseOf}
-use Rattle.base_causes.specs.Meaning.Rows.{firstBelow, firstField}
-use Rattle.base_causes.specs.Promised.RowLaws.{not-below, no-place, first-field}
+use Rattle.base_causes.specs.Meaning.Causes.{firstBelow, firstField}
+use Rattle.base_causes.specs.Promised.CauseLaws.{not-below, no-place, first-field}
 use Rattle.rules.specs.Meaning.Verdict.{unknown, repeated, linkFault}
 use Rattle.bytes_read.specs.declared.Walked.{Walked}
 use Rattle.bytes_read.specs.declared.Cursor.{Cursor}
@@ -28,8 +28,8 @@ use Rattle.bytes_read.specs.Meaning.Walk.{refusedAt, walked}
 use Rattle.bytes_read.specs.Steps.Record.{RecordWithin}
 use Rattle.bytes_read.specs.Steps.Walked.{AtField, at-first, field-stops, field-passes}
 use Rattle.case_header.specs.declared.Counts.{Counts}
-use Rattle.case_header.specs.Meaning.Opened.{Whole, linkRow}
-use Rattle.case_header.specs.Steps.Opened.{small, link-start-is, link-inside}
+use Rattle.case_header.specs.Meaning.CaseReadable.{LengthValid, linkCause}
+use Rattle.case_header.specs.Steps.CaseReadable.{small, link-start-is, link-inside}
 use Rattle.base_zone_set.specs.Steps.Pairs.{holds, samePair, Seen}
 
 -- THE CONTRACTED VOLUME that a walk takes at a cursor: of 32 bits where the version has them, else the capacity, and the cursor stays (S-4)
@@ -77,7 +77,7 @@ pub record LinkTurn (s : List ℕ) (l at : ℕ) (seen : List ℕ) : Type 0 where
   pub stands : AtField 7 (linksIn s) linkFields (linkFault (caseOf s)) (linkFieldAt s) l 0
   pub pairs : Seen (fromIn s) (toIn s) l seen
 
-pub link-turn : {s : List ℕ} {k : Counts} → Whole s k → (l : ℕ) → l < k .links → {at : ℕ} → at ≡ linkAt s l → firstBelow l (linkRow s .fails) ≡ none → {seen : List ℕ} → Seen (fromIn s) (toIn s) l seen → LinkTurn s l at seen
+pub link-turn : {s : List ℕ} {k : Counts} → LengthValid s k → (l : ℕ) → l < k .links → {at : ℕ} → at ≡ linkAt s l → firstBelow l (linkCause s .fails) ≡ none → {seen : List ℕ} → Seen (fromIn s) (toIn s) l seen → LinkTurn s l at seen
 link-turn {s} {k} w l h {at} p e q =
     let counts = w .headed .counts in
     let room : at + 6 + contractedSize (caseVersion s) ≤ length s = omega (arith, p, link-start-is (w .headed) l, link-inside w l h, ap (λ (k : Counts). contractedSize (k .version)) counts) in
@@ -101,7 +101,7 @@ module _ {s : List ℕ} {l at : ℕ} {seen : List ℕ} (t : LinkTurn s l at seen
   fault = linkFault (caseOf s) l
 
   abbrev walk : Walked
-  walk = walked (linkRow s) (cursor (orderAt s 0))
+  walk = walked (linkCause s) (cursor (orderAt s 0))
 
   from-place : u8At s (at + 0) ≡ fromIn s l
   unfolding fromIn
@@ -134,7 +134,7 @@ module _ {s : List ℕ} {l at : ℕ} {seen : List ℕ} (t : LinkTurn s l at seen
       let f : fromIn s k ≡ fromIn s l = eqb→eq (fromIn s k) (fromIn s l) (and-left (eqb (fromIn s k) (fromIn s l)) (eqb (toIn s k) (toIn s l)) (p .holds)) in
       let g : toIn s k ≡ toIn s l = eqb→eq (toIn s k) (toIn s l) (and-right (eqb (fromIn s k) (fromIn s l)) (eqb (toIn s k) (toIn s l)) (p .holds)) in
       subst (λ (b : Bool). T (not b)) (λ j. unknown (zonesIn s) (g j) || eqb (f j) (g j))
-      (no-place linkFields (linkFault (caseOf s) k) (not-below l (linkRow s .fails) (t .stands .records-clear) k (p .place-in)) 1 (omega arith))
+      (no-place linkFields (linkFault (caseOf s) k) (not-below l (linkCause s .fails) (t .stands .records-clear) k (p .place-in)) 1 (omega arith))
 
   unseen : fault 1 ≡ true → holds seen (fromIn s l) (toIn s l) ≡ false
   unseen e = by (holds seen (fromIn s l) (toIn s l)) refl

@@ -10,13 +10,13 @@ use Rattle.base_integers.specs.Meaning.Ranges.{outside}
 use Rattle.base_measures.specs.Meaning.Limits as limits
 use Rattle.rules.specs.Meaning.Layout.{u8At, u32At, i32At, zonesIn, ordersIn, orderAt, orderFields, orderFieldAt, caseLength, zoneIn, sideIn, quantityIn, priceIn}
 use Rattle.rules.specs.Meaning.Hour.{caseOf}
-use Rattle.base_causes.specs.Meaning.Rows.{firstBelow}
+use Rattle.base_causes.specs.Meaning.Causes.{firstBelow}
 use Rattle.rules.specs.Meaning.Verdict.{rowFault, orderFault}
 use Rattle.bytes_read.specs.Steps.Record.{RecordWithin}
 use Rattle.bytes_read.specs.Steps.Walked.{AtField, at-first}
 use Rattle.case_header.specs.declared.Counts.{Counts}
-use Rattle.case_header.specs.Meaning.Opened.{Whole, orderRow}
-use Rattle.case_header.specs.Steps.Opened.{small, order-start-is, order-inside}
+use Rattle.case_header.specs.Meaning.CaseReadable.{LengthValid, orderCause}
+use Rattle.case_header.specs.Steps.CaseReadable.{small, order-start-is, order-inside}
 
 -- WHERE ORDERS STAND: one begins where the one before ends, and the case ends where the last ends
 pub order-next : (s : List ℕ) (i : ℕ) → orderAt s i + 10 ≡ orderAt s (i + 1)
@@ -28,10 +28,10 @@ unfolding orderAt caseLength
 case-ends s = refl
 
 -- THE ORDER OF A TURN of the walk: it stands within the file, and no order before it has a field at fault
-pub order-within : {s : List ℕ} {k : Counts} → Whole s k → (i : ℕ) → i < k .orders → {at : ℕ} → at ≡ orderAt s i → RecordWithin s at 10
+pub order-within : {s : List ℕ} {k : Counts} → LengthValid s k → (i : ℕ) → i < k .orders → {at : ℕ} → at ≡ orderAt s i → RecordWithin s at 10
 order-within w i h p = record { inside = omega (arith, p, order-start-is (w .headed) i, order-inside w i h); small = small w }
 
-pub order-begins : {s : List ℕ} {k : Counts} → Whole s k → {i : ℕ} → i < k .orders → firstBelow i (orderRow s .fails) ≡ none → AtField 8 (ordersIn s) orderFields (orderFault (caseOf s)) (orderFieldAt s) i 0
+pub order-begins : {s : List ℕ} {k : Counts} → LengthValid s k → {i : ℕ} → i < k .orders → firstBelow i (orderCause s .fails) ≡ none → AtField 8 (ordersIn s) orderFields (orderFault (caseOf s)) (orderFieldAt s) i 0
 order-begins w h e = at-first (omega (arith, h, ap (λ (k : Counts). k .orders) (w .headed .counts))) e
 
 -- its fields, as row 8 tests them

@@ -6,11 +6,11 @@ use native.Mathlib.Omega.{arith}
 use borrow.Author.Needs.{needs}
 use lib.ListN.{length, take, drop}
 use Rattle.base_causes.specs.declared.Outcome.{Outcome}
-use Rattle.base_causes.specs.Meaning.Rows.{verdict}
+use Rattle.base_causes.specs.Meaning.Causes.{verdict}
 use Rattle.base_output.specs.declared.Written.{Written}
-use Rattle.case_header.specs.Meaning.Opened.{Opened}
+use Rattle.case_header.specs.Meaning.CaseReadable.{CaseReadable}
 use Rattle.case_file.specs.Steps.Answer.{opened-of}
-use Rattle.column_file.specs.Meaning.Columns.{columnedOf, unreadable, columnedRows, columnedOutcome, columnedWritten, columnedOutput, Columned, ComesBack, NotJudged}
+use Rattle.column_file.specs.Meaning.Columns.{columnedOf, unreadable, columnedCauses, columnedOutcome, columnedWritten, columnedOutput, Columned, ComesBack, NotJudged}
 use Rattle.column_file.specs.Promised.RoundTrip.{columned-length, columned-stands}
 use Rattle.column_file.specs.Steps.Counts.{unreadable-of, start-past}
 use Rattle.column_file.specs.Steps.Answers.{Owed, by-71, by-72, by-0}
@@ -28,7 +28,7 @@ All s out r after =
     × ((r .number ≡ 0 → ComesBack s (take (r .length) after)) × (r .number ≡ 0 → NotJudged (take (r .length) after))))))
 
 all : (s out : List ℕ) {r : Written} {after : List ℕ} → Owed (unreadable s) (length s) (columnedOf s) out r after → All s out r after
-unfolding columnedOutcome columnedWritten columnedOutput columnedRows
+unfolding columnedOutcome columnedWritten columnedOutput columnedCauses
 all s out {r} {after} m = (m .0, (m .1 .0, (m .1 .1, (λ z. stands z .0, (λ z. stands z .1, λ z. stands z .2)))))
   where
     stands : r .number ≡ 0 → Columned s (take (r .length) after) × ComesBack s (take (r .length) after) × NotJudged (take (r .length) after)
@@ -46,7 +46,7 @@ out c = entry c .args .out .now
 abbrev reading : tie.After-k → tie.After-read-case
 reading c = c .before .before
 
-opened : (c : tie.After-k) → Opened (file (reading c)) (c .k .given .0 .0)
+opened : (c : tie.After-k) → CaseReadable (file (reading c)) (c .k .given .0 .0)
 opened c = opened-of (file (reading c)) (sym (reading c .read-case .ensures) ∙ c .k .given .1)
 
 read-case-requires : tie.Need-read-case-requires

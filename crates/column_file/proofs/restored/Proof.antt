@@ -8,9 +8,9 @@ use borrow.Author.Needs.{needs}
 use lib.ListN.{length, take, drop, length-append, length-drop}
 use lib.Seq.{sets, length-take-le}
 use Rattle.base_causes.specs.declared.Outcome.{Outcome}
-use Rattle.base_causes.specs.Meaning.Rows.{verdict}
+use Rattle.base_causes.specs.Meaning.Causes.{verdict}
 use Rattle.base_output.specs.declared.Written.{Written}
-use Rattle.column_file.specs.Meaning.Columns.{restoredOf, notRestored, restoredRows, restoredOutcome, restoredWritten, restoredOutput, Restored}
+use Rattle.column_file.specs.Meaning.Columns.{restoredOf, notRestored, restoredCauses, restoredOutcome, restoredWritten, restoredOutput, Restored}
 use Rattle.column_file.specs.Promised.RoundTrip.{restored-length, restored-stands}
 use Rattle.column_file.specs.Steps.Answers.{restore-refused, restore-made, Owed, by-71, by-72, by-0}
 use Rattle.column_file.specs.Steps.Stored.{every, copy-run}
@@ -27,7 +27,7 @@ All t out r after =
     × (r .number ≡ 0 → Restored t (take (r .length) after))))
 
 all : (t out : List ℕ) {r : Written} {after : List ℕ} → Owed (notRestored t) (length t) (restoredOf t) out r after → All t out r after
-unfolding restoredOutcome restoredWritten restoredOutput restoredRows
+unfolding restoredOutcome restoredWritten restoredOutput restoredCauses
 all t out {r} {after} m = (m .0, (m .1 .0, (m .1 .1, stands)))
   where
     stands : r .number ≡ 0 → Restored t (take (r .length) after)

@@ -1,7 +1,7 @@
 -- What restoring a columned file answers. Assumes nothing.
 use mathlib.Core.Bool.{Bool, true, false}
 use lib.ListN.{length}
-use Rattle.base_causes.specs.Meaning.Rows.{answer}
+use Rattle.base_causes.specs.Meaning.Causes.{answer}
 use Rattle.column_file.specs.declared.RestoreAnswer.{RestoreAnswer}
 use Rattle.column_file.specs.declared.RestoreAnswer.the-variants as restore
 

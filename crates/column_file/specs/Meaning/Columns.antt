@@ -7,9 +7,9 @@ use Prim.Native.Nat.{ℕ, zero, suc, _+_, _*_, _-_, _/_, _%_, _≤_, _<_}
 use lib.Dec.{ltb}
 use lib.ListN.{length, getD}
 use Rattle.base_causes.specs.declared.Outcome.{Outcome}
-use Rattle.base_causes.specs.Meaning.Rows.{Row, verdict, refusal, answer, once}
+use Rattle.base_causes.specs.Meaning.Causes.{Cause, verdict, refusal, answer, once}
 use Rattle.rules.specs.Meaning.Layout.{orderAt, orderSize, ordersIn, reportRoom}
-use Rattle.rules.specs.Meaning.Verdict.{under, notMark, caseRefusal, outcome, Readable}
+use Rattle.rules.specs.Meaning.Verdict.{_under_, notMark, caseRefusal, outcome, Readable}
 use Rattle.base_output.specs.Meaning.Output.{writtenBy, outputAfter}
 
 -- n bytes: f k at each place k
@@ -55,31 +55,31 @@ unfoldable pub notRestored : List ℕ → Bool
 notRestored t = notMark 76 84 75 t || unreadable (restoredOf t)
 
 -- the output is shorter than the file
-abbrev pub shortOutput : ℕ → ℕ → Row
-shortOutput size room = once 72 (under size room)
+abbrev pub shortOutput : ℕ → ℕ → Cause
+shortOutput size room = once 72 (room under size)
 
-unfoldable pub columnedRows : List ℕ → ℕ → List Row
-columnedRows s room = once 71 (unreadable s) ∷ shortOutput (length s) room ∷ []
+unfoldable pub columnedCauses : List ℕ → ℕ → List Cause
+columnedCauses s room = once 71 (unreadable s) ∷ shortOutput (length s) room ∷ []
 
-unfoldable pub restoredRows : List ℕ → ℕ → List Row
-restoredRows t room = once 71 (notRestored t) ∷ shortOutput (length t) room ∷ []
+unfoldable pub restoredCauses : List ℕ → ℕ → List Cause
+restoredCauses t room = once 71 (notRestored t) ∷ shortOutput (length t) room ∷ []
 
 -- COLUMNING a case s into an output: number and index, what is written (for a refusal nothing), and every byte of the output afterwards
 unfoldable pub columnedOutcome : List ℕ → ℕ → Outcome
-columnedOutcome s room = answer (refusal (columnedRows s room))
+columnedOutcome s room = answer (refusal (columnedCauses s room))
 
 unfoldable pub columnedWritten : List ℕ → ℕ → List ℕ
-columnedWritten s room = writtenBy (refusal (columnedRows s room)) (columnedOf s)
+columnedWritten s room = writtenBy (refusal (columnedCauses s room)) (columnedOf s)
 
 unfoldable pub columnedOutput : List ℕ → List ℕ → List ℕ
 columnedOutput s out = outputAfter (columnedWritten s (length out)) out
 
 -- THE WAY BACK of a columned file t, in the same way
 unfoldable pub restoredOutcome : List ℕ → ℕ → Outcome
-restoredOutcome t room = answer (refusal (restoredRows t room))
+restoredOutcome t room = answer (refusal (restoredCauses t room))
 
 unfoldable pub restoredWritten : List ℕ → ℕ → List ℕ
-restoredWritten t room = writtenBy (refusal (restoredRows t room)) (restoredOf t)
+restoredWritten t room = writtenBy (refusal (restoredCauses t room)) (restoredOf t)
 
 unfoldable pub restoredOutput : List ℕ → List ℕ → List ℕ
 restoredOutput t out = outputAfter (restoredWritten t (length out)) out

@@ -12,12 +12,12 @@ use lib.Dec.{T}
 use lib.ListN.{length, getD}
 use Rattle.base_integers.specs.Steps.Ranges.{is-false, not-is, nor-both}
 use Rattle.base_causes.specs.declared.Outcome.{Outcome}
-use Rattle.base_causes.specs.Meaning.Rows.{verdict, refusal, answer}
+use Rattle.base_causes.specs.Meaning.Causes.{verdict, refusal, answer}
 use Rattle.rules.specs.Meaning.Layout.{u8At, u16At, caseVersion, ordersIn, orderAt}
 use Rattle.rules.specs.Meaning.Verdict.{notMark}
 use Rattle.rules.specs.Promised.PlainLayout.{LinkBytes, case-length-is}
 use Rattle.rules.specs.Promised.PlainFacts.{CaseFacts, case-facts, facts-readable, mark-passes}
-use Rattle.column_file.specs.Meaning.Columns.{columnedOf, restoredOf, unreadable, notRestored, columnedRows, restoredRows, columnedOutcome, restoredOutcome, Columned, Restored}
+use Rattle.column_file.specs.Meaning.Columns.{columnedOf, restoredOf, unreadable, notRestored, columnedCauses, restoredCauses, columnedOutcome, restoredOutcome, Columned, Restored}
 use Rattle.column_file.specs.Steps.Answers.{rowsOf, refused-71, refused-72, taken}
 use Rattle.column_file.specs.Steps.Counts.{readable-of, unreadable-of, mark-is, full-length}
 use Rattle.column_file.specs.Promised.RoundTrip.{is-columned, only-columned, restored-columned, columned-taken, restored-takes, restored-file}
@@ -100,7 +100,7 @@ module _ {P : Type 0} (size room : ℕ) where
 
 -- COLUMNING: 71 if and only if the case is not readable, else 72 if and only if the output is shorter than the file
 pub columned-numbers : (s : List ℕ) (room : ℕ) → ColumnedNumbers s room (columnedOutcome s room)
-unfolding columnedOutcome columnedRows
+unfolding columnedOutcome columnedCauses
 columned-numbers s room = of-table (length s) room (unreadable s) (λ f. unreadable-of s (facts-readable s f)) (λ e. case-facts s (readable-of s e))
 
 -- THE WAY BACK: 71 if and only if the mark is not LTK or no readable case results, else 72 in the same way
@@ -114,7 +114,7 @@ module _ (t : List ℕ) where
       (nor-both (notMark 76 84 75 t) (unreadable (restoredOf t)) (mark-passes 76 84 75 t (r .mark)) (is-false (unreadable-of (restoredOf t) (facts-readable (restoredOf t) (r .results)))))
 
   pub restored-numbers : (room : ℕ) → RestoredNumbers t room (restoredOutcome t room)
-  unfolding restoredOutcome restoredRows
+  unfolding restoredOutcome restoredCauses
   restored-numbers room = of-table (length t) room (notRestored t) restorable-taken taken-restorable
 
 -- THE BYTES. The places of the definition are these

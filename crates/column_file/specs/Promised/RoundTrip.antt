@@ -12,12 +12,12 @@ use lib.Dec.{T, eqb}
 use lib.ListN.{length, getD, take, drop}
 use lib.Seq.{ext-getD, take-append-seam}
 use Rattle.base_integers.specs.Steps.Ranges.{is-false, not-is}
-use Rattle.base_causes.specs.Meaning.Rows.{verdict, answer}
-use Rattle.base_causes.specs.Promised.RowLaws.{all-pass, field-fails, field-passes}
+use Rattle.base_causes.specs.Meaning.Causes.{verdict, answer}
+use Rattle.base_causes.specs.Promised.CauseLaws.{all-pass, field-fails, field-passes}
 use Rattle.rules.specs.Meaning.Layout.{u8At, ordersIn, orderAt, caseLength}
-use Rattle.rules.specs.Meaning.Verdict.{notMark, roomRows, caseRows, table, outcome, Readable}
+use Rattle.rules.specs.Meaning.Verdict.{notMark, roomCauses, caseCauses, table, outcome, Readable}
 use Rattle.rules.specs.Steps.Passed.{case-length}
-use Rattle.column_file.specs.Meaning.Columns.{transposed, arranged, columnedOf, restoredOf, unreadable, notRestored, columnedRows, restoredRows, columnedOutcome, columnedWritten, columnedOutput, restoredOutcome, restoredWritten, restoredOutput, Columned, ComesBack, NotJudged, Restored}
+use Rattle.column_file.specs.Meaning.Columns.{transposed, arranged, columnedOf, restoredOf, unreadable, notRestored, columnedCauses, restoredCauses, columnedOutcome, columnedWritten, columnedOutput, restoredOutcome, restoredWritten, restoredOutput, Columned, ComesBack, NotJudged, Restored}
 use Rattle.column_file.specs.Promised.Causes.{columned-none, columned-writes, restored-none, restored-writes}
 use Rattle.column_file.specs.Steps.Transposed.{transposed-at, transposed-in, transposed-back, arranged-length, arranged-mark, arranged-kept, arranged-order, there-and-back}
 use Rattle.column_file.specs.Steps.Counts.{readable-of, unreadable-of, mark-is, readable-mark, start-past, full-length, start-stays, orders-stay, length-stays}
@@ -117,7 +117,7 @@ module _ (s : List ℕ) (r : Readable s) where
 
   -- THE JUDGEMENT refuses a columned file by 2, whatever the proposal, when there is room for a report
   pub columned-refused : (t : List ℕ) (room : ℕ) → 176 ≤ room → outcome (columnedOf s) t room ≡ verdict 2 0
-  unfolding outcome table roomRows caseRows
+  unfolding outcome table roomCauses caseCauses
   columned-refused t room h =
       ap answer
       (field-passes 30 0 _ (le-ltb room 176 h)
@@ -161,8 +161,8 @@ only-columned s a b r x y = ext-getD 0 a b (x .long ∙ sym (y .long)) at
 -- OF WHAT THE ENTRIES WRITE, as it then stands in the output: columning
 module _ (s : List ℕ) (room : ℕ) (answered : (columnedOutcome s room) .number ≡ 0) where
   was-readable : Readable s
-  unfolding columnedRows
-  was-readable = readable-of s (not-is _ (all-pass (columnedRows s room) (columned-none s room answered) 0 .pass 0 (omega arith)))
+  unfolding columnedCauses
+  was-readable = readable-of s (not-is _ (all-pass (columnedCauses s room) (columned-none s room answered) 0 .pass 0 (omega arith)))
 
   pub columned-file : Columned s (columnedOf s) × ComesBack s (columnedOf s) × NotJudged (columnedOf s)
   columned-file = (
@@ -187,8 +187,8 @@ restored-file t e =
     record { readable = r; bytes = subst (λ (u : List ℕ). Columned (restoredOf t) u) same (is-columned (restoredOf t) r); same = same }
 
 was-restored : (t : List ℕ) (room : ℕ) → (restoredOutcome t room) .number ≡ 0 → notRestored t ≡ false
-unfolding restoredRows
-was-restored t room e = not-is _ (all-pass (restoredRows t room) (restored-none t room e) 0 .pass 0 (omega arith))
+unfolding restoredCauses
+was-restored t room e = not-is _ (all-pass (restoredCauses t room) (restored-none t room e) 0 .pass 0 (omega arith))
 
 pub restored-stands : (t out : List ℕ) → (restoredOutcome t (length out)) .number ≡ 0 → Restored t (take (length (restoredWritten t (length out))) (restoredOutput t out))
 unfolding restoredOutput

@@ -7,8 +7,8 @@ use Prim.Native.Nat.{ℕ, _≤_, _<_}
 use borrow.Author.Tests.{lt-ltb, le-ltb}
 use lib.ListN.{length, drop}
 use Rattle.base_causes.specs.declared.Outcome.{Outcome}
-use Rattle.base_causes.specs.Meaning.Rows.{Row, verdict, refusal, answer, once}
-use Rattle.base_causes.specs.Promised.RowLaws.{field-fails, field-passes}
+use Rattle.base_causes.specs.Meaning.Causes.{Cause, verdict, refusal, answer, once}
+use Rattle.base_causes.specs.Promised.CauseLaws.{field-fails, field-passes}
 use Rattle.base_output.specs.declared.Written.{Written}
 use Rattle.base_output.specs.Meaning.Output.{outputAfter, writtenBy}
 use Rattle.base_output.specs.Steps.Met.{Met, met-refusal}
@@ -17,7 +17,7 @@ use Rattle.column_file.specs.Meaning.Columns.{shortOutput}
 use Rattle.column_file.specs.Meaning.Answer.{restoreBy}
 
 -- BOTH TABLES: whether 71 holds, how long the file is, and the room
-abbrev pub rowsOf : Bool → ℕ → ℕ → List Row
+abbrev pub rowsOf : Bool → ℕ → ℕ → List Cause
 rowsOf bad size room = once 71 bad ∷ shortOutput size room ∷ []
 
 module _ {bad : Bool} (size room : ℕ) where

@@ -16,8 +16,8 @@ use Rattle.case_header.specs.declared.Counts.{Counts}
 use Rattle.case_file.specs.declared.CaseAnswer.the-variants as answer
 use Rattle.case_file.specs.Meaning.Answer.{caseAnswer}
 use Rattle.case_file.specs.Steps.Answer.{refused-of}
-use Rattle.case_header.specs.Meaning.Opened.{Opened}
-use Rattle.case_header.specs.Steps.Opened.{contracted-bound}
+use Rattle.case_header.specs.Meaning.CaseReadable.{CaseReadable}
+use Rattle.case_header.specs.Steps.CaseReadable.{contracted-bound}
 use Rattle.column_file.specs.Meaning.Columns.{arranged, columnedOf, restoredOf, refuses, unreadable, notRestored}
 use Rattle.column_file.specs.Steps.Transposed.{arranged-length}
 use Rattle.column_file.specs.Steps.Counts.{readable-of, unreadable-of, start-past, full-length, length-stays}
@@ -44,7 +44,7 @@ longest s r =
     let l : linkSize (caseVersion s) ≤ 10 = omega (arith, contracted-bound (caseVersion s)) in
     omega (arith, case-length s r, mul-le-mul (c .branches-in) z, mul-le-mul (c .links-in) l, c .orders-in)
 
-module _ {s : List ℕ} {k : Counts} (o : Opened s k) where
+module _ {s : List ℕ} {k : Counts} (o : CaseReadable s k) where
   orders-is : k .orders ≡ ordersIn s
   orders-is = ap (λ (k : Counts). k .orders) (o .counts)
 

@@ -8,9 +8,9 @@ use borrow.Author.Needs.{needs}
 use denote.Ref.{now}
 use lib.ListN.{length}
 use Rattle.base_causes.specs.declared.Place.{Place}
-use Rattle.base_causes.specs.Meaning.Rows.{firstBelow}
+use Rattle.base_causes.specs.Meaning.Causes.{firstBelow}
 use Rattle.base_causes.specs.Meaning.Place.{placeOf}
-use Rattle.case_header.specs.Steps.Opened.{headed, limited}
+use Rattle.case_header.specs.Steps.CaseReadable.{headed, limited}
 use Rattle.dump_proposal.specs.Steps.Walks.{countOf}
 use Rattle.dump_proposal.specs.Steps.Answers.{notFiniteAt, met-57, met-58, finite-dump}
 use Rattle.dump_proposal.proofs.convert.Statement.{statement}

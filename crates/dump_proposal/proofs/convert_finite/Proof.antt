@@ -6,7 +6,7 @@ use Prim.Native.Nat.{ℕ}
 use native.Mathlib.Omega.{arith}
 use borrow.Author.Needs.{needs}
 use denote.Ref.{now}
-use Rattle.case_header.specs.Steps.Opened.{headed, limited}
+use Rattle.case_header.specs.Steps.CaseReadable.{headed, limited}
 use Rattle.dump_binary64.specs.Meaning.Value.{bitsAt}
 use Rattle.dump_values.specs.Meaning.Answer.{fieldOf}
 use Rattle.dump_values.specs.Meaning.Field.{kindOf}

@@ -11,12 +11,12 @@ use lib.ListN.{length, length-set}
 use mir.Syntax.{w64}
 use mir.Val.{ofZ}
 use Rattle.base_integers.specs.Meaning.Bytes.{bytesOf}
-use Rattle.base_causes.specs.Meaning.Rows.{firstBelow}
-use Rattle.base_causes.specs.Promised.RowLaws.{first-here, first-later, first-nowhere}
+use Rattle.base_causes.specs.Meaning.Causes.{firstBelow}
+use Rattle.base_causes.specs.Promised.CauseLaws.{first-here, first-later, first-nowhere}
 use Rattle.bytes_read.specs.declared.Cursor.{Cursor}
 use Rattle.bytes_read.specs.Meaning.Field.{longField}
 use Rattle.bytes_read.specs.Steps.Part.{partOf}
-use Rattle.case_header.specs.Steps.Opened.{headed, limited}
+use Rattle.case_header.specs.Steps.CaseReadable.{headed, limited}
 use Rattle.dump_binary64.specs.Meaning.Value.{bitsAt, finite}
 use Rattle.dump_values.specs.Meaning.Answer.{fieldOf}
 use Rattle.dump_values.specs.Meaning.Field.{Kind, afterOpening, converted}

@@ -11,9 +11,9 @@ use mir.Syntax.{w64}
 use mir.Val.{ofZ}
 use Rattle.base_integers.specs.Meaning.Bytes.{bytesOf}
 use Rattle.base_causes.specs.declared.Outcome.{Outcome}
-use Rattle.base_causes.specs.Meaning.Rows.{Row, verdict, refusal, answer, once, field, each}
+use Rattle.base_causes.specs.Meaning.Causes.{Cause, verdict, refusal, answer, once, field, each}
 use Rattle.rules.specs.Meaning.Layout.{ordersIn, linksIn, branchesIn, quantityIn, proposalLength, shareIn, systemIn, volumeIn, flowIn, shadowIn}
-use Rattle.rules.specs.Meaning.Verdict.{under, differ, caseRefusal, proposalRefusal}
+use Rattle.rules.specs.Meaning.Verdict.{_under_, differ, caseRefusal, proposalRefusal}
 use Rattle.base_output.specs.declared.Written.{Written}
 use Rattle.base_output.specs.Meaning.Output.{writtenBy, outputAfter}
 use Rattle.dump_binary64.specs.Meaning.Value.{bitsAt, finite, ShareWithin}
@@ -36,27 +36,27 @@ abbrev pub numberIn : Option Outcome → ℕ
 numberIn (some o) = o .number
 numberIn none = 0
 
-abbrev pub refusedCase : List ℕ → Row
+abbrev pub refusedCase : List ℕ → Cause
 refusedCase s = field 56 (numberIn (caseRefusal s)) (refuses (caseRefusal s))
 
 -- 57: the dump's length is wrong. 58: a value is not finite. 59: a value has no field. 60: the output is short
-abbrev pub wrongLength : List ℕ → List ℕ → Row
+abbrev pub wrongLength : List ℕ → List ℕ → Cause
 wrongLength s d = once 57 (differ (length d) (dumpLength s))
 
-abbrev pub notFinite : List ℕ → List ℕ → Row
+abbrev pub notFinite : List ℕ → List ℕ → Cause
 notFinite s d = each 58 (valueCount s) (λ n. not (finite (bitsAt d n)))
 
-abbrev pub outOfField : List ℕ → List ℕ → Row
+abbrev pub outOfField : List ℕ → List ℕ → Cause
 outOfField s d = each 59 (valueCount s) (λ n. fault (kindOf s n) (bitsAt d n))
 
-abbrev pub shortOutput : List ℕ → ℕ → Row
-shortOutput s room = once 60 (under (proposalLength s) room)
+abbrev pub shortOutput : List ℕ → ℕ → Cause
+shortOutput s room = once 60 (room under proposalLength s)
 
-unfoldable pub dumpRows : List ℕ → List ℕ → ℕ → List Row
-dumpRows s d room = refusedCase s ∷ wrongLength s d ∷ notFinite s d ∷ outOfField s d ∷ shortOutput s room ∷ []
+unfoldable pub dumpCauses : List ℕ → List ℕ → ℕ → List Cause
+dumpCauses s d room = refusedCase s ∷ wrongLength s d ∷ notFinite s d ∷ outOfField s d ∷ shortOutput s room ∷ []
 
 unfoldable pub dumpRefusal : List ℕ → List ℕ → ℕ → Option Outcome
-dumpRefusal s d room = refusal (dumpRows s d room)
+dumpRefusal s d room = refusal (dumpCauses s d room)
 
 unfoldable pub dumpOutcome : List ℕ → List ℕ → ℕ → Outcome
 dumpOutcome s d room = answer (dumpRefusal s d room)

@@ -9,28 +9,28 @@ use lib.ListN.{length, getD}
 use lib.Dec.{T}
 use Rattle.base_causes.specs.declared.Outcome.{Outcome}
 use Rattle.base_causes.specs.Promised.Asked.{unnamed, at-offset, the-place, ask, Asks}
-use Rattle.base_causes.specs.Meaning.Rows.{Row, verdict, answer}
-use Rattle.base_causes.specs.Promised.RowLaws.{empty, Cause, answer-caused, Answered, answered, Soonest, soonest, lacks, zero-none}
+use Rattle.base_causes.specs.Meaning.Causes.{Cause, verdict, answer}
+use Rattle.base_causes.specs.Promised.CauseLaws.{empty, CausedBy, answer-caused, Answered, answered, Soonest, soonest, lacks, zero-none}
 use Rattle.rules.specs.Meaning.Verdict.{caseRefusal}
 use Rattle.base_output.specs.Meaning.Output.{writtenBy, outputAfter}
-use Rattle.dump_proposal.specs.Meaning.Dump.{numberIn, dumpRows, dumpRefusal, dumpOutcome, proposalBytes, dumpWritten, dumpOutput}
+use Rattle.dump_proposal.specs.Meaning.Dump.{numberIn, dumpCauses, dumpRefusal, dumpOutcome, proposalBytes, dumpWritten, dumpOutput}
 
 module _ (s d : List ℕ) (room : ℕ) where
-  abbrev rows : List Row
-  rows = dumpRows s d room
+  abbrev rows : List Cause
+  rows = dumpCauses s d room
 
   -- 56 to 60, in this order; 56 has the number by which the case is refused, 58 and 59 name the value
   pub dump-order : Asks rows (ask 56 (at-offset (numberIn (caseRefusal s))) ∷ ask 57 unnamed ∷ ask 58 the-place ∷ ask 59 the-place ∷ ask 60 unnamed ∷ [])
-  unfolding dumpRows
+  unfolding dumpCauses
   dump-order = (refl, (λ k. refl, (refl, (λ k. refl, (refl, (λ k. refl, (refl, (λ k. refl, (refl, (λ k. refl, tt))))))))))
 
   -- 0 if and only if every row passes at every place, else the first row that fails, at its first place
   pub dump-answers : Answered rows (dumpOutcome s d room)
-  unfolding dumpOutcome dumpRefusal dumpRows lacks
+  unfolding dumpOutcome dumpRefusal dumpCauses lacks
   dump-answers = answered rows tt
 
   -- a refusal has a row of its number that fails at its place, and nothing asked before fails
-  pub dump-caused : 0 < (dumpOutcome s d room) .number → Cause rows (dumpOutcome s d room)
+  pub dump-caused : 0 < (dumpOutcome s d room) .number → CausedBy rows (dumpOutcome s d room)
   unfolding dumpOutcome dumpRefusal
   dump-caused h = answer-caused rows h
 
@@ -41,7 +41,7 @@ module _ (s d : List ℕ) (room : ℕ) where
 
   -- the answer 0 has index 0, is given where no row fails, and writes the proposal
   pub dump-none : (dumpOutcome s d room) .number ≡ 0 → dumpRefusal s d room ≡ none
-  unfolding dumpOutcome dumpRefusal dumpRows lacks
+  unfolding dumpOutcome dumpRefusal dumpCauses lacks
   dump-none e = zero-none rows tt e
 
   pub dump-answered : (dumpOutcome s d room) .number ≡ 0 → dumpOutcome s d room ≡ verdict 0 0

@@ -17,11 +17,11 @@ use lib.ListN.{length, getD}
 use Rattle.base_integers.specs.Meaning.NaturalSums.{sumNat}
 use Rattle.base_integers.specs.Steps.Ranges.{is-true, is-false, not-is}
 use Rattle.base_causes.specs.declared.Outcome.{Outcome}
-use Rattle.base_causes.specs.Meaning.Rows.{Pass, verdict, refusal, answer}
-use Rattle.base_causes.specs.Promised.RowLaws.{Comes, past, none-left, row-by-number, row-answers, number-passes, number-below, numbersBelow, rowNumbered, lacks, before, zero-none}
+use Rattle.base_causes.specs.Meaning.Causes.{Pass, verdict, refusal, answer}
+use Rattle.base_causes.specs.Promised.CauseLaws.{Comes, past, none-left, row-by-number, row-answers, number-passes, number-below, numbersBelow, causeNumbered, lacks, before, zero-none}
 use Rattle.rules.specs.Meaning.Layout.{u8At, u16At, ordersIn, linksIn, branchesIn, quantityIn, proposalLength}
 use Rattle.rules.specs.Meaning.Hour.{caseOf}
-use Rattle.rules.specs.Meaning.Verdict.{differ, caseRows, caseRefusal}
+use Rattle.rules.specs.Meaning.Verdict.{differ, caseCauses, caseRefusal}
 use Rattle.rules.specs.Promised.PlainFacts.{CaseFacts, case-facts, facts-readable}
 use Rattle.dump_binary64.specs.Meaning.Value.{bitsAt, finite}
 use Rattle.dump_binary64.specs.Promised.PlainBits.{not-finite}
@@ -29,7 +29,7 @@ use Rattle.dump_binary64.specs.Promised.Taken.{bits-are-bytes}
 use Rattle.dump_values.specs.Meaning.Field.{Kind, share-of, flow, system-price, shadow-price, kindOf, fault}
 use Rattle.dump_values.specs.Promised.PlainPlaces.{branches, links, orders, first-value, second-value, order-at, link-at, branch-at}
 use Rattle.dump_values.specs.Promised.PlainFaults.{ShareRefused, FlowRefused, ShadowRefused, SystemRefused, share-refused, flow-refused, shadow-refused, system-refused}
-use Rattle.dump_proposal.specs.Meaning.Dump.{valueCount, dumpLength, refuses, numberIn, refusedCase, wrongLength, notFinite, outOfField, shortOutput, dumpRows, dumpRefusal, dumpOutcome}
+use Rattle.dump_proposal.specs.Meaning.Dump.{valueCount, dumpLength, refuses, numberIn, refusedCase, wrongLength, notFinite, outOfField, shortOutput, dumpCauses, dumpRefusal, dumpOutcome}
 
 -- HOW MANY VALUES a dump for the case s has, and the 64 bits of value n, its lowest byte first
 abbrev pub values : List ℕ → ℕ
@@ -180,9 +180,9 @@ passes-taken s d f p = record { all-finite = f; taken = λ n h x. T-not (fault (
 
 -- a case is refused by 1 to 8
 case-number : (s : List ℕ) (o : Outcome) → caseRefusal s ≡ some o → (1 ≤ o .number) × (o .number ≤ 8)
-unfolding caseRefusal caseRows lacks numbersBelow
+unfolding caseRefusal caseCauses lacks numbersBelow
 case-number s o e =
-    let rows = caseRows s (caseOf s) in
+    let rows = caseCauses s (caseOf s) in
     let same : (answer (refusal rows)) .number ≡ o .number = ap (λ (x : Option Outcome). (answer x) .number) e in
     let few = number-below 9 rows (omega arith) tt in
     (some-number (o .number) (λ z. Option·some-ne-none o (sym e ∙ zero-none rows tt (same ∙ z))), omega (arith, few, same))
@@ -200,8 +200,8 @@ module _ (s d : List ℕ) (room : ℕ) where
   -- 56 IF AND ONLY IF one of 1 to 8 refuses the case, and its index is that number
   pub refused-56 : (dumpOutcome s d room) .number ≡ 56
       → (n : ℕ) × ((k : ℕ) × ((caseRefusal s ≡ some (verdict n k)) × ((1 ≤ n) × ((n ≤ 8) × (dumpOutcome s d room ≡ verdict 56 n)))))
-  unfolding dumpOutcome dumpRefusal dumpRows lacks before rowNumbered
-  refused-56 e = let row = row-by-number 56 (dumpRows s d room) (omega arith) tt tt e in by (caseRefusal s) refl (row .first-place .holds) (row .is)
+  unfolding dumpOutcome dumpRefusal dumpCauses lacks before causeNumbered
+  refused-56 e = let row = row-by-number 56 (dumpCauses s d room) (omega arith) tt tt e in by (caseRefusal s) refl (row .first-place .holds) (row .is)
     where
       by : (o : Option Outcome) → caseRefusal s ≡ o → T (refuses o) → dumpOutcome s d room ≡ verdict 56 (numberIn o)
           → (n : ℕ) × ((k : ℕ) × ((caseRefusal s ≡ some (verdict n k)) × ((1 ≤ n) × ((n ≤ 8) × (dumpOutcome s d room ≡ verdict 56 n)))))
@@ -209,28 +209,28 @@ module _ (s d : List ℕ) (room : ℕ) where
       by none q t r = absurd t
 
   pub is-56 : (n k : ℕ) → caseRefusal s ≡ some (verdict n k) → dumpOutcome s d room ≡ verdict 56 n
-  unfolding dumpOutcome dumpRefusal dumpRows lacks before rowNumbered refusal
-  is-56 n k e = row-answers 56 (dumpRows s d room) tt refl 0 (record { place-in = omega arith; holds = is-true (ap refuses e); none-before = nothing-before _ }) ∙ ap (λ (o : Option Outcome). verdict 56 (numberIn o)) e
+  unfolding dumpOutcome dumpRefusal dumpCauses lacks before causeNumbered refusal
+  is-56 n k e = row-answers 56 (dumpCauses s d room) tt refl 0 (record { place-in = omega arith; holds = is-true (ap refuses e); none-before = nothing-before _ }) ∙ ap (λ (o : Option Outcome). verdict 56 (numberIn o)) e
 
   -- 57 IF AND ONLY IF the case is readable and the dump has not eight bytes for each value; its index is 0
   pub refused-57 : (dumpOutcome s d room) .number ≡ 57 → (dumpOutcome s d room ≡ verdict 57 0) × (CaseFacts s × (length d ≢ 8 * (2 + (orders s + links s + branches s))))
-  unfolding dumpOutcome dumpRefusal dumpRows lacks before rowNumbered
+  unfolding dumpOutcome dumpRefusal dumpCauses lacks before causeNumbered
   refused-57 e =
-      let row = row-by-number 57 (dumpRows s d room) (omega arith) tt tt e in
+      let row = row-by-number 57 (dumpCauses s d room) (omega arith) tt tt e in
       let c = passes-case s (number-passes (refusedCase s ∷ []) (row .earlier) 56) in
       (row .is, (c, λ q. T-not (differ (length d) (dumpLength s)) ((length-passes s d (record { case-is = c; length-is = q })) .pass 0 (omega arith)) (row .first-place .holds)))
 
   pub is-57 : CaseFacts s → length d ≢ 8 * (2 + (orders s + links s + branches s)) → dumpOutcome s d room ≡ verdict 57 0
-  unfolding dumpOutcome dumpRefusal dumpRows lacks before rowNumbered dumpLength valueCount ordersIn linksIn branchesIn u8At u16At
+  unfolding dumpOutcome dumpRefusal dumpCauses lacks before causeNumbered dumpLength valueCount ordersIn linksIn branchesIn u8At u16At
   is-57 f q =
       let rows : Comes (refusedCase s ∷ []) none = past (case-passes s f) none-left in
-      row-answers 57 (dumpRows s d room) tt (rows .is) 0 (record { place-in = omega arith; holds = is-true (ap not (ne-eqb (length d) (8 * values s) q)); none-before = nothing-before _ })
+      row-answers 57 (dumpCauses s d room) tt (rows .is) 0 (record { place-in = omega arith; holds = is-true (ap not (ne-eqb (length d) (8 * values s) q)); none-before = nothing-before _ })
 
   -- 58 IF AND ONLY IF the length is right and a value is not finite; its index is the first such value
   pub refused-58 : (dumpOutcome s d room) .number ≡ 58 → (dumpOutcome s d room ≡ verdict 58 ((dumpOutcome s d room) .index)) × (DumpSized s d × FirstValue s (ValueNotFinite d) ((dumpOutcome s d room) .index))
-  unfolding dumpOutcome dumpRefusal dumpRows lacks before rowNumbered valueCount ordersIn linksIn branchesIn u8At u16At
+  unfolding dumpOutcome dumpRefusal dumpCauses lacks before causeNumbered valueCount ordersIn linksIn branchesIn u8At u16At
   refused-58 e =
-      let row = row-by-number 58 (dumpRows s d room) (omega arith) tt tt e in
+      let row = row-by-number 58 (dumpCauses s d room) (omega arith) tt tt e in
       let passed = number-passes (refusedCase s ∷ wrongLength s d ∷ []) (row .earlier) in
       let place : row .place ≡ (dumpOutcome s d room) .index = sym (ap (λ (o : Outcome). o .index) (row .is)) in (
         row .is ∙ ap (verdict 58) place,
@@ -245,10 +245,10 @@ module _ (s d : List ℕ) (room : ℕ) where
       )
 
   pub is-58 : DumpSized s d → (n : ℕ) → FirstValue s (ValueNotFinite d) n → dumpOutcome s d room ≡ verdict 58 n
-  unfolding dumpOutcome dumpRefusal dumpRows lacks before rowNumbered valueCount ordersIn linksIn branchesIn u8At u16At
+  unfolding dumpOutcome dumpRefusal dumpCauses lacks before causeNumbered valueCount ordersIn linksIn branchesIn u8At u16At
   is-58 f n w =
       let rows : Comes (refusedCase s ∷ wrongLength s d ∷ []) none = past (case-passes s (f .case-is)) (past (length-passes s d f) none-left) in
-      row-answers 58 (dumpRows s d room) tt (rows .is) n (record {
+      row-answers 58 (dumpCauses s d room) tt (rows .is) n (record {
         place-in = w .value-in;
         holds = finite-test d n .1 (w .holds);
         none-before = λ j h. not-T (not (finite (bitsAt d j))) (λ t. w .none-before j h (finite-test d j .0 t));
@@ -256,9 +256,9 @@ module _ (s d : List ℕ) (room : ℕ) where
 
   -- 59 IF AND ONLY IF every value is finite and one has no field; its index is the first such value
   pub refused-59 : (dumpOutcome s d room) .number ≡ 59 → (dumpOutcome s d room ≡ verdict 59 ((dumpOutcome s d room) .index)) × (ValuesFinite s d × FirstValue s (ValueRefused s d) ((dumpOutcome s d room) .index))
-  unfolding dumpOutcome dumpRefusal dumpRows lacks before rowNumbered valueCount ordersIn linksIn branchesIn u8At u16At
+  unfolding dumpOutcome dumpRefusal dumpCauses lacks before causeNumbered valueCount ordersIn linksIn branchesIn u8At u16At
   refused-59 e =
-      let row = row-by-number 59 (dumpRows s d room) (omega arith) tt tt e in
+      let row = row-by-number 59 (dumpCauses s d room) (omega arith) tt tt e in
       let passed = number-passes (refusedCase s ∷ wrongLength s d ∷ notFinite s d ∷ []) (row .earlier) in
       let f = passes-finite s d (passes-length s d (passes-case s (passed 56)) (passed 57)) (passed 58) in
       let place : row .place ≡ (dumpOutcome s d room) .index = sym (ap (λ (o : Outcome). o .index) (row .is)) in (
@@ -274,10 +274,10 @@ module _ (s d : List ℕ) (room : ℕ) where
       )
 
   pub is-59 : ValuesFinite s d → (n : ℕ) → FirstValue s (ValueRefused s d) n → dumpOutcome s d room ≡ verdict 59 n
-  unfolding dumpOutcome dumpRefusal dumpRows lacks before rowNumbered valueCount ordersIn linksIn branchesIn u8At u16At
+  unfolding dumpOutcome dumpRefusal dumpCauses lacks before causeNumbered valueCount ordersIn linksIn branchesIn u8At u16At
   is-59 f n w =
       let rows : Comes (refusedCase s ∷ wrongLength s d ∷ notFinite s d ∷ []) none = past (case-passes s (f .sized .case-is)) (past (length-passes s d (f .sized)) (past (finite-passes s d f) none-left)) in
-      row-answers 59 (dumpRows s d room) tt (rows .is) n (record {
+      row-answers 59 (dumpCauses s d room) tt (rows .is) n (record {
         place-in = w .value-in;
         holds = refused-fault s d f n (w .value-in) (w .holds);
         none-before = λ j h. not-T (fault (kindOf s j) (bitsAt d j)) (λ t. w .none-before j h (fault-refused s d f j (lt-trans h (w .value-in)) t));
@@ -285,32 +285,32 @@ module _ (s d : List ℕ) (room : ℕ) where
 
   -- 60 IF AND ONLY IF every value is taken and the output is shorter than the proposal; its index is 0
   all-passed : ValuesConvertible s d → Pass (shortOutput s room) → dumpRefusal s d room ≡ none
-  unfolding dumpRefusal dumpRows
+  unfolding dumpRefusal dumpCauses
   all-passed f p =
-      let rows : Comes (dumpRows s d room) none =
+      let rows : Comes (dumpCauses s d room) none =
       past (case-passes s (f .all-finite .sized .case-is)) (past (length-passes s d (f .all-finite .sized)) (past (finite-passes s d (f .all-finite)) (past (taken-passes s d f) (past p none-left)))) in
       rows .is
 
   pub refused-60 : (dumpOutcome s d room) .number ≡ 60 → (dumpOutcome s d room ≡ verdict 60 0) × (ValuesConvertible s d × (room < 13 + 4 * (orders s + links s + branches s)))
-  unfolding dumpOutcome dumpRefusal dumpRows lacks before rowNumbered proposalLength ordersIn linksIn branchesIn u8At u16At
+  unfolding dumpOutcome dumpRefusal dumpCauses lacks before causeNumbered proposalLength ordersIn linksIn branchesIn u8At u16At
   refused-60 e =
-      let row = row-by-number 60 (dumpRows s d room) (omega arith) tt tt e in
+      let row = row-by-number 60 (dumpCauses s d room) (omega arith) tt tt e in
       let passed = number-passes (refusedCase s ∷ wrongLength s d ∷ notFinite s d ∷ outOfField s d ∷ []) (row .earlier) in
       (row .is, (passes-taken s d (passes-finite s d (passes-length s d (passes-case s (passed 56)) (passed 57)) (passed 58)) (passed 59), ltb→lt room (13 + 4 * (orders s + links s + branches s)) (row .first-place .holds)))
 
   pub is-60 : ValuesConvertible s d → room < 13 + 4 * (orders s + links s + branches s) → dumpOutcome s d room ≡ verdict 60 0
-  unfolding dumpOutcome dumpRefusal dumpRows lacks before rowNumbered proposalLength ordersIn linksIn branchesIn u8At u16At
+  unfolding dumpOutcome dumpRefusal dumpCauses lacks before causeNumbered proposalLength ordersIn linksIn branchesIn u8At u16At
   is-60 f h =
       let rows : Comes (refusedCase s ∷ wrongLength s d ∷ notFinite s d ∷ outOfField s d ∷ []) none =
       past (case-passes s (f .all-finite .sized .case-is)) (past (length-passes s d (f .all-finite .sized)) (past (finite-passes s d (f .all-finite)) (past (taken-passes s d f) none-left))) in
-      row-answers 60 (dumpRows s d room) tt (rows .is) 0 (record { place-in = omega arith; holds = lt→ltb room (13 + 4 * (orders s + links s + branches s)) h; none-before = nothing-before _ })
+      row-answers 60 (dumpCauses s d room) tt (rows .is) 0 (record { place-in = omega arith; holds = lt→ltb room (13 + 4 * (orders s + links s + branches s)) h; none-before = nothing-before _ })
 
   -- 0 IF AND ONLY IF every value is taken and the proposal has room; its index is 0
   pub answered-0 : (dumpOutcome s d room) .number ≡ 0 → (dumpOutcome s d room ≡ verdict 0 0) × (ValuesConvertible s d × (13 + 4 * (orders s + links s + branches s) ≤ room))
-  unfolding dumpOutcome dumpRefusal dumpRows lacks rowNumbered proposalLength ordersIn linksIn branchesIn u8At u16At
+  unfolding dumpOutcome dumpRefusal dumpCauses lacks causeNumbered proposalLength ordersIn linksIn branchesIn u8At u16At
   answered-0 e =
-      let passed = number-passes (dumpRows s d room) (zero-none (dumpRows s d room) tt e) in (
-        ap answer (zero-none (dumpRows s d room) tt e),
+      let passed = number-passes (dumpCauses s d room) (zero-none (dumpCauses s d room) tt e) in (
+        ap answer (zero-none (dumpCauses s d room) tt e),
         (
           passes-taken s d (passes-finite s d (passes-length s d (passes-case s (passed 56)) (passed 57)) (passed 58)) (passed 59),
           nltb→le room (13 + 4 * (orders s + links s + branches s)) ((passed 60) .pass 0 (omega arith)),

@@ -21,11 +21,11 @@ use Rattle.base_integers.specs.Meaning.Ranges.{range, outside}
 use Rattle.base_integers.specs.Steps.Ranges.{nat-within, nat-inside, is-false, not-is, nor-left, nor-right}
 use Rattle.base_measures.specs.Meaning.Limits as limits
 use Rattle.base_causes.specs.declared.Outcome.{Outcome}
-use Rattle.base_causes.specs.Meaning.Rows.{Row, Pass, firstBelow, refusal, eachAt}
-use Rattle.base_causes.specs.Promised.RowLaws.{empty, all-pass, first-none, row-clear, field-passes}
+use Rattle.base_causes.specs.Meaning.Causes.{Cause, Pass, firstBelow, refusal, eachAt}
+use Rattle.base_causes.specs.Promised.CauseLaws.{empty, all-pass, first-none, row-clear, field-passes}
 use Rattle.rules.specs.Meaning.Layout.{u8At, u16At, u32At, i32At, ordersIn, linksIn, branchesIn, quantityIn, proposalVersion, proposalLength, shareIn, systemIn, volumeIn, flowIn, shadowAt, shadowIn}
 use Rattle.rules.specs.Meaning.Hour.{caseOf, planOf, pricesOf}
-use Rattle.rules.specs.Meaning.Verdict.{caseRefusal, Readable, notMark, proposalRows, proposalRefusal}
+use Rattle.rules.specs.Meaning.Verdict.{caseRefusal, Readable, notMark, proposalCauses, proposalRefusal}
 use Rattle.rules.specs.Steps.LayoutLaws.{word-there, signed-there}
 use Rattle.rules.specs.Steps.Passed.{case-sound}
 use Rattle.bytes_write.specs.Steps.Halves.{low-half, low-bits}
@@ -33,7 +33,7 @@ use Rattle.dump_binary64.specs.Meaning.Value.{bitsAt, finite, negative, aboveOn
 use Rattle.dump_binary64.specs.Promised.Within.{share-within}
 use Rattle.dump_values.specs.Meaning.Field.{Kind, share-of, flow, shadow-price, kindOf, productOf, converted, forbidden, fieldRange, fault}
 use Rattle.dump_values.specs.Promised.PlainPlaces.{after-kind, order-kind, flow-kind, shadow-kind}
-use Rattle.dump_proposal.specs.Meaning.Dump.{valueCount, refuses, dumpRows, dumpRefusal, dumpOutcome, proposalMark, fieldBytes, fieldsFrom, proposalBytes, dumpWritten, dumpOutput, ProposalHolds, VolumesWithin}
+use Rattle.dump_proposal.specs.Meaning.Dump.{valueCount, refuses, dumpCauses, dumpRefusal, dumpOutcome, proposalMark, fieldBytes, fieldsFrom, proposalBytes, dumpWritten, dumpOutput, ProposalHolds, VolumesWithin}
 use Rattle.dump_proposal.specs.Promised.Causes.{dump-none, dump-writes}
 use Rattle.dump_proposal.specs.Steps.Walks.{fields-length}
 use Rattle.dump_proposal.specs.Steps.Answers.{bytes-are}
@@ -87,12 +87,12 @@ system-fits (negsuc n) e = record { sfits = omega (arith, ltb-false 2147483647 n
 
 -- AN ANSWERED DUMP: every row of the table passed
 module _ (s d : List ℕ) (room : ℕ) (answered : (dumpOutcome s d room) .number ≡ 0) where
-  passed : (i : ℕ) → Pass (getD (dumpRows s d room) i empty)
+  passed : (i : ℕ) → Pass (getD (dumpCauses s d room) i empty)
   unfolding dumpRefusal
-  passed i = all-pass (dumpRows s d room) (dump-none s d room answered) i
+  passed i = all-pass (dumpCauses s d room) (dump-none s d room answered) i
 
   pub readable : Readable s
-  unfolding dumpRows
+  unfolding dumpCauses
   readable = record { none-holds = by (caseRefusal s) ((passed 0) .pass 0 (omega arith)) }
     where
       by : (o : Option Outcome) → T (not (refuses o)) → o ≡ none
@@ -100,11 +100,11 @@ module _ (s d : List ℕ) (room : ℕ) (answered : (dumpOutcome s d room) .numbe
       by none t = refl
 
   pub all-finite : (n : ℕ) → n < valueCount s → finite (bitsAt d n) ≡ true
-  unfolding dumpRows
+  unfolding dumpCauses
   all-finite n h = not-false _ (not-is _ ((passed 2) .pass n h))
 
   pub has-field : (n : ℕ) → n < valueCount s → fault (kindOf s n) (bitsAt d n) ≡ false
-  unfolding dumpRows
+  unfolding dumpCauses
   has-field n h = not-is _ ((passed 3) .pass n h)
 
   -- nothing forbidden, and in its field's range
@@ -226,8 +226,8 @@ module _ (s d : List ℕ) (room : ℕ) (answered : (dumpOutcome s d room) .numbe
   long-enough : 13 ≤ length t
   long-enough = unfold proposalLength in omega (arith, length-is)
 
-  abbrev rows : List Row
-  rows = proposalRows s t (caseOf s) (planOf s t) (pricesOf s t)
+  abbrev rows : List Cause
+  rows = proposalCauses s t (caseOf s) (planOf s t) (pricesOf s t)
 
   abbrev badShadow : ℕ → Bool
   badShadow m = outside limits.shadowPrice (pos (shadowIn s t m))
@@ -236,11 +236,11 @@ module _ (s d : List ℕ) (room : ℕ) (answered : (dumpOutcome s d room) .numbe
   shadows-in = first-none (branchesIn s) badShadow (λ m h. is-false (ap (λ (n : ℕ). outside limits.shadowPrice (pos n)) (shadow-back m h) ∙ not-is _ (nat-inside 0 1000000 (shadow m h) (omega arith) (shadow-most m h))))
 
   header-passes : refusal rows ≡ refusal (drop 3 rows)
-  unfolding proposalRows notMark proposalVersion u8At u16At proposalBytes
+  unfolding proposalCauses notMark proposalVersion u8At u16At proposalBytes
   header-passes = field-passes 9 0 (drop 1 rows) (le-ltb (length t) 13 long-enough) ∙ field-passes 10 0 (drop 2 rows) refl ∙ field-passes 11 0 (drop 3 rows) refl
 
   body-passes : refusal (drop 3 rows) ≡ refusal []
-  unfolding proposalRows caseOf planOf pricesOf
+  unfolding proposalCauses caseOf planOf pricesOf
   body-passes =
       field-passes 12 0 (drop 4 rows) (ap not (eq-eqb (length t) (proposalLength s) length-is))
       ∙ field-passes 13 0 (drop 5 rows) (ap (λ (n : ℕ). outside limits.share (pos n)) share-back ∙ not-is _ (nat-inside 0 100000 share (omega arith) share-most))

@@ -16,25 +16,25 @@ use Rattle.base_integers.specs.Steps.Bytes.{sets-append}
 use Rattle.base_integers.specs.Steps.Ranges.{is-true, is-false, not-is}
 use Rattle.base_measures.specs.declared.Bits.{Bits}
 use Rattle.base_causes.specs.declared.Outcome.{Outcome}
-use Rattle.base_causes.specs.Meaning.Rows.{verdict, firstBelow, refusal, each}
-use Rattle.base_causes.specs.Promised.RowLaws.{first-is, first-some, first-none, not-below, row-found, row-clear, field-fails, field-passes}
+use Rattle.base_causes.specs.Meaning.Causes.{verdict, firstBelow, refusal, each}
+use Rattle.base_causes.specs.Promised.CauseLaws.{first-is, first-some, first-none, not-below, row-found, row-clear, field-fails, field-passes}
 use Rattle.rules.specs.Meaning.Layout.{proposalLength}
 use Rattle.rules.specs.Meaning.Verdict.{caseRefusal}
 use Rattle.base_output.specs.declared.Written.{Written}
 use Rattle.base_output.specs.Steps.Met as output
 use Rattle.case_header.specs.declared.Counts.{Counts}
-use Rattle.case_header.specs.Meaning.Opened.{Opened}
+use Rattle.case_header.specs.Meaning.CaseReadable.{CaseReadable}
 use Rattle.dump_binary64.specs.Meaning.Value.{bitsAt, finite}
 use Rattle.dump_values.specs.declared.FieldAnswer.the-variants as answer
 use Rattle.dump_values.specs.Meaning.Answer.{fieldOf}
 use Rattle.dump_values.specs.Meaning.Field.{kindOf, converted, fault}
 use Rattle.dump_values.specs.Promised.PlainPlaces.{after-kind}
-use Rattle.dump_proposal.specs.Meaning.Dump.{valueCount, dumpLength, refuses, numberIn, dumpRows, dumpRefusal, dumpOutcome, proposalMark, fieldsFrom, proposalBytes, dumpWritten, dumpOutput, DumpAnswered}
+use Rattle.dump_proposal.specs.Meaning.Dump.{valueCount, dumpLength, refuses, numberIn, dumpCauses, dumpRefusal, dumpOutcome, proposalMark, fieldsFrom, proposalBytes, dumpWritten, dumpOutput, DumpAnswered}
 use Rattle.dump_proposal.specs.declared.OpeningNumbers.{OpeningNumbers}
 use Rattle.dump_proposal.specs.Steps.Walks.{restOf, countOf, FiniteDump, OpeningHeld, TableHolds, faultAfter, field-held, field-outside, field-number, fields-length, fields-split, tableBytes, table-fields}
 
 -- THE COUNTS of a readable case are its own
-module _ {s : List ℕ} {k : Counts} (o : Opened s k) where
+module _ {s : List ℕ} {k : Counts} (o : CaseReadable s k) where
   pub count-is : countOf k ≡ valueCount s
   unfolding valueCount
   count-is = ap countOf (o .counts)
@@ -87,49 +87,49 @@ module _ (s d : List ℕ) (rest : ℕ) where
 module _ (s d : List ℕ) (room : ℕ) where
   -- the rows from the n-th on are left
   abbrev pub RowsFrom : ℕ → Type 0
-  RowsFrom n = dumpRefusal s d room ≡ refusal (drop n (dumpRows s d room))
+  RowsFrom n = dumpRefusal s d room ≡ refusal (drop n (dumpCauses s d room))
 
   abbrev pub RefusedBy : ℕ → ℕ → Type 0
   RefusedBy n k = dumpRefusal s d room ≡ some (verdict n k)
 
   pub refused-56 : {o : Outcome} → caseRefusal s ≡ some o → RefusedBy 56 (o .number)
-  unfolding dumpRefusal dumpRows
+  unfolding dumpRefusal dumpCauses
   refused-56 {o} e = field-fails 56 (numberIn (caseRefusal s)) _ (ap refuses e) ∙ ap (λ (c : Option Outcome). some (verdict 56 (numberIn c))) e
 
   pub past-56 : caseRefusal s ≡ none → RowsFrom 1
-  unfolding dumpRefusal dumpRows
+  unfolding dumpRefusal dumpCauses
   past-56 e = field-passes 56 (numberIn (caseRefusal s)) _ (ap refuses e)
 
   pub refused-57 : RowsFrom 1 → (length d ≡ dumpLength s → ⊥) → RefusedBy 57 0
-  unfolding dumpRefusal dumpRows
+  unfolding dumpRefusal dumpCauses
   refused-57 p h = p ∙ field-fails 57 0 _ (ap not (ne-eqb (length d) (dumpLength s) h))
 
   pub past-57 : RowsFrom 1 → length d ≡ dumpLength s → RowsFrom 2
-  unfolding dumpRefusal dumpRows
+  unfolding dumpRefusal dumpCauses
   past-57 p h = p ∙ field-passes 57 0 _ (ap not (eq-eqb (length d) (dumpLength s) h))
 
   pub refused-58 : {n : ℕ} → RowsFrom 2 → firstBelow (valueCount s) (notFiniteAt d) ≡ some n → RefusedBy 58 n
-  unfolding dumpRefusal dumpRows
+  unfolding dumpRefusal dumpCauses
   refused-58 {n} p e = p ∙ row-found (each 58 (valueCount s) (notFiniteAt d)) _ n e
 
   pub past-58 : RowsFrom 2 → firstBelow (valueCount s) (notFiniteAt d) ≡ none → RowsFrom 3
-  unfolding dumpRefusal dumpRows
+  unfolding dumpRefusal dumpCauses
   past-58 p e = p ∙ row-clear (each 58 (valueCount s) (notFiniteAt d)) _ e
 
   pub refused-59 : {n : ℕ} → RowsFrom 3 → firstBelow (valueCount s) (outOfFieldAt s d) ≡ some n → RefusedBy 59 n
-  unfolding dumpRefusal dumpRows
+  unfolding dumpRefusal dumpCauses
   refused-59 {n} p e = p ∙ row-found (each 59 (valueCount s) (outOfFieldAt s d)) _ n e
 
   pub past-59 : RowsFrom 3 → firstBelow (valueCount s) (outOfFieldAt s d) ≡ none → RowsFrom 4
-  unfolding dumpRefusal dumpRows
+  unfolding dumpRefusal dumpCauses
   past-59 p e = p ∙ row-clear (each 59 (valueCount s) (outOfFieldAt s d)) _ e
 
   pub refused-60 : RowsFrom 4 → room < proposalLength s → RefusedBy 60 0
-  unfolding dumpRefusal dumpRows
+  unfolding dumpRefusal dumpCauses
   refused-60 p h = p ∙ field-fails 60 0 _ (lt-ltb room (proposalLength s) h)
 
   pub all-passed : RowsFrom 4 → proposalLength s ≤ room → dumpRefusal s d room ≡ none
-  unfolding dumpRefusal dumpRows refusal
+  unfolding dumpRefusal dumpCauses refusal
   all-passed p h = p ∙ field-passes 60 0 [] (le-ltb room (proposalLength s) h)
 
 -- THE BYTES
@@ -165,21 +165,21 @@ met-answer s d out e h q b =
 
 -- ROW BY ROW, for the counts of a readable case
 module _ (s d out : List ℕ) {k : Counts} where
-  length-due : Opened s k → 8 * countOf k ≡ dumpLength s
+  length-due : CaseReadable s k → 8 * countOf k ≡ dumpLength s
   unfolding dumpLength
   length-due o = ap (λ (n : ℕ). 8 * n) (count-is o)
 
-  pub met-57 : {r : Written} → Opened s k → (length d ≡ 8 * countOf k → ⊥) → r ≡ record { number = 57; index = 0; length = 0 } → DumpAnswered s d out r out
+  pub met-57 : {r : Written} → CaseReadable s k → (length d ≡ 8 * countOf k → ⊥) → r ≡ record { number = 57; index = 0; length = 0 } → DumpAnswered s d out r out
   met-57 o h q = met-refusal s d out (refused-57 s d (length out) (past-56 s d (length out) (o .readable .none-holds)) (λ e. h (e ∙ sym (length-due o)))) q
 
-  from-2 : Opened s k → length d ≡ 8 * countOf k → RowsFrom s d (length out) 2
+  from-2 : CaseReadable s k → length d ≡ 8 * countOf k → RowsFrom s d (length out) 2
   from-2 o h = past-57 s d (length out) (past-56 s d (length out) (o .readable .none-holds)) (h ∙ length-due o)
 
-  pub met-58 : {n : ℕ} {r : Written} → Opened s k → length d ≡ 8 * countOf k → firstBelow (countOf k) (notFiniteAt d) ≡ some n
+  pub met-58 : {n : ℕ} {r : Written} → CaseReadable s k → length d ≡ 8 * countOf k → firstBelow (countOf k) (notFiniteAt d) ≡ some n
       → r ≡ record { number = 58; index = n; length = 0 } → DumpAnswered s d out r out
   met-58 o h e q = met-refusal s d out (refused-58 s d (length out) (from-2 o h) (ap (λ (n : ℕ). firstBelow n (notFiniteAt d)) (sym (count-is o)) ∙ e)) q
 
-  pub finite-dump : Opened s k → length d ≡ 8 * countOf k → firstBelow (countOf k) (notFiniteAt d) ≡ none → FiniteDump s k d
+  pub finite-dump : CaseReadable s k → length d ≡ 8 * countOf k → firstBelow (countOf k) (notFiniteAt d) ≡ none → FiniteDump s k d
   finite-dump o h e = record { opened = o; long = h; is-finite = λ n l. not-false _ (not-is _ (not-below (countOf k) (notFiniteAt d) e n l)) }
 
   module _ (f : FiniteDump s k d) where

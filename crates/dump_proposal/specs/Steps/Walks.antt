@@ -17,7 +17,7 @@ use lib.Ieee.{Float, binary64, ofBits}
 use lib.Ieee.Scale as float
 use Rattle.base_integers.specs.Meaning.Bytes.{bytesOf}
 use Rattle.base_integers.specs.Steps.Bytes.{bytes-length, sets-append}
-use Rattle.base_causes.specs.Meaning.Rows.{firstBelow}
+use Rattle.base_causes.specs.Meaning.Causes.{firstBelow}
 use Rattle.base_measures.specs.declared.Bits.{Bits}
 use Rattle.bytes_read.specs.declared.Cursor.{Cursor}
 use Rattle.bytes_read.specs.declared.LongField.the-variants as long
@@ -26,7 +26,7 @@ use Rattle.bytes_read.specs.Steps.Part.{partOf, part-length, part-u32}
 use Rattle.bytes_read.specs.Steps.Walk.{long-took, long-short}
 use Rattle.rules.specs.Meaning.Layout.{u32At}
 use Rattle.case_header.specs.declared.Counts.{Counts}
-use Rattle.case_header.specs.Meaning.Opened.{Opened}
+use Rattle.case_header.specs.Meaning.CaseReadable.{CaseReadable}
 use Rattle.dump_binary64.specs.Meaning.Value.{bitsAt, finite}
 use Rattle.dump_binary64.specs.Steps.Patterns.{finite-value}
 use Rattle.dump_values.specs.declared.DumpOpening.{DumpOpening}
@@ -87,7 +87,7 @@ part-there d at size q h t = omega (arith, long-short (partOf d at size) 0 t, pa
 
 -- ROW 58 PASSED: the case is readable, the dump has its length, and every value is finite
 pub record FiniteDump (s : List ℕ) (k : Counts) (d : List ℕ) : Type 0 where
-  pub opened : Opened s k
+  pub opened : CaseReadable s k
   pub long : length d ≡ 8 * countOf k
   pub is-finite : (n : ℕ) → n < countOf k → finite (bitsAt d n) ≡ true
 

@@ -11,7 +11,7 @@ use mir.Syntax.{w64}
 use mir.Val.{ofZ}
 use Rattle.rules.specs.Meaning.Layout.{quantityIn}
 use Rattle.dump_binary64.specs.Steps.Patterns.{finite-value}
-use Rattle.case_header.specs.Steps.Opened.{headed, limited}
+use Rattle.case_header.specs.Steps.CaseReadable.{headed, limited}
 use Rattle.book_order.specs.declared.Order.{Order}
 use Rattle.dump_values.specs.Meaning.Field.{Kind}
 use Rattle.dump_values.specs.Steps.Agree.{share-agrees, flow-agrees, shadow-agrees}

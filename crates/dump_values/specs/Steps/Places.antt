@@ -7,12 +7,12 @@ use Rattle.rules.specs.Meaning.Layout.{ordersIn, linksIn, quantityIn}
 use Rattle.rules.specs.Meaning.Hour.{caseOf}
 use Rattle.rules.specs.Steps.Passed.{case-sound}
 use Rattle.case_header.specs.declared.Counts.{Counts}
-use Rattle.case_header.specs.Meaning.Opened.{Opened}
+use Rattle.case_header.specs.Meaning.CaseReadable.{CaseReadable}
 use Rattle.dump_values.specs.Meaning.Field.{share-of, flow, shadow-price, afterOpening}
 use Rattle.dump_values.specs.Promised.PlainPlaces.{order-kind, flow-kind, shadow-kind}
 
 -- BY THE COUNTS of a readable case
-module _ {s : List ℕ} {k : Counts} (o : Opened s k) where
+module _ {s : List ℕ} {k : Counts} (o : CaseReadable s k) where
   orders-are : k .orders ≡ ordersIn s
   orders-are = ap (λ (k : Counts). k .orders) (o .counts)
 

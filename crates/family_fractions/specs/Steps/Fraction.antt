@@ -14,7 +14,7 @@ use Rattle.base_integers.specs.Steps.Size.{near-fits, near-mul, near-unsigned}
 use Rattle.base_integers.specs.Steps.Machine.{sfits-by}
 use Rattle.rules.specs.Meaning.Hour.{Case, Plan}
 use Rattle.rules.specs.Steps.Passed.{CaseSound}
-use Rattle.judge_clearing.specs.Meaning.Stages.{VolumesIn}
+use Rattle.judge_clearing.specs.Meaning.InRange.{VolumesInRange}
 use Rattle.rules.specs.Meaning.Families.{noParent, named, parentIn, parentOf}
 use Rattle.rules.specs.Meaning.Verdict.{exceedsParent}
 
@@ -27,7 +27,7 @@ pub no-parent : (f : List ℕ) (i : ℕ) {v : ℕ} → v ≡ parentIn f i → v 
 unfolding parentOf
 no-parent f i {v} e h = sym (ap named e) ∙ ap (λ (b : Bool). cond b none (some v)) (eq-eqb v noParent h)
 
-module _ (c : Case) (p : Plan) (s : CaseSound c) (in-quantity : VolumesIn c p) where
+module _ (c : Case) (p : Plan) (s : CaseSound c) (in-quantity : VolumesInRange c p) where
   -- a volume of one order times a quantity of another
   pub product-fits : (i j : ℕ) → i < c .orders → j < c .orders → {x y : ℤ} → x ≡ pos (p .volume i) → y ≡ pos (c .quantity j) → SFits w64 (x *ℤ y)
   product-fits i j h l e q = sfits-by w64 (λ n. e n *ℤ q n)

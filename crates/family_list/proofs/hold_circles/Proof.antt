@@ -3,7 +3,7 @@ use mathlib.Core.Path.{sym, ap}
 use native.Mathlib.Omega.{arith}
 use borrow.Author.Needs.{needs}
 use denote.Ref.{now}
-use Rattle.base_causes.specs.Promised.RowLaws.{at-place, at-none, place-below}
+use Rattle.base_causes.specs.Promised.CauseLaws.{at-place, at-none, place-below}
 use Rattle.family_list.specs.Meaning.Answer.{familyBy}
 use Rattle.family_list.specs.Steps.Answer.{by-18, by-none}
 use Rattle.family_list.proofs.hold_circles.Statement.{statement}

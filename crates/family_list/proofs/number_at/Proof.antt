@@ -5,19 +5,19 @@ use Rattle.rules.specs.Meaning.Families.{parentIn, familyLength}
 use Rattle.family_list.proofs.number_at.Statement.{statement}
 use Rattle.family_list.proofs.number_at.Tie as tie
 
-mul-half-at : tie.Need-mul-half-at
-mul-half-at c = search needs
+mul-u16-at : tie.Need-mul-u16-at
+mul-u16-at c = search needs
 
-add-half-at : tie.Need-add-half-at
-add-half-at c = search needs
+add-u16-at : tie.Need-add-u16-at
+add-u16-at c = search needs
 
-half-at-requires : tie.Need-half-at-requires
+u16-at-requires : tie.Need-u16-at-requires
 unfolding familyLength
-half-at-requires c κs = omega (arith, c .before .pre .0 .long)
+u16-at-requires c κs = omega (arith, c .before .pre .0 .long)
 
 returns : tie.Need-returns
 unfolding parentIn
-returns c = c .half-at .ensures
+returns c = c .u16-at .ensures
 
 pub number-at-spec : {M : Type 1} → statement M
-number-at-spec = tie.close (tie.spec mul-half-at add-half-at half-at-requires returns)
+number-at-spec = tie.close (tie.spec mul-u16-at add-u16-at u16-at-requires returns)

@@ -5,13 +5,13 @@ use mathlib.Core.Option.{none}
 use Prim.Native.Nat.{ℕ}
 use borrow.Author.Needs.{needs}
 use denote.Ref.{now}
-use Rattle.base_causes.specs.Meaning.Rows.{refusal}
+use Rattle.base_causes.specs.Meaning.Causes.{refusal}
 use Rattle.rules.specs.Meaning.Families.{familyLength}
 use Rattle.bytes_read.specs.declared.Cursor.{Cursor}
 use Rattle.bytes_read.specs.Meaning.Field.{cursor}
 use Rattle.bytes_read.specs.Meaning.Walk.{rowsWalkedBy}
 use Rattle.bytes_read.specs.Steps.Walked.{rows-refused, rows-passed}
-use Rattle.family_list.specs.Meaning.Answer.{listRows, familyBy}
+use Rattle.family_list.specs.Meaning.Answer.{listCauses, familyBy}
 use Rattle.family_list.specs.Steps.Answer.{list-refused, list-passed, list-known}
 use Rattle.family_list.proofs.read_families.Statement.{statement}
 use Rattle.family_list.proofs.read_families.Tie as tie
@@ -35,8 +35,8 @@ abbrev end : tie.After-walk-list → Cursor
 end w = cursor (familyLength (orders w))
 
 -- rows 16 and 17 passed
-passed : (c : tie.After-enum-told) → let w = c .before .before in refusal (listRows (file w) (orders w)) ≡ none
-passed c = let w = c .before .before in rows-passed (listRows (file w) (orders w)) (end w) (sym (w .walk-list .ensures .0) ∙ c .enum-told .given .1)
+passed : (c : tie.After-enum-told) → let w = c .before .before in refusal (listCauses (file w) (orders w)) ≡ none
+passed c = let w = c .before .before in rows-passed (listCauses (file w) (orders w)) (end w) (sym (w .walk-list .ensures .0) ∙ c .enum-told .given .1)
 
 hold-circles-requires : tie.Need-hold-circles-requires
 hold-circles-requires c κs =
@@ -57,7 +57,7 @@ returns-2 : tie.Need-returns-2
 returns-2 c =
     let r = c .before in
     let w = r .before .before in
-    ap familyBy (sym (list-refused (file w) (orders w) (rows-refused (listRows (file w) (orders w)) (end w) (sym (w .walk-list .ensures .0) ∙ r .refusal .given .1))))
+    ap familyBy (sym (list-refused (file w) (orders w) (rows-refused (listCauses (file w) (orders w)) (end w) (sym (w .walk-list .ensures .0) ∙ r .refusal .given .1))))
 
 pub read-families-spec : {M : Type 1} → statement M
 read-families-spec = tie.close (tie.spec walk-list-requires enum-told hold-circles-requires enum-known-refusal returns returns-2)

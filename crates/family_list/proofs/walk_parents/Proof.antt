@@ -10,13 +10,13 @@ use denote.Ref.{now}
 use lib.ListN.{length}
 use Rattle.rules.specs.Meaning.Layout.{u16At}
 use Rattle.rules.specs.Meaning.Families.{familyLength, named, parentIn, parentOf, missing}
-use Rattle.base_causes.specs.Meaning.Rows.{firstBelow}
-use Rattle.base_causes.specs.Promised.RowLaws.{first-later}
+use Rattle.base_causes.specs.Meaning.Causes.{firstBelow}
+use Rattle.base_causes.specs.Promised.CauseLaws.{first-later}
 use Rattle.bytes_read.specs.declared.Cursor.{Cursor}
 use Rattle.bytes_read.specs.Meaning.Field.{cursor}
 use Rattle.bytes_read.specs.Steps.Record.{RecordWithin, FieldRead, half-read, half-there}
 use Rattle.bytes_read.specs.Steps.Walked.{refused-past, walk-stops, walk-done}
-use Rattle.family_list.specs.Meaning.Answer.{absent, parentRow}
+use Rattle.family_list.specs.Meaning.Answer.{absent, parentCause}
 use Rattle.family_list.specs.Steps.Taken.{Taken, take-none, take-more}
 use Rattle.family_list.proofs.walk_parents.Statement.{statement}
 use Rattle.family_list.proofs.walk_parents.Tie as tie
@@ -98,7 +98,7 @@ returns-2 : tie.Need-returns-2 Inv-loop μ-loop
 returns-2 c =
     let t = c .before in
     let l = of-parent (of-test t) in (
-      walk-stops (parentRow (file l) (base l .args .orders)) (cursor (familyLength (base l .args .orders))) (turn l) (l .before .loop .inv .1 .1 .0) (l .loop-test .taken) (tested t ∙ c .if1 .taken),
+      walk-stops (parentCause (file l) (base l .args .orders)) (cursor (familyLength (base l .args .orders))) (turn l) (l .before .loop .inv .1 .1 .0) (l .loop-test .taken) (tested t ∙ c .if1 .taken),
       λ e. refused-past e _,
     )
 
@@ -142,7 +142,7 @@ returns-3 c =
     let l = c .before in
     let a = l .before .before in
     let all : l .loop .i ≡ a .args .orders = omega (arith, l .loop .inv .0, c .loop-test .left) in (
-      walk-done (parentRow (now (a .args .families)) (a .args .orders)) (λ (n : ℕ). 5 + 2 * n) (l .loop .inv .1 .0) (l .loop .inv .1 .1 .0) all refl,
+      walk-done (parentCause (now (a .args .families)) (a .args .orders)) (λ (n : ℕ). 5 + 2 * n) (l .loop .inv .1 .0) (l .loop .inv .1 .1 .0) all refl,
       λ e. subst (λ (n : ℕ). Taken (now (a .args .families)) n (l .loop .up)) all (l .loop .inv .1 .1 .1),
     )
 

@@ -5,7 +5,7 @@ use mathlib.Core.Option.{Option, none, some}
 use Prim.Native.Nat.{ℕ}
 use lib.ListN.{length}
 use Rattle.base_causes.specs.declared.Outcome.{Outcome}
-use Rattle.base_causes.specs.Meaning.Rows.{Row, verdict, refusal, once, each}
+use Rattle.base_causes.specs.Meaning.Causes.{Cause, verdict, refusal, once, each}
 use Rattle.bytes_read.specs.declared.Walked.{Walked}
 use Rattle.bytes_read.specs.declared.Walked.the-variants as walk
 use Rattle.bytes_read.specs.Meaning.Walk.{pastAt}
@@ -17,7 +17,7 @@ use mathlib.Core.Path.{_≡_}
 use mathlib.Core.Bool.{Bool, true, false, _||_}
 use mathlib.Core.Option.{Option, none, some}
 use Prim.Native.Nat.{ℕ, _≤_}
-use Rattle.base_causes.specs.Meaning.Rows.{verdict, refusal}
+use Rattle.base_causes.specs.Meaning.Causes.{verdict, refusal}
 use Rattle.rules.specs.Meaning.Families.{familyHeader, familyVersion, familyLength, parentOf, missing, leadsBack}
 use Rattle.rules.specs.Meaning.Verdict.{differ, notMark}
 use Rattle.family_list.specs.Meaning.Parents.{Exist}
@@ -29,21 +29,21 @@ wrongList f orders = notMark 76 84 70 f || differ (familyVersion f) 1 || differ 
 abbrev pub absent : List ℕ → ℕ → ℕ → Bool
 absent f orders i = missing orders (parentOf f i)
 
-abbrev pub listRow : List ℕ → ℕ → Row
-listRow f orders = once 16 (wrongList f orders)
+abbrev pub listCause : List ℕ → ℕ → Cause
+listCause f orders = once 16 (wrongList f orders)
 
-abbrev pub parentRow : List ℕ → ℕ → Row
-parentRow f orders = each 17 orders (absent f orders)
+abbrev pub parentCause : List ℕ → ℕ → Cause
+parentCause f orders = each 17 orders (absent f orders)
 
-abbrev pub circleRow : List ℕ → ℕ → Row
-circleRow f orders = each 18 orders (leadsBack orders (parentOf f))
+abbrev pub circleCause : List ℕ → ℕ → Cause
+circleCause f orders = each 18 orders (leadsBack orders (parentOf f))
 
 -- those that the walk over the list asks, and all
-abbrev pub listRows : List ℕ → ℕ → List Row
-listRows f orders = listRow f orders ∷ parentRow f orders ∷ []
+abbrev pub listCauses : List ℕ → ℕ → List Cause
+listCauses f orders = listCause f orders ∷ parentCause f orders ∷ []
 
-abbrev pub rowsBeside : List ℕ → ℕ → List Row
-rowsBeside f orders = listRow f orders ∷ parentRow f orders ∷ circleRow f orders ∷ []
+abbrev pub rowsBeside : List ℕ → ℕ → List Cause
+rowsBeside f orders = listCause f orders ∷ parentCause f orders ∷ circleCause f orders ∷ []
 
 -- THE ANSWER
 abbrev pub familyBy : Option Outcome → FamilyAnswer
@@ -55,7 +55,7 @@ familyAnswer f orders = familyBy (refusal (rowsBeside f orders))
 
 -- of row 18 alone
 abbrev pub circleAnswer : List ℕ → ℕ → FamilyAnswer
-circleAnswer f orders = familyBy (refusal (circleRow f orders ∷ []))
+circleAnswer f orders = familyBy (refusal (circleCause f orders ∷ []))
 
 -- the walk over the header, by the test of row 16
 abbrev pub headerBy : Bool → Walked
@@ -63,11 +63,11 @@ headerBy true = walk.Refused (verdict 16 0)
 headerBy false = pastAt familyHeader
 
 -- ROW 16 PASSED: the length is right, beside at most 512 orders
-pub record Whole (f : List ℕ) (orders : ℕ) : Type 0 where
+pub record ListLengthValid (f : List ℕ) (orders : ℕ) : Type 0 where
   pub few : orders ≤ 512
   pub long : length f ≡ familyLength orders
 
 -- ROW 17 PASSED too: every parent that is named is an order
-pub record Known (f : List ℕ) (orders : ℕ) : Type 0 where
-  pub whole : Whole f orders
+pub record FamiliesReadable (f : List ℕ) (orders : ℕ) : Type 0 where
+  pub whole : ListLengthValid f orders
   pub exist : Exist orders (parentOf f)

@@ -7,7 +7,7 @@ use Prim.Native.Nat.{ℕ, suc, _<_}
 use native.Mathlib.Omega.{arith}
 use lib.Dec.{T, eqb→eq, eqb-refl}
 use Rattle.base_integers.specs.Steps.Ranges.{is-true}
-use Rattle.base_causes.specs.Promised.RowLaws.{any-some, any-place}
+use Rattle.base_causes.specs.Promised.CauseLaws.{any-some, any-place}
 use Rattle.rules.specs.Meaning.Families.{ancestor, LeadsBack, isOrder, leadsBack}
 use Rattle.family_list.specs.Meaning.Parents.{Exist}
 use Rattle.family_list.specs.Steps.Ancestors.{short}

@@ -7,12 +7,12 @@ use Prim.Native.Nat.{ℕ, _<_}
 use native.Mathlib.Omega.{arith}
 use lib.Dec.{T, T-not}
 use Rattle.base_causes.specs.declared.Outcome.{Outcome}
-use Rattle.base_causes.specs.Meaning.Rows.{verdict, refusal, answer}
-use Rattle.base_causes.specs.Promised.RowLaws.{First, field-fails, row-passed, before, hasRow, rowOf, isRow, lacks, row-by-number, number-passes, rowNumbered}
+use Rattle.base_causes.specs.Meaning.Causes.{verdict, refusal, answer}
+use Rattle.base_causes.specs.Promised.CauseLaws.{First, field-fails, row-passed, before, hasCause, rowOf, isCause, lacks, row-by-number, number-passes, causeNumbered}
 use Rattle.rules.specs.Meaning.Layout.{u8At}
 use Rattle.rules.specs.Meaning.Hour.{Case, caseOf, planOf, pricesOf}
 use Rattle.rules.specs.Meaning.Families.{parentOf, leadsBack, LeadsBack}
-use Rattle.rules.specs.Meaning.Verdict.{notMark, familyRows, table, familyOutcome, roomRows, caseRows, proposalRows, clearingRows}
+use Rattle.rules.specs.Meaning.Verdict.{notMark, familyCauses, table, familyOutcome, roomCauses, caseCauses, proposalCauses, clearingCauses}
 use Rattle.rules.specs.Meaning.Promise.{FamiliesKept}
 use Rattle.rules.specs.Promised.Families.{child-within}
 use Rattle.family_list.specs.Meaning.Parents.{Exist}
@@ -21,7 +21,7 @@ use Rattle.family_list.specs.Steps.Answer.{exist-of}
 use Rattle.family_list.specs.Promised.Circle.{leads-back}
 
 -- AN EMPTY LIST is 16, however many orders there are
-pub empty-list : (c : Case) → refusal (familyRows (some []) c) ≡ some (verdict 16 0)
+pub empty-list : (c : Case) → refusal (familyCauses (some []) c) ≡ some (verdict 16 0)
 unfolding notMark u8At
 empty-list c = field-fails 16 0 _ refl
 
@@ -35,9 +35,9 @@ module _ (f : List ℕ) (c : Case) where
   by-rows : ((i : ℕ) → i < c .orders → T (not (absent f (c .orders) i))) → ((i : ℕ) → i < c .orders → T (not (leadsBack (c .orders) (parentOf f) i))) → Sound f (c .orders)
   by-rows p q = let x = exist-of f (c .orders) p in record { exist = x; no-circle = λ i h b. T-not (leadsBack (c .orders) (parentOf f) i) (q i h) (leads-back (parentOf f) x h .1 b) }
 
-  pub sound : refusal (familyRows (some f) c) ≡ none → Sound f (c .orders)
-  unfolding rowNumbered
-  sound e = let passed = number-passes (familyRows (some f) c) e in by-rows ((passed 17) .pass) ((passed 18) .pass)
+  pub sound : refusal (familyCauses (some f) c) ≡ none → Sound f (c .orders)
+  unfolding causeNumbered
+  sound e = let passed = number-passes (familyCauses (some f) c) e in by-rows ((passed 17) .pass) ((passed 18) .pass)
 
 -- REFUSED BY 18: the order named leads back to itself, and none before it does. An order that leads into a circle, and does not lie on it, is never named
 pub record OnCircle (f : List ℕ) (orders k : ℕ) : Type 0 where
@@ -45,11 +45,11 @@ pub record OnCircle (f : List ℕ) (orders k : ℕ) : Type 0 where
   pub back : LeadsBack (parentOf f) k
   pub none-before : (i : ℕ) → i < k → LeadsBack (parentOf f) i → ⊥
 
-pub on-circle : (f : List ℕ) (c : Case) (k : ℕ) → refusal (familyRows (some f) c) ≡ some (verdict 18 k) → OnCircle f (c .orders) k
-unfolding before lacks rowNumbered
+pub on-circle : (f : List ℕ) (c : Case) (k : ℕ) → refusal (familyCauses (some f) c) ≡ some (verdict 18 k) → OnCircle f (c .orders) k
+unfolding before lacks causeNumbered
 on-circle f c k e =
-    let w = row-by-number 18 (familyRows (some f) c) (omega arith) tt tt (ap (λ (o : Option Outcome). (answer o) .number) e) in
-    let x = exist-of f (c .orders) ((number-passes (before 18 (familyRows (some f) c)) (w .earlier) 17) .pass) in
+    let w = row-by-number 18 (familyCauses (some f) c) (omega arith) tt tt (ap (λ (o : Option Outcome). (answer o) .number) e) in
+    let x = exist-of f (c .orders) ((number-passes (before 18 (familyCauses (some f) c)) (w .earlier) 17) .pass) in
     let same : w .place ≡ k = ap (λ (o : Outcome). o .index) (sym (w .is) ∙ ap answer e) in
     let at-k = subst (λ (j : ℕ). First (c .orders) (leadsBack (c .orders) (parentOf f)) j) same (w .first-place) in
     record {
@@ -61,7 +61,7 @@ on-circle f c k e =
 -- ACCEPTED with the list f: what the list asks is kept
 module _ (s t f : List ℕ) (room : ℕ) (accepted : (familyOutcome s t f room) .number ≡ 0) where
   list-sound : Sound f ((caseOf s) .orders)
-  unfolding familyOutcome table roomRows caseRows proposalRows clearingRows before hasRow rowOf isRow
+  unfolding familyOutcome table roomCauses caseCauses proposalCauses clearingCauses before hasCause rowOf isCause
   list-sound =
       let passed = row-passed 0 (table (some f) s t room (caseOf s) (planOf s t) (pricesOf s t)) accepted in
       by-rows f (caseOf s) ((passed 17 0 tt) .pass) ((passed 18 0 tt) .pass)

@@ -8,13 +8,13 @@ use Prim.Native.Nat.{ℕ, _<_}
 use native.Mathlib.Omega.{arith}
 use lib.Dec.{T, T-not, not-T}
 use Rattle.base_causes.specs.declared.Outcome.{Outcome}
-use Rattle.base_causes.specs.Meaning.Rows.{verdict, refusal}
-use Rattle.base_causes.specs.Promised.RowLaws.{Comes, past, none-left, none-both, none-each, row-by-number, row-answers, number-passes, rowNumbered, lacks, before}
+use Rattle.base_causes.specs.Meaning.Causes.{verdict, refusal}
+use Rattle.base_causes.specs.Promised.CauseLaws.{Comes, past, none-left, none-both, none-each, row-by-number, row-answers, number-passes, causeNumbered, lacks, before}
 use Rattle.rules.specs.Meaning.Layout.{ordersIn}
 use Rattle.rules.specs.Meaning.Hour.{Case, caseOf, planOf, pricesOf}
 use Rattle.rules.specs.Meaning.Families.{parentOf, leadsBack}
-use Rattle.rules.specs.Meaning.Verdict.{roomRows, caseRows, proposalRows, wrongFamilyList, missingParent, familyRows, clearingRows, table, outcome, familyOutcome}
-use Rattle.rules.specs.Promised.PlainVerdicts.{ReadFacts, readRows, read-passes, passes-read}
+use Rattle.rules.specs.Meaning.Verdict.{roomCauses, caseCauses, proposalCauses, wrongFamilyList, missingParent, familyCauses, clearingCauses, table, outcome, familyOutcome}
+use Rattle.rules.specs.Promised.PlainVerdicts.{ReadFacts, readCauses, read-passes, passes-read}
 use Rattle.rules.specs.Promised.PlainFamilies as Plain
 use Rattle.rules.specs.Promised.PlainFamilies.{ListFacts, ParentsExist, VolumesWithin, ChildrenWithin, ExceedsParent, Round, has-parent, list-facts, parents-exist, leads-back-is, within-alike}
 use Rattle.family_list.specs.Meaning.Parents.{Exist}
@@ -46,15 +46,15 @@ module _ (f : List ℕ) (orders : ℕ) (x : ParentsExist f orders) where
 
 -- 16 TO 18 PASS if and only if the bytes are a list, every parent exists, and no order leads back to itself
 module _ (f : List ℕ) (c : Case) where
-  pub rows-pass : ListFacts f (c .orders) → ParentsExist f (c .orders) → NoRound f (c .orders) → refusal (familyRows (some f) c) ≡ none
+  pub rows-pass : ListFacts f (c .orders) → ParentsExist f (c .orders) → NoRound f (c .orders) → refusal (familyCauses (some f) c) ≡ none
   rows-pass l x n =
-      let rows : Comes (familyRows (some f) c) none = past (list-facts f c .1 l) (past (parents-exist f c .1 x) (past (record { pass = λ k h. no-round f (c .orders) x k h (n k h) }) none-left)) in
+      let rows : Comes (familyCauses (some f) c) none = past (list-facts f c .1 l) (past (parents-exist f c .1 x) (past (record { pass = λ k h. no-round f (c .orders) x k h (n k h) }) none-left)) in
       rows .is
 
-  pub pass-rows : refusal (familyRows (some f) c) ≡ none → ListFacts f (c .orders) × (ParentsExist f (c .orders) × NoRound f (c .orders))
-  unfolding rowNumbered
+  pub pass-rows : refusal (familyCauses (some f) c) ≡ none → ListFacts f (c .orders) × (ParentsExist f (c .orders) × NoRound f (c .orders))
+  unfolding causeNumbered
   pass-rows e =
-      let passed = number-passes (familyRows (some f) c) e in
+      let passed = number-passes (familyCauses (some f) c) e in
       let x = parents-exist f c .0 (passed 17) in
       (list-facts f c .0 (passed 16), (x, λ i h r. T-not (leadsBack (c .orders) (parentOf f) i) ((passed 18) .pass i h) (the-test f (c .orders) x i h r)))
 
@@ -62,10 +62,10 @@ module _ (s t f : List ℕ) (room : ℕ) where
   -- 18 IF AND ONLY IF the bytes are a list, every parent exists, and an order leads back to itself; its index is the first that does
   pub refused-18 : (familyOutcome s t f room) .number ≡ 18
       → ReadFacts s t room × (ListFacts f (ordersIn s) × (ParentsExist f (ordersIn s) × FirstRound f (ordersIn s) ((familyOutcome s t f room) .index)))
-  unfolding familyOutcome table roomRows caseRows proposalRows clearingRows lacks before rowNumbered caseOf
+  unfolding familyOutcome table roomCauses caseCauses proposalCauses clearingCauses lacks before causeNumbered caseOf
   refused-18 e =
       let row = row-by-number 18 (table (some f) s t room (caseOf s) (planOf s t) (pricesOf s t)) (omega arith) tt tt e in
-      let a = none-each (readRows s t room) (wrongFamilyList f (caseOf s) ∷ missingParent f (caseOf s) ∷ []) (row .earlier) in
+      let a = none-each (readCauses s t room) (wrongFamilyList f (caseOf s) ∷ missingParent f (caseOf s) ∷ []) (row .earlier) in
       let passed = number-passes (wrongFamilyList f (caseOf s) ∷ missingParent f (caseOf s) ∷ []) (a .1) in
       let x = parents-exist f (caseOf s) .0 (passed 17) in
       let place : row .place ≡ (familyOutcome s t f room) .index = sym (ap (λ (o : Outcome). o .index) (row .is)) in (
@@ -84,11 +84,11 @@ module _ (s t f : List ℕ) (room : ℕ) where
       )
 
   pub is-18 : ReadFacts s t room → ListFacts f (ordersIn s) → ParentsExist f (ordersIn s) → (i : ℕ) → FirstRound f (ordersIn s) i → familyOutcome s t f room ≡ verdict 18 i
-  unfolding familyOutcome table roomRows caseRows proposalRows clearingRows lacks before rowNumbered caseOf
+  unfolding familyOutcome table roomCauses caseCauses proposalCauses clearingCauses lacks before causeNumbered caseOf
   is-18 r l x i w =
       let rows : Comes (wrongFamilyList f (caseOf s) ∷ missingParent f (caseOf s) ∷ []) none = past (list-facts f (caseOf s) .1 l) (past (parents-exist f (caseOf s) .1 x) none-left) in
       row-answers 18 (table (some f) s t room (caseOf s) (planOf s t) (pricesOf s t)) tt
-      (none-both (readRows s t room) (wrongFamilyList f (caseOf s) ∷ missingParent f (caseOf s) ∷ []) (read-passes s t room r) (rows .is)) i (record {
+      (none-both (readCauses s t room) (wrongFamilyList f (caseOf s) ∷ missingParent f (caseOf s) ∷ []) (read-passes s t room r) (rows .is)) i (record {
         place-in = w .is-order;
         holds = the-test f (ordersIn s) x i (w .is-order) (w .round);
         none-before = λ j h. no-round f (ordersIn s) x j (omega (arith, w .is-order)) (w .first-one j h);

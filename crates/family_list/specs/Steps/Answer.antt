@@ -10,8 +10,8 @@ use borrow.Author.Tests.{eqb-true, eq-eqb, ne-eqb, le-leb, lt-leb}
 use lib.Dec.{T, eqb, nleb→lt}
 use Rattle.base_integers.specs.Steps.Ranges.{not-is}
 use Rattle.base_causes.specs.declared.Outcome.{Outcome}
-use Rattle.base_causes.specs.Meaning.Rows.{verdict, firstBelow, refusal}
-use Rattle.base_causes.specs.Promised.RowLaws.{field-fails, field-passes, row-found, row-clear, else-refusal, refusal-append, none-each, number-passes, rowNumbered}
+use Rattle.base_causes.specs.Meaning.Causes.{verdict, firstBelow, refusal}
+use Rattle.base_causes.specs.Promised.CauseLaws.{field-fails, field-passes, row-found, row-clear, else-refusal, refusal-append, none-each, number-passes, causeNumbered}
 use Rattle.bytes_read.specs.declared.Cursor.{Cursor}
 use Rattle.bytes_read.specs.declared.Walked.the-variants as walk
 use Rattle.bytes_read.specs.Meaning.Field.{cursor}
@@ -19,13 +19,13 @@ use Rattle.bytes_read.specs.Meaning.Walk.{walked, rowsWalkedBy, rowsWalked}
 use Rattle.bytes_read.specs.Steps.Walked.{last-part}
 use Rattle.rules.specs.Meaning.Hour.{Case}
 use Rattle.rules.specs.Meaning.Families.{familyHeader, noParent, familyVersion, familyLength, named, parentIn, parentOf, missing, leadsBack}
-use Rattle.rules.specs.Meaning.Verdict.{differ, notMark, familyRows}
+use Rattle.rules.specs.Meaning.Verdict.{differ, notMark, familyCauses}
 use Rattle.family_list.specs.declared.FamilyAnswer.the-variants.{Sound, Refused}
 use Rattle.family_list.specs.Meaning.Parents.{Exist}
-use Rattle.family_list.specs.Meaning.Answer.{wrongList, absent, parentRow, circleRow, listRows, rowsBeside, familyBy, familyAnswer, headerBy}
-use Rattle.family_list.specs.Meaning.Answer.{Whole, Known}
+use Rattle.family_list.specs.Meaning.Answer.{wrongList, absent, parentCause, circleCause, listCauses, rowsBeside, familyBy, familyAnswer, headerBy}
+use Rattle.family_list.specs.Meaning.Answer.{ListLengthValid, FamiliesReadable}
 
-pub rows-are : (f : List ℕ) (c : Case) {orders : ℕ} → c .orders ≡ orders → familyRows (some f) c ≡ rowsBeside f orders
+pub rows-are : (f : List ℕ) (c : Case) {orders : ℕ} → c .orders ≡ orders → familyCauses (some f) c ≡ rowsBeside f orders
 rows-are f c e = ap (rowsBeside f) e
 
 -- ROW 16, by its three tests
@@ -47,7 +47,7 @@ module _ (f : List ℕ) (orders : ℕ) where
   pub by-length : notMark 76 84 70 f ≡ false → differ (familyVersion f) 1 ≡ false → differ (length f) (familyLength orders) ≡ wrongList f orders
   by-length p q = sym (λ j. p j || q j || differ (length f) (familyLength orders))
 
-pub whole-of : (f : List ℕ) (orders : ℕ) → orders ≤ 512 → wrongList f orders ≡ false → Whole f orders
+pub whole-of : (f : List ℕ) (orders : ℕ) → orders ≤ 512 → wrongList f orders ≡ false → ListLengthValid f orders
 whole-of f orders h e = record { few = h; long = by (notMark 76 84 70 f || differ (familyVersion f) 1) (eqb (length f) (familyLength orders)) refl e }
   where
     by : (a b : Bool) → eqb (length f) (familyLength orders) ≡ b → (a || not b) ≡ false → length f ≡ familyLength orders
@@ -79,11 +79,11 @@ exist-of f orders h = record { exists = λ i j l e. by (parentOf f i) j e (h i l
 
 -- THE WALK, read back
 module _ (f : List ℕ) (orders : ℕ) where
-  pub header-refused : (past : Cursor) {o : Outcome} → headerBy (wrongList f orders) ≡ walk.Refused o → walk.Refused o ≡ rowsWalked (listRows f orders) past
+  pub header-refused : (past : Cursor) {o : Outcome} → headerBy (wrongList f orders) ≡ walk.Refused o → walk.Refused o ≡ rowsWalked (listCauses f orders) past
   header-refused past {o} e = by (wrongList f orders) refl e
     where
-      by : (b : Bool) → wrongList f orders ≡ b → headerBy b ≡ walk.Refused o → walk.Refused o ≡ rowsWalked (listRows f orders) past
-      by true q e = sym e ∙ sym (ap (rowsWalkedBy past) (field-fails 16 0 (parentRow f orders ∷ []) q))
+      by : (b : Bool) → wrongList f orders ≡ b → headerBy b ≡ walk.Refused o → walk.Refused o ≡ rowsWalked (listCauses f orders) past
+      by true q e = sym e ∙ sym (ap (rowsWalkedBy past) (field-fails 16 0 (parentCause f orders ∷ []) q))
       by false q e = cc
 
   pub header-past : {c : Cursor} → headerBy (wrongList f orders) ≡ walk.Past c → (wrongList f orders ≡ false) × (c ≡ cursor familyHeader)
@@ -93,53 +93,53 @@ module _ (f : List ℕ) (orders : ℕ) where
       by true e = (cc, cc)
       by false e = (refl, cc)
 
-  pub parents-walked : (past : Cursor) → wrongList f orders ≡ false → walked (parentRow f orders) past ≡ rowsWalked (listRows f orders) past
-  parents-walked past e = last-part (parentRow f orders) past ∙ sym (ap (rowsWalkedBy past) (field-passes 16 0 (parentRow f orders ∷ []) e))
+  pub parents-walked : (past : Cursor) → wrongList f orders ≡ false → walked (parentCause f orders) past ≡ rowsWalked (listCauses f orders) past
+  parents-walked past e = last-part (parentCause f orders) past ∙ sym (ap (rowsWalkedBy past) (field-passes 16 0 (parentCause f orders ∷ []) e))
 
 -- THE REFUSAL: the first two rows, and then the third
 module _ (f : List ℕ) (orders : ℕ) where
-  pub list-refused : {o : Outcome} → refusal (listRows f orders) ≡ some o → refusal (rowsBeside f orders) ≡ some o
-  list-refused {o} e = refusal-append (listRows f orders) (circleRow f orders ∷ []) ∙ ap (λ (x : Option Outcome). else-refusal x (refusal (circleRow f orders ∷ []))) e
+  pub list-refused : {o : Outcome} → refusal (listCauses f orders) ≡ some o → refusal (rowsBeside f orders) ≡ some o
+  list-refused {o} e = refusal-append (listCauses f orders) (circleCause f orders ∷ []) ∙ ap (λ (x : Option Outcome). else-refusal x (refusal (circleCause f orders ∷ []))) e
 
-  pub list-passed : refusal (listRows f orders) ≡ none → refusal (rowsBeside f orders) ≡ refusal (circleRow f orders ∷ [])
-  list-passed e = refusal-append (listRows f orders) (circleRow f orders ∷ []) ∙ ap (λ (x : Option Outcome). else-refusal x (refusal (circleRow f orders ∷ []))) e
+  pub list-passed : refusal (listCauses f orders) ≡ none → refusal (rowsBeside f orders) ≡ refusal (circleCause f orders ∷ [])
+  list-passed e = refusal-append (listCauses f orders) (circleCause f orders ∷ []) ∙ ap (λ (x : Option Outcome). else-refusal x (refusal (circleCause f orders ∷ []))) e
 
-  pub list-known : orders ≤ 512 → refusal (listRows f orders) ≡ none → Known f orders
-  unfolding rowNumbered
+  pub list-known : orders ≤ 512 → refusal (listCauses f orders) ≡ none → FamiliesReadable f orders
+  unfolding causeNumbered
   list-known h e =
-      let passed = number-passes (listRows f orders) e in
+      let passed = number-passes (listCauses f orders) e in
       record {
         whole = whole-of f orders h (not-is (wrongList f orders) ((passed 16) .pass 0 (omega arith)));
         exist = exist-of f orders ((passed 17) .pass);
       }
 
   -- row 18
-  pub by-18 : {i : ℕ} → firstBelow orders (leadsBack orders (parentOf f)) ≡ some i → refusal (circleRow f orders ∷ []) ≡ some (verdict 18 i)
-  by-18 {i} q = row-found (circleRow f orders) [] i q
+  pub by-18 : {i : ℕ} → firstBelow orders (leadsBack orders (parentOf f)) ≡ some i → refusal (circleCause f orders ∷ []) ≡ some (verdict 18 i)
+  by-18 {i} q = row-found (circleCause f orders) [] i q
 
-  pub by-none : firstBelow orders (leadsBack orders (parentOf f)) ≡ none → refusal (circleRow f orders ∷ []) ≡ none
+  pub by-none : firstBelow orders (leadsBack orders (parentOf f)) ≡ none → refusal (circleCause f orders ∷ []) ≡ none
   unfolding refusal
-  by-none q = row-clear (circleRow f orders) [] q
+  by-none q = row-clear (circleCause f orders) [] q
 
 -- where no row refuses, what 16 and 17 leave
-pub known-passed : (f : List ℕ) (orders : ℕ) → orders ≤ 512 → refusal (rowsBeside f orders) ≡ none → Known f orders
-known-passed f orders h e = list-known f orders h ((none-each (listRows f orders) (circleRow f orders ∷ []) e) .0)
+pub known-passed : (f : List ℕ) (orders : ℕ) → orders ≤ 512 → refusal (rowsBeside f orders) ≡ none → FamiliesReadable f orders
+known-passed f orders h e = list-known f orders h ((none-each (listCauses f orders) (circleCause f orders ∷ []) e) .0)
 
 -- AN ANSWER READ BACK, beside a case of so many orders
 module _ (f : List ℕ) (c : Case) {orders : ℕ} (count : c .orders ≡ orders) where
-  pub refused-of : {o : Outcome} → familyAnswer f orders ≡ Refused o → refusal (familyRows (some f) c) ≡ some o
+  pub refused-of : {o : Outcome} → familyAnswer f orders ≡ Refused o → refusal (familyCauses (some f) c) ≡ some o
   refused-of {o} e = ap refusal (rows-are f c count) ∙ by (refusal (rowsBeside f orders)) e
     where
       by : (x : Option Outcome) → familyBy x ≡ Refused o → x ≡ some o
       by (some y) e = cc
       by none e = cc
 
-  pub passed-of : familyAnswer f orders ≡ Sound → refusal (familyRows (some f) c) ≡ none
+  pub passed-of : familyAnswer f orders ≡ Sound → refusal (familyCauses (some f) c) ≡ none
   passed-of e = ap refusal (rows-are f c count) ∙ by (refusal (rowsBeside f orders)) e
     where
       by : (x : Option Outcome) → familyBy x ≡ Sound → x ≡ none
       by (some y) e = cc
       by none e = refl
 
-  pub known-of : orders ≤ 512 → familyAnswer f orders ≡ Sound → Known f orders
+  pub known-of : orders ≤ 512 → familyAnswer f orders ≡ Sound → FamiliesReadable f orders
   known-of h e = known-passed f orders h (ap refusal (sym (rows-are f c count)) ∙ passed-of e)

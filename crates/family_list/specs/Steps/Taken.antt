@@ -9,7 +9,7 @@ use native.Mathlib.Omega.{arith}
 use borrow.Author.Tests.{ne-eqb}
 use lib.Dec.{eqb}
 use lib.ListN.{length, set, length-set}
-use Rattle.base_causes.specs.Promised.RowLaws.{no-less}
+use Rattle.base_causes.specs.Promised.CauseLaws.{no-less}
 use Rattle.rules.specs.Meaning.Families.{noParent, named, parentIn, parentOf}
 use Rattle.family_list.specs.Meaning.Parents.{Exist}
 use Rattle.family_list.specs.Steps.Ancestors.{has-parent}

@@ -13,8 +13,8 @@ use borrow.Author.Tests.{lt-ltb, le-ltb}
 use lib.Dec.{not-T, ltb}
 use lib.ListN.{length, getD, set}
 use lib.Seq.{getD-set-same, getD-set-other}
-use Rattle.base_causes.specs.Meaning.Rows.{firstBelow}
-use Rattle.base_causes.specs.Promised.RowLaws.{first-some, first-none}
+use Rattle.base_causes.specs.Meaning.Causes.{firstBelow}
+use Rattle.base_causes.specs.Promised.CauseLaws.{first-some, first-none}
 use Rattle.rules.specs.Meaning.Families.{onward, ancestor, LeadsBack, leadsBack}
 use Rattle.family_list.specs.Meaning.Parents.{Exist}
 use Rattle.family_list.specs.Steps.Ancestors.{ancestor-add, stays-in, rounds}

@@ -8,7 +8,7 @@ use denote.Ref.{now}
 use lib.ListN.{length}
 use lib.Seq.{length-take-le}
 use lib.IntN.{ℤ}
-use Rattle.judge_stages.specs.Meaning.Found.{Finds, hourRows}
+use Rattle.judge_stages.specs.Meaning.Found.{Finds, hourCauses}
 use Rattle.flow_hour.specs.Steps.Kept.{hour-refused, exports-fit, prices-fit, exports-are, prices-are, pass, hour-answer}
 use Rattle.flow_hour.proofs.hour_intuitive_in.Statement.{statement}
 use Rattle.flow_hour.proofs.hour_intuitive_in.Tie as tie

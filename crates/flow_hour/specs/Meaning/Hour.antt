@@ -6,14 +6,14 @@ use Prim.Native.Nat.{ℕ, zero, suc}
 use lib.ListN.{length}
 use lib.IntN.{ℤ, pos, _-ℤ_}
 use Rattle.base_causes.specs.declared.Outcome.{Outcome}
-use Rattle.base_causes.specs.Meaning.Rows.{Row, refusal, answer}
+use Rattle.base_causes.specs.Meaning.Causes.{Cause, refusal, answer}
 use Rattle.rules.specs.Meaning.Layout.{reportRoom}
 use Rattle.rules.specs.Meaning.Hour.{caseOf, planOf, pricesOf, net, zonePrice, rent}
 use Rattle.rules.specs.Meaning.Verdict.{table}
 use Rattle.flow_network.specs.Meaning.Network.{Network}
 use Rattle.flow_pairs.specs.Meaning.Pairs.{networkOf}
 use Rattle.flow_intuitive.specs.declared.Carried.{Carried}
-use Rattle.flow_intuitive.specs.Meaning.Intuitive.{intuitiveRows, scratchBy, EntryAnswer}
+use Rattle.flow_intuitive.specs.Meaning.Intuitive.{intuitiveCauses, scratchBy, EntryAnswer}
 
 -- a list of n numbers, by their places
 unfoldable pub listTo : ℕ → (ℕ → ℤ) → List ℤ
@@ -35,15 +35,15 @@ abbrev pub hourRent : List ℕ → List ℕ → ℤ
 hourRent s t = rent (caseOf s) (planOf s t) (pricesOf s t)
 
 -- THE TABLE, for a case s, a proposal t, pairs, and a scratch of `room` numbers of which n are asked for, 324 or 96 (S-13)
-unfoldable pub askedRows : List ℕ → List ℕ → List ℕ → ℕ → ℕ → List Row
-askedRows s t pairs n room = table none s t reportRoom (caseOf s) (planOf s t) (pricesOf s t) ++ intuitiveRows (hourExports s t) (hourPrices s t) pairs n room
+unfoldable pub askedCauses : List ℕ → List ℕ → List ℕ → ℕ → ℕ → List Cause
+askedCauses s t pairs n room = table none s t reportRoom (caseOf s) (planOf s t) (pricesOf s t) ++ intuitiveCauses (hourExports s t) (hourPrices s t) pairs n room
 
 unfoldable pub hourOutcome : List ℕ → List ℕ → List ℕ → ℕ → ℕ → Outcome
-hourOutcome s t pairs n room = answer (refusal (askedRows s t pairs n room))
+hourOutcome s t pairs n room = answer (refusal (askedCauses s t pairs n room))
 
 -- the scratch afterwards
 unfoldable pub hourScratch : List ℕ → List ℕ → List ℕ → ℕ → List ℤ → List ℤ
-hourScratch s t pairs n scratch = scratchBy (refusal (askedRows s t pairs n (length scratch))) n scratch
+hourScratch s t pairs n scratch = scratchBy (refusal (askedCauses s t pairs n (length scratch))) n scratch
 
 -- WHAT AN ENTRY ANSWERS of an hour, with n = 324 or 96, for the scratch that is lent, the result and the scratch
 -- afterwards

@@ -20,19 +20,19 @@ use Rattle.base_integers.specs.Meaning.Sums.{sumTo}
 use Rattle.base_integers.specs.Steps.Sums.{sum-ext, sum-sub, sum-zero}
 use Rattle.base_measures.specs.Meaning.Limits as limits
 use Rattle.base_causes.specs.declared.Outcome.{Outcome}
-use Rattle.base_causes.specs.Meaning.Rows.{Row, refusal, answer, once, each, failing}
-use Rattle.base_causes.specs.Promised.RowLaws.{lacks, not-refused, else-refusal, refusal-append, zero-none, later, row-clear, once-passes, first-none}
+use Rattle.base_causes.specs.Meaning.Causes.{Cause, refusal, answer, once, each, failing}
+use Rattle.base_causes.specs.Promised.CauseLaws.{lacks, not-refused, else-refusal, refusal-append, zero-none, later, row-clear, once-passes, first-none}
 use Rattle.rules.specs.Meaning.Layout.{reportRoom, zoneCounts}
 use Rattle.rules.specs.Meaning.Hour.{caseOf, planOf, pricesOf, net, netSum, zonePrice}
 use Rattle.rules.specs.Meaning.Report.{reports}
-use Rattle.rules.specs.Meaning.Verdict.{roomRows, caseRows, proposalRows, clearingRows, table, outcome, differ, under}
+use Rattle.rules.specs.Meaning.Verdict.{roomCauses, caseCauses, proposalCauses, clearingCauses, table, outcome, differ, _under_}
 use Rattle.rules.specs.Steps.Passed.{Sound, sound, case-sound}
 use Rattle.rules.specs.Promised.Fits.{net-near, volumes-in}
 use Rattle.flow_positions.specs.Meaning.Positions.{positionOutside, unbalanced}
 use Rattle.flow_pairs.specs.Meaning.Pairs.{pairCount, badPair}
-use Rattle.flow_intuitive.specs.Meaning.Intuitive.{unfit, priceOutside, intuitiveRows, intuitiveRefusal, intuitiveOutcome}
+use Rattle.flow_intuitive.specs.Meaning.Intuitive.{unfit, priceOutside, intuitiveCauses, intuitiveRefusal, intuitiveOutcome}
 use Rattle.flow_intuitive.specs.Meaning.Answers.{ListsPass}
-use Rattle.flow_hour.specs.Meaning.Hour.{listTo, hourExports, hourPrices, askedRows, hourOutcome}
+use Rattle.flow_hour.specs.Meaning.Hour.{listTo, hourExports, hourPrices, askedCauses, hourOutcome}
 
 -- A LIST BY ITS PLACES
 pub list-length : (n : ℕ) (f : ℕ → ℤ) → length (listTo n f) ≡ n
@@ -55,30 +55,30 @@ list-at (suc n) f z h = elim (decLt z n) [
     last e = ap (λ (k : ℕ). getD (listTo n f ++ (f n ∷ [])) k (pos 0)) (e ∙ sym (list-length n f)) ∙ getD-append-seam (listTo n f) (f n) [] (pos 0) ∙ ap f (sym e)
 
 module _ (s t pairs : List ℕ) (n room : ℕ) where
-  abbrev judged : List Row
+  abbrev judged : List Cause
   judged = table none s t reportRoom (caseOf s) (planOf s t) (pricesOf s t)
 
-  abbrev asked : List Row
-  asked = intuitiveRows (hourExports s t) (hourPrices s t) pairs n room
+  abbrev asked : List Cause
+  asked = intuitiveCauses (hourExports s t) (hourPrices s t) pairs n room
 
   -- THE JUDGEMENT FIRST: what it refuses is its own answer; what it accepts is asked
-  pub refused-first : (o : Outcome) → refusal judged ≡ some o → refusal (askedRows s t pairs n room) ≡ some o
-  unfolding askedRows
+  pub refused-first : (o : Outcome) → refusal judged ≡ some o → refusal (askedCauses s t pairs n room) ≡ some o
+  unfolding askedCauses
   refused-first o e = refusal-append judged asked ∙ ap (λ (x : Option Outcome). else-refusal x (refusal asked)) e
 
-  pub asked-then : refusal judged ≡ none → refusal (askedRows s t pairs n room) ≡ refusal asked
-  unfolding askedRows
+  pub asked-then : refusal judged ≡ none → refusal (askedCauses s t pairs n room) ≡ refusal asked
+  unfolding askedCauses
   asked-then e = refusal-append judged asked ∙ ap (λ (x : Option Outcome). else-refusal x (refusal asked)) e
 
   pub none-refused : (outcome s t reportRoom) .number ≡ 0 → refusal judged ≡ none
-  unfolding outcome table roomRows caseRows proposalRows clearingRows lacks
+  unfolding outcome table roomCauses caseCauses proposalCauses clearingCauses lacks
   none-refused e = zero-none judged tt e
 
   pub not-accepted : 0 < (outcome s t reportRoom) .number → hourOutcome s t pairs n room ≡ outcome s t reportRoom
   unfolding outcome hourOutcome
   not-accepted h = by (refusal judged) refl
     where
-      by : (o : Option Outcome) → refusal judged ≡ o → answer (refusal (askedRows s t pairs n room)) ≡ answer (refusal judged)
+      by : (o : Option Outcome) → refusal judged ≡ o → answer (refusal (askedCauses s t pairs n room)) ≡ answer (refusal judged)
       by (some x) q = ap answer (refused-first x q ∙ sym q)
       by none q = absurd (never (ap (λ (x : Option Outcome). (answer x) .number) q))
         where
@@ -155,11 +155,11 @@ module _ (s t pairs : List ℕ) (n room : ℕ) where
     lists-pass = record { count-in = count-in; lengths = prices-many ∙ sym zones-many; positions-in = positions-pass; balanced = balanced; prices-in = prices-pass }
 
     -- so that the pairs and the scratch are all that is left
-    abbrev left : List Row
-    left = each 84 (pairCount pairs) (badPair (length (hourExports s t)) pairs) ∷ once 85 (under n room) ∷ []
+    abbrev left : List Cause
+    left = each 84 (pairCount pairs) (badPair (length (hourExports s t)) pairs) ∷ once 85 (room under n) ∷ []
 
     pub by-pairs-and-scratch : refusal asked ≡ refusal left
-    unfolding intuitiveRows
+    unfolding intuitiveCauses
     by-pairs-and-scratch =
         row-clear (once 81 (unfit (hourExports s t) (hourPrices s t))) _ (once-passes fits-lists)
         ∙ row-clear (each 82 (length (hourExports s t)) (positionOutside (hourExports s t))) _ positions-pass
@@ -177,20 +177,20 @@ module _ (s t pairs : List ℕ) (n room : ℕ) where
             zero-not e = omega (arith, h)
 
   -- a number that neither the judgement has nor the rows of pairs and scratch
-  never : (k : ℕ) → T (lacks k judged) → T (lacks k (each 84 (pairCount pairs) (badPair (length (hourExports s t)) pairs) ∷ once 85 (under n room) ∷ [])) → 0 < k → (hourOutcome s t pairs n room) .number ≡ k → ⊥
-  unfolding hourOutcome askedRows outcome
+  never : (k : ℕ) → T (lacks k judged) → T (lacks k (each 84 (pairCount pairs) (badPair (length (hourExports s t)) pairs) ∷ once 85 (room under n) ∷ [])) → 0 < k → (hourOutcome s t pairs n room) .number ≡ k → ⊥
+  unfolding hourOutcome askedCauses outcome
   never k a b h q =
       let l = later k judged asked a q in
       never-asked (ap (λ (x : Option Outcome). (answer x) .number) (l .none-first)) k b h (l .then-second)
 
   pub never-81 : (hourOutcome s t pairs n room) .number ≡ 81 → ⊥
-  unfolding table roomRows caseRows proposalRows clearingRows lacks
+  unfolding table roomCauses caseCauses proposalCauses clearingCauses lacks
   never-81 = never 81 tt tt (omega arith)
 
   pub never-82 : (hourOutcome s t pairs n room) .number ≡ 82 → ⊥
-  unfolding table roomRows caseRows proposalRows clearingRows lacks
+  unfolding table roomCauses caseCauses proposalCauses clearingCauses lacks
   never-82 = never 82 tt tt (omega arith)
 
   pub never-83 : (hourOutcome s t pairs n room) .number ≡ 83 → ⊥
-  unfolding table roomRows caseRows proposalRows clearingRows lacks
+  unfolding table roomCauses caseCauses proposalCauses clearingCauses lacks
   never-83 = never 83 tt tt (omega arith)

@@ -9,28 +9,28 @@ use native.Mathlib.Decide.{decLt}
 use lib.ListN.{length}
 use lib.IntN.{ℤ}
 use Rattle.base_causes.specs.declared.Outcome.{Outcome}
-use Rattle.base_causes.specs.Meaning.Rows.{Row, refusal, answer}
-use Rattle.base_causes.specs.Promised.RowLaws.{lacks, later}
+use Rattle.base_causes.specs.Meaning.Causes.{Cause, refusal, answer}
+use Rattle.base_causes.specs.Promised.CauseLaws.{lacks, later}
 use Rattle.rules.specs.Meaning.Layout.{reportRoom}
 use Rattle.rules.specs.Meaning.Hour.{caseOf, planOf, pricesOf}
-use Rattle.rules.specs.Meaning.Verdict.{roomRows, caseRows, proposalRows, clearingRows, table, outcome}
+use Rattle.rules.specs.Meaning.Verdict.{roomCauses, caseCauses, proposalCauses, clearingCauses, table, outcome}
 use Rattle.flow_intuitive.specs.declared.Carried.{Carried}
-use Rattle.flow_intuitive.specs.Meaning.Intuitive.{scratchRoom, intuitiveRows, intuitiveRefusal, intuitiveOutcome}
+use Rattle.flow_intuitive.specs.Meaning.Intuitive.{scratchRoom, intuitiveCauses, intuitiveRefusal, intuitiveOutcome}
 use Rattle.flow_intuitive.specs.Meaning.SmallScratch.{smallRoom}
 use Rattle.flow_intuitive.specs.Promised.Causes.{intuitive-none}
 use Rattle.flow_intuitive.specs.Promised.BothSizes.{entries-agree, same-rows, refused-alike}
 use Rattle.flow_intuitive.specs.Steps.Sizes.{placed, room-in}
-use Rattle.flow_hour.specs.Meaning.Hour.{hourExports, hourPrices, hourNetwork, askedRows, hourOutcome, HourAnswer}
+use Rattle.flow_hour.specs.Meaning.Hour.{hourExports, hourPrices, hourNetwork, askedCauses, hourOutcome, HourAnswer}
 use Rattle.flow_hour.specs.Promised.Asked.{not-accepted, accepted-asks}
 
 module _ (s t pairs : List ℕ) where
-  abbrev judged : List Row
+  abbrev judged : List Cause
   judged = table none s t reportRoom (caseOf s) (planOf s t) (pricesOf s t)
 
   -- an hour that is answered is one whose exports, prices and pairs are
   pub answered : (n room : ℕ) → (hourOutcome s t pairs n room) .number ≡ 0 → intuitiveRefusal (hourExports s t) (hourPrices s t) pairs n room ≡ none
-  unfolding hourOutcome askedRows intuitiveOutcome intuitiveRefusal table roomRows caseRows proposalRows clearingRows lacks
-  answered n room e = intuitive-none (hourExports s t) (hourPrices s t) pairs n room ((later 0 judged (intuitiveRows (hourExports s t) (hourPrices s t) pairs n room) tt e) .then-second)
+  unfolding hourOutcome askedCauses intuitiveOutcome intuitiveRefusal table roomCauses caseCauses proposalCauses clearingCauses lacks
+  answered n room e = intuitive-none (hourExports s t) (hourPrices s t) pairs n room ((later 0 judged (intuitiveCauses (hourExports s t) (hourPrices s t) pairs n room) tt e) .then-second)
 
   -- YES OR NO AND THE TOTAL ARE EQUAL on each hour that both take, whatever scratches are lent
   pub answers-agree : (a b : List ℤ) (r q : Carried) (a' b' : List ℤ) → HourAnswer s t pairs scratchRoom a r a' → HourAnswer s t pairs smallRoom b q b' → r .number ≡ 0 → q .number ≡ 0
@@ -41,8 +41,8 @@ module _ (s t pairs : List ℕ) where
 
   -- WHAT IS TAKEN: a scratch which the wide entry takes is answered alike by the smaller, refused or not
   pub wide-is-small : (room : ℕ) → scratchRoom ≤ room → hourOutcome s t pairs smallRoom room ≡ hourOutcome s t pairs scratchRoom room
-  unfolding hourOutcome askedRows
-  wide-is-small room h = ap (λ (rows : List Row). answer (refusal (judged ++ rows))) (same-rows (hourExports s t) (hourPrices s t) pairs smallRoom scratchRoom room room (omega arith) h)
+  unfolding hourOutcome askedCauses
+  wide-is-small room h = ap (λ (rows : List Cause). answer (refusal (judged ++ rows))) (same-rows (hourExports s t) (hourPrices s t) pairs smallRoom scratchRoom room room (omega arith) h)
 
   pub small-takes : (room : ℕ) → (hourOutcome s t pairs scratchRoom room) .number ≡ 0 → (hourOutcome s t pairs smallRoom room) .number ≡ 0
   small-takes room e = ap (λ (o : Outcome). o .number) (wide-is-small room (room-in (hourExports s t) (hourPrices s t) pairs scratchRoom room (answered scratchRoom room e))) ∙ e

@@ -15,22 +15,22 @@ use lib.Signed.{_<ℤ_}
 use Rattle.base_integers.specs.Steps.Difference.{at, _⊖_, ⊝_, eq-by}
 use Rattle.base_integers.specs.Steps.Ranges.{is-false, nat-within}
 use Rattle.base_causes.specs.declared.Outcome.{Outcome}
-use Rattle.base_causes.specs.Meaning.Rows.{Row, verdict, refusal, answer}
-use Rattle.base_causes.specs.Promised.RowLaws.{lacks, later, not-below, zero-none, numbersBelow, number-below}
+use Rattle.base_causes.specs.Meaning.Causes.{Cause, verdict, refusal, answer}
+use Rattle.base_causes.specs.Promised.CauseLaws.{lacks, later, not-below, zero-none, numbersBelow, number-below}
 use Rattle.rules.specs.Meaning.Layout.{zonesIn, u8At}
 use Rattle.rules.specs.Meaning.Hour.{caseOf, planOf, pricesOf, net, zonePrice}
-use Rattle.rules.specs.Meaning.Verdict.{roomRows, caseRows, proposalRows, clearingRows, table, outcome}
+use Rattle.rules.specs.Meaning.Verdict.{roomCauses, caseCauses, proposalCauses, clearingCauses, table, outcome}
 use Rattle.flow_positions.specs.Promised.PlainPositions.{positions-inside, sum-zero}
 use Rattle.flow_pairs.specs.Promised.PlainPairs.{AllGood, FirstBadPair}
 use Rattle.flow_intuitive.specs.declared.Carried.{Carried}
-use Rattle.flow_intuitive.specs.Meaning.Intuitive.{scratchRoom, intuitiveRows, intuitiveRefusal, intuitiveOutcome, scratchBy, intuitiveScratch, IntuitiveAnswer}
+use Rattle.flow_intuitive.specs.Meaning.Intuitive.{scratchRoom, intuitiveCauses, intuitiveRefusal, intuitiveOutcome, scratchBy, intuitiveScratch, IntuitiveAnswer}
 use Rattle.flow_intuitive.specs.Meaning.SmallScratch.{smallRoom}
 use Rattle.flow_intuitive.specs.Promised.PlainCauses as causes
 use Rattle.flow_intuitive.specs.Promised.PlainCauses.{Past83, prices-inside, ScratchCleared, zeros-then}
 use Rattle.flow_intuitive.specs.Promised.PlainAnswers as answers
 use Rattle.flow_intuitive.specs.Promised.PlainAnswers.{Routes, Enclosed, LargestCarried, everyExport}
 use Rattle.flow_intuitive.specs.Meaning.Answers.{ListsPass}
-use Rattle.flow_hour.specs.Meaning.Hour.{hourExports, hourPrices, askedRows, hourOutcome, hourScratch, HourAnswer}
+use Rattle.flow_hour.specs.Meaning.Hour.{hourExports, hourPrices, askedCauses, hourOutcome, hourScratch, HourAnswer}
 use Rattle.flow_hour.specs.Promised.Asked.{list-length, list-at, asked-then, none-refused, not-accepted, accepted-asks, lists-pass, never-81, never-82, never-83}
 
 -- lists that 81 to 83 pass, in plain numbers
@@ -70,11 +70,11 @@ module _ (s t pairs : List ℕ) (n room : ℕ) where
   abbrev said : Outcome
   said = hourOutcome s t pairs n room
 
-  abbrev judged : List Row
+  abbrev judged : List Cause
   judged = table none s t 176 (caseOf s) (planOf s t) (pricesOf s t)
 
-  abbrev asked : List Row
-  asked = intuitiveRows (hourExports s t) (hourPrices s t) pairs n room
+  abbrev asked : List Cause
+  asked = intuitiveCauses (hourExports s t) (hourPrices s t) pairs n room
 
   -- ACCEPTED, or answered by a number that the judgement has not
   accepted-if : refusal judged ≡ none → outcome s t 176 ≡ verdict 0 0
@@ -107,7 +107,7 @@ module _ (s t pairs : List ℕ) (n room : ℕ) where
 
   -- 84 IF AND ONLY IF the hour is accepted and pair k is the first that is not good among its zones
   pub says-84 : (k : ℕ) → (said ≡ verdict 84 k) ↔ ((outcome s t 176 ≡ verdict 0 0) × FirstBadPair (getD s 5 0) pairs k)
-  unfolding hourOutcome askedRows table roomRows caseRows proposalRows clearingRows lacks
+  unfolding hourOutcome askedCauses table roomCauses caseCauses proposalCauses clearingCauses lacks
   says-84 k = (
     λ e. let p = (later 84 judged asked tt (ap (λ (o : Outcome). o .number) e)) .none-first in
         (accepted-if p, subst (λ (z : ℕ). FirstBadPair z pairs k) (exports-length s t) (causes.says-84 (hourExports s t) (hourPrices s t) pairs n room k .0 (behind 84 k e p) .1)),
@@ -116,7 +116,7 @@ module _ (s t pairs : List ℕ) (n room : ℕ) where
 
   -- 85 IF AND ONLY IF it is accepted, every pair is good and the scratch has less than n numbers
   pub says-85 : (k : ℕ) → (said ≡ verdict 85 k) ↔ ((k ≡ 0) × (AcceptedGood s t pairs × (room < n)))
-  unfolding hourOutcome askedRows table roomRows caseRows proposalRows clearingRows lacks
+  unfolding hourOutcome askedCauses table roomCauses caseCauses proposalCauses clearingCauses lacks
   says-85 k = (
     λ e. let p = (later 85 judged asked tt (ap (λ (o : Outcome). o .number) e)) .none-first in
         let w = causes.says-85 (hourExports s t) (hourPrices s t) pairs n room k .0 (behind 85 k e p) in
@@ -127,7 +127,7 @@ module _ (s t pairs : List ℕ) (n room : ℕ) where
 
   -- 0 IF AND ONLY IF it is accepted, every pair is good and the scratch has n numbers
   pub says-0 : (k : ℕ) → (said ≡ verdict 0 k) ↔ ((k ≡ 0) × (AcceptedGood s t pairs × (n ≤ room)))
-  unfolding hourOutcome askedRows table roomRows caseRows proposalRows clearingRows lacks
+  unfolding hourOutcome askedCauses table roomCauses caseCauses proposalCauses clearingCauses lacks
   says-0 k = (
     λ e. let p = (later 0 judged asked tt (ap (λ (o : Outcome). o .number) e)) .none-first in
         let w = causes.says-0 (hourExports s t) (hourPrices s t) pairs n room k .0 (behind 0 k e p) in
@@ -138,7 +138,7 @@ module _ (s t pairs : List ℕ) (n room : ℕ) where
 
   -- NO OTHER NUMBER: above the judgement's, which are at most 30, there are these two
   judged-below : (outcome s t 176) .number < 31
-  unfolding outcome table roomRows caseRows proposalRows clearingRows numbersBelow
+  unfolding outcome table roomCauses caseCauses proposalCauses clearingCauses numbersBelow
   judged-below = number-below 31 judged (omega arith) tt
 
   pub says-no-other : 30 < said .number → (said .number ≡ 84) ⊎ (said .number ≡ 85)
@@ -181,9 +181,9 @@ module _ (s t pairs : List ℕ) (room : ℕ) where
 -- THE SCRATCH AFTERWARDS
 module _ (s t pairs : List ℕ) (scratch : List ℤ) where
   cleared : (n : ℕ) → hourOutcome s t pairs n (length scratch) ≡ verdict 0 0 → ScratchCleared n scratch (hourScratch s t pairs n scratch)
-  unfolding hourScratch hourOutcome askedRows table roomRows caseRows proposalRows clearingRows lacks intuitiveRows
+  unfolding hourScratch hourOutcome askedCauses table roomCauses caseCauses proposalCauses clearingCauses lacks intuitiveCauses
   cleared n e = zeros-then n scratch (hourScratch s t pairs n scratch) (says-0 s t pairs n (length scratch) 0 .0 e .1 .1)
-      (ap (λ (o : Option Outcome). scratchBy o n scratch) (zero-none (askedRows s t pairs n (length scratch)) tt (ap (λ (o : Outcome). o .number) e)))
+      (ap (λ (o : Option Outcome). scratchBy o n scratch) (zero-none (askedCauses s t pairs n (length scratch)) tt (ap (λ (o : Outcome). o .number) e)))
 
   pub wide-scratch : hourOutcome s t pairs scratchRoom (length scratch) ≡ verdict 0 0 → ScratchCleared 324 scratch (hourScratch s t pairs scratchRoom scratch)
   wide-scratch = cleared 324
@@ -193,7 +193,7 @@ module _ (s t pairs : List ℕ) (scratch : List ℤ) where
 
   pub kept-scratch : (n m k : ℕ) → 0 < m → hourOutcome s t pairs n (length scratch) ≡ verdict m k → hourScratch s t pairs n scratch ≡ scratch
   unfolding hourScratch hourOutcome
-  kept-scratch n m k h e = by (refusal (askedRows s t pairs n (length scratch))) (ap (λ (o : Outcome). o .number) e)
+  kept-scratch n m k h e = by (refusal (askedCauses s t pairs n (length scratch))) (ap (λ (o : Outcome). o .number) e)
     where
       by : (o : Option Outcome) → (answer o) .number ≡ m → scratchBy o n scratch ≡ scratch
       by (some x) q = refl

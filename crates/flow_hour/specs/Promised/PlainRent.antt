@@ -24,18 +24,18 @@ use Rattle.base_integers.specs.Steps.Sums.{sum-ext}
 use Rattle.base_integers.specs.Steps.NaturalSums as natural
 use Rattle.base_integers.specs.Meaning.NaturalSums.{sumNat}
 use Rattle.base_causes.specs.declared.Outcome.{Outcome}
-use Rattle.base_causes.specs.Meaning.Rows.{verdict, answer}
-use Rattle.base_causes.specs.Promised.RowLaws.{field-passes}
+use Rattle.base_causes.specs.Meaning.Causes.{verdict, answer}
+use Rattle.base_causes.specs.Promised.CauseLaws.{field-passes}
 use Rattle.rules.specs.Meaning.Layout.{zonesIn, u8At}
 use Rattle.rules.specs.Meaning.Hour.{caseOf, planOf, pricesOf, zonePrice}
 use Rattle.rules.specs.Meaning.Report.{bufferAfter}
-use Rattle.rules.specs.Meaning.Verdict.{roomRows, table, outcome}
+use Rattle.rules.specs.Meaning.Verdict.{roomCauses, table, outcome}
 use Rattle.rules.specs.Promised.Fits.{Fit, fits}
 use Rattle.rules.specs.Promised.PlainReport.{modulo64, Stands, reports-of, report-written}
 use Rattle.flow_pairs.specs.Meaning.Pairs.{pairCount}
 use Rattle.flow_pairs.specs.Promised.PlainPairs.{is-pair, pair-leads, GoodPair}
 use Rattle.flow_network.specs.Meaning.Network.{FeasibleAll}
-use Rattle.judge_stages.specs.Meaning.Found.{hourRows}
+use Rattle.judge_stages.specs.Meaning.Found.{hourCauses}
 use Rattle.flow_intuitive.specs.declared.Carried.{Carried}
 use Rattle.flow_intuitive.specs.Meaning.Intuitive.{intuitiveRefusal}
 use Rattle.flow_intuitive.specs.Promised.PlainAnswers.{count-is, counted}
@@ -81,8 +81,8 @@ pub record RentOfFlows (pairs b : List ℕ) : Type 0 where
 
 -- 30 aside, which asks for 176 bytes, the verdict is the same with every buffer
 pub same-verdict : (s t : List ℕ) (room : ℕ) → 176 ≤ room → outcome s t room ≡ outcome s t 176
-unfolding outcome table roomRows
-same-verdict s t room h = ap answer (field-passes 30 0 (hourRows none s t) (le-ltb room 176 h) ∙ sym (field-passes 30 0 (hourRows none s t) refl))
+unfolding outcome table roomCauses
+same-verdict s t room h = ap answer (field-passes 30 0 (hourCauses none s t) (le-ltb room 176 h) ∙ sym (field-passes 30 0 (hourCauses none s t) refl))
 
 module _ (s t buffer : List ℕ) (enough : 176 ≤ length buffer) (e : outcome s t 176 ≡ verdict 0 0) where
   zero : (outcome s t (length buffer)) .number ≡ 0

@@ -11,43 +11,43 @@ use mir.Syntax.{w64}
 use Rattle.base_integers.specs.Steps.Size.{near-fits}
 use Rattle.base_integers.specs.Steps.Machine.{sfits-by}
 use Rattle.base_causes.specs.declared.Outcome.{Outcome}
-use Rattle.base_causes.specs.Meaning.Rows.{refusal, answer}
-use Rattle.base_causes.specs.Promised.RowLaws.{field-passes}
+use Rattle.base_causes.specs.Meaning.Causes.{refusal, answer}
+use Rattle.base_causes.specs.Promised.CauseLaws.{field-passes}
 use Rattle.rules.specs.Meaning.Layout.{reportRoom}
 use Rattle.rules.specs.Meaning.Hour.{caseOf, planOf, pricesOf, net, zonePrice}
 use Rattle.rules.specs.Meaning.Report.{reports}
-use Rattle.rules.specs.Meaning.Verdict.{roomRows, table, outcome}
+use Rattle.rules.specs.Meaning.Verdict.{roomCauses, table, outcome}
 use Rattle.rules.specs.Promised.Fits.{near-zone-price}
 use Rattle.base_measures.specs.declared.Tenths.{Tenths}
 use Rattle.base_measures.specs.declared.Grains.{Grains}
-use Rattle.judge_clearing.specs.Meaning.Held.{tenthsAt}
+use Rattle.judge_clearing.specs.Meaning.TenthsHold.{tenthsAt}
 use Rattle.judge_network.specs.Meaning.Prices.{grainsAt}
 use Rattle.flow_pairs.specs.Meaning.Pairs.{networkOf}
 use Rattle.flow_intuitive.specs.declared.Carried.{Carried}
 use Rattle.flow_intuitive.specs.Meaning.Answers.{ListsPass}
 use Rattle.flow_intuitive.specs.Meaning.Intuitive.{scratchBy, intuitiveRefusal, intuitiveOutcome, intuitiveScratch, EntryAnswer}
 use Rattle.judge_stages.specs.declared.Found.{Found}
-use Rattle.judge_stages.specs.Meaning.Found.{Finds, hourRows}
-use Rattle.flow_hour.specs.Meaning.Hour.{listTo, hourExports, hourPrices, hourNetwork, askedRows, hourOutcome, hourScratch, HourAnswer}
+use Rattle.judge_stages.specs.Meaning.Found.{Finds, hourCauses}
+use Rattle.flow_hour.specs.Meaning.Hour.{listTo, hourExports, hourPrices, hourNetwork, askedCauses, hourOutcome, hourScratch, HourAnswer}
 use Rattle.flow_hour.specs.Promised.Asked.{refused-first, asked-then, none-refused, position-near, price-in, lists-pass}
 use Rattle.flow_hour.specs.Steps.Lent.{FitsTo, Lists, part-is, same-list, refusedAs}
 
 module _ (s t pairs : List ℕ) (n : ℕ) (scratch : List ℤ) where
   -- with room enough 30 passes
-  past-room : refusal (table none s t reportRoom (caseOf s) (planOf s t) (pricesOf s t)) ≡ refusal (hourRows none s t)
-  unfolding table roomRows
-  past-room = field-passes 30 0 (hourRows none s t) refl
+  past-room : refusal (table none s t reportRoom (caseOf s) (planOf s t) (pricesOf s t)) ≡ refusal (hourCauses none s t)
+  unfolding table roomCauses
+  past-room = field-passes 30 0 (hourCauses none s t) refl
 
-  module _ (f : Found) (h : Finds (hourRows none s t) s t f) where
+  module _ (f : Found) (h : Finds (hourCauses none s t) s t f) where
     -- NOT ACCEPTED
     pub hour-refused : 0 < f .verdict .number → {r : Carried} → r ≡ refusedAs (f .verdict) → HourAnswer s t pairs n scratch r scratch
     unfolding hourOutcome hourScratch
-    hour-refused l e = subst (λ (r : Carried). HourAnswer s t pairs n scratch r scratch) (sym e) (by (refusal (hourRows none s t)) refl)
+    hour-refused l e = subst (λ (r : Carried). HourAnswer s t pairs n scratch r scratch) (sym e) (by (refusal (hourCauses none s t)) refl)
       where
         apart : {X : Type 0} → f .verdict .number ≡ 0 → X
         apart q = absurd (omega (arith, l))
 
-        by : (o : Option Outcome) → refusal (hourRows none s t) ≡ o → HourAnswer s t pairs n scratch (refusedAs (f .verdict)) scratch
+        by : (o : Option Outcome) → refusal (hourCauses none s t) ≡ o → HourAnswer s t pairs n scratch (refusedAs (f .verdict)) scratch
         by (some x) q =
             let asked = refused-first s t pairs n (length scratch) x (past-room ∙ q) in
             record {

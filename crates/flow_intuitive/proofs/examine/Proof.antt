@@ -9,9 +9,9 @@ use lib.IntN.{pos}
 use denote.Ref.{now}
 use Rattle.base_integers.specs.Meaning.Ranges.{outside}
 use Rattle.base_integers.specs.Steps.Ranges.{nat-within, is-false, not-is}
-use Rattle.base_causes.specs.Meaning.Rows.{firstBelow}
+use Rattle.base_causes.specs.Meaning.Causes.{firstBelow}
 use Rattle.base_causes.specs.Meaning.Place.{placeOf}
-use Rattle.base_causes.specs.Promised.RowLaws.{place-below, not-below}
+use Rattle.base_causes.specs.Promised.CauseLaws.{place-below, not-below}
 use Rattle.rules.specs.Meaning.Layout.{zoneCounts}
 use Rattle.book_surplus.specs.Meaning.BookState.{firstPriceOutside}
 use Rattle.flow_positions.specs.Meaning.Positions.{positionOutside}

@@ -6,12 +6,12 @@ use native.Mathlib.Omega.{arith}
 use borrow.Author.Needs.{needs}
 use borrow.Author.Tests.{lt-ltb, le-ltb}
 use denote.Ref.{now}
-use Rattle.base_causes.specs.Meaning.Rows.{firstBelow, refusal, answer, once, each}
+use Rattle.base_causes.specs.Meaning.Causes.{firstBelow, refusal, answer, once, each}
 use Rattle.base_causes.specs.Meaning.Place.{placeOf}
-use Rattle.base_causes.specs.Promised.RowLaws.{row-found, row-clear, field-fails, field-passes}
-use Rattle.rules.specs.Meaning.Verdict.{under}
+use Rattle.base_causes.specs.Promised.CauseLaws.{row-found, row-clear, field-fails, field-passes}
+use Rattle.rules.specs.Meaning.Verdict.{_under_}
 use Rattle.flow_pairs.specs.Meaning.Pairs.{pairCount, badPair}
-use Rattle.flow_intuitive.specs.Steps.Answers.{restRows, pair-named}
+use Rattle.flow_intuitive.specs.Steps.Answers.{restCauses, pair-named}
 use Rattle.flow_intuitive.proofs.examine_rest.Statement.{statement}
 use Rattle.flow_intuitive.proofs.examine_rest.Tie as tie
 
@@ -35,16 +35,16 @@ returns : tie.Need-returns
 returns c =
     let p = c .before .before in
     let a = start (p .before .before) .args in
-    c .outcome .ensures ∙ sym (ap answer (row-found (each 84 (pairCount (now (a .pairs))) (badPair (a .zones) (now (a .pairs)))) (once 85 (under (a .n) (a .room)) ∷ []) _ (pair-at p)))
+    c .outcome .ensures ∙ sym (ap answer (row-found (each 84 (pairCount (now (a .pairs))) (badPair (a .zones) (now (a .pairs)))) (once 85 (a .room under a .n) ∷ []) _ (pair-at p)))
 
 enum-told : tie.Need-enum-told
 enum-told c = search needs
 
-past-pairs : (t : tie.After-enum-told) → let a = start (t .before .before) .args in refusal (restRows (a .zones) (now (a .pairs)) (a .n) (a .room)) ≡ refusal (once 85 (under (a .n) (a .room)) ∷ [])
+past-pairs : (t : tie.After-enum-told) → let a = start (t .before .before) .args in refusal (restCauses (a .zones) (now (a .pairs)) (a .n) (a .room)) ≡ refusal (once 85 (a .room under a .n) ∷ [])
 past-pairs t =
     let f = t .before .before in
     let a = start f .args in
-    row-clear (each 84 (pairCount (now (a .pairs))) (badPair (a .zones) (now (a .pairs)))) (once 85 (under (a .n) (a .room)) ∷ []) (sym (f .first-bad-pair .ensures) ∙ ap placeOf (t .enum-told .given .1))
+    row-clear (each 84 (pairCount (now (a .pairs))) (badPair (a .zones) (now (a .pairs)))) (once 85 (a .room under a .n) ∷ []) (sym (f .first-bad-pair .ensures) ∙ ap placeOf (t .enum-told .given .1))
 
 -- 85
 outcome-requires-2 : tie.Need-outcome-requires-2

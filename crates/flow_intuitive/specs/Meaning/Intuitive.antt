@@ -10,9 +10,9 @@ use lib.IntN.{ℤ, pos}
 use Rattle.base_integers.specs.Meaning.Ranges.{outside}
 use Rattle.base_measures.specs.Meaning.Limits as limits
 use Rattle.base_causes.specs.declared.Outcome.{Outcome}
-use Rattle.base_causes.specs.Meaning.Rows.{Row, verdict, refusal, answer, once, each}
+use Rattle.base_causes.specs.Meaning.Causes.{Cause, verdict, refusal, answer, once, each}
 use Rattle.rules.specs.Meaning.Layout.{zoneCounts}
-use Rattle.rules.specs.Meaning.Verdict.{under, differ}
+use Rattle.rules.specs.Meaning.Verdict.{_under_, differ}
 use Rattle.flow_positions.specs.Meaning.Positions.{positionOutside, unbalanced}
 use Rattle.flow_pairs.specs.Meaning.Pairs.{pairCount, badPair, priceAt, networkOf}
 use Rattle.flow_network.specs.Meaning.Network.{Network, Largest, FeasibleAll, DeficientSet}
@@ -30,18 +30,18 @@ abbrev pub priceOutside : List ℤ → ℕ → Bool
 priceOutside prices z = outside limits.zonePrice (priceAt prices z)
 
 -- THE TABLE, for a scratch of `room` numbers of which n are asked for, 324 or 96: each row is asked over its whole list before the next
-unfoldable pub intuitiveRows : List ℤ → List ℤ → List ℕ → ℕ → ℕ → List Row
-intuitiveRows netExports prices pairs n room =
+unfoldable pub intuitiveCauses : List ℤ → List ℤ → List ℕ → ℕ → ℕ → List Cause
+intuitiveCauses netExports prices pairs n room =
     once 81 (unfit netExports prices)
     ∷ each 82 (length netExports) (positionOutside netExports)
     ∷ once 82 (unbalanced netExports)
     ∷ each 83 (length prices) (priceOutside prices)
     ∷ each 84 (pairCount pairs) (badPair (length netExports) pairs)
-    ∷ once 85 (under n room)
+    ∷ once 85 (room under n)
     ∷ []
 
 unfoldable pub intuitiveRefusal : List ℤ → List ℤ → List ℕ → ℕ → ℕ → Option Outcome
-intuitiveRefusal netExports prices pairs n room = refusal (intuitiveRows netExports prices pairs n room)
+intuitiveRefusal netExports prices pairs n room = refusal (intuitiveCauses netExports prices pairs n room)
 
 unfoldable pub intuitiveOutcome : List ℤ → List ℤ → List ℕ → ℕ → ℕ → Outcome
 intuitiveOutcome netExports prices pairs n room = answer (intuitiveRefusal netExports prices pairs n room)

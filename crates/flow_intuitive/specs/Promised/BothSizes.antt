@@ -10,15 +10,15 @@ use borrow.Author.Tests.{le-ltb}
 use lib.ListN.{length}
 use lib.IntN.{ℤ}
 use Rattle.base_causes.specs.declared.Outcome.{Outcome}
-use Rattle.base_causes.specs.Meaning.Rows.{Row, refusal, answer, once, each}
-use Rattle.base_causes.specs.Promised.RowLaws.{else-refusal, refusal-append, field-fails, field-passes}
-use Rattle.rules.specs.Meaning.Verdict.{under}
+use Rattle.base_causes.specs.Meaning.Causes.{Cause, refusal, answer, once, each}
+use Rattle.base_causes.specs.Promised.CauseLaws.{else-refusal, refusal-append, field-fails, field-passes}
+use Rattle.rules.specs.Meaning.Verdict.{_under_}
 use Rattle.flow_positions.specs.Meaning.Positions.{positionOutside, unbalanced}
 use Rattle.flow_pairs.specs.Meaning.Pairs.{pairCount, badPair, networkOf}
 use Rattle.flow_network.specs.Meaning.Network.{Network, Placed}
 use Rattle.flow_scratch.specs.Meaning.Places.{amountAt, flowOf}
 use Rattle.flow_intuitive.specs.declared.Carried.{Carried}
-use Rattle.flow_intuitive.specs.Meaning.Intuitive.{scratchRoom, unfit, priceOutside, intuitiveRows, intuitiveRefusal, intuitiveOutcome, EntryAnswer, IntuitiveAnswer}
+use Rattle.flow_intuitive.specs.Meaning.Intuitive.{scratchRoom, unfit, priceOutside, intuitiveCauses, intuitiveRefusal, intuitiveOutcome, EntryAnswer, IntuitiveAnswer}
 use Rattle.flow_intuitive.specs.Meaning.SmallScratch.{flowPlace, exportPlace, importPlace, smallRoom}
 use Rattle.flow_intuitive.specs.Promised.Causes.{intuitive-none}
 use Rattle.flow_intuitive.specs.Promised.OneAnswer.{one-answer}
@@ -41,7 +41,7 @@ module _ (netExports prices : List ℤ) (pairs : List ℕ) where
       entries-agree (networkOf netExports prices pairs) (placed netExports prices pairs scratchRoom (length s) taken) _ _ _ _ r q s' t' a b e f
 
   -- WHAT IS TAKEN. With room enough the table is the same, however much is asked for
-  abbrev before-85 : List Row
+  abbrev before-85 : List Cause
   before-85 =
       once 81 (unfit netExports prices)
       ∷ each 82 (length netExports) (positionOutside netExports)
@@ -50,17 +50,17 @@ module _ (netExports prices : List ℤ) (pairs : List ℕ) where
       ∷ each 84 (pairCount pairs) (badPair (length netExports) pairs)
       ∷ []
 
-  abbrev last : ℕ → ℕ → List Row
-  last n room = once 85 (under n room) ∷ []
+  abbrev last : ℕ → ℕ → List Cause
+  last n room = once 85 (room under n) ∷ []
 
-  pub same-rows : (m n room other : ℕ) → m ≤ room → n ≤ other → intuitiveRows netExports prices pairs m room ≡ intuitiveRows netExports prices pairs n other
-  unfolding intuitiveRows
+  pub same-rows : (m n room other : ℕ) → m ≤ room → n ≤ other → intuitiveCauses netExports prices pairs m room ≡ intuitiveCauses netExports prices pairs n other
+  unfolding intuitiveCauses
   same-rows m n room other h k = ap (λ (b : Bool). before-85 ++ (once 85 b ∷ [])) (le-ltb room m h ∙ sym (le-ltb other n k))
 
   -- so that a scratch which the wide entry takes is answered alike by the smaller, refused or not
   pub wide-is-small : (room : ℕ) → scratchRoom ≤ room → intuitiveOutcome netExports prices pairs smallRoom room ≡ intuitiveOutcome netExports prices pairs scratchRoom room
   unfolding intuitiveOutcome intuitiveRefusal
-  wide-is-small room h = ap (λ (rows : List Row). answer (refusal rows)) (same-rows smallRoom scratchRoom room room (omega arith) h)
+  wide-is-small room h = ap (λ (rows : List Cause). answer (refusal rows)) (same-rows smallRoom scratchRoom room room (omega arith) h)
 
   pub small-takes : (room : ℕ) → (intuitiveOutcome netExports prices pairs scratchRoom room) .number ≡ 0 → (intuitiveOutcome netExports prices pairs smallRoom room) .number ≡ 0
   small-takes room e = ap (λ (o : Outcome). o .number) (wide-is-small room (room-in netExports prices pairs scratchRoom room (intuitive-none netExports prices pairs scratchRoom room e))) ∙ e
@@ -68,16 +68,16 @@ module _ (netExports prices : List ℤ) (pairs : List ℕ) where
   -- the last row has 85 alone
   last-else : (n room : ℕ) → 0 < (answer (refusal (last n room))) .number → (answer (refusal (last n room))) .number < 85 → ⊥
   unfolding refusal
-  last-else n room h l = by (under n room) refl
+  last-else n room h l = by (room under n) refl
     where
-      by : (b : Bool) → under n room ≡ b → ⊥
+      by : (b : Bool) → room under n ≡ b → ⊥
       by true u = omega (arith, h, l, ap (λ (o : Option Outcome). (answer o) .number) (field-fails 85 0 [] u))
       by false u = omega (arith, h, l, ap (λ (o : Option Outcome). (answer o) .number) (field-passes 85 0 [] u))
 
   -- 81 TO 84 AS BEFORE, with any scratch, index and all
   pub refused-alike : (m n room other : ℕ) → 0 < (intuitiveOutcome netExports prices pairs m room) .number → (intuitiveOutcome netExports prices pairs m room) .number < 85
       → intuitiveOutcome netExports prices pairs n other ≡ intuitiveOutcome netExports prices pairs m room
-  unfolding intuitiveOutcome intuitiveRefusal intuitiveRows
+  unfolding intuitiveOutcome intuitiveRefusal intuitiveCauses
   refused-alike m n room other h l = by (refusal before-85) refl
     where
       split : (n room : ℕ) (o : Option Outcome) → refusal before-85 ≡ o → refusal (before-85 ++ last n room) ≡ else-refusal o (refusal (last n room))

@@ -10,26 +10,26 @@ use lib.Dec.{T}
 use lib.IntN.{ℤ, pos}
 use Rattle.base_causes.specs.declared.Outcome.{Outcome}
 use Rattle.base_causes.specs.Promised.Asked.{unnamed, the-place, ask, Asks}
-use Rattle.base_causes.specs.Meaning.Rows.{Row, verdict, answer}
-use Rattle.base_causes.specs.Promised.RowLaws.{empty, Cause, answer-caused, Answered, answered, Soonest, soonest, lacks, zero-none, numbersBelow, number-below}
-use Rattle.flow_intuitive.specs.Meaning.Intuitive.{intuitiveRows, intuitiveRefusal, intuitiveOutcome, scratchBy, intuitiveScratch}
+use Rattle.base_causes.specs.Meaning.Causes.{Cause, verdict, answer}
+use Rattle.base_causes.specs.Promised.CauseLaws.{empty, CausedBy, answer-caused, Answered, answered, Soonest, soonest, lacks, zero-none, numbersBelow, number-below}
+use Rattle.flow_intuitive.specs.Meaning.Intuitive.{intuitiveCauses, intuitiveRefusal, intuitiveOutcome, scratchBy, intuitiveScratch}
 
 module _ (netExports prices : List ℤ) (pairs : List ℕ) (n room : ℕ) where
-  abbrev rows : List Row
-  rows = intuitiveRows netExports prices pairs n room
+  abbrev rows : List Cause
+  rows = intuitiveCauses netExports prices pairs n room
 
   -- 81 to 85, in this order; 82 (but for the sum) and 83 name the zone, 84 the pair
   pub intuitive-order : Asks rows (ask 81 unnamed ∷ ask 82 the-place ∷ ask 82 unnamed ∷ ask 83 the-place ∷ ask 84 the-place ∷ ask 85 unnamed ∷ [])
-  unfolding intuitiveRows
+  unfolding intuitiveCauses
   intuitive-order = (refl, (λ k. refl, (refl, (λ k. refl, (refl, (λ k. refl, (refl, (λ k. refl, (refl, (λ k. refl, (refl, (λ k. refl, tt))))))))))))
 
   -- 0 if and only if every row passes at every place, else the first row that fails, at its first place
   pub intuitive-answers : Answered rows (intuitiveOutcome netExports prices pairs n room)
-  unfolding intuitiveOutcome intuitiveRefusal intuitiveRows lacks
+  unfolding intuitiveOutcome intuitiveRefusal intuitiveCauses lacks
   intuitive-answers = answered rows tt
 
   -- a refusal has a row of its number that fails at its place, and nothing asked before fails
-  pub intuitive-caused : 0 < (intuitiveOutcome netExports prices pairs n room) .number → Cause rows (intuitiveOutcome netExports prices pairs n room)
+  pub intuitive-caused : 0 < (intuitiveOutcome netExports prices pairs n room) .number → CausedBy rows (intuitiveOutcome netExports prices pairs n room)
   unfolding intuitiveOutcome intuitiveRefusal
   intuitive-caused h = answer-caused rows h
 
@@ -40,7 +40,7 @@ module _ (netExports prices : List ℤ) (pairs : List ℕ) (n room : ℕ) where
 
   -- the answer 0 has index 0 and is given where no row fails; no number is above 85
   pub intuitive-none : (intuitiveOutcome netExports prices pairs n room) .number ≡ 0 → intuitiveRefusal netExports prices pairs n room ≡ none
-  unfolding intuitiveOutcome intuitiveRefusal intuitiveRows lacks
+  unfolding intuitiveOutcome intuitiveRefusal intuitiveCauses lacks
   intuitive-none e = zero-none rows tt e
 
   pub intuitive-answered : (intuitiveOutcome netExports prices pairs n room) .number ≡ 0 → intuitiveOutcome netExports prices pairs n room ≡ verdict 0 0
@@ -48,7 +48,7 @@ module _ (netExports prices : List ℤ) (pairs : List ℕ) (n room : ℕ) where
   intuitive-answered e = ap answer (intuitive-none e)
 
   pub intuitive-below : (intuitiveOutcome netExports prices pairs n room) .number < 86
-  unfolding intuitiveOutcome intuitiveRefusal intuitiveRows numbersBelow
+  unfolding intuitiveOutcome intuitiveRefusal intuitiveCauses numbersBelow
   intuitive-below = number-below 86 rows (omega arith) tt
 
 module _ (netExports prices : List ℤ) (pairs : List ℕ) (n : ℕ) (s : List ℤ) where

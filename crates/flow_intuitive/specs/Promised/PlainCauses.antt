@@ -18,19 +18,19 @@ use Rattle.base_integers.specs.Meaning.Ranges.{outside}
 use Rattle.base_integers.specs.Steps.Ranges.{is-true, nor-left, nor-right, nor-both, nat-within, nat-inside}
 use Rattle.base_measures.specs.Promised.Numbers.{zone-price-is}
 use Rattle.base_causes.specs.declared.Outcome.{Outcome}
-use Rattle.base_causes.specs.Meaning.Rows.{Row, Pass, verdict, failing, refusal, answer, once, each}
-use Rattle.base_causes.specs.Promised.RowLaws.{empty, First, Comes, past, none-left, later, lacks, before, rowNumbered, row-named, row-by-number, row-answers, row-clear, row-fails, row-passes, all-pass, first-is, not-below, none-both, none-each}
+use Rattle.base_causes.specs.Meaning.Causes.{Cause, Pass, verdict, failing, refusal, answer, once, each}
+use Rattle.base_causes.specs.Promised.CauseLaws.{empty, First, Comes, past, none-left, later, lacks, before, causeNumbered, row-named, row-by-number, row-answers, row-clear, row-fails, row-passes, all-pass, first-is, not-below, none-both, none-each}
 use Rattle.rules.specs.Meaning.Layout.{zoneCounts}
-use Rattle.rules.specs.Meaning.Verdict.{under}
+use Rattle.rules.specs.Meaning.Verdict.{_under_}
 use Rattle.flow_positions.specs.Meaning.Positions.{positionOutside, unbalanced}
 use Rattle.flow_positions.specs.Promised.PlainPositions.{AllInside, FirstOutside, first-outside, all-inside, positions-inside, first-position, SumZero, sum-zero, sum-not-zero}
 use Rattle.flow_pairs.specs.Meaning.Pairs.{pairCount, badPair}
 use Rattle.flow_pairs.specs.Promised.PlainPairs.{AllGood, FirstBadPair, all-good, first-bad}
-use Rattle.flow_intuitive.specs.Meaning.Intuitive.{scratchRoom, unfit, priceOutside, intuitiveRows, intuitiveRefusal, intuitiveOutcome, intuitiveScratch}
+use Rattle.flow_intuitive.specs.Meaning.Intuitive.{scratchRoom, unfit, priceOutside, intuitiveCauses, intuitiveRefusal, intuitiveOutcome, intuitiveScratch}
 use Rattle.flow_intuitive.specs.Meaning.SmallScratch.{smallRoom}
 use Rattle.flow_intuitive.specs.Promised.Causes.{intuitive-caused, intuitive-none, intuitive-answered, scratch-refused, scratch-answered}
 
--- WHAT EACH ROW ASKS. Row 81: 1 to 16 zones, and a price for each
+-- WHAT EACH ROW ASKS. Cause 81: 1 to 16 zones, and a price for each
 pub record ListsFit (netExports prices : List ℤ) : Type 0 where
   pub zones-in : (1 ≤ length netExports) × (length netExports ≤ 16)
   pub one-length : length prices ≡ length netExports
@@ -39,15 +39,15 @@ pub record ListsFit (netExports prices : List ℤ) : Type 0 where
 abbrev pub PositionsIn : List ℤ → Type 0
 PositionsIn netExports = AllInside (negℤ (pos 51200000)) (pos 51200000) netExports
 
-abbrev pub PricesIn : List ℤ → Type 0
-PricesIn prices = AllInside (negℤ (pos 5000000000)) (pos 40000000000) prices
+abbrev pub PricesInRange : List ℤ → Type 0
+PricesInRange prices = AllInside (negℤ (pos 5000000000)) (pos 40000000000) prices
 
 -- the rows before each, passed
 abbrev pub Past82 : List ℤ → List ℤ → Type 0
 Past82 netExports prices = ListsFit netExports prices × (PositionsIn netExports × SumZero netExports)
 
 abbrev pub Past83 : List ℤ → List ℤ → Type 0
-Past83 netExports prices = Past82 netExports prices × PricesIn prices
+Past83 netExports prices = Past82 netExports prices × PricesInRange prices
 
 abbrev pub Past84 : List ℤ → List ℤ → List ℕ → Type 0
 Past84 netExports prices pairs = Past83 netExports prices × AllGood (length netExports) pairs
@@ -77,22 +77,22 @@ module _ (netExports prices : List ℤ) where
       same true e t = eqb→eq (length prices) (length netExports) (is-true e)
       same false e t = absurd t
 
-  pub prices-inside : Pass (each 83 (length prices) (priceOutside prices)) ↔ PricesIn prices
+  pub prices-inside : Pass (each 83 (length prices) (priceOutside prices)) ↔ PricesInRange prices
   prices-inside = all-inside _ (negℤ (pos 5000000000)) (pos 40000000000) zone-price-is prices 83
 
   first-price : (z : ℕ) → First (length prices) (priceOutside prices) z ↔ FirstOutside (negℤ (pos 5000000000)) (pos 40000000000) prices z
   first-price = first-outside _ (negℤ (pos 5000000000)) (pos 40000000000) zone-price-is prices
 
 module _ (netExports prices : List ℤ) (pairs : List ℕ) (n room : ℕ) where
-  abbrev rows : List Row
-  rows = intuitiveRows netExports prices pairs n room
+  abbrev rows : List Cause
+  rows = intuitiveCauses netExports prices pairs n room
 
   abbrev said : Outcome
   said = intuitiveOutcome netExports prices pairs n room
 
   -- 81 IF AND ONLY IF there is no zone or there are more than 16, or the lists have two lengths
   pub says-81 : (k : ℕ) → (said ≡ verdict 81 k) ↔ ((k ≡ 0) × (ListsFit netExports prices → ⊥))
-  unfolding intuitiveOutcome intuitiveRefusal intuitiveRows lacks before rowNumbered refusal
+  unfolding intuitiveOutcome intuitiveRefusal intuitiveCauses lacks before causeNumbered refusal
   says-81 k = (
     λ e. let row = row-by-number 81 rows (omega arith) tt tt (ap (λ (o : Outcome). o .number) e) in
         (sym (ap (λ (o : Outcome). o .index) e) ∙ ap (λ (o : Outcome). o .index) (row .is), λ f. T-not (unfit netExports prices) (lists-fit netExports prices .1 f) (row .first-place .holds)),
@@ -104,29 +104,29 @@ module _ (netExports prices : List ℤ) (pairs : List ℕ) (n room : ℕ) where
   abbrev pub Named82 : ℕ → Type 0
   Named82 k = FirstOutside (negℤ (pos 51200000)) (pos 51200000) netExports k ⊎ ((k ≡ 0) × (PositionsIn netExports × (SumZero netExports → ⊥)))
 
-  abbrev fit-row : Row
+  abbrev fit-row : Cause
   fit-row = once 81 (unfit netExports prices)
 
-  abbrev position-row : Row
+  abbrev position-row : Cause
   position-row = each 82 (length netExports) (positionOutside netExports)
 
-  abbrev sum-row : Row
+  abbrev sum-row : Cause
   sum-row = once 82 (unbalanced netExports)
 
-  abbrev price-row : Row
+  abbrev price-row : Cause
   price-row = each 83 (length prices) (priceOutside prices)
 
-  abbrev pair-row : Row
+  abbrev pair-row : Cause
   pair-row = each 84 (pairCount pairs) (badPair (length netExports) pairs)
 
-  abbrev scratch-row : Row
-  scratch-row = once 85 (under n room)
+  abbrev scratch-row : Cause
+  scratch-row = once 85 (room under n)
 
-  abbrev behind-82 : List Row
+  abbrev behind-82 : List Cause
   behind-82 = price-row ∷ pair-row ∷ scratch-row ∷ []
 
   pub says-82 : (k : ℕ) → (said ≡ verdict 82 k) ↔ (ListsFit netExports prices × Named82 k)
-  unfolding intuitiveOutcome intuitiveRefusal intuitiveRows lacks refusal
+  unfolding intuitiveOutcome intuitiveRefusal intuitiveCauses lacks refusal
   says-82 k = (out, λ w. ap answer (row-passes fit-row (position-row ∷ sum-row ∷ behind-82) (record { pass = λ i h. lists-fit netExports prices .1 (w .0) })) ∙ back (w .1))
     where
       by : (o : Option ℕ) → failing position-row ≡ o → answer (refusal (position-row ∷ sum-row ∷ behind-82)) ≡ verdict 82 k → Named82 k
@@ -156,16 +156,16 @@ module _ (netExports prices : List ℤ) (pairs : List ℕ) (n room : ℕ) where
           ∙ ap answer (row-fails sum-row behind-82 0 (once-first (unbalanced netExports) (sum-not-zero netExports .1 (w .1 .1)))) ∙ ap (λ (i : ℕ). verdict 82 i) (sym (w .0))
 
   -- what the rows up to 82, to 83 and to 84 pass
-  abbrev to-82 : List Row
+  abbrev to-82 : List Cause
   to-82 = fit-row ∷ position-row ∷ sum-row ∷ []
 
-  abbrev to-83 : List Row
+  abbrev to-83 : List Cause
   to-83 = fit-row ∷ position-row ∷ sum-row ∷ price-row ∷ []
 
-  abbrev to-84 : List Row
+  abbrev to-84 : List Cause
   to-84 = fit-row ∷ position-row ∷ sum-row ∷ price-row ∷ pair-row ∷ []
 
-  one-more : (qs : List Row) (r : Row) → (refusal (qs ++ (r ∷ [])) ≡ none) ↔ ((refusal qs ≡ none) × Pass r)
+  one-more : (qs : List Cause) (r : Cause) → (refusal (qs ++ (r ∷ [])) ≡ none) ↔ ((refusal qs ≡ none) × Pass r)
   unfolding refusal
   one-more qs r = (λ e. let a = none-each qs (r ∷ []) e in (a .0, all-pass (r ∷ []) (a .1) 0), λ w. none-both qs (r ∷ []) (w .0) (row-passes r [] (w .1)))
 
@@ -195,7 +195,7 @@ module _ (netExports prices : List ℤ) (pairs : List ℕ) (n room : ℕ) where
 
   -- 83 IF AND ONLY IF 81 and 82 pass and zone k is the first whose price is out of range
   pub says-83 : (k : ℕ) → (said ≡ verdict 83 k) ↔ (Past82 netExports prices × FirstOutside (negℤ (pos 5000000000)) (pos 40000000000) prices k)
-  unfolding intuitiveOutcome intuitiveRefusal intuitiveRows lacks before rowNumbered
+  unfolding intuitiveOutcome intuitiveRefusal intuitiveCauses lacks before causeNumbered
   says-83 k = (
     λ e. let row = row-by-number 83 rows (omega arith) tt tt (ap (λ (o : Outcome). o .number) e) in
         let same : row .place ≡ k = ap (λ (o : Outcome). o .index) (sym (row .is) ∙ e) in
@@ -205,7 +205,7 @@ module _ (netExports prices : List ℤ) (pairs : List ℕ) (n room : ℕ) where
 
   -- 84 IF AND ONLY IF 81 to 83 pass and pair k is the first that is not good
   pub says-84 : (k : ℕ) → (said ≡ verdict 84 k) ↔ (Past83 netExports prices × FirstBadPair (length netExports) pairs k)
-  unfolding intuitiveOutcome intuitiveRefusal intuitiveRows lacks before rowNumbered
+  unfolding intuitiveOutcome intuitiveRefusal intuitiveCauses lacks before causeNumbered
   says-84 k = (
     λ e. let row = row-by-number 84 rows (omega arith) tt tt (ap (λ (o : Outcome). o .number) e) in
         let same : row .place ≡ k = ap (λ (o : Outcome). o .index) (sym (row .is) ∙ e) in
@@ -216,16 +216,16 @@ module _ (netExports prices : List ℤ) (pairs : List ℕ) (n room : ℕ) where
 
   -- 85 IF AND ONLY IF 81 to 84 pass and the scratch has less than n numbers
   pub says-85 : (k : ℕ) → (said ≡ verdict 85 k) ↔ ((k ≡ 0) × (Past84 netExports prices pairs × (room < n)))
-  unfolding intuitiveOutcome intuitiveRefusal intuitiveRows lacks before rowNumbered
+  unfolding intuitiveOutcome intuitiveRefusal intuitiveCauses lacks before causeNumbered
   says-85 k = (
     λ e. let row = row-by-number 85 rows (omega arith) tt tt (ap (λ (o : Outcome). o .number) e) in
         (sym (ap (λ (o : Outcome). o .index) e) ∙ ap (λ (o : Outcome). o .index) (row .is), (past-84 .0 (row .earlier), ltb→lt room n (row .first-place .holds))),
-    λ w. row-answers 85 rows tt (past-84 .1 (w .1 .0)) 0 (once-first (under n room) (lt→ltb room n (w .1 .1))) ∙ ap (λ (i : ℕ). verdict 85 i) (sym (w .0)),
+    λ w. row-answers 85 rows tt (past-84 .1 (w .1 .0)) 0 (once-first (room under n) (lt→ltb room n (w .1 .1))) ∙ ap (λ (i : ℕ). verdict 85 i) (sym (w .0)),
   )
 
   -- 0 IF AND ONLY IF all pass and the scratch has n numbers
   pub says-0 : (k : ℕ) → (said ≡ verdict 0 k) ↔ ((k ≡ 0) × (Past84 netExports prices pairs × (n ≤ room)))
-  unfolding intuitiveOutcome intuitiveRefusal intuitiveRows
+  unfolding intuitiveOutcome intuitiveRefusal intuitiveCauses
   says-0 k = (
     λ e. let number : said .number ≡ 0 = ap (λ (o : Outcome). o .number) e in
         let a = one-more to-84 scratch-row .0 (intuitive-none netExports prices pairs n room number) in
@@ -233,7 +233,7 @@ module _ (netExports prices : List ℤ) (pairs : List ℕ) (n room : ℕ) where
     λ w. ap answer (one-more to-84 scratch-row .1 (past-84 .1 (w .1 .0), record { pass = λ i h. enough (w .1 .1) })) ∙ ap (λ (i : ℕ). verdict 0 i) (sym (w .0)),
   )
     where
-      enough : n ≤ room → T (not (under n room))
+      enough : n ≤ room → T (not (room under n))
       enough h = not-T (ltb room n) (λ t. never (ltb→lt room n t))
         where
           never : room < n → ⊥
@@ -241,7 +241,7 @@ module _ (netExports prices : List ℤ) (pairs : List ℕ) (n room : ℕ) where
 
   -- NO OTHER NUMBER than these
   from-81 : (p : ℕ) → p < length rows → (81 ≤ (getD rows p empty) .number) × ((getD rows p empty) .number ≤ 85)
-  unfolding intuitiveRows
+  unfolding intuitiveCauses
   from-81 zero l = (omega arith, omega arith)
   from-81 (suc zero) l = (omega arith, omega arith)
   from-81 (suc (suc zero)) l = (omega arith, omega arith)

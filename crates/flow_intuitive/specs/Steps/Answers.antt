@@ -14,10 +14,10 @@ use lib.IntN.{ℤ, pos}
 use Rattle.base_integers.specs.Meaning.Ranges.{outside}
 use Rattle.base_integers.specs.Steps.Ranges.{is-true, is-false, nat-within}
 use Rattle.base_causes.specs.declared.Outcome.{Outcome}
-use Rattle.base_causes.specs.Meaning.Rows.{Row, verdict, firstBelow, refusal, answer, once, each}
-use Rattle.base_causes.specs.Promised.RowLaws.{row-found, row-clear, field-fails, field-passes, first-is}
+use Rattle.base_causes.specs.Meaning.Causes.{Cause, verdict, firstBelow, refusal, answer, once, each}
+use Rattle.base_causes.specs.Promised.CauseLaws.{row-found, row-clear, field-fails, field-passes, first-is}
 use Rattle.rules.specs.Meaning.Layout.{zoneCounts}
-use Rattle.rules.specs.Meaning.Verdict.{under}
+use Rattle.rules.specs.Meaning.Verdict.{_under_}
 use Rattle.flow_positions.specs.Meaning.Positions.{positionOutside, unbalanced}
 use Rattle.flow_pairs.specs.Meaning.Pairs.{pairCount, badPair, networkOf}
 use Rattle.flow_pairs.specs.Steps.Tests.{pair-past}
@@ -25,58 +25,58 @@ use Rattle.flow_network.specs.Meaning.Network.{Network, FeasibleAll, DeficientS
 use Rattle.flow_scratch.specs.Meaning.Cleared.{Cleared}
 use Rattle.flow_max.specs.Meaning.Filled.{Answer}
 use Rattle.flow_intuitive.specs.declared.Carried.{Carried}
-use Rattle.flow_intuitive.specs.Meaning.Intuitive.{priceOutside, intuitiveRows, intuitiveRefusal, intuitiveOutcome, LargestTotal, EntryAnswer, IntuitiveAnswer}
+use Rattle.flow_intuitive.specs.Meaning.Intuitive.{priceOutside, intuitiveCauses, intuitiveRefusal, intuitiveOutcome, LargestTotal, EntryAnswer, IntuitiveAnswer}
 use Rattle.flow_intuitive.specs.Promised.Causes.{intuitive-none, scratch-refused, scratch-answered}
 use Rattle.flow_intuitive.specs.Meaning.Answers.{ListsPass}
 
 -- 84 and 85, of so many zones
-abbrev pub restRows : ℕ → List ℕ → ℕ → ℕ → List Row
-restRows zones pairs n room = each 84 (pairCount pairs) (badPair zones pairs) ∷ once 85 (under n room) ∷ []
+abbrev pub restCauses : ℕ → List ℕ → ℕ → ℕ → List Cause
+restCauses zones pairs n room = each 84 (pairCount pairs) (badPair zones pairs) ∷ once 85 (room under n) ∷ []
 
 module _ (netExports prices : List ℤ) (pairs : List ℕ) (n room : ℕ) where
   abbrev pub From : ℕ → Type 0
-  From k = intuitiveRefusal netExports prices pairs n room ≡ refusal (drop k (intuitiveRows netExports prices pairs n room))
+  From k = intuitiveRefusal netExports prices pairs n room ≡ refusal (drop k (intuitiveCauses netExports prices pairs n room))
 
   abbrev pub Refused : ℕ → ℕ → Type 0
   Refused m k = intuitiveRefusal netExports prices pairs n room ≡ some (verdict m k)
 
   -- 81, by the count and then by the lengths
   pub refused-count : outside zoneCounts (pos (length netExports)) ≡ true → Refused 81 0
-  unfolding intuitiveRefusal intuitiveRows
+  unfolding intuitiveRefusal intuitiveCauses
   refused-count e = field-fails 81 0 _ (ap (λ (b : Bool). b || not (eqb (length prices) (length netExports))) e)
 
   pub refused-lengths : outside zoneCounts (pos (length netExports)) ≡ false → (length prices ≡ length netExports → ⊥) → Refused 81 0
-  unfolding intuitiveRefusal intuitiveRows
+  unfolding intuitiveRefusal intuitiveCauses
   refused-lengths e h = field-fails 81 0 _ ((λ i. e i || not (ne-eqb (length prices) (length netExports) h i)))
 
   pub past-81 : outside zoneCounts (pos (length netExports)) ≡ false → length prices ≡ length netExports → From 1
-  unfolding intuitiveRefusal intuitiveRows
+  unfolding intuitiveRefusal intuitiveCauses
   past-81 e h = field-passes 81 0 _ ((λ i. e i || not (eq-eqb (length prices) (length netExports) h i)))
 
   -- 82, at its first zone and then by the sum
   pub refused-82 : {k : ℕ} → From 1 → firstBelow (length netExports) (positionOutside netExports) ≡ some k → Refused 82 k
-  unfolding intuitiveRefusal intuitiveRows
+  unfolding intuitiveRefusal intuitiveCauses
   refused-82 {k} p e = p ∙ row-found (each 82 (length netExports) (positionOutside netExports)) _ k e
 
   pub past-82 : From 1 → firstBelow (length netExports) (positionOutside netExports) ≡ none → From 2
-  unfolding intuitiveRefusal intuitiveRows
+  unfolding intuitiveRefusal intuitiveCauses
   past-82 p e = p ∙ row-clear (each 82 (length netExports) (positionOutside netExports)) _ e
 
   pub refused-sum : From 2 → unbalanced netExports ≡ true → Refused 82 0
-  unfolding intuitiveRefusal intuitiveRows
+  unfolding intuitiveRefusal intuitiveCauses
   refused-sum p e = p ∙ field-fails 82 0 _ e
 
   pub past-sum : From 2 → unbalanced netExports ≡ false → From 3
-  unfolding intuitiveRefusal intuitiveRows
+  unfolding intuitiveRefusal intuitiveCauses
   past-sum p e = p ∙ field-passes 82 0 _ e
 
   -- 83, at its first zone
   pub refused-83 : {k : ℕ} → From 3 → firstBelow (length prices) (priceOutside prices) ≡ some k → Refused 83 k
-  unfolding intuitiveRefusal intuitiveRows
+  unfolding intuitiveRefusal intuitiveCauses
   refused-83 {k} p e = p ∙ row-found (each 83 (length prices) (priceOutside prices)) _ k e
 
   pub past-83 : From 3 → firstBelow (length prices) (priceOutside prices) ≡ none → From 4
-  unfolding intuitiveRefusal intuitiveRows
+  unfolding intuitiveRefusal intuitiveCauses
   past-83 p e = p ∙ row-clear (each 83 (length prices) (priceOutside prices)) _ e
 
   -- as the outcome
@@ -85,8 +85,8 @@ module _ (netExports prices : List ℤ) (pairs : List ℕ) (n room : ℕ) where
   outcome-by e = sym (ap answer e)
 
   -- the rest, behind 83
-  pub by-rest : From 4 → answer (refusal (restRows (length netExports) pairs n room)) ≡ intuitiveOutcome netExports prices pairs n room
-  unfolding intuitiveOutcome intuitiveRows
+  pub by-rest : From 4 → answer (refusal (restCauses (length netExports) pairs n room)) ≡ intuitiveOutcome netExports prices pairs n room
+  unfolding intuitiveOutcome intuitiveCauses
   by-rest p = sym (ap answer p)
 
   pub lists-past : ListsPass netExports prices → From 4

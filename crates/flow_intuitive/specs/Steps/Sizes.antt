@@ -16,14 +16,14 @@ use Rattle.base_integers.specs.Meaning.Ranges.{outside, isZero}
 use Rattle.base_integers.specs.Steps.Ranges.{within, nat-within, nor-left, nor-right, not-is, is-true, zero-is}
 use Rattle.base_integers.specs.Meaning.Sums.{sumTo}
 use Rattle.base_measures.specs.Meaning.Limits as limits
-use Rattle.base_causes.specs.Meaning.Rows.{Pass}
-use Rattle.base_causes.specs.Promised.RowLaws.{empty, all-pass}
+use Rattle.base_causes.specs.Meaning.Causes.{Pass}
+use Rattle.base_causes.specs.Promised.CauseLaws.{empty, all-pass}
 use Rattle.flow_positions.specs.Meaning.Positions.{positionAt, positionOutside, unbalanced}
 use Rattle.flow_pairs.specs.Meaning.Pairs.{pairCount, firstZone, secondZone, badPair, networkOf}
 use Rattle.flow_pairs.specs.Steps.Tests.{Good, good}
 use Rattle.flow_network.specs.Meaning.Network.{Placed}
 use Rattle.flow_augment.specs.Meaning.Path.{Sized}
-use Rattle.flow_intuitive.specs.Meaning.Intuitive.{intuitiveRows, intuitiveRefusal, unfit}
+use Rattle.flow_intuitive.specs.Meaning.Intuitive.{intuitiveCauses, intuitiveRefusal, unfit}
 
 -- a position within its limits, in both parts
 near : (x : ℤ) → T (not (outside limits.netPosition x)) → (up x ≤ 51200000) × (dn x ≤ 51200000)
@@ -38,12 +38,12 @@ near x t =
     parts (negsuc n) a b = (omega arith, omega arith)
 
 module _ (netExports prices : List ℤ) (pairs : List ℕ) (n room : ℕ) (passed : intuitiveRefusal netExports prices pairs n room ≡ none) where
-  row : (i : ℕ) → Pass (getD (intuitiveRows netExports prices pairs n room) i empty)
+  row : (i : ℕ) → Pass (getD (intuitiveCauses netExports prices pairs n room) i empty)
   unfolding intuitiveRefusal
-  row i = all-pass (intuitiveRows netExports prices pairs n room) passed i
+  row i = all-pass (intuitiveCauses netExports prices pairs n room) passed i
 
   fits : T (not (unfit netExports prices))
-  unfolding intuitiveRows
+  unfolding intuitiveCauses
   fits = (row 0) .pass 0 (omega arith)
 
   pub zones-in : (1 ≤ length netExports) × (length netExports ≤ 16)
@@ -53,19 +53,19 @@ module _ (netExports prices : List ℤ) (pairs : List ℕ) (n room : ℕ) (passe
   one-length = eqb-true (length prices) (length netExports) (not-false _ (not-is _ (nor-right (outside _ (pos (length netExports))) _ fits)))
 
   pub position-in : (z : ℕ) → z < length netExports → (up (positionAt netExports z) ≤ 51200000) × (dn (positionAt netExports z) ≤ 51200000)
-  unfolding intuitiveRows
+  unfolding intuitiveCauses
   position-in z h = near (positionAt netExports z) ((row 1) .pass z h)
 
   pub balanced : sumTo (length netExports) (positionAt netExports) ≡ pos 0
-  unfolding intuitiveRows
+  unfolding intuitiveCauses
   balanced = zero-is _ (is-true (not-false (isZero (sumTo (length netExports) (positionAt netExports))) (not-is (unbalanced netExports) ((row 2) .pass 0 (omega arith)))))
 
   pub pair-good : (k : ℕ) → k < pairCount pairs → Good (length netExports) pairs k
-  unfolding intuitiveRows
+  unfolding intuitiveCauses
   pair-good k h = good (length netExports) pairs k (not-is _ ((row 4) .pass k h))
 
   pub room-in : n ≤ room
-  unfolding intuitiveRows
+  unfolding intuitiveCauses
   room-in = nltb→le room n ((row 5) .pass 0 (omega arith))
 
   pub pairs-few : pairCount pairs ≤ 64

@@ -7,8 +7,8 @@ use Prim.Native.Nat.{ℕ, _-_, _≤_, _<_}
 use native.Mathlib.Omega.{arith}
 use denote.Ref.{now}
 use borrow.Author.Needs.{needs}
-use Rattle.base_causes.specs.Meaning.Rows.{firstBelow}
-use Rattle.base_causes.specs.Promised.RowLaws.{first-here, first-later, first-nowhere}
+use Rattle.base_causes.specs.Meaning.Causes.{firstBelow}
+use Rattle.base_causes.specs.Promised.CauseLaws.{first-here, first-later, first-nowhere}
 use Rattle.base_zone_set.specs.Steps.Pairs.{Seen, seen-none}
 use Rattle.flow_pairs.specs.Meaning.Pairs.{pairCount, firstZone, secondZone, badPair}
 use Rattle.flow_pairs.specs.Steps.Tests.{Good, good}

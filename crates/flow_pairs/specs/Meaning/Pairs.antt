@@ -8,7 +8,7 @@ use lib.IntN.{ℤ, pos, negℤ, _*ℤ_}
 use lib.Signed.{leZ}
 use Rattle.base_integers.specs.Meaning.Difference.{up, dn}
 use Rattle.base_integers.specs.Meaning.Sums.{sumTo}
-use Rattle.base_causes.specs.Meaning.Rows.{anyBelow}
+use Rattle.base_causes.specs.Meaning.Causes.{anyBelow}
 use Rattle.flow_positions.specs.Meaning.Positions.{positionAt}
 use Rattle.flow_network.specs.Meaning.Network.{Network}
 

@@ -15,8 +15,8 @@ use lib.IntN.{ℤ, pos, negℤ}
 use lib.Signed.{_≤ℤ_, leZ, leZ-yes}
 use Rattle.base_integers.specs.Meaning.Difference.{up, dn}
 use Rattle.base_integers.specs.Steps.Ranges.{is-true, is-false, nor-left, nor-right, nor-both, and-left, and-right}
-use Rattle.base_causes.specs.Meaning.Rows.{Pass, each}
-use Rattle.base_causes.specs.Promised.RowLaws.{First, no-place, any-none}
+use Rattle.base_causes.specs.Meaning.Causes.{Pass, each}
+use Rattle.base_causes.specs.Promised.CauseLaws.{First, no-place, any-none}
 use Rattle.flow_pairs.specs.Meaning.Pairs.{pairCount, firstZone, secondZone, repeated, badPair, networkOf}
 use Rattle.flow_pairs.specs.Steps.Tests.{read-below}
 

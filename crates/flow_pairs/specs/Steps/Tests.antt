@@ -8,7 +8,7 @@ use borrow.Author.Tests.{le-leb, lt-leb, eq-eqb, ne-eqb, leb-false}
 use lib.Dec.{T, eqb, leb, T-not}
 use lib.ListN.{length, getD}
 use Rattle.base_integers.specs.Steps.Ranges.{nor-left, nor-right, is-true, is-false, not-is}
-use Rattle.base_causes.specs.Promised.RowLaws.{no-place}
+use Rattle.base_causes.specs.Promised.CauseLaws.{no-place}
 use Rattle.base_zone_set.specs.Steps.Pairs.{holds, Seen, samePair}
 use Rattle.flow_pairs.specs.Meaning.Pairs.{pairCount, firstZone, secondZone, repeated, badPair}
 

@@ -14,8 +14,8 @@ use Rattle.base_integers.specs.Meaning.Ranges.{Range, outside, isZero}
 use Rattle.base_integers.specs.Steps.Ranges.{zero-is}
 use Rattle.base_integers.specs.Meaning.Sums.{sumTo}
 use Rattle.base_measures.specs.Promised.Numbers.{Allows, net-position-is}
-use Rattle.base_causes.specs.Meaning.Rows.{Pass, each}
-use Rattle.base_causes.specs.Promised.RowLaws.{First}
+use Rattle.base_causes.specs.Meaning.Causes.{Pass, each}
+use Rattle.base_causes.specs.Promised.CauseLaws.{First}
 use Rattle.flow_positions.specs.Meaning.Positions.{positionOutside, unbalanced}
 
 -- A LIST OF NUMBERS: the one at place z lies from a to b, both included

@@ -17,22 +17,22 @@ use Rattle.base_integers.specs.Steps.Machine.{sfits-by}
 use Rattle.base_measures.specs.Meaning.Limits.{partsInOne}
 use Rattle.rules.specs.Meaning.Layout.{flowIn}
 use Rattle.rules.specs.Meaning.Hour.{Case, Plan, caseOf, planOf, linkUse, linkRoom, inflow, outflow, ltaPart, fbPart}
-use Rattle.base_causes.specs.Meaning.Rows.{firstBelow}
-use Rattle.base_causes.specs.Promised.RowLaws.{first-here, first-later, first-nowhere, not-below}
-use Rattle.rules.specs.Meaning.Verdict.{over}
+use Rattle.base_causes.specs.Meaning.Causes.{firstBelow}
+use Rattle.base_causes.specs.Promised.CauseLaws.{first-here, first-later, first-nowhere, not-below}
+use Rattle.rules.specs.Meaning.Verdict.{_over_}
 use Rattle.rules.specs.Promised.Fits.{flow-in, partial-near}
 use Rattle.case_links.specs.declared.Link.{Link}
 use Rattle.judge_clearing.specs.Steps.Read.{sound, links-is, share-is, share-in}
-use Rattle.judge_clearing.specs.Meaning.Held.{tenthsAt, Holds}
+use Rattle.judge_clearing.specs.Meaning.TenthsHold.{tenthsAt, TenthsHold}
 use Rattle.judge_clearing.specs.Steps.Parts.{flows, partly, in-set, out-next, out-set}
-use Rattle.judge_clearing.specs.Steps.Stages.{word-small}
+use Rattle.judge_clearing.specs.Steps.InRange.{word-small}
 use Rattle.judge_clearing.proofs.link_sums.Statement.{statement}
 use Rattle.judge_clearing.proofs.link_sums.Tie as tie
 
 abbrev Inv-loop : tie.InvT-loop
 Inv-loop case proposal k share links parts₀ l₀ parts l =
     (l ≤ k .links)
-    × ((firstBelow l (λ j. over (linkRoom (caseOf case) (planOf case proposal) j) (linkUse (caseOf case) (planOf case proposal) j)) ≡ none) × Holds (partly (caseOf case) (planOf case proposal) l l) parts)
+    × ((firstBelow l (λ j. linkUse (caseOf case) (planOf case proposal) j over linkRoom (caseOf case) (planOf case proposal) j) ≡ none) × TenthsHold (partly (caseOf case) (planOf case proposal) l l) parts)
 
 abbrev μ-loop : tie.MeasureT-loop
 μ-loop case proposal k share links parts₀ l₀ parts l = k .links - l
@@ -120,7 +120,7 @@ exceeds-requires c κs = search needs
 
 -- the test of this link
 answered : (c : tie.After-exceeds Inv-loop μ-loop)
-    → c .exceeds .result ≡ over (linkRoom (hour (from-link (link c))) (plan (from-link (link c))) (loop (link c) .loop .l)) (linkUse (hour (from-link (link c))) (plan (from-link (link c))) (loop (link c) .loop .l))
+    → c .exceeds .result ≡ (linkUse (hour (from-link (link c))) (plan (from-link (link c))) (loop (link c) .loop .l)) over (linkRoom (hour (from-link (link c))) (plan (from-link (link c))) (loop (link c) .loop .l))
 unfolding linkRoom linkUse caseOf planOf
 answered c =
     c .exceeds .ensures
@@ -137,7 +137,7 @@ returns c =
     )
 
 -- where it passes, it and those before it have no flow above 100,000 tenths, so the parts are far below 2 ^ 63
-passed : (c : tie.Else1 Inv-loop μ-loop) → firstBelow (loop (link (c .before)) .loop .l + 1) (λ j. over (linkRoom (hour (from-link (link (c .before)))) (plan (from-link (link (c .before)))) j) (linkUse (hour (from-link (link (c .before)))) (plan (from-link (link (c .before)))) j)) ≡ none
+passed : (c : tie.Else1 Inv-loop μ-loop) → firstBelow (loop (link (c .before)) .loop .l + 1) (λ j. (linkUse (hour (from-link (link (c .before)))) (plan (from-link (link (c .before)))) j) over (linkRoom (hour (from-link (link (c .before)))) (plan (from-link (link (c .before)))) j)) ≡ none
 passed c = let l = loop (link (c .before)) in first-later _ (l .loop .l) (l .loop .inv .1 .0) (sym (answered (c .before)) ∙ c .if1 .left)
 
 flows-small : (c : tie.Else1 Inv-loop μ-loop) (j : ℕ) → j < loop (link (c .before)) .loop .l + 1 → plan (from-link (link (c .before))) .flow j ≤ 100000
@@ -172,7 +172,7 @@ abbrev else-of : tie.After-minus Inv-loop μ-loop → tie.Else1 Inv-loop μ-loop
 else-of c = c .before .before
 
 -- once the flow is taken off where it enters
-entered : (c : tie.After-minus Inv-loop μ-loop) → Holds (partly (hour (from-link (link (else-of c .before)))) (plan (from-link (link (else-of c .before)))) (loop (link (else-of c .before)) .loop .l + 1) (loop (link (else-of c .before)) .loop .l)) (set (loop (link (else-of c .before)) .loop .parts) (link (else-of c .before) .link-at .result .to) (c .minus .result))
+entered : (c : tie.After-minus Inv-loop μ-loop) → TenthsHold (partly (hour (from-link (link (else-of c .before)))) (plan (from-link (link (else-of c .before)))) (loop (link (else-of c .before)) .loop .l + 1) (loop (link (else-of c .before)) .loop .l)) (set (loop (link (else-of c .before)) .loop .parts) (link (else-of c .before) .link-at .result .to) (c .minus .result))
 unfolding planOf
 entered c =
     let x = else-of c .before in
@@ -241,7 +241,7 @@ returns-2 c =
     let a = entry l in
     let e : l .loop .l ≡ hour a .links = omega (arith, links-is (a .pre .0)) in (
       sym (first-nowhere _ (l .loop .l) (omega arith) (omega arith) (l .loop .inv .1 .0)),
-      λ n. subst (λ (n : ℕ). Holds (partly (hour a) (plan a) n n) (l .loop .parts)) e (l .loop .inv .1 .1),
+      λ n. subst (λ (n : ℕ). TenthsHold (partly (hour a) (plan a) n n) (l .loop .parts)) e (l .loop .inv .1 .1),
     )
 
 pub link-sums-spec : {M : Type 1} → statement M

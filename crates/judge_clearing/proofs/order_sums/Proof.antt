@@ -17,23 +17,23 @@ use Rattle.base_integers.specs.Meaning.Machine.{SumsFit}
 use Rattle.base_integers.specs.Steps.Machine.{step, step-fits, sfits-by}
 use Rattle.base_measures.specs.Meaning.Limits.{partsInOne, grainsOf}
 use Rattle.rules.specs.Meaning.Hour.{Case, Plan, caseOf, planOf, signed, buys, orderNet, net, orderWelfare, welfare}
-use Rattle.base_causes.specs.Meaning.Rows.{firstBelow}
-use Rattle.base_causes.specs.Promised.RowLaws.{first-here, first-later, first-nowhere, not-below}
-use Rattle.rules.specs.Meaning.Verdict.{over}
+use Rattle.base_causes.specs.Meaning.Causes.{firstBelow}
+use Rattle.base_causes.specs.Promised.CauseLaws.{first-here, first-later, first-nowhere, not-below}
+use Rattle.rules.specs.Meaning.Verdict.{_over_}
 use Rattle.rules.specs.Steps.Duality.{signed-times, times-grains}
 use Rattle.rules.specs.Promised.Fits.{near-order-price, orderNet-near, net-sums, welfare-sums}
 use Rattle.book_order.specs.declared.Order.{Order}
 use Rattle.judge_clearing.specs.Steps.Read.{sound, orders-is}
-use Rattle.judge_clearing.specs.Meaning.Held.{tenthsAt, Holds}
-use Rattle.judge_clearing.specs.Steps.Held.{zeros-hold, keyed, keyed-next, keyed-set}
+use Rattle.judge_clearing.specs.Meaning.TenthsHold.{tenthsAt, TenthsHold}
+use Rattle.judge_clearing.specs.Steps.TenthsHold.{zeros-hold, keyed, keyed-next, keyed-set}
 use Rattle.judge_clearing.proofs.order_sums.Statement.{statement}
 use Rattle.judge_clearing.proofs.order_sums.Tie as tie
 
 abbrev Inv-loop : tie.InvT-loop
 Inv-loop case proposal k orders nets₀ welfare₀ i₀ nets welfare i =
     (i ≤ k .orders)
-    × ((firstBelow i (λ j. over ((caseOf case) .quantity j) ((planOf case proposal) .volume j)) ≡ none)
-    × (Holds (keyed ((caseOf case) .zone) (orderNet (caseOf case) (planOf case proposal)) i) nets × (welfare .0 ≡ sumTo i (λ j. pos partsInOne *ℤ orderWelfare (caseOf case) (planOf case proposal) j))))
+    × ((firstBelow i (λ j. (planOf case proposal) .volume j over (caseOf case) .quantity j) ≡ none)
+    × (TenthsHold (keyed ((caseOf case) .zone) (orderNet (caseOf case) (planOf case proposal)) i) nets × (welfare .0 ≡ sumTo i (λ j. pos partsInOne *ℤ orderWelfare (caseOf case) (planOf case proposal) j))))
 
 abbrev μ-loop : tie.MeasureT-loop
 μ-loop case proposal k orders nets₀ welfare₀ i₀ nets welfare i = k .orders - i
@@ -66,7 +66,7 @@ exceeds-requires : tie.Need-exceeds-requires Inv-loop μ-loop
 exceeds-requires c κs = search needs
 
 -- the test of this volume
-answered : (c : tie.After-exceeds Inv-loop μ-loop) → c .exceeds .result ≡ over (hour (entry (c .before .before .before .before .before)) .quantity (c .before .before .before .before .before .loop .i)) (plan (entry (c .before .before .before .before .before)) .volume (c .before .before .before .before .before .loop .i))
+answered : (c : tie.After-exceeds Inv-loop μ-loop) → c .exceeds .result ≡ (plan (entry (c .before .before .before .before .before)) .volume (c .before .before .before .before .before .loop .i)) over (hour (entry (c .before .before .before .before .before)) .quantity (c .before .before .before .before .before .loop .i))
 unfolding caseOf planOf
 answered c = c .exceeds .ensures ∙ (λ j. ltZ ((c .before .before .before .order-at .ensures j) .quantity .0) (c .before .before .volume-at .ensures j))
 
@@ -79,7 +79,7 @@ returns c =
     )
 
 -- where it passes, it and those before it are within their quantities, and the sums with it fit
-passed : (c : tie.Else1 Inv-loop μ-loop) → firstBelow (c .before .before .before .before .before .before .loop .i + 1) (λ j. over (hour (entry (c .before .before .before .before .before .before)) .quantity j) (plan (entry (c .before .before .before .before .before .before)) .volume j)) ≡ none
+passed : (c : tie.Else1 Inv-loop μ-loop) → firstBelow (c .before .before .before .before .before .before .loop .i + 1) (λ j. (plan (entry (c .before .before .before .before .before .before)) .volume j) over (hour (entry (c .before .before .before .before .before .before)) .quantity j)) ≡ none
 passed c = first-later _ (c .before .before .before .before .before .before .loop .i) (c .before .before .before .before .before .before .loop .inv .1 .0) (sym (answered (c .before)) ∙ c .if1 .left)
 
 held : (c : tie.Else1 Inv-loop μ-loop) (j : ℕ) → j < c .before .before .before .before .before .before .loop .i + 1 → plan (entry (c .before .before .before .before .before .before)) .volume j ≤ hour (entry (c .before .before .before .before .before .before)) .quantity j
@@ -224,7 +224,7 @@ returns-2 c =
     let a = entry l in (
       sym (first-nowhere _ (l .loop .i) (omega (arith, ended c)) (omega (arith, ended c)) (l .loop .inv .1 .0)),
       (
-        λ n. subst (λ (n : ℕ). Holds (keyed (hour a .zone) (orderNet (hour a) (plan a)) n) (l .loop .nets)) (ended c) (l .loop .inv .1 .1 .0),
+        λ n. subst (λ (n : ℕ). TenthsHold (keyed (hour a .zone) (orderNet (hour a) (plan a)) n) (l .loop .nets)) (ended c) (l .loop .inv .1 .1 .0),
         λ n. welfare-is c,
       ),
     )

@@ -2,11 +2,11 @@
 use mathlib.Core.Path.{_≡_}
 use mathlib.Core.List.{List}
 use Prim.Native.Nat.{ℕ}
-use Rattle.proposal_file.specs.Meaning.Proposed.{Proposed}
+use Rattle.proposal_file.specs.Meaning.ProposalValid.{ProposalValid}
 use Rattle.proposal_file.specs.Meaning.Answer.{openingOf}
 use Rattle.judge_clearing.specs.declared.HourRead.{HourRead}
 
 -- `hour` is read from the case s and the proposal t
 pub record HourReadFrom (s t : List ℕ) (hour : HourRead) : Type 0 where
-  pub proposed : Proposed s (hour .counts) t
+  pub proposed : ProposalValid s (hour .counts) t
   pub opening-is : hour .opening ≡ openingOf t

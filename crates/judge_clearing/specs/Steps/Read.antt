@@ -8,13 +8,13 @@ use lib.IntN.{pos}
 use Rattle.rules.specs.Meaning.Hour.{caseOf, planOf, pricesOf}
 use Rattle.rules.specs.Steps.Passed.{CaseSound, case-sound, proposal-sound}
 use Rattle.case_header.specs.declared.Counts.{Counts}
-use Rattle.case_header.specs.Meaning.Opened.{Opened}
-use Rattle.proposal_file.specs.declared.Opening.{Opening}
+use Rattle.case_header.specs.Meaning.CaseReadable.{CaseReadable}
+use Rattle.proposal_file.specs.declared.ProposalOpening.{ProposalOpening}
 use Rattle.judge_clearing.specs.declared.HourRead.{HourRead}
 use Rattle.judge_clearing.specs.Meaning.Read.{HourReadFrom}
 
 module _ {s t : List ℕ} {hour : HourRead} (h : HourReadFrom s t hour) where
-  pub case-opened : Opened s (hour .counts)
+  pub case-opened : CaseReadable s (hour .counts)
   case-opened = h .proposed .opened
 
   pub sound : CaseSound (caseOf s)
@@ -44,14 +44,14 @@ module _ {s t : List ℕ} {hour : HourRead} (h : HourReadFrom s t hour) where
 
   pub share-is : hour .opening .share .0 ≡ pos ((planOf s t) .share)
   unfolding planOf
-  share-is = ap (λ (o : Opening). o .share .0) (h .opening-is)
+  share-is = ap (λ (o : ProposalOpening). o .share .0) (h .opening-is)
 
   pub share-in : (planOf s t) .share ≤ 100000
   share-in = (proposal-sound s t (h .proposed .passed)) .share-in
 
   pub system-is : hour .opening .system .0 ≡ (pricesOf s t) .system
   unfolding pricesOf
-  system-is = ap (λ (o : Opening). o .system .0) (h .opening-is)
+  system-is = ap (λ (o : ProposalOpening). o .system .0) (h .opening-is)
 
   pub shadow-in : (m : ℕ) → m < (caseOf s) .branches → (pricesOf s t) .shadow m ≤ 1000000
   shadow-in = (proposal-sound s t (h .proposed .passed)) .shadow-in

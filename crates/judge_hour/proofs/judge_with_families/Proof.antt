@@ -9,10 +9,10 @@ use denote.Ref.{now}
 use lib.ListN.{length}
 use Rattle.rules.specs.Meaning.Hour.{caseOf, planOf, pricesOf}
 use Rattle.rules.specs.Meaning.Report.{reports}
-use Rattle.rules.specs.Meaning.Verdict.{roomRows, table}
-use Rattle.base_causes.specs.Meaning.Rows.{Row, refusal}
-use Rattle.base_causes.specs.Promised.RowLaws.{field-fails, field-passes}
-use Rattle.judge_stages.specs.Meaning.Found.{listOf, hourRows}
+use Rattle.rules.specs.Meaning.Verdict.{roomCauses, table}
+use Rattle.base_causes.specs.Meaning.Causes.{Cause, refusal}
+use Rattle.base_causes.specs.Promised.CauseLaws.{field-fails, field-passes}
+use Rattle.judge_stages.specs.Meaning.Found.{listOf, hourCauses}
 use Rattle.judge_hour.specs.Steps.Judged.{refused, same-rows, judged}
 use Rattle.judge_hour.proofs.judge_with_families.Statement.{statement}
 use Rattle.judge_hour.proofs.judge_with_families.Tie as tie
@@ -30,19 +30,19 @@ list a = listOf (a .args .list) (now (a .args .families))
 abbrev buffer : tie.Start → List ℕ
 buffer a = now (a .args .report)
 
-abbrev all : tie.Start → List Row
+abbrev all : tie.Start → List Cause
 all a = table (list a) (file a) (plan a) (length (buffer a)) (caseOf (file a)) (planOf (file a) (plan a)) (pricesOf (file a) (plan a))
 
 -- 30
 returns : tie.Need-returns
-unfolding table roomRows reports
+unfolding table roomCauses reports
 returns c =
     let a = c .before .before .before .before .before in
-    refused (all a) (file a) (plan a) (buffer a) 30 0 refl (field-fails 30 0 (hourRows (list a) (file a) (plan a)) (lt-ltb (length (buffer a)) 176 (c .if1 .taken)))
+    refused (all a) (file a) (plan a) (buffer a) 30 0 refl (field-fails 30 0 (hourCauses (list a) (file a) (plan a)) (lt-ltb (length (buffer a)) 176 (c .if1 .taken)))
 
-past-room : (c : tie.Else1) → refusal (all (c .before .before .before .before .before)) ≡ refusal (hourRows (list (c .before .before .before .before .before)) (file (c .before .before .before .before .before)) (plan (c .before .before .before .before .before)))
-unfolding table roomRows
-past-room c = let a = c .before .before .before .before .before in field-passes 30 0 (hourRows (list a) (file a) (plan a)) (le-ltb (length (buffer a)) 176 (c .if1 .left))
+past-room : (c : tie.Else1) → refusal (all (c .before .before .before .before .before)) ≡ refusal (hourCauses (list (c .before .before .before .before .before)) (file (c .before .before .before .before .before)) (plan (c .before .before .before .before .before)))
+unfolding table roomCauses
+past-room c = let a = c .before .before .before .before .before in field-passes 30 0 (hourCauses (list a) (file a) (plan a)) (le-ltb (length (buffer a)) 176 (c .if1 .left))
 
 -- THE HOUR
 find-with-families-requires : tie.Need-find-with-families-requires
@@ -59,7 +59,7 @@ returns-2 c =
     let q = c .before .before in
     let f = q .before .before in
     let a = c .before .before .before .before .before .before .before .before .before .before in
-    same-rows (past-room (f .before)) (judged (hourRows (list a) (file a) (plan a)) (file a) (plan a) (buffer a) (f .find-with-families .result) (f .find-with-families .ensures) (q .conclude .ensures .0) (q .conclude .ensures .1))
+    same-rows (past-room (f .before)) (judged (hourCauses (list a) (file a) (plan a)) (file a) (plan a) (buffer a) (f .find-with-families .result) (f .find-with-families .ensures) (q .conclude .ensures .0) (q .conclude .ensures .1))
 
 pub judge-with-families-spec : {M : Type 1} → statement M
 judge-with-families-spec = tie.close (tie.spec returns find-with-families-requires conclude-requires same-length returns-2)

@@ -12,7 +12,7 @@ use Rattle.base_integers.specs.Meaning.Bytes.{signed64}
 use Rattle.rules.specs.Meaning.Layout.{zonePriceAt}
 use Rattle.rules.specs.Meaning.Hour.{Case, Plan, Prices, caseOf, planOf, pricesOf, zonePrice}
 use Rattle.base_causes.specs.declared.Outcome.{Outcome}
-use Rattle.base_causes.specs.Meaning.Rows.{Row, verdict, refusal, answer}
+use Rattle.base_causes.specs.Meaning.Causes.{Cause, verdict, refusal, answer}
 use Rattle.rules.specs.Meaning.Report.{Totals, headerBytes, totalBytes, priceBytes, reportText, totalsOf, reports, reportBytes, reportSize, written, bufferAfter, familyBufferAfter}
 use Rattle.rules.specs.Meaning.Verdict.{table, outcome, familyOutcome}
 use Rattle.report_file.specs.Meaning.Written.{totalsIn, priceIn}
@@ -21,12 +21,12 @@ use Rattle.judge_stages.specs.Meaning.Found.{Finds}
 use Rattle.judge_hour.specs.Meaning.HourJudged.{HourJudged, FamilyHourJudged}
 
 -- for the case s, the proposal t and the buffer b: the verdict r, and the buffer b′ afterwards
-pub record Judged (rows : List Row) (s t b : List ℕ) (r : Outcome) (b′ : List ℕ) : Type 0 where
+pub record Judged (rows : List Cause) (s t b : List ℕ) (r : Outcome) (b′ : List ℕ) : Type 0 where
   pub given : r ≡ answer (refusal rows)
   pub buffer : b′ ≡ written (answer (refusal rows)) (caseOf s) (planOf s t) (pricesOf s t) b
 
 -- a row that refuses by a number that writes no report
-pub refused : (rows : List Row) (s t b : List ℕ) (n k : ℕ) → reports n ≡ false → refusal rows ≡ some (verdict n k) → Judged rows s t b (verdict n k) b
+pub refused : (rows : List Cause) (s t b : List ℕ) (n k : ℕ) → reports n ≡ false → refusal rows ≡ some (verdict n k) → Judged rows s t b (verdict n k) b
 unfolding written
 refused rows s t b n k w e = record {
   given = ap (λ (o : Option Outcome). answer o) (sym e);
@@ -35,14 +35,14 @@ refused rows s t b n k w e = record {
 }
 
 -- rows that come to the same
-pub same-rows : {qs rs : List Row} {s t b : List ℕ} {r : Outcome} {b′ : List ℕ} → refusal qs ≡ refusal rs → Judged rs s t b r b′ → Judged qs s t b r b′
+pub same-rows : {qs rs : List Cause} {s t b : List ℕ} {r : Outcome} {b′ : List ℕ} → refusal qs ≡ refusal rs → Judged rs s t b r b′ → Judged qs s t b r b′
 same-rows {s = s} {t = t} {b = b} {r = r} {b′ = b′} e j = record {
   given = j .given ∙ ap (λ (o : Option Outcome). answer o) (sym e);
   buffer = j .buffer ∙ ap (λ (o : Option Outcome). written (answer o) (caseOf s) (planOf s t) (pricesOf s t) b) (sym e);
 }
 
 -- BY THE WHOLE TABLE, without a family list and with one (S-11)
-abbrev tableFor : Option (List ℕ) → List ℕ → List ℕ → List ℕ → List Row
+abbrev tableFor : Option (List ℕ) → List ℕ → List ℕ → List ℕ → List Cause
 tableFor fs s t b = table fs s t (length b) (caseOf s) (planOf s t) (pricesOf s t)
 
 pub hour-judged : {s t b : List ℕ} {r : Outcome} {b′ : List ℕ} → Judged (tableFor none s t b) s t b r b′ → HourJudged s t b r b′
@@ -93,7 +93,7 @@ number-small r h e = or-either (eqb (r .verdict .number) 0) (eqb (r .verdict .nu
     below : (n : ℕ) → r .verdict .number ≡ n → n < 256 → r .verdict .number < 256
     below n q l = omega arith
 
-pub judged : (rows : List Row) (s t b : List ℕ) (f : Found) {r : Outcome} {b′ : List ℕ} → Finds rows s t f → r ≡ f .verdict → b′ ≡ concluded f b → Judged rows s t b r b′
+pub judged : (rows : List Cause) (s t b : List ℕ) (f : Found) {r : Outcome} {b′ : List ℕ} → Finds rows s t f → r ≡ f .verdict → b′ ≡ concluded f b → Judged rows s t b r b′
 unfolding written
 judged rows s t b f h e q = record {
   given = e ∙ h .verdict-is;

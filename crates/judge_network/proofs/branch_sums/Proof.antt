@@ -25,14 +25,14 @@ use Rattle.base_measures.specs.Meaning.Limits.{partsInOne, grainsOf}
 use Rattle.base_measures.specs.declared.Grains.{Grains}
 use Rattle.rules.specs.Meaning.Layout.{shadowIn}
 use Rattle.rules.specs.Meaning.Hour.{Case, Plan, Prices, caseOf, planOf, pricesOf, fbPart, branchUse, branchRoom, branchPrice, branchValue, branchTotal, zonePrice}
-use Rattle.base_causes.specs.Meaning.Rows.{firstBelow}
-use Rattle.base_causes.specs.Promised.RowLaws.{first-here, first-later, first-nowhere}
-use Rattle.rules.specs.Meaning.Verdict.{overZ}
+use Rattle.base_causes.specs.Meaning.Causes.{firstBelow}
+use Rattle.base_causes.specs.Promised.CauseLaws.{first-here, first-later, first-nowhere}
+use Rattle.rules.specs.Meaning.Verdict.{_overZ_}
 use Rattle.rules.specs.Steps.Duality.{times-grains}
 use Rattle.rules.specs.Promised.Fits.{branchUse-sums, branchTotal-sums, system-near, price-near, price-term-near}
 use Rattle.case_branches.specs.Steps.Table.{table-entry, entry-within}
 use Rattle.judge_clearing.specs.Steps.Read.{case-opened, sound, zones-is, branches-is, few-zones, few-branches, share-is, share-in, system-is, shadow-in}
-use Rattle.judge_clearing.specs.Meaning.Held.{tenthsAt}
+use Rattle.judge_clearing.specs.Meaning.TenthsHold.{tenthsAt}
 use Rattle.judge_network.specs.Meaning.Prices.{noGrains, grainsAt}
 use Rattle.judge_network.specs.Steps.Prices.{added, AddedTo, add-step, Partly, branch-step}
 use Rattle.judge_network.proofs.branch_sums.Statement.{statement}
@@ -48,7 +48,7 @@ abbrev μ-loop2 : tie.MeasureT-loop2
 abbrev Inv-loop : tie.InvT-loop
 Inv-loop case proposal table parts k flow-based zones branches prices₀ total₀ m₀ prices total m =
     (m ≤ k .branches)
-    × ((firstBelow m (λ j. overZ (branchRoom (caseOf case) (planOf case proposal) j) (branchUse (caseOf case) (planOf case proposal) j)) ≡ none)
+    × ((firstBelow m (λ j. branchUse (caseOf case) (planOf case proposal) j overZ branchRoom (caseOf case) (planOf case proposal) j) ≡ none)
     × (Partly (caseOf case) (pricesOf case proposal) m prices × (total .0 ≡ sumTo m (λ j. pos partsInOne *ℤ branchValue (caseOf case) (pricesOf case proposal) j))))
 
 abbrev μ-loop : tie.MeasureT-loop
@@ -288,7 +288,7 @@ used c =
     let a = entry (c .before .before .before .before .before) in
     c .before .loop2 .inv .1 .0 ∙ ap (λ (n : ℕ). sumTo n (λ z. hour a .ptdf (c .before .before .before .before .before .loop .m) z *ℤ fbPart (hour a) (plan a) z)) (ended c ∙ zones-is (a .pre .0))
 
-answered : (c : tie.After-exceeds Inv-loop2 μ-loop2 Inv-loop μ-loop) → c .exceeds .result ≡ overZ (branchRoom (hour (entry (c .before .before .before .before .before .before .before))) (plan (entry (c .before .before .before .before .before .before .before))) (c .before .before .before .before .before .before .before .loop .m)) (branchUse (hour (entry (c .before .before .before .before .before .before .before))) (plan (entry (c .before .before .before .before .before .before .before))) (c .before .before .before .before .before .before .before .loop .m))
+answered : (c : tie.After-exceeds Inv-loop2 μ-loop2 Inv-loop μ-loop) → c .exceeds .result ≡ (branchUse (hour (entry (c .before .before .before .before .before .before .before))) (plan (entry (c .before .before .before .before .before .before .before))) (c .before .before .before .before .before .before .before .loop .m)) overZ (branchRoom (hour (entry (c .before .before .before .before .before .before .before))) (plan (entry (c .before .before .before .before .before .before .before))) (c .before .before .before .before .before .before .before .loop .m))
 unfolding branchRoom caseOf planOf
 answered c =
     let a = entry (c .before .before .before .before .before .before .before) in

@@ -16,8 +16,8 @@ abbrev pub grainsAt : List Grains → ℕ → ℤ
 grainsAt prices z = (getD prices z noGrains) .0
 
 -- the zone prices of a case, held in an array; and row 25 passed
-pub record Priced (c : Case) (d : Prices) (prices : List Grains) : Type 0 where
+pub record PricesHold (c : Case) (d : Prices) (prices : List Grains) : Type 0 where
   pub each : (z : ℕ) → z < c .zones → grainsAt prices z ≡ zonePrice c d z
 
-pub record PricesIn (c : Case) (d : Prices) : Type 0 where
+pub record PricesInRange (c : Case) (d : Prices) : Type 0 where
   pub within : (z : ℕ) → z < c .zones → Within limits.zonePrice (zonePrice c d z)

@@ -11,11 +11,11 @@ use Rattle.base_integers.specs.Meaning.Ranges.{outside}
 use Rattle.base_measures.specs.Meaning.Limits as limits
 use Rattle.base_measures.specs.Steps.Held.{microcents-outside, microcents-held, money-tests}
 use Rattle.rules.specs.Meaning.Hour.{Case}
-use Rattle.base_causes.specs.Meaning.Rows.{failing, answer}
-use Rattle.base_causes.specs.Promised.RowLaws.{row-found, row-clear, once-fails, once-passes}
-use Rattle.rules.specs.Meaning.Verdict.{wideTolerance, familyRows}
+use Rattle.base_causes.specs.Meaning.Causes.{failing, answer}
+use Rattle.base_causes.specs.Promised.CauseLaws.{row-found, row-clear, once-fails, once-passes}
+use Rattle.rules.specs.Meaning.Verdict.{wideTolerance, familyCauses}
 use Rattle.judge_stages.specs.Meaning.Found.{listOf}
-use Rattle.judge_stages.specs.Steps.Found.{admittedRows, answers, never-0}
+use Rattle.judge_stages.specs.Steps.Found.{admittedCauses, answers, never-0}
 use Rattle.judge_stages.specs.Steps.Listed.{Counted, families-refuse, families-pass, families-known, families-not-0}
 use Rattle.judge_stages.proofs.admit.Statement.{statement}
 use Rattle.judge_stages.proofs.admit.Tie as tie
@@ -51,7 +51,7 @@ returns c =
     let a = weighed w in
     let out = microcents-outside _ _ (sym (w .accepted-tolerance .ensures) ∙ e .enum-told2 .given .1) in
     record {
-      verdict-is = λ h q. answers (admittedRows (list a) h) (c .outcome .ensures) (row-found (wideTolerance h) (familyRows (list a) h) 0 (once-fails (sym (in-cents w h q) ∙ out)));
+      verdict-is = λ h q. answers (admittedCauses (list a) h) (c .outcome .ensures) (row-found (wideTolerance h) (familyCauses (list a) h) 0 (once-fails (sym (in-cents w h q) ∙ out)));
       known = λ h q. never-0 15 0 (c .outcome .ensures) (omega arith);
     }
 
@@ -80,7 +80,7 @@ returns-2 c =
     let a = asked p in
     let e = sym (p .read-with-families .ensures) ∙ o .refusal .given .1 in
     record {
-      verdict-is = λ h q. sym (ap answer (row-clear (wideTolerance h) (familyRows (list a) h) (within (p .before) h q) ∙ families-refuse (now (a .args .families)) h (q .orders-is) (a .args .list) _ e));
+      verdict-is = λ h q. sym (ap answer (row-clear (wideTolerance h) (familyCauses (list a) h) (within (p .before) h q) ∙ families-refuse (now (a .args .families)) h (q .orders-is) (a .args .list) _ e));
       known = λ h q z. families-not-0 (list a) h (families-refuse (now (a .args .families)) h (q .orders-is) (a .args .list) _ e) z;
     }
 
@@ -90,7 +90,7 @@ returns-3 c =
     let a = asked p in
     let e = sym (p .read-with-families .ensures) ∙ c .enum-told3 .given .1 in
     record {
-      verdict-is = λ h q. sym (ap answer (row-clear (wideTolerance h) (familyRows (list a) h) (within (p .before) h q) ∙ families-pass (now (a .args .families)) h (q .orders-is) (a .args .list) e));
+      verdict-is = λ h q. sym (ap answer (row-clear (wideTolerance h) (familyCauses (list a) h) (within (p .before) h q) ∙ families-pass (now (a .args .families)) h (q .orders-is) (a .args .list) e));
       known = λ h q z. families-known (now (a .args .families)) h (q .orders-is) (a .args .list) (a .pre) e;
     }
 

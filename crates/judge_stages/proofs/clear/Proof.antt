@@ -17,17 +17,17 @@ use Rattle.base_integers.specs.Meaning.Machine.{SumsFit}
 use Rattle.rules.specs.Meaning.Hour.{Case, Plan, caseOf, planOf, net, netSum, noLink}
 use Rattle.rules.specs.Promised.Fits.{balance-sums}
 use Rattle.base_causes.specs.declared.Outcome.{Outcome}
-use Rattle.base_causes.specs.Meaning.Rows.{Row, refusal, answer}
+use Rattle.base_causes.specs.Meaning.Causes.{Cause, refusal, answer}
 use Rattle.base_causes.specs.Meaning.Place.{placeOf}
-use Rattle.base_causes.specs.Promised.RowLaws.{place-below}
-use Rattle.judge_clearing.specs.Meaning.Held.{Holds}
+use Rattle.base_causes.specs.Promised.CauseLaws.{place-below}
+use Rattle.judge_clearing.specs.Meaning.TenthsHold.{TenthsHold}
 use Rattle.judge_clearing.specs.Meaning.Read.{HourReadFrom}
 use Rattle.judge_clearing.specs.Steps.Read.{sound, zones-is, few-zones, links-is, share-is, share-in}
-use Rattle.judge_clearing.specs.Meaning.Stages.{VolumesIn}
-use Rattle.judge_clearing.specs.Steps.Stages.{volumes-in, flows-in, fit-ext}
+use Rattle.judge_clearing.specs.Meaning.InRange.{VolumesInRange}
+use Rattle.judge_clearing.specs.Steps.InRange.{volumes-in, flows-in, fit-ext}
 use Rattle.judge_stages.specs.declared.Cleared.{Cleared}
 use Rattle.judge_stages.specs.Meaning.Found.{listOf}
-use Rattle.judge_stages.specs.Steps.Found.{orderRows, linkRows, orders-silent, verdict-refuses, verdict-passes, linkAnswer, links-answer, links-pass}
+use Rattle.judge_stages.specs.Steps.Found.{orderCauses, linkCauses, orders-silent, verdict-refuses, verdict-passes, linkAnswer, links-answer, links-pass}
 use Rattle.judge_stages.proofs.clear.Statement.{statement}
 use Rattle.judge_stages.proofs.clear.Tie as tie
 
@@ -41,8 +41,8 @@ plan a = planOf (now (a .args .«case»)) (now (a .args .proposal))
 abbrev list : tie.Start → Option (List ℕ)
 list a = listOf (a .args .list) (now (a .args .families))
 
-abbrev of-links : tie.Start → List Row
-of-links a = linkRows (hour a) (plan a)
+abbrev of-links : tie.Start → List Cause
+of-links a = linkCauses (hour a) (plan a)
 
 -- 21 AND 28
 abbrev sums : tie.After-order-verdict → tie.After-order-sums
@@ -82,10 +82,10 @@ filled e = omega (arith, e .if1 .left)
 no-excess : (e : tie.Else1) → placeOf (sums (orders e) .order-sums .result .excess) ≡ none
 no-excess e = orders e .order-verdict .ensures .1 (filled e)
 
-volumes : (e : tie.Else1) → VolumesIn (hour (entry e)) (plan (entry e))
+volumes : (e : tie.Else1) → VolumesInRange (hour (entry e)) (plan (entry e))
 volumes e = volumes-in (sym (sums (orders e) .order-sums .ensures .0) ∙ no-excess e)
 
-nets : (e : tie.Else1) → Holds (net (hour (entry e)) (plan (entry e))) (sums (orders e) .order-sums .result .nets)
+nets : (e : tie.Else1) → TenthsHold (net (hour (entry e)) (plan (entry e))) (sums (orders e) .order-sums .result .nets)
 nets e = sums (orders e) .order-sums .ensures .1 .0 (no-excess e)
 
 -- 22, 27 AND 23

@@ -7,11 +7,11 @@ use native.Mathlib.Omega.{arith}
 use borrow.Author.Needs.{needs}
 use denote.Ref.{now}
 use Rattle.rules.specs.Meaning.Hour.{Case, Plan, caseOf, planOf, pricesOf}
-use Rattle.base_causes.specs.Meaning.Rows.{Row, refusal}
+use Rattle.base_causes.specs.Meaning.Causes.{Cause, refusal}
 use Rattle.judge_clearing.specs.Meaning.Read.{HourReadFrom}
 use Rattle.judge_stages.specs.declared.Found.{Found}
-use Rattle.judge_stages.specs.Meaning.Found.{Finds, listOf, hourRows}
-use Rattle.judge_stages.specs.Steps.Found.{readRows, clearRows, valueRows, stages, same-rows, read-silent, clear-silent, stage-refuses, stage-passes}
+use Rattle.judge_stages.specs.Meaning.Found.{Finds, listOf, hourCauses}
+use Rattle.judge_stages.specs.Steps.Found.{readCauses, clearCauses, valueCauses, stages, same-rows, read-silent, clear-silent, stage-refuses, stage-passes}
 use Rattle.judge_stages.proofs.find_with_families.Statement.{statement}
 use Rattle.judge_stages.proofs.find_with_families.Tie as tie
 
@@ -31,13 +31,13 @@ hour a = caseOf (file a)
 abbrev plan : tie.Start → Plan
 plan a = planOf (file a) (text a)
 
-abbrev from-24 : tie.Start → List Row
-from-24 a = valueRows (hour a) (plan a) (pricesOf (file a) (text a))
+abbrev from-24 : tie.Start → List Cause
+from-24 a = valueCauses (hour a) (plan a) (pricesOf (file a) (text a))
 
-abbrev from-21 : tie.Start → List Row
-from-21 a = clearRows (list a) (hour a) (plan a) ++ from-24 a
+abbrev from-21 : tie.Start → List Cause
+from-21 a = clearCauses (list a) (hour a) (plan a) ++ from-24 a
 
-abbrev Found-by : tie.Start → List Row → Found → Type 0
+abbrev Found-by : tie.Start → List Cause → Found → Type 0
 Found-by a rows r = Finds rows (file a) (text a) r
 
 -- 1 TO 18
@@ -50,7 +50,7 @@ read-requires c κs = search needs
 refused-by-requires : tie.Need-refused-by-requires
 refused-by-requires c κs = search needs
 
-whole : (a : tie.Start) {r : Found} → Found-by a (readRows (list a) (file a) (text a) ++ from-21 a) r → Found-by a (hourRows (list a) (file a) (text a)) r
+whole : (a : tie.Start) {r : Found} → Found-by a (readCauses (list a) (file a) (text a) ++ from-21 a) r → Found-by a (hourCauses (list a) (file a) (text a)) r
 whole a f = same-rows (ap refusal (stages (list a) (file a) (text a))) f
 
 returns : tie.Need-returns
@@ -71,7 +71,7 @@ passed e = omega (arith, e .if1 .left)
 was-read : (e : tie.Else1) → HourReadFrom (file (entry e)) (text (entry e)) (reading e .read .result .hour)
 was-read e = reading e .read .ensures .1 .0 (passed e)
 
-past-read : (e : tie.Else1) {r : Found} → Found-by (entry e) (from-21 (entry e)) r → Found-by (entry e) (hourRows (list (entry e)) (file (entry e)) (text (entry e))) r
+past-read : (e : tie.Else1) {r : Found} → Found-by (entry e) (from-21 (entry e)) r → Found-by (entry e) (hourCauses (list (entry e)) (file (entry e)) (text (entry e))) r
 past-read e f = let a = entry e in whole a (stage-passes (from-21 a) (read-silent (list a) (file a) (text a)) (reading e .read .ensures .0) (passed e) f)
 
 -- 21, 28, 22, 27 AND 23

@@ -7,14 +7,14 @@ use native.Mathlib.Omega.{arith}
 use borrow.Author.Needs.{needs}
 use denote.Ref.{now}
 use Rattle.rules.specs.Meaning.Hour.{Case, Plan, caseOf, planOf}
-use Rattle.base_causes.specs.Meaning.Rows.{failing, refusal, answer}
+use Rattle.base_causes.specs.Meaning.Causes.{failing, refusal, answer}
 use Rattle.base_causes.specs.Meaning.Place.{placeOf}
-use Rattle.base_causes.specs.Promised.RowLaws.{row-found, row-clear, at-place, at-none, place-below}
-use Rattle.rules.specs.Meaning.Verdict.{excessVolume, fractionRows}
+use Rattle.base_causes.specs.Promised.CauseLaws.{row-found, row-clear, at-place, at-none, place-below}
+use Rattle.rules.specs.Meaning.Verdict.{excessVolume, fractionCauses}
 use Rattle.judge_clearing.specs.Steps.Read.{sound}
-use Rattle.judge_clearing.specs.Steps.Stages.{volumes-in}
+use Rattle.judge_clearing.specs.Steps.InRange.{volumes-in}
 use Rattle.judge_stages.specs.Meaning.Found.{listOf}
-use Rattle.judge_stages.specs.Steps.Found.{orderRows, answers, never-0}
+use Rattle.judge_stages.specs.Steps.Found.{orderCauses, answers, never-0}
 use Rattle.judge_stages.specs.Steps.Listed.{fractionPlace, place-few, fraction-over, fractions-within}
 use Rattle.judge_stages.proofs.order_verdict.Statement.{statement}
 use Rattle.judge_stages.proofs.order_verdict.Tie as tie
@@ -49,7 +49,7 @@ returns : tie.Need-returns
 returns c =
     let o = c .before .before in
     let a = excess-asked o in
-    (answers (orderRows (list a) (hour a) (plan a)) (c .outcome .ensures) (row-found (excessVolume (hour a) (plan a)) (fractionRows (list a) (hour a) (plan a)) _ (excess-at o)), never-0 21 _ (c .outcome .ensures) (omega arith))
+    (answers (orderCauses (list a) (hour a) (plan a)) (c .outcome .ensures) (row-found (excessVolume (hour a) (plan a)) (fractionCauses (list a) (hour a) (plan a)) _ (excess-at o)), never-0 21 _ (c .outcome .ensures) (omega arith))
 
 enum-told : tie.Need-enum-told
 enum-told c = search needs
@@ -60,8 +60,8 @@ asked c = c .before .before .before .before .before
 no-excess : (c : tie.After-enum-told) → failing (excessVolume (hour (asked c)) (plan (asked c))) ≡ none
 no-excess c = at-none _ _ (asked c .pre .1 .1) (c .enum-told .given .1)
 
-past-volumes : (c : tie.After-enum-told) → let a = asked c in refusal (orderRows (list a) (hour a) (plan a)) ≡ refusal (fractionRows (list a) (hour a) (plan a))
-past-volumes c = let a = asked c in row-clear (excessVolume (hour a) (plan a)) (fractionRows (list a) (hour a) (plan a)) (no-excess c)
+past-volumes : (c : tie.After-enum-told) → let a = asked c in refusal (orderCauses (list a) (hour a) (plan a)) ≡ refusal (fractionCauses (list a) (hour a) (plan a))
+past-volumes c = let a = asked c in row-clear (excessVolume (hour a) (plan a)) (fractionCauses (list a) (hour a) (plan a)) (no-excess c)
 
 -- 28
 abbrev hour-of : tie.After-first-over → tie.Start
@@ -84,7 +84,7 @@ returns-2 c =
     let o = c .before .before in
     let f = o .before .before in
     let a = hour-of f in
-    (answers (orderRows (list a) (hour a) (plan a)) (c .outcome2 .ensures) (past-volumes (f .before) ∙ fraction-over (list a) (hour a) (plan a) _ (over-at o)), never-0 28 _ (c .outcome2 .ensures) (omega arith))
+    (answers (orderCauses (list a) (hour a) (plan a)) (c .outcome2 .ensures) (past-volumes (f .before) ∙ fraction-over (list a) (hour a) (plan a) _ (over-at o)), never-0 28 _ (c .outcome2 .ensures) (omega arith))
 
 enum-told-2 : tie.Need-enum-told-2
 enum-told-2 c = search needs

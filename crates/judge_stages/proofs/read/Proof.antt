@@ -6,25 +6,25 @@ use Prim.Native.Nat.{ℕ}
 use borrow.Author.Needs.{needs}
 use denote.Ref.{now}
 use Rattle.rules.specs.Meaning.Hour.{caseOf, planOf, pricesOf}
-use Rattle.rules.specs.Meaning.Verdict.{caseRows, caseRefusal, proposalRows, proposalRefusal}
+use Rattle.rules.specs.Meaning.Verdict.{caseCauses, caseRefusal, proposalCauses, proposalRefusal}
 use Rattle.base_causes.specs.declared.Outcome.{Outcome}
-use Rattle.base_causes.specs.Meaning.Rows.{Row, refusal, answer}
-use Rattle.base_causes.specs.Promised.RowLaws.{not-refused}
-use Rattle.case_header.specs.Meaning.Opened.{Opened}
+use Rattle.base_causes.specs.Meaning.Causes.{Cause, refusal, answer}
+use Rattle.base_causes.specs.Promised.CauseLaws.{not-refused}
+use Rattle.case_header.specs.Meaning.CaseReadable.{CaseReadable}
 use Rattle.case_file.specs.Steps.Answer.{opened-of}
 use Rattle.case_file.specs.Steps.Answer as case-answer
-use Rattle.proposal_file.specs.Meaning.Proposed.{Proposed}
-use Rattle.proposal_file.specs.Steps.Proposed.{opening-is, proposed-of}
-use Rattle.proposal_file.specs.Steps.Proposed as proposal-answer
+use Rattle.proposal_file.specs.Meaning.ProposalValid.{ProposalValid}
+use Rattle.proposal_file.specs.Steps.ProposalValid.{opening-is, proposed-of}
+use Rattle.proposal_file.specs.Steps.ProposalValid as proposal-answer
 use Rattle.proposal_file.specs.Meaning.Answer.{proposalAnswer}
 use Rattle.proposal_file.specs.declared.ProposalAnswer.the-variants as proposal
 use Rattle.judge_clearing.specs.Meaning.Read.{HourReadFrom}
-use Rattle.family_list.specs.Meaning.Answer.{Known}
+use Rattle.family_list.specs.Meaning.Answer.{FamiliesReadable}
 use Rattle.judge_stages.specs.declared.FamilyList.{FamilyList}
 use Rattle.judge_stages.specs.declared.FamilyList.the-variants.{Given}
 use Rattle.judge_stages.specs.declared.Reading.{Reading}
 use Rattle.judge_stages.specs.Meaning.Found.{listOf}
-use Rattle.judge_stages.specs.Steps.Found.{admittedRows, readRows, unreadAs, read-silent, first-refuses, first-passes}
+use Rattle.judge_stages.specs.Steps.Found.{admittedCauses, readCauses, unreadAs, read-silent, first-refuses, first-passes}
 use Rattle.judge_stages.specs.Steps.Facts.{counted, few-orders}
 use Rattle.judge_stages.proofs.read.Statement.{statement}
 use Rattle.judge_stages.proofs.read.Tie as tie
@@ -36,25 +36,25 @@ file a = now (a .args .«case»)
 abbrev plan : tie.Start → List ℕ
 plan a = now (a .args .proposal)
 
-abbrev of-case : tie.Start → List Row
-of-case a = caseRows (file a) (caseOf (file a))
+abbrev of-case : tie.Start → List Cause
+of-case a = caseCauses (file a) (caseOf (file a))
 
-abbrev of-proposal : tie.Start → List Row
-of-proposal a = proposalRows (file a) (plan a) (caseOf (file a)) (planOf (file a) (plan a)) (pricesOf (file a) (plan a))
+abbrev of-proposal : tie.Start → List Cause
+of-proposal a = proposalCauses (file a) (plan a) (caseOf (file a)) (planOf (file a) (plan a)) (pricesOf (file a) (plan a))
 
 abbrev list : tie.Start → Option (List ℕ)
 list a = listOf (a .args .list) (now (a .args .families))
 
-abbrev of-lists : tie.Start → List Row
-of-lists a = admittedRows (list a) (caseOf (file a))
+abbrev of-lists : tie.Start → List Cause
+of-lists a = admittedCauses (list a) (caseOf (file a))
 
 -- A REFUSAL, whose number is not 0
-module _ (s t f : List ℕ) (list : FamilyList) {o : Outcome} (q : refusal (readRows (listOf list f) s t) ≡ some o) where
+module _ (s t f : List ℕ) (list : FamilyList) {o : Outcome} (q : refusal (readCauses (listOf list f) s t) ≡ some o) where
   never : {X : Type 0} {v : Outcome} → v ≡ o → v .number ≡ 0 → X
-  never e z = absurd (not-refused 0 (readRows (listOf list f) s t) ((read-silent (listOf list f) s t) .not-0) o q (sym (ap (λ (x : Outcome). x .number) e) ∙ z))
+  never e z = absurd (not-refused 0 (readCauses (listOf list f) s t) ((read-silent (listOf list f) s t) .not-0) o q (sym (ap (λ (x : Outcome). x .number) e) ∙ z))
 
-  refused : {r : Reading} → r ≡ unreadAs o → (r .verdict ≡ answer (refusal (readRows (listOf list f) s t)))
-      × ((r .verdict .number ≡ 0 → HourReadFrom s t (r .hour)) × (r .verdict .number ≡ 0 → list ≡ Given → Known f (r .hour .counts .orders)))
+  refused : {r : Reading} → r ≡ unreadAs o → (r .verdict ≡ answer (refusal (readCauses (listOf list f) s t)))
+      × ((r .verdict .number ≡ 0 → HourReadFrom s t (r .hour)) × (r .verdict .number ≡ 0 → list ≡ Given → FamiliesReadable f (r .hour .counts .orders)))
   refused e = let v = ap (λ (f : Reading). f .verdict) e in (v ∙ sym (ap answer q), (never v, never v))
 
 -- 1 TO 8
@@ -81,10 +81,10 @@ enum-known-counts c = search needs
 abbrev case-entry : tie.After-counts → tie.Start
 case-entry c = c .before .before .before .before .before .before
 
-opened : (c : tie.After-counts) → Opened (file (case-entry c)) (c .counts .given .0 .0)
+opened : (c : tie.After-counts) → CaseReadable (file (case-entry c)) (c .counts .given .0 .0)
 opened c = opened-of (file (case-entry c)) (sym (c .before .before .read-case .ensures) ∙ c .counts .given .1)
 
-past-case : (c : tie.After-counts) → let a = case-entry c in refusal (readRows (list a) (file a) (plan a)) ≡ refusal (of-proposal a ++ of-lists a)
+past-case : (c : tie.After-counts) → let a = case-entry c in refusal (readCauses (list a) (file a) (plan a)) ≡ refusal (of-proposal a ++ of-lists a)
 unfolding caseRefusal
 past-case c = let a = case-entry c in first-passes (of-case a) (of-proposal a ++ of-lists a) ((opened c) .readable .none-holds)
 
@@ -124,7 +124,7 @@ proposal-entry o = case-entry (case-of (read o))
 sound : (o : tie.After-opening) → proposalAnswer (file (proposal-entry o)) (plan (proposal-entry o)) ≡ proposal.Sound (o .opening .given .0 .0)
 sound o = sym (read o .read-proposal .ensures) ∙ o .opening .given .1
 
-proposed : (o : tie.After-opening) → Proposed (file (proposal-entry o)) (case-of (read o) .counts .given .0 .0) (plan (proposal-entry o))
+proposed : (o : tie.After-opening) → ProposalValid (file (proposal-entry o)) (case-of (read o) .counts .given .0 .0) (plan (proposal-entry o))
 proposed o = proposed-of (plan (proposal-entry o)) (opened (case-of (read o))) (sound o)
 
 admit-requires : tie.Need-admit-requires

@@ -18,20 +18,20 @@ use Rattle.base_measures.specs.Meaning.Limits as limits
 use Rattle.base_measures.specs.Meaning.Limits.{microcentsOf}
 use Rattle.rules.specs.Meaning.Hour.{Case, Plan, Prices, caseOf, planOf, pricesOf, net, zonePrice, gap, rent}
 use Rattle.base_causes.specs.declared.Outcome.{Outcome}
-use Rattle.base_causes.specs.Meaning.Rows.{verdict, failing, firstBelow, answer}
+use Rattle.base_causes.specs.Meaning.Causes.{verdict, failing, firstBelow, answer}
 use Rattle.base_causes.specs.Meaning.Place.{placeOf}
-use Rattle.base_causes.specs.Promised.RowLaws.{Comes, clear, fails-at, behind, not-below, at-place, at-none, first-ext, place-below}
-use Rattle.rules.specs.Meaning.Verdict.{over, overZ, overloadedBranch, priceOutside}
+use Rattle.base_causes.specs.Promised.CauseLaws.{Comes, clear, fails-at, behind, not-below, at-place, at-none, first-ext, place-below}
+use Rattle.rules.specs.Meaning.Verdict.{_over_, _overZ_, overloadedBranch, priceOutside}
 use Rattle.rules.specs.Promised.Fits.{rent-sums, system-near}
 use Rattle.rules.specs.Meaning.Report as rules
 use Rattle.rules.specs.Meaning.Report.{totalsOf, reports}
 use Rattle.case_header.specs.declared.Counts.{Counts}
-use Rattle.judge_clearing.specs.Meaning.Held.{tenthsAt, Holds}
+use Rattle.judge_clearing.specs.Meaning.TenthsHold.{tenthsAt, TenthsHold}
 use Rattle.judge_clearing.specs.Steps.Read.{case-opened, sound, zones-is, few-zones, shadow-in}
-use Rattle.judge_clearing.specs.Meaning.Stages.{VolumesIn}
-use Rattle.judge_clearing.specs.Steps.Stages.{fit-ext}
-use Rattle.judge_network.specs.Meaning.Prices.{grainsAt, Priced}
-use Rattle.judge_stages.specs.Steps.Found.{valueRows, refusedAs, finds-refused, gap-answers, gap-reports}
+use Rattle.judge_clearing.specs.Meaning.InRange.{VolumesInRange}
+use Rattle.judge_clearing.specs.Steps.InRange.{fit-ext}
+use Rattle.judge_network.specs.Meaning.Prices.{grainsAt, PricesHold}
+use Rattle.judge_stages.specs.Steps.Found.{valueCauses, refusedAs, finds-refused, gap-answers, gap-reports}
 use Rattle.judge_stages.proofs.value.Statement.{statement}
 use Rattle.judge_stages.proofs.value.Tie as tie
 
@@ -47,12 +47,12 @@ rates a = pricesOf (now (a .args .«case»)) (now (a .args .proposal))
 
 -- the rows up to that of a number pass
 abbrev Past : tie.Start → ℕ → Type 0
-Past a n = (o : Option Outcome) → Comes (behind n (valueRows (hour a) (plan a) (rates a))) o → Comes (valueRows (hour a) (plan a) (rates a)) o
+Past a n = (o : Option Outcome) → Comes (behind n (valueCauses (hour a) (plan a) (rates a))) o → Comes (valueCauses (hour a) (plan a) (rates a)) o
 
-volumes : (a : tie.Start) → VolumesIn (hour a) (plan a)
+volumes : (a : tie.Start) → VolumesInRange (hour a) (plan a)
 volumes a = a .pre .1 .volumes-in
 
-nets : (a : tie.Start) → Holds (net (hour a) (plan a)) (a .args .cleared .nets)
+nets : (a : tie.Start) → TenthsHold (net (hour a) (plan a)) (a .args .cleared .nets)
 nets a = a .pre .1 .nets-are
 
 -- 24, THE BRANCHES
@@ -97,7 +97,7 @@ none-overloaded c = at-none _ _ (branches c .branch-sums .ensures .0) (c .enum-t
 past-branches : (c : tie.After-enum-told) → Past (branches-asked (branches c)) 24
 past-branches c o q = clear (none-overloaded c) q
 
-priced : (c : tie.After-enum-told) → Priced (hour (branches-asked (branches c))) (rates (branches-asked (branches c))) (branches c .branch-sums .result .prices)
+priced : (c : tie.After-enum-told) → PricesHold (hour (branches-asked (branches c))) (rates (branches-asked (branches c))) (branches c .branch-sums .result .prices)
 priced c = branches c .branch-sums .ensures .1 .0 (ap placeOf (c .enum-told .given .1))
 
 -- 25, THE ZONE PRICES
@@ -203,7 +203,7 @@ gap-verdict-requires c κs = search needs
 
 -- the row's test, and the number that it gives
 abbrev wide : tie.After-gap-verdict → Bool
-wide c = overZ (microcentsOf (pos (hour (gap-asked c) .tolerance))) (gap (hour (gap-asked c)) (plan (gap-asked c)) (rates (gap-asked c)))
+wide c = (gap (hour (gap-asked c)) (plan (gap-asked c)) (rates (gap-asked c))) overZ (microcentsOf (pos (hour (gap-asked c) .tolerance)))
 
 number-is : (c : tie.After-gap-verdict) → c .gap-verdict .result ≡ cond (wide c) 26 0
 unfolding totalsOf caseOf

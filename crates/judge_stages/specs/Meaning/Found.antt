@@ -6,12 +6,12 @@ use mathlib.Core.Option.{Option, none, some}
 use Prim.Native.Nat.{ℕ, _≤_}
 use Rattle.rules.specs.Meaning.Hour.{Case, Plan, caseOf, planOf, pricesOf, net, fbPart, welfare}
 use Rattle.rules.specs.Meaning.Report.{totalsOf, reports}
-use Rattle.rules.specs.Meaning.Verdict.{caseRows, proposalRows, judgementRows}
-use Rattle.base_causes.specs.Meaning.Rows.{Row, verdict, refusal, answer}
-use Rattle.judge_clearing.specs.Meaning.Held.{Holds}
+use Rattle.rules.specs.Meaning.Verdict.{caseCauses, proposalCauses, judgementCauses}
+use Rattle.base_causes.specs.Meaning.Causes.{Cause, verdict, refusal, answer}
+use Rattle.judge_clearing.specs.Meaning.TenthsHold.{TenthsHold}
 use Rattle.judge_clearing.specs.Meaning.Read.{HourReadFrom}
-use Rattle.judge_clearing.specs.Meaning.Stages.{VolumesIn, FlowsIn}
-use Rattle.judge_network.specs.Meaning.Prices.{Priced}
+use Rattle.judge_clearing.specs.Meaning.InRange.{VolumesInRange, FlowsInRange}
+use Rattle.judge_network.specs.Meaning.Prices.{PricesHold}
 use Rattle.report_file.specs.Meaning.Written.{totalsIn}
 use Rattle.judge_stages.specs.declared.FamilyList.{FamilyList}
 use Rattle.judge_stages.specs.declared.FamilyList.the-variants.{Given, Absent}
@@ -24,24 +24,24 @@ listOf Given f = some f
 listOf Absent f = none
 
 -- the table from row 1 to row 26, of a case s and a proposal t, with a family list or without
-abbrev pub hourRows : Option (List ℕ) → List ℕ → List ℕ → List Row
-hourRows fs s t = caseRows s (caseOf s) ++ (proposalRows s t (caseOf s) (planOf s t) (pricesOf s t) ++ judgementRows fs (caseOf s) (planOf s t) (pricesOf s t))
+abbrev pub hourCauses : Option (List ℕ) → List ℕ → List ℕ → List Cause
+hourCauses fs s t = caseCauses s (caseOf s) ++ (proposalCauses s t (caseOf s) (planOf s t) (pricesOf s t) ++ judgementCauses fs (caseOf s) (planOf s t) (pricesOf s t))
 
 -- CLEARED: what holds where rows 21, 28, 22, 27 and 23 pass
 pub record HourCleared (c : Case) (p : Plan) (r : Cleared) : Type 0 where
-  pub volumes-in : VolumesIn c p
-  pub flows-in : FlowsIn c p
-  pub nets-are : Holds (net c p) (r .nets)
-  pub parts-are : Holds (fbPart c p) (r .parts)
+  pub volumes-in : VolumesInRange c p
+  pub flows-in : FlowsInRange c p
+  pub nets-are : TenthsHold (net c p) (r .nets)
+  pub parts-are : TenthsHold (fbPart c p) (r .parts)
   pub welfare-is : r .welfare .0 ≡ welfare c p
 
 -- FOUND: the verdict, and what holds of an hour that is valued
-pub record Finds (rows : List Row) (s t : List ℕ) (r : Found) : Type 0 where
+pub record Finds (rows : List Cause) (s t : List ℕ) (r : Found) : Type 0 where
   pub verdict-is : r .verdict ≡ answer (refusal rows)
   pub valued-is : r .valued ≡ reports (r .verdict .number)
   pub few-zones : r .hour .counts .zones ≤ 16
   pub zones-are : r .valued ≡ true → r .hour .counts .zones ≡ (caseOf s) .zones
   pub hour-is : r .valued ≡ true → HourReadFrom s t (r .hour)
   pub cleared-is : r .valued ≡ true → HourCleared (caseOf s) (planOf s t) (r .cleared)
-  pub prices-are : r .valued ≡ true → Priced (caseOf s) (pricesOf s t) (r .prices)
+  pub prices-are : r .valued ≡ true → PricesHold (caseOf s) (pricesOf s t) (r .prices)
   pub totals-are : r .valued ≡ true → totalsIn (r .totals) ≡ totalsOf (caseOf s) (planOf s t) (pricesOf s t)

@@ -6,13 +6,13 @@ use native.Mathlib.Omega.{arith}
 use Rattle.rules.specs.Meaning.Hour.{caseOf}
 use Rattle.rules.specs.Steps.Passed.{case-sound}
 use Rattle.case_header.specs.declared.Counts.{Counts}
-use Rattle.proposal_file.specs.Meaning.Proposed.{Proposed}
+use Rattle.proposal_file.specs.Meaning.ProposalValid.{ProposalValid}
 use Rattle.judge_stages.specs.Steps.Listed.{Counted}
 
 -- the case that has these counts
-pub counted : {s : List ℕ} {k : Counts} {t : List ℕ} → Proposed s k t → Counted (caseOf s) k
+pub counted : {s : List ℕ} {k : Counts} {t : List ℕ} → ProposalValid s k t → Counted (caseOf s) k
 unfolding caseOf
 counted p = record { tolerance-is = ap (λ (k : Counts). k .tolerance .0) (p .opened .counts); orders-is = sym (ap (λ (k : Counts). k .orders) (p .opened .counts)) }
 
-pub few-orders : {s : List ℕ} {k : Counts} {t : List ℕ} → Proposed s k t → k .orders ≤ 512
+pub few-orders : {s : List ℕ} {k : Counts} {t : List ℕ} → ProposalValid s k t → k .orders ≤ 512
 few-orders {s} p = omega (arith, (counted p) .orders-is, (case-sound s (p .opened .readable)) .orders-in)

@@ -11,49 +11,49 @@ use lib.IntN.{pos}
 use Rattle.base_integers.specs.Meaning.Ranges.{isZero}
 use Rattle.rules.specs.Meaning.Hour.{Case, Plan, Prices, caseOf, planOf, pricesOf, netSum, noLink, welfare}
 use Rattle.rules.specs.Meaning.Report.{reports}
-use Rattle.rules.specs.Meaning.Verdict.{over, caseRows, proposalRows, wideTolerance, familyRows, excessVolume, fractionRows, unbalanced, shareWithoutLink, overusedLink, exchangeRows, clearingRows}
+use Rattle.rules.specs.Meaning.Verdict.{_over_, caseCauses, proposalCauses, wideTolerance, familyCauses, excessVolume, fractionCauses, unbalanced, shareWithoutLink, overusedLink, exchangeCauses, clearingCauses}
 use Rattle.base_causes.specs.declared.Outcome.{Outcome}
-use Rattle.base_causes.specs.Meaning.Rows.{Row, verdict, firstBelow, failing, rowElse, refusal, answer, once}
-use Rattle.base_causes.specs.Promised.RowLaws.{else-refusal, refusal-append, lacks, not-refused, zero-none, behind}
+use Rattle.base_causes.specs.Meaning.Causes.{Cause, verdict, firstBelow, failing, causeElse, refusal, answer, once}
+use Rattle.base_causes.specs.Promised.CauseLaws.{else-refusal, refusal-append, lacks, not-refused, zero-none, behind}
 use Rattle.base_measures.specs.declared.Microcents.{Microcents}
 use Rattle.judge_clearing.specs.declared.HourRead.{HourRead}
-use Rattle.judge_clearing.specs.Meaning.Held.{noTenths}
+use Rattle.judge_clearing.specs.Meaning.TenthsHold.{noTenths}
 use Rattle.judge_network.specs.Meaning.Prices.{noGrains}
 use Rattle.judge_stages.specs.declared.Reading.{Reading}
 use Rattle.judge_stages.specs.declared.Cleared.{Cleared}
 use Rattle.judge_stages.specs.declared.Found.{Found}
-use Rattle.judge_stages.specs.Meaning.Found.{hourRows, Finds}
+use Rattle.judge_stages.specs.Meaning.Found.{hourCauses, Finds}
 
 -- THE STAGES of it, in its order: 1 to 18, `read`; 21 and 28, of the orders, with 22, 27 and 23, of the links, `clear`; 24 to 26, behind 23, `value`
-abbrev pub admittedRows : Option (List ℕ) → Case → List Row
-admittedRows fs c = wideTolerance c ∷ familyRows fs c
+abbrev pub admittedCauses : Option (List ℕ) → Case → List Cause
+admittedCauses fs c = wideTolerance c ∷ familyCauses fs c
 
-abbrev pub readRows : Option (List ℕ) → List ℕ → List ℕ → List Row
-readRows fs s t = caseRows s (caseOf s) ++ (proposalRows s t (caseOf s) (planOf s t) (pricesOf s t) ++ admittedRows fs (caseOf s))
+abbrev pub readCauses : Option (List ℕ) → List ℕ → List ℕ → List Cause
+readCauses fs s t = caseCauses s (caseOf s) ++ (proposalCauses s t (caseOf s) (planOf s t) (pricesOf s t) ++ admittedCauses fs (caseOf s))
 
-abbrev pub orderRows : Option (List ℕ) → Case → Plan → List Row
-orderRows fs c p = excessVolume c p ∷ fractionRows fs c p
+abbrev pub orderCauses : Option (List ℕ) → Case → Plan → List Cause
+orderCauses fs c p = excessVolume c p ∷ fractionCauses fs c p
 
-abbrev pub linkRows : Case → Plan → List Row
-linkRows c p = unbalanced c p ∷ shareWithoutLink c p ∷ overusedLink c p ∷ []
+abbrev pub linkCauses : Case → Plan → List Cause
+linkCauses c p = unbalanced c p ∷ shareWithoutLink c p ∷ overusedLink c p ∷ []
 
-abbrev pub clearRows : Option (List ℕ) → Case → Plan → List Row
-clearRows fs c p = orderRows fs c p ++ linkRows c p
+abbrev pub clearCauses : Option (List ℕ) → Case → Plan → List Cause
+clearCauses fs c p = orderCauses fs c p ++ linkCauses c p
 
-abbrev pub valueRows : Case → Plan → Prices → List Row
-valueRows c p d = behind 23 (exchangeRows c p d)
+abbrev pub valueCauses : Case → Plan → Prices → List Cause
+valueCauses c p d = behind 23 (exchangeCauses c p d)
 
-pub stages : (fs : Option (List ℕ)) (s t : List ℕ) → hourRows fs s t ≡ readRows fs s t ++ (clearRows fs (caseOf s) (planOf s t) ++ valueRows (caseOf s) (planOf s t) (pricesOf s t))
-unfolding clearingRows
+pub stages : (fs : Option (List ℕ)) (s t : List ℕ) → hourCauses fs s t ≡ readCauses fs s t ++ (clearCauses fs (caseOf s) (planOf s t) ++ valueCauses (caseOf s) (planOf s t) (pricesOf s t))
+unfolding clearingCauses
 stages fs s t =
-    let of-case = caseRows s (caseOf s) in
-    let of-proposal = proposalRows s t (caseOf s) (planOf s t) (pricesOf s t) in
-    let of-lists = admittedRows fs (caseOf s) in
-    let of-orders = orderRows fs (caseOf s) (planOf s t) in
-    let of-links = linkRows (caseOf s) (planOf s t) in
-    let of-network = valueRows (caseOf s) (planOf s t) (pricesOf s t) in
+    let of-case = caseCauses s (caseOf s) in
+    let of-proposal = proposalCauses s t (caseOf s) (planOf s t) (pricesOf s t) in
+    let of-lists = admittedCauses fs (caseOf s) in
+    let of-orders = orderCauses fs (caseOf s) (planOf s t) in
+    let of-links = linkCauses (caseOf s) (planOf s t) in
+    let of-network = valueCauses (caseOf s) (planOf s t) (pricesOf s t) in
     sym (append-assoc of-case (of-proposal ++ of-lists) ((of-orders ++ of-links) ++ of-network)
-    ∙ ap (λ (rows : List Row). of-case ++ rows) (append-assoc of-proposal of-lists ((of-orders ++ of-links) ++ of-network) ∙ ap (λ (rows : List Row). of-proposal ++ (of-lists ++ rows)) (append-assoc of-orders of-links of-network)))
+    ∙ ap (λ (rows : List Cause). of-case ++ rows) (append-assoc of-proposal of-lists ((of-orders ++ of-links) ++ of-network) ∙ ap (λ (rows : List Cause). of-proposal ++ (of-lists ++ rows)) (append-assoc of-orders of-links of-network)))
 
 -- refused; valued
 abbrev noMoney : Microcents
@@ -87,7 +87,7 @@ refusedAs o = refusedWith o (unclearedAs o)
 false-true : {X : Type 0} → false ≡ true → X
 false-true e = absurd (subst (λ (b : Bool). T (not b)) e tt)
 
-module _ {rows : List Row} {s t : List ℕ} where
+module _ {rows : List Cause} {s t : List ℕ} where
   pub finds-refused : (o : Outcome) {r : Found} → r ≡ refusedAs o → reports (o .number) ≡ false → refusal rows ≡ some o → Finds rows s t r
   finds-refused o e w q = subst (λ (r : Found). Finds rows s t r) (sym e) (record {
     verdict-is = sym (ap answer q);
@@ -101,7 +101,7 @@ module _ {rows : List Row} {s t : List ℕ} where
   })
 
   -- rows that come to the same
-  pub same-rows : {qs : List Row} {r : Found} → refusal qs ≡ refusal rows → Finds rows s t r → Finds qs s t r
+  pub same-rows : {qs : List Cause} {r : Found} → refusal qs ≡ refusal rows → Finds rows s t r → Finds qs s t r
   same-rows e f = record {
     verdict-is = f .verdict-is ∙ ap answer (sym e);
     valued-is = f .valued-is;
@@ -114,10 +114,10 @@ module _ {rows : List Row} {s t : List ℕ} where
   }
 
 -- two lists of rows: the first refuses, or it passes and the second is asked
-pub first-refuses : (qs rs : List Row) (o : Outcome) → refusal qs ≡ some o → refusal (qs ++ rs) ≡ some o
+pub first-refuses : (qs rs : List Cause) (o : Outcome) → refusal qs ≡ some o → refusal (qs ++ rs) ≡ some o
 first-refuses qs rs o e = refusal-append qs rs ∙ ap (λ (x : Option Outcome). else-refusal x (refusal rs)) e
 
-pub first-passes : (qs rs : List Row) → refusal qs ≡ none → refusal (qs ++ rs) ≡ refusal rs
+pub first-passes : (qs rs : List Cause) → refusal qs ≡ none → refusal (qs ++ rs) ≡ refusal rs
 first-passes qs rs e = refusal-append qs rs ∙ ap (λ (x : Option Outcome). else-refusal x (refusal rs)) e
 
 -- rows that lack 0 and 26 write no report
@@ -125,18 +125,18 @@ not-by : (b : Bool) → (T b → ⊥) → b ≡ false
 not-by true f = absurd (f tt)
 not-by false f = refl
 
-pub writes-no-report : (rows : List Row) (o : Outcome) → T (lacks 0 rows) → T (lacks 26 rows) → refusal rows ≡ some o → reports (o .number) ≡ false
+pub writes-no-report : (rows : List Cause) (o : Outcome) → T (lacks 0 rows) → T (lacks 26 rows) → refusal rows ≡ some o → reports (o .number) ≡ false
 unfolding reports
 writes-no-report rows o a b e = λ j.
     not-by (eqb (o .number) 0) (λ t. not-refused 0 rows a o e (eqb→eq (o .number) 0 t)) j
     || not-by (eqb (o .number) 26) (λ t. not-refused 26 rows b o e (eqb→eq (o .number) 26 t)) j
 
 -- A STAGE, whose rows lack 0 and 26: it refuses by its verdict, or its verdict is 0 and the rows behind it are asked
-pub record Silent (qs : List Row) : Type 0 where
+pub record Silent (qs : List Cause) : Type 0 where
   pub not-0 : T (lacks 0 qs)
   pub not-26 : T (lacks 26 qs)
 
-module _ {qs : List Row} (rs : List Row) {v : Outcome} (l : Silent qs) (e : v ≡ answer (refusal qs)) where
+module _ {qs : List Cause} (rs : List Cause) {v : Outcome} (l : Silent qs) (e : v ≡ answer (refusal qs)) where
   refuses : 0 < v .number → refusal qs ≡ some v
   refuses h = by (refusal qs) refl
     where
@@ -160,23 +160,23 @@ module _ {qs : List Row} (rs : List Row) {v : Outcome} (l : Silent qs) (e : v �
   pub stage-passes : {s t : List ℕ} {r : Found} → v .number ≡ 0 → Finds rs s t r → Finds (qs ++ rs) s t r
   stage-passes h f = same-rows (passes h) f
 
-pub read-silent : (fs : Option (List ℕ)) (s t : List ℕ) → Silent (readRows fs s t)
-unfolding caseRows proposalRows lacks
+pub read-silent : (fs : Option (List ℕ)) (s t : List ℕ) → Silent (readCauses fs s t)
+unfolding caseCauses proposalCauses lacks
 read-silent none s t = record { not-0 = tt; not-26 = tt }
 read-silent (some f) s t = record { not-0 = tt; not-26 = tt }
 
-pub orders-silent : (fs : Option (List ℕ)) (c : Case) (p : Plan) → Silent (orderRows fs c p)
+pub orders-silent : (fs : Option (List ℕ)) (c : Case) (p : Plan) → Silent (orderCauses fs c p)
 unfolding lacks
 orders-silent none c p = record { not-0 = tt; not-26 = tt }
 orders-silent (some f) c p = record { not-0 = tt; not-26 = tt }
 
-pub clear-silent : (fs : Option (List ℕ)) (c : Case) (p : Plan) → Silent (clearRows fs c p)
+pub clear-silent : (fs : Option (List ℕ)) (c : Case) (p : Plan) → Silent (clearCauses fs c p)
 unfolding lacks
 clear-silent none c p = record { not-0 = tt; not-26 = tt }
 clear-silent (some f) c p = record { not-0 = tt; not-26 = tt }
 
 -- A STAGE'S ANSWER: the verdict of rows that refuse, and what holds where they pass
-pub answers : (rows : List Row) {o : Outcome} {v : Outcome} → v ≡ o → refusal rows ≡ some o → v ≡ answer (refusal rows)
+pub answers : (rows : List Cause) {o : Outcome} {v : Outcome} → v ≡ o → refusal rows ≡ some o → v ≡ answer (refusal rows)
 answers rows e q = e ∙ sym (ap answer q)
 
 pub never-0 : {X : Type 0} {v : Outcome} (n k : ℕ) → v ≡ verdict n k → 0 < n → v .number ≡ 0 → X
@@ -189,18 +189,18 @@ linkAnswer false true o = verdict 27 0
 linkAnswer false false (some l) = verdict 23 l
 linkAnswer false false none = verdict 0 0
 
-pub links-answer : (c : Case) (p : Plan) → answer (refusal (linkRows c p)) ≡ linkAnswer (not (isZero (netSum c p))) (noLink c && over 0 (p .share)) (failing (overusedLink c p))
+pub links-answer : (c : Case) (p : Plan) → answer (refusal (linkCauses c p)) ≡ linkAnswer (not (isZero (netSum c p))) (noLink c && p .share over 0) (failing (overusedLink c p))
 unfolding refusal firstBelow
-links-answer c p = by (not (isZero (netSum c p))) (noLink c && over 0 (p .share)) (failing (overusedLink c p))
+links-answer c p = by (not (isZero (netSum c p))) (noLink c && p .share over 0) (failing (overusedLink c p))
   where
-    by : (a b : Bool) (o : Option ℕ) → answer (rowElse (once 22 a) (failing (once 22 a)) (rowElse (once 27 b) (failing (once 27 b)) (rowElse (overusedLink c p) o none))) ≡ linkAnswer a b o
+    by : (a b : Bool) (o : Option ℕ) → answer (causeElse (once 22 a) (failing (once 22 a)) (causeElse (once 27 b) (failing (once 27 b)) (causeElse (overusedLink c p) o none))) ≡ linkAnswer a b o
     by true b o = refl
     by false true o = refl
     by false false (some l) = refl
     by false false none = refl
 
-pub links-pass : (c : Case) (p : Plan) → (answer (refusal (linkRows c p))) .number ≡ 0 → failing (overusedLink c p) ≡ none
-links-pass c p e = by (not (isZero (netSum c p))) (noLink c && over 0 (p .share)) (failing (overusedLink c p)) (sym (ap (λ (o : Outcome). o .number) (links-answer c p)) ∙ e)
+pub links-pass : (c : Case) (p : Plan) → (answer (refusal (linkCauses c p))) .number ≡ 0 → failing (overusedLink c p) ≡ none
+links-pass c p e = by (not (isZero (netSum c p))) (noLink c && p .share over 0) (failing (overusedLink c p)) (sym (ap (λ (o : Outcome). o .number) (links-answer c p)) ∙ e)
   where
     by : (a b : Bool) (o : Option ℕ) → (linkAnswer a b o) .number ≡ 0 → o ≡ none
     by true b o e = absurd (omega (arith, e))

@@ -11,9 +11,9 @@ use Rattle.base_integers.specs.Meaning.Machine.{SumsFit}
 use Rattle.base_integers.specs.Steps.Machine.{step, step-fits}
 use Rattle.base_measures.specs.Meaning.Limits as limits
 use Rattle.base_measures.specs.Steps.Held.{grains-outside, grains-held}
-use Rattle.base_causes.specs.Meaning.Rows.{firstBelow}
-use Rattle.base_causes.specs.Promised.RowLaws.{first-here, first-later, first-nowhere}
-use Rattle.judge_clearing.specs.Meaning.Held.{tenthsAt}
+use Rattle.base_causes.specs.Meaning.Causes.{firstBelow}
+use Rattle.base_causes.specs.Promised.CauseLaws.{first-here, first-later, first-nowhere}
+use Rattle.judge_clearing.specs.Meaning.TenthsHold.{tenthsAt}
 use Rattle.judge_network.specs.Meaning.Prices.{grainsAt}
 use Rattle.judge_totals.proofs.zone_sums.Statement.{statement}
 use Rattle.judge_totals.proofs.zone_sums.Tie as tie

@@ -9,8 +9,8 @@ use Rattle.base_integers.specs.Meaning.Machine.{SumsFit}
 use Rattle.base_measures.specs.Meaning.Limits as limits
 use Rattle.base_measures.specs.declared.Tenths.{Tenths}
 use Rattle.base_measures.specs.declared.Grains.{Grains}
-use Rattle.base_causes.specs.Meaning.Rows.{firstBelow}
-use Rattle.judge_clearing.specs.Meaning.Held.{tenthsAt}
+use Rattle.base_causes.specs.Meaning.Causes.{firstBelow}
+use Rattle.judge_clearing.specs.Meaning.TenthsHold.{tenthsAt}
 use Rattle.judge_network.specs.Meaning.Prices.{grainsAt}
 
 -- of the first n zones, where none of their prices lies outside its limits

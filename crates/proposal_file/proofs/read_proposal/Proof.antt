@@ -1,11 +1,11 @@
 -- `proposal_file::read_proposal` meets its contract: row 9 by the walk over the header, the others by its fields. Assumes nothing.
 use mathlib.Core.Path.{sym, ap, _∙_}
 use borrow.Author.Needs.{needs}
-use Rattle.base_causes.specs.Promised.RowLaws.{field-fails, behind}
+use Rattle.base_causes.specs.Promised.CauseLaws.{field-fails, behind}
 use Rattle.proposal_file.specs.declared.ProposalAnswer.the-variants.{Refused}
 use Rattle.proposal_file.specs.Meaning.Answer.{openingOf, proposalBy}
 use Rattle.proposal_file.specs.Steps.Answer.{header-taken, header-refused}
-use Rattle.proposal_file.specs.Steps.Proposed.{rowsOf, rows-are}
+use Rattle.proposal_file.specs.Steps.ProposalValid.{rowsOf, rows-are}
 use Rattle.proposal_file.proofs.read_proposal.Statement.{statement}
 use Rattle.proposal_file.proofs.read_proposal.Tie as tie
 

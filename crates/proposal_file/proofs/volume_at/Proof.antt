@@ -4,7 +4,7 @@ use native.Mathlib.Omega.{arith}
 use borrow.Author.Needs.{needs}
 use lib.IntN.{pos}
 use Rattle.rules.specs.Meaning.Layout.{volumeIn}
-use Rattle.proposal_file.specs.Steps.Proposed.{number-inside}
+use Rattle.proposal_file.specs.Steps.ProposalValid.{number-inside}
 use Rattle.proposal_file.proofs.volume_at.Statement.{statement}
 use Rattle.proposal_file.proofs.volume_at.Tie as tie
 

@@ -5,8 +5,8 @@ use native.Mathlib.Omega.{arith}
 use borrow.Author.Needs.{needs}
 use Rattle.bytes_read.specs.declared.Cursor.{Cursor}
 use Rattle.bytes_read.specs.Steps.Walked.{never-refused, past-is}
-use Rattle.case_header.specs.Steps.Opened.{headed, limited}
-use Rattle.proposal_file.specs.Steps.Proposed.{length-is, shadow-at, small}
+use Rattle.case_header.specs.Steps.CaseReadable.{headed, limited}
+use Rattle.proposal_file.specs.Steps.ProposalValid.{length-is, shadow-at, small}
 use Rattle.proposal_file.proofs.walk_parts.Statement.{statement}
 use Rattle.proposal_file.proofs.walk_parts.Tie as tie
 

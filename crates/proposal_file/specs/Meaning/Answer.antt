@@ -7,21 +7,21 @@ use lib.ListN.{length}
 use lib.IntN.{pos}
 use Rattle.rules.specs.Meaning.Layout.{proposalHeader, proposalVersion, shareIn, systemIn}
 use Rattle.base_causes.specs.declared.Outcome.{Outcome}
-use Rattle.base_causes.specs.Meaning.Rows.{verdict}
-use Rattle.rules.specs.Meaning.Verdict.{under, proposalRefusal}
+use Rattle.base_causes.specs.Meaning.Causes.{verdict}
+use Rattle.rules.specs.Meaning.Verdict.{_under_, proposalRefusal}
 use Rattle.bytes_read.specs.Meaning.Field.{cursor, markAt}
-use Rattle.proposal_file.specs.declared.Opening.{Opening}
+use Rattle.proposal_file.specs.declared.ProposalOpening.{ProposalOpening}
 use Rattle.proposal_file.specs.declared.Header.{Header}
 use Rattle.proposal_file.specs.declared.HeaderField.{HeaderField}
 use Rattle.proposal_file.specs.declared.HeaderField.the-variants as taken
 use Rattle.proposal_file.specs.declared.ProposalAnswer.{ProposalAnswer}
 use Rattle.proposal_file.specs.declared.ProposalAnswer.the-variants as answer
 
-abbrev pub openingOf : List ℕ → Opening
+abbrev pub openingOf : List ℕ → ProposalOpening
 openingOf t = record { share = record { 0 = pos (shareIn t) }; system = record { 0 = systemIn t } }
 
 -- ROWS 9 TO 14
-abbrev pub proposalBy : Opening → Option Outcome → ProposalAnswer
+abbrev pub proposalBy : ProposalOpening → Option Outcome → ProposalAnswer
 proposalBy p (some o) = answer.Refused o
 proposalBy p none = answer.Sound p
 
@@ -38,4 +38,4 @@ takenBy h true = taken.Refused (verdict 9 0)
 takenBy h false = taken.Taken h
 
 abbrev pub headerTaken : List ℕ → HeaderField
-headerTaken t = takenBy (headerIn t) (under proposalHeader (length t))
+headerTaken t = takenBy (headerIn t) (length t under proposalHeader)

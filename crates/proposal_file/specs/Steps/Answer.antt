@@ -14,24 +14,24 @@ use Rattle.base_integers.specs.Meaning.Ranges.{outside}
 use Rattle.base_measures.specs.Meaning.Limits as limits
 use Rattle.rules.specs.Meaning.Layout.{proposalHeader}
 use Rattle.base_causes.specs.declared.Outcome.{Outcome}
-use Rattle.base_causes.specs.Meaning.Rows.{verdict}
-use Rattle.rules.specs.Meaning.Verdict.{under}
+use Rattle.base_causes.specs.Meaning.Causes.{verdict}
+use Rattle.rules.specs.Meaning.Verdict.{_under_}
 use Rattle.proposal_file.specs.declared.Header.{Header}
 use Rattle.proposal_file.specs.declared.HeaderField.the-variants as taken
 use Rattle.proposal_file.specs.Meaning.Answer.{headerIn, takenBy, headerTaken}
 
 -- A HEADER READ BACK: taken where row 9 passes
 pub header-taken : (t : List ℕ) {h : Header} → headerTaken t ≡ taken.Taken h → (proposalHeader ≤ length t) × (h ≡ headerIn t)
-header-taken t {h} e = by (under proposalHeader (length t)) refl e
+header-taken t {h} e = by (length t under proposalHeader) refl e
   where
-    by : (b : Bool) → under proposalHeader (length t) ≡ b → takenBy (headerIn t) b ≡ taken.Taken h → (proposalHeader ≤ length t) × (h ≡ headerIn t)
+    by : (b : Bool) → length t under proposalHeader ≡ b → takenBy (headerIn t) b ≡ taken.Taken h → (proposalHeader ≤ length t) × (h ≡ headerIn t)
     by true q e = (ltb-false (length t) proposalHeader cc, cc)
     by false q e = (ltb-false (length t) proposalHeader q, cc)
 
-pub header-refused : (t : List ℕ) {r : Outcome} → headerTaken t ≡ taken.Refused r → (under proposalHeader (length t) ≡ true) × (r ≡ verdict 9 0)
-header-refused t {r} e = by (under proposalHeader (length t)) refl e
+pub header-refused : (t : List ℕ) {r : Outcome} → headerTaken t ≡ taken.Refused r → (length t under proposalHeader ≡ true) × (r ≡ verdict 9 0)
+header-refused t {r} e = by (length t under proposalHeader) refl e
   where
-    by : (b : Bool) → under proposalHeader (length t) ≡ b → takenBy (headerIn t) b ≡ taken.Refused r → (under proposalHeader (length t) ≡ true) × (r ≡ verdict 9 0)
+    by : (b : Bool) → length t under proposalHeader ≡ b → takenBy (headerIn t) b ≡ taken.Refused r → (length t under proposalHeader ≡ true) × (r ≡ verdict 9 0)
     by true q e = (q, cc)
     by false q e = (cc, cc)
 

@@ -9,8 +9,8 @@ use lib.Dec.{ltb}
 use lib.ListN.{length, getD, take, drop, set, replicate}
 use lib.Seq.{paste}
 use Rattle.base_causes.specs.declared.Outcome.{Outcome}
-use Rattle.base_causes.specs.Meaning.Rows.{refusal}
-use Rattle.queue_turns.specs.Meaning.Queue.{Queue, Pair, among, postRows, next}
+use Rattle.base_causes.specs.Meaning.Causes.{refusal}
+use Rattle.queue_turns.specs.Meaning.Queue.{Queue, Pair, among, postCauses, next}
 use Rattle.queue_turns.specs.Meaning.Runs.{Event, post, serve}
 
 -- the hours that stand in some cells, the first cell first: a cell counts where it is from 1 to 25 and its hour does not stand in one before it
@@ -51,7 +51,7 @@ bytesUnless (some o) a h bytes = bytes
 bytesUnless none a h bytes = withHours bytes a (hoursAt bytes a ++ (h ∷ []))
 
 unfoldable pub bytesAfterPost : ℕ → ℕ → List ℕ → List ℕ
-bytesAfterPost a h bytes = bytesUnless (refusal (postRows a h (queueOf bytes))) a h bytes
+bytesAfterPost a h bytes = bytesUnless (refusal (postCauses a h (queueOf bytes))) a h bytes
 
 -- after a serve the cells of the area served, and the turn; none where it finds nothing
 abbrev pub bytesWithout : Option Pair → List ℕ → List ℕ

@@ -10,11 +10,11 @@ use native.Mathlib.Omega.{arith}
 use lib.ListN.{length, getD, drop, set}
 use lib.Seq.{paste}
 use Rattle.base_causes.specs.declared.Outcome.{Outcome}
-use Rattle.base_causes.specs.Meaning.Rows.{verdict, refusal, answer}
+use Rattle.base_causes.specs.Meaning.Causes.{verdict, refusal, answer}
 use Rattle.queue_bytes.specs.declared.Waiting.{Waiting}
 use Rattle.queue_bytes.specs.declared.AfterPost.{AfterPost}
 use Rattle.queue_bytes.specs.declared.AfterServe.{AfterServe}
-use Rattle.queue_turns.specs.Meaning.Queue.{Pair, pair, among, postRows, postNumber, next, ServeAnswer, serveAnswer}
+use Rattle.queue_turns.specs.Meaning.Queue.{Pair, pair, among, postCauses, postNumber, next, ServeAnswer, serveAnswer}
 use Rattle.queue_turns.specs.Steps.Invariant.{Hours, also, Taken, Refused, posting, at-most-25, Heads, next-heads, refused-61, refused-62, refused-63, not-refused, number-by, answerBy, answer-by}
 use Rattle.queue_bytes.specs.Meaning.Bytes.{cellsOf, hoursAt, queueOf, withHours, bytesUnless, bytesAfterPost, bytesWithout, bytesAfterServe}
 use Rattle.queue_bytes.specs.Steps.ReadBack.{good-bytes}
@@ -25,7 +25,7 @@ use Rattle.queue_bytes.specs.Steps.Walks.{areaOf}
 -- ---- posts
 
 module _ (a h : ℕ) (b : List ℕ) where
-  bytes-by : (o : Option Outcome) → refusal (postRows a h (queueOf b)) ≡ o → bytesUnless o a h b ≡ bytesAfterPost a h b
+  bytes-by : (o : Option Outcome) → refusal (postCauses a h (queueOf b)) ≡ o → bytesUnless o a h b ≡ bytesAfterPost a h b
   unfolding bytesAfterPost
   bytes-by o e = sym (ap (λ (x : Option Outcome). bytesUnless x a h b) e)
 
@@ -36,7 +36,7 @@ module _ (a h : ℕ) (b : List ℕ) where
     pub size : length b ≡ 101
 
   module _ (size : length b ≡ 101) where
-    post-by : (n : ℕ) (o : Option Outcome) {after : List ℕ} → refusal (postRows a h (queueOf b)) ≡ o → (answer o) .number ≡ n → after ≡ bytesUnless o a h b → PostStep (record { number = n; bytes = after })
+    post-by : (n : ℕ) (o : Option Outcome) {after : List ℕ} → refusal (postCauses a h (queueOf b)) ≡ o → (answer o) .number ≡ n → after ≡ bytesUnless o a h b → PostStep (record { number = n; bytes = after })
     post-by n o e f g = record { number-is = sym f ∙ sym (number-by a h (queueOf b) o e); bytes-are = g ∙ bytes-by o e; size = size }
 
     pub post-61 : 3 < a → PostStep (record { number = 61; bytes = b })

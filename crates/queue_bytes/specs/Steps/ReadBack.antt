@@ -12,8 +12,8 @@ use lib.Dec.{eqb, ltb}
 use lib.ListN.{length, getD, take, drop, set, replicate, length-append, length-drop, length-set, length-replicate, getD-replicate, List·getD-append}
 use lib.Seq.{paste, length-paste, getD-append-add, getD-take, getD-drop, getD-set-other, getD-set-same, ext-getD, length-take-le}
 use Rattle.base_causes.specs.declared.Outcome.{Outcome}
-use Rattle.base_causes.specs.Meaning.Rows.{refusal}
-use Rattle.queue_turns.specs.Meaning.Queue.{empty, Pair, among, put, postRows, taken, afterPost, next, without, afterServe}
+use Rattle.base_causes.specs.Meaning.Causes.{refusal}
+use Rattle.queue_turns.specs.Meaning.Queue.{empty, Pair, among, put, postCauses, taken, afterPost, next, without, afterServe}
 use Rattle.queue_turns.specs.Steps.Invariant.{Hours, nothing, also, Good, Taken, Refused, posting, hours-more, hours-less, at-most-25, or-parts, next-heads, put-here, put-other}
 use Rattle.queue_bytes.specs.Meaning.Bytes.{isNew, keep, keepAll, hoursIn, cellsOf, cellsAt, hoursAt, queueOf, withHours, bytesUnless, bytesAfterPost, bytesWithout, bytesAfterServe}
 
@@ -263,7 +263,7 @@ pub post-means : (a h : ℕ) (b : List ℕ) → length b ≡ 101 → queueOf (by
 unfolding bytesAfterPost
 post-means a h b len = ⊎-elim now-waits unchanged (posting a h (queueOf b))
   where
-    bytes-by : (o : Option Outcome) → refusal (postRows a h (queueOf b)) ≡ o → queueOf (bytesAfterPost a h b) ≡ queueOf (bytesUnless o a h b)
+    bytes-by : (o : Option Outcome) → refusal (postCauses a h (queueOf b)) ≡ o → queueOf (bytesAfterPost a h b) ≡ queueOf (bytesUnless o a h b)
     bytes-by o e = ap (λ (x : Option Outcome). queueOf (bytesUnless x a h b)) e
 
     unchanged : Refused a h (queueOf b) → queueOf (bytesAfterPost a h b) ≡ afterPost a h (queueOf b)

@@ -5,7 +5,7 @@ use mathlib.Core.Option.{Option, none, some}
 use Prim.Native.Nat.{ℕ, zero, suc, _+_, _%_}
 use lib.Dec.{eqb, ltb}
 use Rattle.base_causes.specs.declared.Outcome.{Outcome}
-use Rattle.base_causes.specs.Meaning.Rows.{Row, once, refusal, answer}
+use Rattle.base_causes.specs.Meaning.Causes.{Cause, once, refusal, answer}
 
 -- the hours that wait in each area, the earliest posted first; and the area whose turn it is: the one after the area last served, 0 before any was served
 pub record Queue : Type 0 where
@@ -25,11 +25,11 @@ abbrev pub put : ℕ → List ℕ → (ℕ → List ℕ) → ℕ → List ℕ
 put a hours w b = cond (eqb b a) hours (w b)
 
 -- A POST of an area and an hour: "61 when the area is over 3, 62 when the hour is over 24, 63 when that area has it waiting already", in that order
-unfoldable pub postRows : ℕ → ℕ → Queue → List Row
-postRows a h q = once 61 (ltb 3 a) ∷ once 62 (ltb 24 h) ∷ once 63 (among h (q .waiting a)) ∷ []
+unfoldable pub postCauses : ℕ → ℕ → Queue → List Cause
+postCauses a h q = once 61 (ltb 3 a) ∷ once 62 (ltb 24 h) ∷ once 63 (among h (q .waiting a)) ∷ []
 
 unfoldable pub postNumber : ℕ → ℕ → Queue → ℕ
-postNumber a h q = (answer (refusal (postRows a h q))) .number
+postNumber a h q = (answer (refusal (postCauses a h q))) .number
 
 -- an hour that is taken waits behind those that its area has waiting; a refused one leaves "the queue unchanged"
 abbrev pub taken : ℕ → ℕ → Queue → Queue
@@ -40,7 +40,7 @@ takenUnless (some o) a h q = q
 takenUnless none a h q = taken a h q
 
 unfoldable pub afterPost : ℕ → ℕ → Queue → Queue
-afterPost a h q = takenUnless (refusal (postRows a h q)) a h q
+afterPost a h q = takenUnless (refusal (postCauses a h q)) a h q
 
 -- n areas in turn, from area t on
 unfoldable pub inTurn : ℕ → ℕ → List ℕ
@@ -72,8 +72,8 @@ abbrev pub isNone : Option Pair → Bool
 isNone none = true
 isNone (some p) = false
 
-unfoldable pub serveRows : Queue → List Row
-serveRows q = once 64 (isNone (next q)) ∷ []
+unfoldable pub serveCauses : Queue → List Cause
+serveCauses q = once 64 (isNone (next q)) ∷ []
 
 -- number and index, and the area and hour served; zeros where nothing is
 pub record ServeAnswer : Type 0 where
@@ -90,7 +90,7 @@ abbrev pub answerWith : Outcome → Pair → ServeAnswer
 answerWith o p = record { number = o .number; index = o .index; area = p .area; hour = p .hour }
 
 unfoldable pub serveAnswer : Queue → ServeAnswer
-serveAnswer q = answerWith (answer (refusal (serveRows q))) (pairElse (next q))
+serveAnswer q = answerWith (answer (refusal (serveCauses q))) (pairElse (next q))
 
 -- a served hour waits no more, and the next area has its turn; a serve that finds nothing leaves "the queue unchanged"
 abbrev pub without : Option Pair → Queue → Queue

@@ -10,23 +10,23 @@ use native.Mathlib.Omega.{arith}
 use lib.Dec.{T}
 use lib.ListN.{getD}
 use Rattle.base_causes.specs.Promised.Asked.{unnamed, ask, Asks}
-use Rattle.base_causes.specs.Meaning.Rows.{Row, verdict, refusal, answer}
-use Rattle.base_causes.specs.Promised.RowLaws.{empty, Answered, answered, Soonest, soonest, lacks}
-use Rattle.queue_turns.specs.Meaning.Queue.{Queue, among, postRows, postNumber, afterPost, Pair, next, serveRows, serveAnswer, afterServe}
+use Rattle.base_causes.specs.Meaning.Causes.{Cause, verdict, refusal, answer}
+use Rattle.base_causes.specs.Promised.CauseLaws.{empty, Answered, answered, Soonest, soonest, lacks}
+use Rattle.queue_turns.specs.Meaning.Queue.{Queue, among, postCauses, postNumber, afterPost, Pair, next, serveCauses, serveAnswer, afterServe}
 use Rattle.queue_turns.specs.Steps.Invariant.{Taken, Refused, posting, refused-61, refused-62, refused-63, not-refused, number-by, answer-by, after-next, found-none}
 
 module _ (a h : ℕ) (q : Queue) where
-  abbrev rows : List Row
-  rows = postRows a h q
+  abbrev rows : List Cause
+  rows = postCauses a h q
 
   -- 61, 62, 63, in this order, none with an index
   pub post-order : Asks rows (ask 61 unnamed ∷ ask 62 unnamed ∷ ask 63 unnamed ∷ [])
-  unfolding postRows
+  unfolding postCauses
   post-order = (refl, (λ k. refl, (refl, (λ k. refl, (refl, (λ k. refl, tt))))))
 
   -- 0 if and only if no row fails, else the first that fails and no other
   pub post-answers : Answered rows (answer (refusal rows))
-  unfolding postRows lacks
+  unfolding postCauses lacks
   post-answers = answered rows tt
 
   -- a cause that holds, in row j, is not asked before the answer's
@@ -54,13 +54,13 @@ module _ (a h : ℕ) (q : Queue) where
       never e = omega arith
 
 module _ (q : Queue) where
-  pub serve-order : Asks (serveRows q) (ask 64 unnamed ∷ [])
-  unfolding serveRows
+  pub serve-order : Asks (serveCauses q) (ask 64 unnamed ∷ [])
+  unfolding serveCauses
   serve-order = (refl, (λ k. refl, tt))
 
-  pub serve-answers : Answered (serveRows q) (verdict (serveAnswer q .number) (serveAnswer q .index))
-  unfolding serveAnswer serveRows lacks
-  serve-answers = answered (serveRows q) tt
+  pub serve-answers : Answered (serveCauses q) (verdict (serveAnswer q .number) (serveAnswer q .index))
+  unfolding serveAnswer serveCauses lacks
+  serve-answers = answered (serveCauses q) tt
 
   -- what a serve finds is what it answers
   pub serve-finds : (p : Pair) → next q ≡ some p → serveAnswer q ≡ record { number = 0; index = 0; area = p .area; hour = p .hour }

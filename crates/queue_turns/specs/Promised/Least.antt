@@ -9,8 +9,8 @@ use native.Mathlib.Omega.{arith}
 use lib.Dec.{T, eqb}
 use lib.ListN.{length, getD, replicate}
 use Rattle.base_integers.specs.Steps.Ranges.{or-left, or-right}
-use Rattle.base_causes.specs.Meaning.Rows.{refusal, firstBelow}
-use Rattle.queue_turns.specs.Meaning.Queue.{empty, among, Pair, pair, postRows, postNumber, afterPost, inTurn, firstWaiting, next, afterServe}
+use Rattle.base_causes.specs.Meaning.Causes.{refusal, firstBelow}
+use Rattle.queue_turns.specs.Meaning.Queue.{empty, among, Pair, pair, postCauses, postNumber, afterPost, inTurn, firstWaiting, next, afterServe}
 use Rattle.queue_turns.specs.Meaning.Runs.{Event, post, serve, step, after, servings, ServedWithin, AreaServedWithin}
 
 -- posts of an area, hours 0 to n - 1
@@ -47,11 +47,11 @@ ofArea3 none = false
 ofArea3 (some p) = eqb (p .area) 3
 
 pub area-waits : 0 < length (after (hoursOfEach 1) empty .waiting 3)
-unfolding posts after step afterPost postRows refusal firstBelow among
+unfolding posts after step afterPost postCauses refusal firstBelow among
 area-waits = omega arith
 
 pub area-needs-four : (n : ℕ) → n < 4 → AreaServedWithin n 3 (replicate 4 serve) (after (hoursOfEach 1) empty) → ⊥
-unfolding ofArea3 anyServed posts after step afterPost postRows refusal firstBelow among servings next inTurn firstWaiting afterServe
+unfolding ofArea3 anyServed posts after step afterPost postCauses refusal firstBelow among servings next inTurn firstWaiting afterServe
 area-needs-four n l w =
     let s = w .served in
     any-served 3 (s .place) ofArea3 (servings (replicate 4 serve) (after (hoursOfEach 1) empty)) (omega (arith, s .within)) refl
@@ -63,16 +63,16 @@ lastHour none = false
 lastHour (some p) = eqb (p .area) 3 && eqb (p .hour) 24
 
 pub hour-taken : postNumber 3 24 (after allButOne empty) ≡ 0
-unfolding postNumber posts after step afterPost postRows refusal firstBelow among
+unfolding postNumber posts after step afterPost postCauses refusal firstBelow among
 hour-taken = refl
 
 pub hour-needs-hundred : (n : ℕ) → n < 100 → ServedWithin n (pair 3 24) (replicate 100 serve) (step (post 3 24) (after allButOne empty)) → ⊥
-unfolding lastHour anyServed posts after step afterPost postRows refusal firstBelow among servings next inTurn firstWaiting afterServe
+unfolding lastHour anyServed posts after step afterPost postCauses refusal firstBelow among servings next inTurn firstWaiting afterServe
 hour-needs-hundred n l s =
     any-served 99 (s .place) lastHour (servings (replicate 100 serve) (step (post 3 24) (after allButOne empty))) (omega (arith, s .within)) refl
     (subst (λ (o : Option Pair). T (lastHour o)) (sym (s .serving)) tt)
 
 -- 25 HOURS WAIT: all of a long day in each area
 pub twenty-five-wait : (length (after (hoursOfEach 25) empty .waiting 0) ≡ 25) × (length (after (hoursOfEach 25) empty .waiting 3) ≡ 25)
-unfolding posts after step afterPost postRows refusal firstBelow among
+unfolding posts after step afterPost postCauses refusal firstBelow among
 twenty-five-wait = (refl, refl)

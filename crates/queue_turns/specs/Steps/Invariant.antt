@@ -14,9 +14,9 @@ use lib.ListN.{length, length-append}
 use Rattle.base_integers.specs.Meaning.NaturalSums.{sumNat, only}
 use Rattle.base_integers.specs.Steps.NaturalSums.{sum-zero, sum-one, sum-bound, only-le}
 use Rattle.base_causes.specs.declared.Outcome.{Outcome}
-use Rattle.base_causes.specs.Meaning.Rows.{verdict, refusal, answer}
-use Rattle.base_causes.specs.Promised.RowLaws.{field-passes, field-fails}
-use Rattle.queue_turns.specs.Meaning.Queue.{Queue, empty, among, put, postRows, postNumber, taken, takenUnless, afterPost, Pair, pair, inTurn, firstWaiting, earliestElse, next, isNone, serveRows, ServeAnswer, pairElse, answerWith, serveAnswer, without, afterServe}
+use Rattle.base_causes.specs.Meaning.Causes.{verdict, refusal, answer}
+use Rattle.base_causes.specs.Promised.CauseLaws.{field-passes, field-fails}
+use Rattle.queue_turns.specs.Meaning.Queue.{Queue, empty, among, put, postCauses, postNumber, taken, takenUnless, afterPost, Pair, pair, inTurn, firstWaiting, earliestElse, next, isNone, serveCauses, ServeAnswer, pairElse, answerWith, serveAnswer, without, afterServe}
 use Rattle.queue_turns.specs.Meaning.Runs.{Event, post, serve, step, after}
 
 -- hours from 0 to 24, none twice
@@ -82,29 +82,29 @@ unfolding refusal
 row-end = refl
 
 module _ (a h : ℕ) (q : Queue) where
-  pub refused-61 : 3 < a → refusal (postRows a h q) ≡ some (verdict 61 0)
-  unfolding postRows
+  pub refused-61 : 3 < a → refusal (postCauses a h q) ≡ some (verdict 61 0)
+  unfolding postCauses
   refused-61 p = field-fails 61 0 _ (lt-ltb _ a (omega arith))
 
-  pub refused-62 : a ≤ 3 → 24 < h → refusal (postRows a h q) ≡ some (verdict 62 0)
-  unfolding postRows
+  pub refused-62 : a ≤ 3 → 24 < h → refusal (postCauses a h q) ≡ some (verdict 62 0)
+  unfolding postCauses
   refused-62 p r = field-passes 61 0 _ (le-ltb _ a (omega arith)) ∙ field-fails 62 0 _ (lt-ltb _ h (omega arith))
 
-  pub refused-63 : a ≤ 3 → h ≤ 24 → among h (q .waiting a) ≡ true → refusal (postRows a h q) ≡ some (verdict 63 0)
-  unfolding postRows
+  pub refused-63 : a ≤ 3 → h ≤ 24 → among h (q .waiting a) ≡ true → refusal (postCauses a h q) ≡ some (verdict 63 0)
+  unfolding postCauses
   refused-63 p r s = field-passes 61 0 _ (le-ltb _ a (omega arith)) ∙ field-passes 62 0 _ (le-ltb _ h (omega arith)) ∙ field-fails 63 0 _ s
 
-  pub not-refused : a ≤ 3 → h ≤ 24 → among h (q .waiting a) ≡ false → refusal (postRows a h q) ≡ none
-  unfolding postRows
+  pub not-refused : a ≤ 3 → h ≤ 24 → among h (q .waiting a) ≡ false → refusal (postCauses a h q) ≡ none
+  unfolding postCauses
   not-refused p r s = field-passes 61 0 _ (le-ltb _ a (omega arith)) ∙ field-passes 62 0 _ (le-ltb _ h (omega arith)) ∙ field-passes 63 0 _ s ∙ row-end
 
   -- the number of a post by its refusal
-  pub number-by : (o : Option Outcome) → refusal (postRows a h q) ≡ o → postNumber a h q ≡ (answer o) .number
+  pub number-by : (o : Option Outcome) → refusal (postCauses a h q) ≡ o → postNumber a h q ≡ (answer o) .number
   unfolding postNumber
   number-by o e = ap (λ (x : Option Outcome). (answer x) .number) e
 
   -- and what it leaves
-  pub after-by : (o : Option Outcome) → refusal (postRows a h q) ≡ o → afterPost a h q ≡ takenUnless o a h q
+  pub after-by : (o : Option Outcome) → refusal (postCauses a h q) ≡ o → afterPost a h q ≡ takenUnless o a h q
   unfolding afterPost
   after-by o e = ap (λ (x : Option Outcome). takenUnless x a h q) e
 
@@ -113,20 +113,20 @@ pub record Taken (a h : ℕ) (q : Queue) : Type 0 where
   pub area-in : a < 4
   pub hour-in : h ≤ 24
   pub new : among h (q .waiting a) ≡ false
-  pub passes : refusal (postRows a h q) ≡ none
+  pub passes : refusal (postCauses a h q) ≡ none
   pub number-is : postNumber a h q ≡ 0
   pub leaves : afterPost a h q ≡ taken a h q
 
 pub record Refused (a h : ℕ) (q : Queue) : Type 0 where
   pub outcome : Outcome
-  pub by-row : refusal (postRows a h q) ≡ some outcome
+  pub by-row : refusal (postCauses a h q) ≡ some outcome
   pub some-number : 0 < postNumber a h q
   pub unchanged : afterPost a h q ≡ q
 
 pub posting : (a h : ℕ) (q : Queue) → Taken a h q ⊎ Refused a h q
 posting a h q = by (decLt 3 a) (decLt 24 h) (among h (q .waiting a)) refl
   where
-    refused : (n : ℕ) → 0 < n → refusal (postRows a h q) ≡ some (verdict n 0) → Refused a h q
+    refused : (n : ℕ) → 0 < n → refusal (postCauses a h q) ≡ some (verdict n 0) → Refused a h q
     refused n pos e = record { outcome = verdict n 0; by-row = e; some-number = omega (arith, number-by a h q (some (verdict n 0)) e); unchanged = after-by a h q (some (verdict n 0)) e }
 
     by : Dec (3 < a) → Dec (24 < h) → (z : Bool) → among h (q .waiting a) ≡ z → Taken a h q ⊎ Refused a h q
@@ -173,7 +173,7 @@ answerBy none = record { number = 64; index = 0; area = 0; hour = 0 }
 answerBy (some p) = record { number = 0; index = 0; area = p .area; hour = p .hour }
 
 pub answer-by : (q : Queue) (o : Option Pair) → next q ≡ o → serveAnswer q ≡ answerBy o
-unfolding serveAnswer serveRows
+unfolding serveAnswer serveCauses
 answer-by q none e =
     ap (λ (x : Option Outcome). answerWith (answer x) (pairElse (next q))) (field-fails 64 0 [] (ap isNone e))
     ∙ ap (λ (x : Option Pair). answerWith (verdict 64 0) (pairElse x)) e

@@ -13,7 +13,7 @@ use Rattle.base_measures.specs.Meaning.Limits as limits
 use Rattle.rules.specs.Meaning.Layout.{zoneCounts, orderCounts}
 use Rattle.rules.specs.Meaning.Hour.{surplusOf}
 use Rattle.base_causes.specs.declared.Outcome.{Outcome}
-use Rattle.base_causes.specs.Meaning.Rows.{Row, refusal, field, each}
+use Rattle.base_causes.specs.Meaning.Causes.{Cause, refusal, field, each}
 use Rattle.rules.specs.Meaning.Verdict.{badRow}
 
 pub record BookRow : Type 0 where
@@ -36,8 +36,8 @@ unfoldable pub badBookRow : List BookRow → List ℤ → ℕ → Bool
 badBookRow rows prices i = badRow (length prices) ((rowAt rows i) .zone) ((rowAt rows i) .side) ((rowAt rows i) .quantity) ((rowAt rows i) .price)
 
 -- 4 index 5 for no prices or over 16, 4 index 8 for over 512 rows, then 8 with the row (also after S-2), then 25 with the zone
-unfoldable pub bookRows : List BookRow → List ℤ → List Row
-bookRows rows prices =
+unfoldable pub bookCauses : List BookRow → List ℤ → List Cause
+bookCauses rows prices =
     field 4 5 (outside zoneCounts (pos (length prices)))
     ∷ field 4 8 (outside orderCounts (pos (length rows)))
     ∷ each 8 (length rows) (badBookRow rows prices)
@@ -45,7 +45,7 @@ bookRows rows prices =
     ∷ []
 
 unfoldable pub bookRefusal : List BookRow → List ℤ → Option Outcome
-bookRefusal rows prices = refusal (bookRows rows prices)
+bookRefusal rows prices = refusal (bookCauses rows prices)
 
 -- rule 8 of one row
 unfoldable pub rowSurplus : List BookRow → List ℤ → ℕ → ℤ

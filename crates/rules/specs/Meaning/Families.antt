@@ -7,7 +7,7 @@ use mathlib.Core.List.{List}
 use mathlib.Core.Option.{Option, none, some}
 use Prim.Native.Nat.{ℕ, zero, suc, _+_, _*_, _≤_, _<_}
 use lib.Dec.{eqb, leb}
-use Rattle.base_causes.specs.Meaning.Rows.{anyBelow}
+use Rattle.base_causes.specs.Meaning.Causes.{anyBelow}
 use Rattle.rules.specs.Meaning.Layout.{u16At}
 use Rattle.rules.specs.Meaning.Hour.{Case, Plan, AtMost}
 

@@ -15,16 +15,18 @@ use Rattle.rules.specs.Meaning.Layout.{u8At, caseHeader, caseVersion, ca
 use Rattle.rules.specs.Meaning.Hour.{Case, Plan, Prices, caseOf, planOf, pricesOf, netSum, broken, brokenZ, linkRule, branchRule, zonePrice, noLink, gap}
 use Rattle.rules.specs.Meaning.Families.{familyVersion, familyLength, parentOf, missing, leadsBack, accepted, fractionRule}
 use Rattle.base_causes.specs.declared.Outcome.{Outcome}
-use Rattle.base_causes.specs.Meaning.Rows.{Row, anyBelow, refusal, answer, once, field, each, eachAt, eachField}
+use Rattle.base_causes.specs.Meaning.Causes.{Cause, anyBelow, refusal, answer, once, field, each, eachAt, eachField}
 
-abbrev pub under : ℕ → ℕ → Bool
-under least x = ltb x least
+infix 90 _under_ _over_ _overZ_
 
-abbrev pub over : ℕ → ℕ → Bool
-over greatest x = ltb greatest x
+abbrev pub _under_ : ℕ → ℕ → Bool
+x under least = ltb x least
 
-abbrev pub overZ : ℤ → ℤ → Bool
-overZ greatest x = ltZ greatest x
+abbrev pub _over_ : ℕ → ℕ → Bool
+x over greatest = ltb greatest x
+
+abbrev pub _overZ_ : ℤ → ℤ → Bool
+x overZ greatest = ltZ greatest x
 
 abbrev pub differ : ℕ → ℕ → Bool
 differ x y = not (eqb x y)
@@ -52,12 +54,12 @@ unfoldable pub linkFault : Case → ℕ → ℕ → Bool
 linkFault c l zero = unknown (c .zones) (c .from l) || repeated c l
 linkFault c l (suc zero) = unknown (c .zones) (c .to l) || eqb (c .from l) (c .to l)
 linkFault c l (suc (suc zero)) = outside limits.capacity (pos (c .capacity l))
-linkFault c l (suc (suc (suc n))) = over (c .capacity l) (c .contracted l)
+linkFault c l (suc (suc (suc n))) = c .contracted l over c .capacity l
 
 -- a row of an order book, with n zones: zone, side, quantity, price
 unfoldable pub rowFault : ℕ → ℕ → ℕ → ℕ → ℤ → ℕ → Bool
 rowFault n zone side quantity price zero = unknown n zone
-rowFault n zone side quantity price (suc zero) = over 1 side
+rowFault n zone side quantity price (suc zero) = side over 1
 rowFault n zone side quantity price (suc (suc zero)) = outside limits.quantity (pos quantity)
 rowFault n zone side quantity price (suc (suc (suc k))) = outside limits.orderPrice price
 
@@ -71,94 +73,94 @@ badRow n zone side quantity price = anyBelow orderFields (rowFault n zone side q
 -- THE TABLE, for a case s, a proposal t and a report buffer of `room` bytes; c, p and d are what s and t hold. Beside the case there may be a family list
 -- (S-11): without one the rows 16 to 18 and 28 are not asked. Each row has a name, and the lists of the names are the order in which they are asked.
 -- 30 is asked first of all: report buffer under 176 bytes
-abbrev pub smallBuffer : ℕ → Row
-smallBuffer room = once 30 (under reportRoom room)
+abbrev pub smallBuffer : ℕ → Cause
+smallBuffer room = once 30 (room under reportRoom)
 
-unfoldable pub roomRows : ℕ → List Row
-roomRows room = smallBuffer room ∷ []
+unfoldable pub roomCauses : ℕ → List Cause
+roomCauses room = smallBuffer room ∷ []
 
 -- 1: case shorter than 14 bytes. 2: mark is not LTC. 3: case version is neither 1 nor 2 (S-4)
-abbrev pub shortCase : List ℕ → Row
-shortCase s = once 1 (under caseHeader (length s))
+abbrev pub shortCase : List ℕ → Cause
+shortCase s = once 1 (length s under caseHeader)
 
-abbrev pub wrongCaseMark : List ℕ → Row
+abbrev pub wrongCaseMark : List ℕ → Cause
 wrongCaseMark s = once 2 (notMark 76 84 67 s)
 
-abbrev pub wrongCaseVersion : List ℕ → Row
+abbrev pub wrongCaseVersion : List ℕ → Cause
 wrongCaseVersion s = once 3 (differ (caseVersion s) 1 && differ (caseVersion s) 2)
 
 -- 4: header field outside its range: its offset
-abbrev pub zoneCount : Case → Row
-zoneCount c = field 4 5 (outside zoneCounts (pos (c .zones)))
+abbrev pub badZoneCount : Case → Cause
+badZoneCount c = field 4 5 (outside zoneCounts (pos (c .zones)))
 
-abbrev pub branchCount : Case → Row
-branchCount c = field 4 6 (outside branchCounts (pos (c .branches)))
+abbrev pub badBranchCount : Case → Cause
+badBranchCount c = field 4 6 (outside branchCounts (pos (c .branches)))
 
-abbrev pub linkCount : Case → Row
-linkCount c = field 4 7 (outside linkCounts (pos (c .links)))
+abbrev pub badLinkCount : Case → Cause
+badLinkCount c = field 4 7 (outside linkCounts (pos (c .links)))
 
-abbrev pub orderCount : Case → Row
-orderCount c = field 4 8 (outside orderCounts (pos (c .orders)))
+abbrev pub badOrderCount : Case → Cause
+badOrderCount c = field 4 8 (outside orderCounts (pos (c .orders)))
 
-abbrev pub toleranceField : Case → Row
-toleranceField c = field 4 10 (outside limits.tolerance (pos (c .tolerance)))
+abbrev pub badTolerance : Case → Cause
+badTolerance c = field 4 10 (outside limits.tolerance (pos (c .tolerance)))
 
 -- 5: case length is not what the header demands
-abbrev pub wrongCaseLength : List ℕ → Row
+abbrev pub wrongCaseLength : List ℕ → Cause
 wrongCaseLength s = once 5 (differ (length s) (caseLength s))
 
 -- 6: branch field out of range. 7: link: unknown zone, equal zones, capacity, repeated pair, contracted volume (S-4). 8: order field out of
 -- range. The first such field's offset (S-2)
-abbrev pub branchField : List ℕ → Case → Row
-branchField s c = eachField 6 (c .branches) (1 + c .zones) (branchFault c) (branchFieldAt s)
+abbrev pub badBranchField : List ℕ → Case → Cause
+badBranchField s c = eachField 6 (c .branches) (1 + c .zones) (branchFault c) (branchFieldAt s)
 
-abbrev pub linkField : List ℕ → Case → Row
-linkField s c = eachField 7 (c .links) linkFields (linkFault c) (linkFieldAt s)
+abbrev pub badLinkField : List ℕ → Case → Cause
+badLinkField s c = eachField 7 (c .links) linkFields (linkFault c) (linkFieldAt s)
 
-abbrev pub orderField : List ℕ → Case → Row
-orderField s c = eachField 8 (c .orders) orderFields (orderFault c) (orderFieldAt s)
+abbrev pub badOrderField : List ℕ → Case → Cause
+badOrderField s c = eachField 8 (c .orders) orderFields (orderFault c) (orderFieldAt s)
 
 -- the header's rows, and those of what stands after it
-abbrev pub caseHeaderRows : List ℕ → Case → List Row
-caseHeaderRows s c =
+abbrev pub caseHeaderCauses : List ℕ → Case → List Cause
+caseHeaderCauses s c =
     shortCase s
     ∷ wrongCaseMark s
     ∷ wrongCaseVersion s
-    ∷ zoneCount c
-    ∷ branchCount c
-    ∷ linkCount c
-    ∷ orderCount c
-    ∷ toleranceField c
+    ∷ badZoneCount c
+    ∷ badBranchCount c
+    ∷ badLinkCount c
+    ∷ badOrderCount c
+    ∷ badTolerance c
     ∷ []
 
-abbrev pub caseBodyRows : List ℕ → Case → List Row
-caseBodyRows s c = wrongCaseLength s ∷ branchField s c ∷ linkField s c ∷ orderField s c ∷ []
+abbrev pub caseBodyCauses : List ℕ → Case → List Cause
+caseBodyCauses s c = wrongCaseLength s ∷ badBranchField s c ∷ badLinkField s c ∷ badOrderField s c ∷ []
 
-unfoldable pub caseRows : List ℕ → Case → List Row
-caseRows s c = caseHeaderRows s c ++ caseBodyRows s c
+unfoldable pub caseCauses : List ℕ → Case → List Cause
+caseCauses s c = caseHeaderCauses s c ++ caseBodyCauses s c
 
 -- 9: proposal shorter than 13 bytes. 10: mark is not LTP. 11: proposal version is not 1. 12: proposal length wrong for this case
-abbrev pub shortProposal : List ℕ → Row
-shortProposal t = once 9 (under proposalHeader (length t))
+abbrev pub shortProposal : List ℕ → Cause
+shortProposal t = once 9 (length t under proposalHeader)
 
-abbrev pub wrongProposalMark : List ℕ → Row
+abbrev pub wrongProposalMark : List ℕ → Cause
 wrongProposalMark t = once 10 (notMark 76 84 80 t)
 
-abbrev pub wrongProposalVersion : List ℕ → Row
+abbrev pub wrongProposalVersion : List ℕ → Cause
 wrongProposalVersion t = once 11 (differ (proposalVersion t) 1)
 
-abbrev pub wrongProposalLength : List ℕ → List ℕ → Row
+abbrev pub wrongProposalLength : List ℕ → List ℕ → Cause
 wrongProposalLength s t = once 12 (differ (length t) (proposalLength s))
 
 -- 13: LTA share above 100,000. 14: shadow price above 1,000,000: its offset in the proposal (S-2)
-abbrev pub shareAbove : Plan → Row
+abbrev pub shareAbove : Plan → Cause
 shareAbove p = once 13 (outside limits.share (pos (p .share)))
 
-abbrev pub shadowAbove : List ℕ → Case → Prices → Row
+abbrev pub shadowAbove : List ℕ → Case → Prices → Cause
 shadowAbove s c d = eachAt 14 (c .branches) (λ m. outside limits.shadowPrice (pos (d .shadow m))) (shadowAt s)
 
-unfoldable pub proposalRows : List ℕ → List ℕ → Case → Plan → Prices → List Row
-proposalRows s t c p d =
+unfoldable pub proposalCauses : List ℕ → List ℕ → Case → Plan → Prices → List Cause
+proposalCauses s t c p d =
     shortProposal t
     ∷ wrongProposalMark t
     ∷ wrongProposalVersion t
@@ -168,64 +170,64 @@ proposalRows s t c p d =
     ∷ []
 
 -- 15 (S-12), asked straight after 14: the tolerance is above 10,000 cents
-abbrev pub wideTolerance : Case → Row
+abbrev pub wideTolerance : Case → Cause
 wideTolerance c = once 15 (outside limits.acceptedTolerance (pos (c .tolerance)))
 
 -- ROWS OF A FAMILY LIST f (S-11), asked after 14. 16: mark is not LTF, version is not 1, or length is wrong for this case. 17: a parent does not exist: the
 -- order that names it. 18: an order leads back to itself
-abbrev pub wrongFamilyList : List ℕ → Case → Row
+abbrev pub wrongFamilyList : List ℕ → Case → Cause
 wrongFamilyList f c = once 16 (notMark 76 84 70 f || differ (familyVersion f) 1 || differ (length f) (familyLength (c .orders)))
 
-abbrev pub missingParent : List ℕ → Case → Row
+abbrev pub missingParent : List ℕ → Case → Cause
 missingParent f c = each 17 (c .orders) (λ i. missing (c .orders) (parentOf f i))
 
-abbrev pub ownAncestor : List ℕ → Case → Row
+abbrev pub ownAncestor : List ℕ → Case → Cause
 ownAncestor f c = each 18 (c .orders) (leadsBack (c .orders) (parentOf f))
 
-abbrev pub familyRows : Option (List ℕ) → Case → List Row
-familyRows none c = []
-familyRows (some f) c = wrongFamilyList f c ∷ missingParent f c ∷ ownAncestor f c ∷ []
+abbrev pub familyCauses : Option (List ℕ) → Case → List Cause
+familyCauses none c = []
+familyCauses (some f) c = wrongFamilyList f c ∷ missingParent f c ∷ ownAncestor f c ∷ []
 
 -- 21: volume above the order's quantity
-abbrev pub excessVolume : Case → Plan → Row
-excessVolume c p = each 21 (c .orders) (λ i. over (c .quantity i) (p .volume i))
+abbrev pub excessVolume : Case → Plan → Cause
+excessVolume c p = each 21 (c .orders) (λ i. p .volume i over c .quantity i)
 
 -- 28 (S-11), asked after 21: a child's fraction exceeds its parent's: the child
 abbrev pub exceedsParent : Case → Plan → ℕ → Option ℕ → Bool
 exceedsParent c p child none = false
 exceedsParent c p child (some parent) = broken (fractionRule (accepted c p child) (accepted c p parent))
 
-abbrev pub excessFraction : List ℕ → Case → Plan → Row
+abbrev pub excessFraction : List ℕ → Case → Plan → Cause
 excessFraction f c p = each 28 (c .orders) (λ i. exceedsParent c p i (parentOf f i))
 
-abbrev pub fractionRows : Option (List ℕ) → Case → Plan → List Row
-fractionRows none c p = []
-fractionRows (some f) c p = excessFraction f c p ∷ []
+abbrev pub fractionCauses : Option (List ℕ) → Case → Plan → List Cause
+fractionCauses none c p = []
+fractionCauses (some f) c p = excessFraction f c p ∷ []
 
 -- 22: balance (rule 3) fails. 27, asked between 22 and 23: no link, and the LTA share above 0 (S-6). 23: link rule (4) fails. 24: branch rule (5) fails
-abbrev pub unbalanced : Case → Plan → Row
+abbrev pub unbalanced : Case → Plan → Cause
 unbalanced c p = once 22 (not (isZero (netSum c p)))
 
-abbrev pub shareWithoutLink : Case → Plan → Row
-shareWithoutLink c p = once 27 (noLink c && over 0 (p .share))
+abbrev pub shareWithoutLink : Case → Plan → Cause
+shareWithoutLink c p = once 27 (noLink c && p .share over 0)
 
-abbrev pub overusedLink : Case → Plan → Row
+abbrev pub overusedLink : Case → Plan → Cause
 overusedLink c p = each 23 (c .links) (λ l. broken (linkRule c p l))
 
-abbrev pub overloadedBranch : Case → Plan → Row
+abbrev pub overloadedBranch : Case → Plan → Cause
 overloadedBranch c p = each 24 (c .branches) (λ m. brokenZ (branchRule c p m))
 
 -- 25: zone price under -50,000 or over 400,000 cents
-abbrev pub priceOutside : Case → Prices → Row
+abbrev pub priceOutside : Case → Prices → Cause
 priceOutside c d = each 25 (c .zones) (λ z. outside limits.zonePrice (zonePrice c d z))
 
 -- 26: gap above tolerance (in microcents)
-abbrev pub wideGap : Case → Plan → Prices → Row
-wideGap c p d = once 26 (overZ (limits.microcentsOf (pos (c .tolerance))) (gap c p d))
+abbrev pub wideGap : Case → Plan → Prices → Cause
+wideGap c p d = once 26 (gap c p d overZ (limits.microcentsOf (pos (c .tolerance))))
 
 -- behind the volumes, which 21 and 28 ask
-abbrev pub exchangeRows : Case → Plan → Prices → List Row
-exchangeRows c p d =
+abbrev pub exchangeCauses : Case → Plan → Prices → List Cause
+exchangeCauses c p d =
     unbalanced c p
     ∷ shareWithoutLink c p
     ∷ overusedLink c p
@@ -234,15 +236,15 @@ exchangeRows c p d =
     ∷ wideGap c p d
     ∷ []
 
-unfoldable pub clearingRows : Option (List ℕ) → Case → Plan → Prices → List Row
-clearingRows fs c p d = excessVolume c p ∷ (fractionRows fs c p ++ exchangeRows c p d)
+unfoldable pub clearingCauses : Option (List ℕ) → Case → Plan → Prices → List Cause
+clearingCauses fs c p d = excessVolume c p ∷ (fractionCauses fs c p ++ exchangeCauses c p d)
 
 -- of files that were read: the tolerance, the family list, the clearing
-abbrev pub judgementRows : Option (List ℕ) → Case → Plan → Prices → List Row
-judgementRows fs c p d = wideTolerance c ∷ (familyRows fs c ++ clearingRows fs c p d)
+abbrev pub judgementCauses : Option (List ℕ) → Case → Plan → Prices → List Cause
+judgementCauses fs c p d = wideTolerance c ∷ (familyCauses fs c ++ clearingCauses fs c p d)
 
-unfoldable pub table : Option (List ℕ) → List ℕ → List ℕ → ℕ → Case → Plan → Prices → List Row
-table fs s t room c p d = roomRows room ++ (caseRows s c ++ (proposalRows s t c p d ++ judgementRows fs c p d))
+unfoldable pub table : Option (List ℕ) → List ℕ → List ℕ → ℕ → Case → Plan → Prices → List Cause
+table fs s t room c p d = roomCauses room ++ (caseCauses s c ++ (proposalCauses s t c p d ++ judgementCauses fs c p d))
 
 -- the judgement's answer, without a family list
 unfoldable pub outcome : List ℕ → List ℕ → ℕ → Outcome
@@ -254,15 +256,15 @@ familyOutcome s t f room = answer (refusal (table (some f) s t room (caseOf s) (
 
 -- READABLE: none of 1 to 8 holds
 unfoldable pub caseRefusal : List ℕ → Option Outcome
-caseRefusal s = refusal (caseRows s (caseOf s))
+caseRefusal s = refusal (caseCauses s (caseOf s))
 
 -- none of 1 to 4: a header whose counts say how long the case is
 unfoldable pub headerRefusal : List ℕ → Option Outcome
-headerRefusal s = refusal (caseHeaderRows s (caseOf s))
+headerRefusal s = refusal (caseHeaderCauses s (caseOf s))
 
 pub record Readable (s : List ℕ) : Type 0 where
   pub none-holds : caseRefusal s ≡ none
 
 -- for a readable case s, the refusal of a proposal t by 9 to 14
 unfoldable pub proposalRefusal : List ℕ → List ℕ → Option Outcome
-proposalRefusal s t = refusal (proposalRows s t (caseOf s) (planOf s t) (pricesOf s t))
+proposalRefusal s t = refusal (proposalCauses s t (caseOf s) (planOf s t) (pricesOf s t))

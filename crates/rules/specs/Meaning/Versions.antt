@@ -8,7 +8,7 @@ use lib.ListN.{take, drop}
 use Rattle.base_integers.specs.Meaning.Bytes.{bytesOf}
 use Rattle.rules.specs.Meaning.Layout.{linksIn, linkAt, orderAt}
 use Rattle.base_causes.specs.declared.Outcome.{Outcome}
-use Rattle.base_causes.specs.Meaning.Rows.{verdict}
+use Rattle.base_causes.specs.Meaning.Causes.{verdict}
 
 -- link l of a case of version 1 with its capacity once more, as its contracted volume; and the first links so
 unfoldable pub contractedLink : List ℕ → ℕ → List ℕ

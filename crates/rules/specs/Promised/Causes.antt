@@ -14,10 +14,10 @@ use Rattle.base_measures.specs.Meaning.Limits as limits
 use Rattle.rules.specs.Meaning.Hour.{Case, Plan, Prices, caseOf, planOf, pricesOf, gap}
 use Rattle.base_causes.specs.declared.Outcome.{Outcome}
 use Rattle.base_causes.specs.Promised.Asked.{unnamed, at-offset, the-place, a-field, Asked, ask, Asks, ascending}
-use Rattle.base_causes.specs.Meaning.Rows.{Row, verdict, refusal, answer, Pass}
-use Rattle.base_causes.specs.Promised.RowLaws.{empty, Answered, answered, Soonest, soonest, lacks, numbersBelow, number-below, isRow, rowOf, hasRow, before, row-passed, later, Comes, past, clear, none-left, once-passes}
-use Rattle.rules.specs.Meaning.Book.{BookRow, bookRows, bookRefusal, bookSurplus, bookAnswer, bookAnswerBy}
-use Rattle.rules.specs.Meaning.Verdict.{overZ, roomRows, caseRows, proposalRows, wideTolerance, clearingRows, table, outcome, familyOutcome}
+use Rattle.base_causes.specs.Meaning.Causes.{Cause, verdict, refusal, answer, Pass}
+use Rattle.base_causes.specs.Promised.CauseLaws.{empty, Answered, answered, Soonest, soonest, lacks, numbersBelow, number-below, isCause, rowOf, hasCause, before, row-passed, later, Comes, past, clear, none-left, once-passes}
+use Rattle.rules.specs.Meaning.Book.{BookRow, bookCauses, bookRefusal, bookSurplus, bookAnswer, bookAnswerBy}
+use Rattle.rules.specs.Meaning.Verdict.{_overZ_, roomCauses, caseCauses, proposalCauses, wideTolerance, clearingCauses, table, outcome, familyOutcome}
 
 -- 30 is asked first of all, then the others from the smallest number, and of one number from the smallest offset; but 27 between 22 and 23 (S-6)
 unfoldable pub asked : List Asked
@@ -69,38 +69,38 @@ unfolding asked
 between-22-and-23 = refl
 
 pub table-order : (s t : List ℕ) (room : ℕ) (c : Case) (p : Plan) (d : Prices) → Asks (table none s t room c p d) asked
-unfolding table roomRows caseRows proposalRows clearingRows asked
+unfolding table roomCauses caseCauses proposalCauses clearingCauses asked
 table-order s t room c p d = (refl, (λ k. refl, (refl, (λ k. refl, (refl, (λ k. refl, (refl, (λ k. refl, (refl, (λ k. refl, (refl, (λ k. refl, (refl, (λ k. refl, (refl, (λ k. refl, (refl, (λ k. refl, (refl, (λ k. refl, (refl, (tt, (refl, (tt, (refl, (tt, (refl, (λ k. refl, (refl, (λ k. refl, (refl, (λ k. refl, (refl, (λ k. refl, (refl, (λ k. refl, (refl, (tt, (refl, (λ k. refl, (refl, (λ k. refl, (refl, (λ k. refl, (refl, (λ k. refl, (refl, (λ k. refl, (refl, (λ k. refl, (refl, (λ k. refl, (refl, (λ k. refl, tt))))))))))))))))))))))))))))))))))))))))))))))))))))))
 
 -- the clearing's rows end in 26 only by its own row: were it to pass, with those before it, nothing would be refused
-by-26 : (c : Case) (p : Plan) (d : Prices) → (answer (refusal (clearingRows none c p d))) .number ≡ 26
-    → (b : Bool) → overZ (limits.microcentsOf (pos (c .tolerance))) (gap c p d) ≡ b → T (overZ (limits.microcentsOf (pos (c .tolerance))) (gap c p d))
-unfolding clearingRows before hasRow rowOf isRow
+by-26 : (c : Case) (p : Plan) (d : Prices) → (answer (refusal (clearingCauses none c p d))) .number ≡ 26
+    → (b : Bool) → gap c p d overZ (limits.microcentsOf (pos (c .tolerance))) ≡ b → T (gap c p d overZ (limits.microcentsOf (pos (c .tolerance))))
+unfolding clearingCauses before hasCause rowOf isCause
 by-26 c p d e true q = subst (λ (b : Bool). T b) (sym q) tt
 by-26 c p d e false q =
-    let rows : Comes (clearingRows none c p d) none =
+    let rows : Comes (clearingCauses none c p d) none =
     past (passed 21 0 tt) (past (passed 22 0 tt) (past (passed 27 0 tt) (past (passed 23 0 tt) (past (passed 24 0 tt) (past (passed 25 0 tt) (clear (once-passes q) none-left)))))) in
     absurd (differ (ap (λ (o : Option Outcome). (answer o) .number) (rows .is)))
   where
-    passed : (i k : ℕ) → T (hasRow i k (before 26 (clearingRows none c p d))) → Pass (rowOf i k (clearingRows none c p d))
-    passed = row-passed 26 (clearingRows none c p d) e
+    passed : (i k : ℕ) → T (hasCause i k (before 26 (clearingCauses none c p d))) → Pass (rowOf i k (clearingCauses none c p d))
+    passed = row-passed 26 (clearingCauses none c p d) e
 
-    differ : (answer (refusal (clearingRows none c p d))) .number ≡ 0 → ⊥
+    differ : (answer (refusal (clearingCauses none c p d))) .number ≡ 0 → ⊥
     differ z = omega (arith, e, z)
 
 -- without a family list and with one: no row has the number 0, and every number is below 256
 no-zero : (fs : Option (List ℕ)) (s t : List ℕ) (room : ℕ) (c : Case) (p : Plan) (d : Prices) → T (lacks 0 (table fs s t room c p d))
-unfolding table roomRows caseRows proposalRows clearingRows lacks
+unfolding table roomCauses caseCauses proposalCauses clearingCauses lacks
 no-zero none s t room c p d = tt
 no-zero (some f) s t room c p d = tt
 
 small-numbers : (fs : Option (List ℕ)) (s t : List ℕ) (room : ℕ) (c : Case) (p : Plan) (d : Prices) → T (numbersBelow 256 (table fs s t room c p d))
-unfolding table roomRows caseRows proposalRows clearingRows numbersBelow
+unfolding table roomCauses caseCauses proposalCauses clearingCauses numbersBelow
 small-numbers none s t room c p d = tt
 small-numbers (some f) s t room c p d = tt
 
 module _ (s t : List ℕ) (room : ℕ) where
-  abbrev rows : List Row
+  abbrev rows : List Cause
   rows = table none s t room (caseOf s) (planOf s t) (pricesOf s t)
 
   -- 0 IF AND ONLY IF EVERY ROW PASSES at every place; else the first row that fails, at its first place. So nothing is returned for another cause.
@@ -124,13 +124,13 @@ module _ (s t : List ℕ) (room : ℕ) where
 
   -- 26: the gap is above the tolerance
   pub over-tolerance : (outcome s t room) .number ≡ 26 → limits.microcentsOf (pos ((caseOf s) .tolerance)) <ℤ gap (caseOf s) (planOf s t) (pricesOf s t)
-  unfolding outcome table roomRows caseRows proposalRows lacks
+  unfolding outcome table roomCauses caseCauses proposalCauses lacks
   over-tolerance e =
-      let a = later 26 (roomRows room) _ tt e in
-      let b = later 26 (caseRows s (caseOf s)) _ tt (a .then-second) in
-      let f = later 26 (proposalRows s t (caseOf s) (planOf s t) (pricesOf s t)) _ tt (b .then-second) in
+      let a = later 26 (roomCauses room) _ tt e in
+      let b = later 26 (caseCauses s (caseOf s)) _ tt (a .then-second) in
+      let f = later 26 (proposalCauses s t (caseOf s) (planOf s t) (pricesOf s t)) _ tt (b .then-second) in
       let g = later 26 (wideTolerance (caseOf s) ∷ []) _ tt (f .then-second) in
-      ltZ-yes (by-26 (caseOf s) (planOf s t) (pricesOf s t) (g .then-second) (overZ (limits.microcentsOf (pos ((caseOf s) .tolerance))) (gap (caseOf s) (planOf s t) (pricesOf s t))) refl)
+      ltZ-yes (by-26 (caseOf s) (planOf s t) (pricesOf s t) (g .then-second) (gap (caseOf s) (planOf s t) (pricesOf s t) overZ (limits.microcentsOf (pos ((caseOf s) .tolerance)))) refl)
 
 -- WITH A FAMILY LIST (S-11): 16 to 18 after 14 and 15, and 28 after 21. In this order too 27 and 28 alone are out of turn
 unfoldable pub familyAsked : List Asked
@@ -141,11 +141,11 @@ unfolding familyAsked asked
 family-numbers = refl
 
 pub family-order : (s t f : List ℕ) (room : ℕ) (c : Case) (p : Plan) (d : Prices) → Asks (table (some f) s t room c p d) familyAsked
-unfolding table roomRows caseRows proposalRows clearingRows familyAsked asked
+unfolding table roomCauses caseCauses proposalCauses clearingCauses familyAsked asked
 family-order s t f room c p d = (refl, (λ k. refl, (refl, (λ k. refl, (refl, (λ k. refl, (refl, (λ k. refl, (refl, (λ k. refl, (refl, (λ k. refl, (refl, (λ k. refl, (refl, (λ k. refl, (refl, (λ k. refl, (refl, (λ k. refl, (refl, (tt, (refl, (tt, (refl, (tt, (refl, (λ k. refl, (refl, (λ k. refl, (refl, (λ k. refl, (refl, (λ k. refl, (refl, (λ k. refl, (refl, (tt, (refl, (λ k. refl, (refl, (λ k. refl, (refl, (λ k. refl, (refl, (λ k. refl, (refl, (λ k. refl, (refl, (λ k. refl, (refl, (λ k. refl, (refl, (λ k. refl, (refl, (λ k. refl, (refl, (λ k. refl, (refl, (λ k. refl, (refl, (λ k. refl, tt))))))))))))))))))))))))))))))))))))))))))))))))))))))))))))))
 
 module _ (s t f : List ℕ) (room : ℕ) where
-  abbrev family-rows : List Row
+  abbrev family-rows : List Cause
   family-rows = table (some f) s t room (caseOf s) (planOf s t) (pricesOf s t)
 
   pub family-answered : Answered family-rows (familyOutcome s t f room)
@@ -167,8 +167,8 @@ module _ (s t f : List ℕ) (room : ℕ) where
 unfoldable pub bookAsked : List Asked
 bookAsked = ask 4 (at-offset 5) ∷ ask 4 (at-offset 8) ∷ ask 8 the-place ∷ ask 25 the-place ∷ []
 
-pub book-order : (rows : List BookRow) (prices : List ℤ) → Asks (bookRows rows prices) bookAsked
-unfolding bookRows bookAsked
+pub book-order : (rows : List BookRow) (prices : List ℤ) → Asks (bookCauses rows prices) bookAsked
+unfolding bookCauses bookAsked
 book-order rows prices = (refl, (λ k. refl, (refl, (λ k. refl, (refl, (λ k. refl, (refl, (λ k. refl, tt))))))))
 
 pub book-ascending : T (ascending bookAsked)
@@ -176,9 +176,9 @@ unfolding bookAsked ascending
 book-ascending = tt
 
 -- 0 if and only if no row refuses, else the first that does, at its first place
-pub book-answered : (rows : List BookRow) (prices : List ℤ) → Answered (bookRows rows prices) (answer (bookRefusal rows prices))
-unfolding bookRefusal bookRows lacks
-book-answered rows prices = answered (bookRows rows prices) tt
+pub book-answered : (rows : List BookRow) (prices : List ℤ) → Answered (bookCauses rows prices) (answer (bookRefusal rows prices))
+unfolding bookRefusal bookCauses lacks
+book-answered rows prices = answered (bookCauses rows prices) tt
 
 -- and the answer is that outcome, with the sum of rule 8 where nothing refuses, and zero where something does
 pub book-outcome : (rows : List BookRow) (prices : List ℤ) → verdict ((bookAnswer rows prices) .number) ((bookAnswer rows prices) .index) ≡ answer (bookRefusal rows prices)

@@ -11,9 +11,9 @@ use Rattle.base_integers.specs.Steps.Ranges.{not-is, and-both}
 use Rattle.rules.specs.Meaning.Hour.{Case, Plan, Prices, caseOf, planOf, pricesOf}
 use Rattle.rules.specs.Meaning.Families.{parentOf, onward, ancestor, LeadsBack, isOrder, leadsBack, accepted}
 use Rattle.base_causes.specs.declared.Outcome.{Outcome}
-use Rattle.base_causes.specs.Meaning.Rows.{Row, Pass, refusal, answer}
-use Rattle.base_causes.specs.Promised.RowLaws.{any-none, else-refusal, refusal-append, lacks, left-out, row-passed, row-passes, before, hasRow, rowOf, isRow}
-use Rattle.rules.specs.Meaning.Verdict.{roomRows, caseRows, proposalRows, wideTolerance, excessVolume, exchangeRows, exceedsParent, excessFraction, fractionRows, familyRows, clearingRows, table, outcome, familyOutcome}
+use Rattle.base_causes.specs.Meaning.Causes.{Cause, Pass, refusal, answer}
+use Rattle.base_causes.specs.Promised.CauseLaws.{any-none, else-refusal, refusal-append, lacks, left-out, row-passed, row-passes, before, hasCause, rowOf, isCause}
+use Rattle.rules.specs.Meaning.Verdict.{roomCauses, caseCauses, proposalCauses, wideTolerance, excessVolume, exchangeCauses, exceedsParent, excessFraction, fractionCauses, familyCauses, clearingCauses, table, outcome, familyOutcome}
 use Rattle.rules.specs.Meaning.Report.{reports, reportBytes, reportSize, written, bufferAfter, familyBufferAfter}
 use Rattle.rules.specs.Meaning.Promise.{FractionAtMost, FamilyTotalsReported}
 use Rattle.rules.specs.Promised.Guarantee.{Accepted, accepted-sound}
@@ -22,8 +22,8 @@ use Rattle.rules.specs.Promised.PlainFacts.{case-facts}
 
 -- WITHOUT A LIST the table is the one that it was before S-11, but for row 15 (S-12): no row of it is a family's
 pub without-a-list : (s t : List ℕ) (room : ℕ) (c : Case) (p : Plan) (d : Prices)
-    → table none s t room c p d ≡ roomRows room ++ (caseRows s c ++ (proposalRows s t c p d ++ (wideTolerance c ∷ (excessVolume c p ∷ exchangeRows c p d))))
-unfolding table clearingRows
+    → table none s t room c p d ≡ roomCauses room ++ (caseCauses s c ++ (proposalCauses s t c p d ++ (wideTolerance c ∷ (excessVolume c p ∷ exchangeCauses c p d))))
+unfolding table clearingCauses
 without-a-list s t room c p d = refl
 
 either : {X : Type 0} (a b : Bool) → T (a || b) → (T a → X) → (T b → X) → X
@@ -33,7 +33,7 @@ either false b t f g = g t
 other : (a n : ℕ) → (n ≡ a → ⊥) → T (not (eqb a n))
 other a n f = not-T (eqb a n) (λ t. f (sym (eqb→eq a n t)))
 
-after : (qs xs ys : List Row) → refusal xs ≡ refusal ys → refusal (qs ++ xs) ≡ refusal (qs ++ ys)
+after : (qs xs ys : List Cause) → refusal xs ≡ refusal ys → refusal (qs ++ xs) ≡ refusal (qs ++ ys)
 after qs xs ys e = refusal-append qs xs ∙ ap (else-refusal (refusal qs)) e ∙ sym (refusal-append qs ys)
 
 module _ (s t f : List ℕ) (room : ℕ) where
@@ -47,12 +47,12 @@ module _ (s t f : List ℕ) (room : ℕ) where
   d = pricesOf s t
 
   -- with a number that no row of a family has, the families' rows are left out
-  others : (n : ℕ) → T (lacks n (familyRows (some f) c)) → T (lacks n (fractionRows (some f) c p)) → (familyOutcome s t f room) .number ≡ n → familyOutcome s t f room ≡ outcome s t room
-  unfolding familyOutcome outcome table roomRows caseRows proposalRows clearingRows
+  others : (n : ℕ) → T (lacks n (familyCauses (some f) c)) → T (lacks n (fractionCauses (some f) c p)) → (familyOutcome s t f room) .number ≡ n → familyOutcome s t f room ≡ outcome s t room
+  unfolding familyOutcome outcome table roomCauses caseCauses proposalCauses clearingCauses
   others n h k e =
-      let front = roomRows room ++ (caseRows s c ++ (proposalRows s t c p d ++ (wideTolerance c ∷ []))) in
-      let first = left-out n front (familyRows (some f) c) (excessVolume c p ∷ (fractionRows (some f) c p ++ exchangeRows c p d)) h e in
-      let second = left-out n (front ++ (excessVolume c p ∷ [])) (fractionRows (some f) c p) (exchangeRows c p d) k (ap (λ (o : Option Outcome). (answer o) .number) (sym first) ∙ e) in
+      let front = roomCauses room ++ (caseCauses s c ++ (proposalCauses s t c p d ++ (wideTolerance c ∷ []))) in
+      let first = left-out n front (familyCauses (some f) c) (excessVolume c p ∷ (fractionCauses (some f) c p ++ exchangeCauses c p d)) h e in
+      let second = left-out n (front ++ (excessVolume c p ∷ [])) (fractionCauses (some f) c p) (exchangeCauses c p d) k (ap (λ (o : Option Outcome). (answer o) .number) (sym first) ∙ e) in
       ap answer (first ∙ second)
 
   -- THE LIST REFUSES NOTHING: where the answer is by none of its rows, it is the answer without it
@@ -79,7 +79,7 @@ module _ (s t f : List ℕ) (room : ℕ) where
 
   -- ACCEPTED: each child's fraction is at most its parent's, where the parent is an order
   pub child-within : (familyOutcome s t f room) .number ≡ 0 → (i j : ℕ) → i < c .orders → j < c .orders → parentOf f i ≡ some j → FractionAtMost (accepted c p i) (accepted c p j)
-  unfolding familyOutcome table roomRows caseRows proposalRows clearingRows before hasRow rowOf isRow caseOf
+  unfolding familyOutcome table roomCauses caseCauses proposalCauses clearingCauses before hasCause rowOf isCause caseOf
   child-within e i j h k q = record {
     whole-positive = quantity-positive i h;
     other-positive = quantity-positive j k;
@@ -91,15 +91,15 @@ module _ (s t f : List ℕ) (room : ℕ) where
       quantity-positive i h = omega (arith, (case-facts s ((accepted-sound s t room (accepted-without e)) .readable)) .quantity-in i h .0)
 
   -- A LIST OF WHICH 16 TO 18 AND 28 PASS judges as no list does
-  pub passed-alike : refusal (familyRows (some f) c) ≡ none → Pass (excessFraction f c p) → familyOutcome s t f room ≡ outcome s t room
-  unfolding familyOutcome outcome table clearingRows
+  pub passed-alike : refusal (familyCauses (some f) c) ≡ none → Pass (excessFraction f c p) → familyOutcome s t f room ≡ outcome s t room
+  unfolding familyOutcome outcome table clearingCauses
   passed-alike passed no-child =
-      let volumes = after (excessVolume c p ∷ []) _ _ (row-passes (excessFraction f c p) (exchangeRows c p d) no-child) in
-      let families = refusal-append (familyRows (some f) c) _ ∙ ap (λ (x : Option Outcome). else-refusal x (refusal (clearingRows (some f) c p d))) passed in
-      ap answer (after (roomRows room) _ _ (after (caseRows s c) _ _ (after (proposalRows s t c p d) _ _ (after (wideTolerance c ∷ []) _ _ (families ∙ volumes)))))
+      let volumes = after (excessVolume c p ∷ []) _ _ (row-passes (excessFraction f c p) (exchangeCauses c p d) no-child) in
+      let families = refusal-append (familyCauses (some f) c) _ ∙ ap (λ (x : Option Outcome). else-refusal x (refusal (clearingCauses (some f) c p d))) passed in
+      ap answer (after (roomCauses room) _ _ (after (caseCauses s c) _ _ (after (proposalCauses s t c p d) _ _ (after (wideTolerance c ∷ []) _ _ (families ∙ volumes)))))
 
   -- so one that names no parent, and that 16 passes
-  pub no-parents : refusal (familyRows (some f) c) ≡ none → ((i : ℕ) → i < c .orders → parentOf f i ≡ none) → familyOutcome s t f room ≡ outcome s t room
+  pub no-parents : refusal (familyCauses (some f) c) ≡ none → ((i : ℕ) → i < c .orders → parentOf f i ≡ none) → familyOutcome s t f room ≡ outcome s t room
   no-parents passed none-named = passed-alike passed (record { pass = λ k l. subst (λ (o : Option ℕ). T (not (exceedsParent c p k o))) (sym (none-named k l)) tt })
 
 -- EVERY BYTE OF THE BUFFER afterwards: that of the judgement without the list where the hour is valued with it, else as it was

@@ -3,34 +3,34 @@ use mathlib.Core.Path.{_≡_, sym, ap, _∙_}
 use mathlib.Core.List.{List, [], _∷_, _++_}
 use Prim.Native.Nat.{ℕ, _+_}
 use native.Mathlib.Omega.{arith}
-use Rattle.base_causes.specs.Meaning.Rows.{Row, rowElse, firstBelow, refusal}
-use Rattle.base_causes.specs.Promised.RowLaws.{before, behind, else-refusal, refusal-append}
+use Rattle.base_causes.specs.Meaning.Causes.{Cause, causeElse, firstBelow, refusal}
+use Rattle.base_causes.specs.Promised.CauseLaws.{before, behind, else-refusal, refusal-append}
 use Rattle.base_causes.specs.Promised.InFileOrder.{eachInOrder, field-by-field}
 use Rattle.rules.specs.Meaning.Layout.{zonesIn, branchesIn, linksIn, ordersIn, branchFieldAt, linkFields, linkFieldAt, orderFields, orderFieldAt}
 use Rattle.rules.specs.Meaning.Hour.{caseOf}
-use Rattle.rules.specs.Meaning.Verdict.{branchFault, linkFault, orderFault, branchField, caseRows, caseRefusal}
+use Rattle.rules.specs.Meaning.Verdict.{branchFault, linkFault, orderFault, badBranchField, caseCauses, caseRefusal}
 
-abbrev pub fieldRows : List ℕ → List Row
-fieldRows s =
+abbrev pub fieldCauses : List ℕ → List Cause
+fieldCauses s =
     eachInOrder 6 (branchesIn s) (1 + zonesIn s) (branchFault (caseOf s)) (branchFieldAt s)
     ∷ eachInOrder 7 (linksIn s) linkFields (linkFault (caseOf s)) (linkFieldAt s)
     ∷ eachInOrder 8 (ordersIn s) orderFields (orderFault (caseOf s)) (orderFieldAt s)
     ∷ []
 
-follow : (r : Row) (qs rs : List Row) → refusal qs ≡ refusal rs → refusal (r ∷ qs) ≡ refusal (r ∷ rs)
+follow : (r : Cause) (qs rs : List Cause) → refusal qs ≡ refusal rs → refusal (r ∷ qs) ≡ refusal (r ∷ rs)
 unfolding refusal
-follow r qs rs e = ap (rowElse r (firstBelow (r .places) (r .fails))) e
+follow r qs rs e = ap (causeElse r (firstBelow (r .places) (r .fails))) e
 
-pub case-field-by-field : (s : List ℕ) → caseRefusal s ≡ refusal (before 6 (caseRows s (caseOf s)) ++ (fieldRows s ++ behind 8 (caseRows s (caseOf s))))
-unfolding caseRefusal caseRows caseOf before
+pub case-field-by-field : (s : List ℕ) → caseRefusal s ≡ refusal (before 6 (caseCauses s (caseOf s)) ++ (fieldCauses s ++ behind 8 (caseCauses s (caseOf s))))
+unfolding caseRefusal caseCauses caseOf before
 case-field-by-field s =
-    let rows = caseRows s (caseOf s) in
-    refusal-append (before 6 rows) (branchField s (caseOf s) ∷ behind 6 rows)
+    let rows = caseCauses s (caseOf s) in
+    refusal-append (before 6 rows) (badBranchField s (caseOf s) ∷ behind 6 rows)
     ∙ ap (else-refusal (refusal (before 6 rows))) (
     field-by-field 6 (branchesIn s) (1 + zonesIn s) (omega arith) (branchFault (caseOf s)) (branchFieldAt s) (behind 6 rows)
-    ∙ follow _ (behind 6 rows) (behind 6 (fieldRows s)) (
+    ∙ follow _ (behind 6 rows) (behind 6 (fieldCauses s)) (
     field-by-field 7 (linksIn s) linkFields (omega arith) (linkFault (caseOf s)) (linkFieldAt s) (behind 7 rows)
-    ∙ follow _ (behind 7 rows) (behind 7 (fieldRows s)) (field-by-field 8 (ordersIn s) orderFields (omega arith) (orderFault (caseOf s)) (orderFieldAt s) [])
+    ∙ follow _ (behind 7 rows) (behind 7 (fieldCauses s)) (field-by-field 8 (ordersIn s) orderFields (omega arith) (orderFault (caseOf s)) (orderFieldAt s) [])
     )
     )
-    ∙ sym (refusal-append (before 6 rows) (fieldRows s))
+    ∙ sym (refusal-append (before 6 rows) (fieldCauses s))

@@ -13,9 +13,9 @@ use Rattle.base_measures.specs.Meaning.Limits as limits
 use Rattle.rules.specs.Meaning.Layout.{linkFields, orderFields}
 use Rattle.rules.specs.Meaning.Hour.{Case, Plan, Prices, caseOf, planOf, pricesOf}
 use Rattle.base_causes.specs.declared.Outcome.{Outcome}
-use Rattle.base_causes.specs.Meaning.Rows.{Row, verdict, firstBelow, anyBelow, rowElse, refusal, answer, each}
-use Rattle.rules.specs.Meaning.Verdict.{over, unknown, badRow, branchFault, repeated, linkFault, rowFault, orderFault, roomRows, caseRows, proposalRows, judgementRows, table, outcome, branchField, shadowAbove}
-use Rattle.base_causes.specs.Promised.RowLaws.{before, behind}
+use Rattle.base_causes.specs.Meaning.Causes.{Cause, verdict, firstBelow, anyBelow, causeElse, refusal, answer, each}
+use Rattle.rules.specs.Meaning.Verdict.{_over_, unknown, badRow, branchFault, repeated, linkFault, rowFault, orderFault, roomCauses, caseCauses, proposalCauses, judgementCauses, table, outcome, badBranchField, shadowAbove}
+use Rattle.base_causes.specs.Promised.CauseLaws.{before, behind}
 
 -- THE TABLE BEFORE, with S-4's contracted volumes among what a link is refused for: rows 6, 7, 8 and 14 named the branch, the link and the order
 unfoldable pub badBranch : Case → ℕ → Bool
@@ -26,27 +26,27 @@ badLink c l = unknown (c .zones) (c .from l)
     || unknown (c .zones) (c .to l)
     || eqb (c .from l) (c .to l)
     || outside limits.capacity (pos (c .capacity l))
-    || over (c .capacity l) (c .contracted l)
+    || c .contracted l over c .capacity l
     || repeated c l
 
 unfoldable pub badOrder : Case → ℕ → Bool
 badOrder c i = unknown (c .zones) (c .zone i)
-    || over 1 (c .side i)
+    || c .side i over 1
     || outside limits.quantity (pos (c .quantity i))
     || outside limits.orderPrice (c .price i)
 
-unfoldable pub caseRowsBefore : List ℕ → Case → List Row
-caseRowsBefore s c = before 6 (caseRows s c) ++ (each 6 (c .branches) (badBranch c) ∷ each 7 (c .links) (badLink c) ∷ each 8 (c .orders) (badOrder c) ∷ behind 8 (caseRows s c))
+unfoldable pub caseCausesBefore : List ℕ → Case → List Cause
+caseCausesBefore s c = before 6 (caseCauses s c) ++ (each 6 (c .branches) (badBranch c) ∷ each 7 (c .links) (badLink c) ∷ each 8 (c .orders) (badOrder c) ∷ behind 8 (caseCauses s c))
 
-unfoldable pub proposalRowsBefore : List ℕ → List ℕ → Case → Plan → Prices → List Row
-proposalRowsBefore s t c p d = before 14 (proposalRows s t c p d) ++ (each 14 (c .branches) (λ m. outside limits.shadowPrice (pos (d .shadow m))) ∷ behind 14 (proposalRows s t c p d))
+unfoldable pub proposalCausesBefore : List ℕ → List ℕ → Case → Plan → Prices → List Cause
+proposalCausesBefore s t c p d = before 14 (proposalCauses s t c p d) ++ (each 14 (c .branches) (λ m. outside limits.shadowPrice (pos (d .shadow m))) ∷ behind 14 (proposalCauses s t c p d))
 
 unfoldable pub outcomeBefore : List ℕ → List ℕ → ℕ → Outcome
 outcomeBefore s t room =
     let c = caseOf s in
     let p = planOf s t in
     let d = pricesOf s t in
-    answer (refusal (roomRows room ++ (caseRowsBefore s c ++ (proposalRowsBefore s t c p d ++ judgementRows none c p d))))
+    answer (refusal (roomCauses room ++ (caseCausesBefore s c ++ (proposalCausesBefore s t c p d ++ judgementCauses none c p d))))
 
 -- the numbers whose index is another
 abbrev pub indexed : ℕ → Bool
@@ -57,43 +57,43 @@ pub record Alike (o p : Outcome) : Type 0 where
   pub number-same : o .number ≡ p .number
   pub index-same : T (not (indexed (o .number))) → o ≡ p
 
-record RowAlike (r q : Row) : Type 0 where
+record RowAlike (r q : Cause) : Type 0 where
   number-same : r .number ≡ q .number
   places-same : r .places ≡ q .places
   fails-same : (k : ℕ) → r .fails k ≡ q .fails k
   index-same : T (not (indexed (r .number))) → (k : ℕ) → r .index k ≡ q .index k
 
-abbrev AllAlike : List Row → List Row → Type 0
+abbrev AllAlike : List Cause → List Cause → Type 0
 AllAlike [] [] = Unit {0}
 AllAlike [] (q ∷ qs) = ⊥
 AllAlike (r ∷ rs) [] = ⊥
 AllAlike (r ∷ rs) (q ∷ qs) = RowAlike r q × AllAlike rs qs
 
-same : (r : Row) → RowAlike r r
+same : (r : Cause) → RowAlike r r
 same r = record { number-same = refl; places-same = refl; fails-same = λ k. refl; index-same = λ h k. refl }
 
-all-same : (rs : List Row) → AllAlike rs rs
+all-same : (rs : List Cause) → AllAlike rs rs
 all-same [] = tt
 all-same (r ∷ rs) = (same r, all-same rs)
 
-appended : (rs qs xs ys : List Row) → AllAlike rs qs → AllAlike xs ys → AllAlike (rs ++ xs) (qs ++ ys)
+appended : (rs qs xs ys : List Cause) → AllAlike rs qs → AllAlike xs ys → AllAlike (rs ++ xs) (qs ++ ys)
 appended [] [] xs ys a b = b
 appended [] (q ∷ qs) xs ys a b = absurd a
 appended (r ∷ rs) [] xs ys a b = absurd a
 appended (r ∷ rs) (q ∷ qs) xs ys a b = (a .0, appended rs qs xs ys (a .1) b)
 
-refusals : (rs qs : List Row) → AllAlike rs qs → Alike (answer (refusal rs)) (answer (refusal qs))
+refusals : (rs qs : List Cause) → AllAlike rs qs → Alike (answer (refusal rs)) (answer (refusal qs))
 unfolding refusal
 refusals [] [] a = record { number-same = refl; index-same = λ h. refl }
 refusals [] (q ∷ qs) a = absurd a
 refusals (r ∷ rs) [] a = absurd a
-refusals (r ∷ rs) (q ∷ qs) a = subst (λ (x : Option ℕ). Alike (answer (rowElse r (firstBelow (r .places) (r .fails)) (refusal rs))) (answer (rowElse q x (refusal qs)))) place-same
+refusals (r ∷ rs) (q ∷ qs) a = subst (λ (x : Option ℕ). Alike (answer (causeElse r (firstBelow (r .places) (r .fails)) (refusal rs))) (answer (causeElse q x (refusal qs)))) place-same
     (by (firstBelow (r .places) (r .fails)) (refusals rs qs (a .1)))
   where
     place-same : firstBelow (r .places) (r .fails) ≡ firstBelow (q .places) (q .fails)
     place-same = λ j. firstBelow (a .0 .places-same j) (λ k. a .0 .fails-same k j)
 
-    by : (o : Option ℕ) → Alike (answer (refusal rs)) (answer (refusal qs)) → Alike (answer (rowElse r o (refusal rs))) (answer (rowElse q o (refusal qs)))
+    by : (o : Option ℕ) → Alike (answer (refusal rs)) (answer (refusal qs)) → Alike (answer (causeElse r o (refusal rs))) (answer (causeElse q o (refusal qs)))
     by (some k) rest = record { number-same = a .0 .number-same; index-same = λ h. λ j. verdict (a .0 .number-same j) (a .0 .index-same h k j) }
     by none rest = rest
 
@@ -125,23 +125,23 @@ link-tests false false false false false false = refl
 
 link-fails : (c : Case) (l : ℕ) → anyBelow linkFields (linkFault c l) ≡ badLink c l
 unfolding anyBelow linkFault badLink
-link-fails c l = link-tests (unknown (c .zones) (c .from l)) (unknown (c .zones) (c .to l)) (eqb (c .from l) (c .to l)) (outside limits.capacity (pos (c .capacity l))) (over (c .capacity l) (c .contracted l)) (repeated c l)
+link-fails c l = link-tests (unknown (c .zones) (c .from l)) (unknown (c .zones) (c .to l)) (eqb (c .from l) (c .to l)) (outside limits.capacity (pos (c .capacity l))) (c .contracted l over c .capacity l) (repeated c l)
 
 order-fails : (c : Case) (i : ℕ) → anyBelow orderFields (orderFault c i) ≡ badOrder c i
 unfolding anyBelow orderFault rowFault badOrder
 order-fails c i = refl
 
 -- the lent book's test of a row is the one that it was
-pub book-row-same : (n zone side quantity : ℕ) (price : ℤ) → badRow n zone side quantity price ≡ (unknown n zone || over 1 side || outside limits.quantity (pos quantity) || outside limits.orderPrice price)
+pub book-row-same : (n zone side quantity : ℕ) (price : ℤ) → badRow n zone side quantity price ≡ (unknown n zone || side over 1 || outside limits.quantity (pos quantity) || outside limits.orderPrice price)
 unfolding badRow anyBelow rowFault
 book-row-same n zone side quantity price = refl
 
 -- THE TABLE: every row but those four is as it was
 module _ (s t : List ℕ) (c : Case) (p : Plan) (d : Prices) where
-  case-alike : AllAlike (caseRows s c) (caseRowsBefore s c)
-  unfolding caseRows caseRowsBefore before
-  case-alike = appended (before 6 (caseRows s c)) (before 6 (caseRows s c)) (branchField s c ∷ behind 6 (caseRows s c)) (each 6 (c .branches) (badBranch c) ∷ each 7 (c .links) (badLink c) ∷ each 8 (c .orders) (badOrder c) ∷ [])
-      (all-same (before 6 (caseRows s c))) (
+  case-alike : AllAlike (caseCauses s c) (caseCausesBefore s c)
+  unfolding caseCauses caseCausesBefore before
+  case-alike = appended (before 6 (caseCauses s c)) (before 6 (caseCauses s c)) (badBranchField s c ∷ behind 6 (caseCauses s c)) (each 6 (c .branches) (badBranch c) ∷ each 7 (c .links) (badLink c) ∷ each 8 (c .orders) (badOrder c) ∷ [])
+      (all-same (before 6 (caseCauses s c))) (
         record { number-same = refl; places-same = refl; fails-same = branch-fails c; index-same = λ h. absurd h },
         (
           record { number-same = refl; places-same = refl; fails-same = link-fails c; index-same = λ h. absurd h },
@@ -149,10 +149,10 @@ module _ (s t : List ℕ) (c : Case) (p : Plan) (d : Prices) where
         ),
       )
 
-  proposal-alike : AllAlike (proposalRows s t c p d) (proposalRowsBefore s t c p d)
-  unfolding proposalRows proposalRowsBefore before
-  proposal-alike = appended (before 14 (proposalRows s t c p d)) (before 14 (proposalRows s t c p d)) (shadowAbove s c d ∷ behind 14 (proposalRows s t c p d)) (each 14 (c .branches) (λ m. outside limits.shadowPrice (pos (d .shadow m))) ∷ [])
-      (all-same (before 14 (proposalRows s t c p d)))
+  proposal-alike : AllAlike (proposalCauses s t c p d) (proposalCausesBefore s t c p d)
+  unfolding proposalCauses proposalCausesBefore before
+  proposal-alike = appended (before 14 (proposalCauses s t c p d)) (before 14 (proposalCauses s t c p d)) (shadowAbove s c d ∷ behind 14 (proposalCauses s t c p d)) (each 14 (c .branches) (λ m. outside limits.shadowPrice (pos (d .shadow m))) ∷ [])
+      (all-same (before 14 (proposalCauses s t c p d)))
       (record { number-same = refl; places-same = refl; fails-same = λ m. refl; index-same = λ h. absurd h }, tt)
 
 pub only-four-changed : (s t : List ℕ) (room : ℕ) → Alike (outcome s t room) (outcomeBefore s t room)
@@ -161,7 +161,7 @@ only-four-changed s t room =
     let c = caseOf s in
     let p = planOf s t in
     let d = pricesOf s t in
-    refusals (roomRows room ++ (caseRows s c ++ (proposalRows s t c p d ++ judgementRows none c p d))) (roomRows room ++ (caseRowsBefore s c ++ (proposalRowsBefore s t c p d ++ judgementRows none c p d)))
-    (appended (roomRows room) (roomRows room) (caseRows s c ++ (proposalRows s t c p d ++ judgementRows none c p d)) (caseRowsBefore s c ++ (proposalRowsBefore s t c p d ++ judgementRows none c p d)) (all-same (roomRows room))
-    (appended (caseRows s c) (caseRowsBefore s c) (proposalRows s t c p d ++ judgementRows none c p d) (proposalRowsBefore s t c p d ++ judgementRows none c p d) (case-alike s t c p d)
-    (appended (proposalRows s t c p d) (proposalRowsBefore s t c p d) (judgementRows none c p d) (judgementRows none c p d) (proposal-alike s t c p d) (all-same (judgementRows none c p d)))))
+    refusals (roomCauses room ++ (caseCauses s c ++ (proposalCauses s t c p d ++ judgementCauses none c p d))) (roomCauses room ++ (caseCausesBefore s c ++ (proposalCausesBefore s t c p d ++ judgementCauses none c p d)))
+    (appended (roomCauses room) (roomCauses room) (caseCauses s c ++ (proposalCauses s t c p d ++ judgementCauses none c p d)) (caseCausesBefore s c ++ (proposalCausesBefore s t c p d ++ judgementCauses none c p d)) (all-same (roomCauses room))
+    (appended (caseCauses s c) (caseCausesBefore s c) (proposalCauses s t c p d ++ judgementCauses none c p d) (proposalCausesBefore s t c p d ++ judgementCauses none c p d) (case-alike s t c p d)
+    (appended (proposalCauses s t c p d) (proposalCausesBefore s t c p d) (judgementCauses none c p d) (judgementCauses none c p d) (proposal-alike s t c p d) (all-same (judgementCauses none c p d)))))

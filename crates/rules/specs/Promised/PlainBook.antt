@@ -20,10 +20,10 @@ use Rattle.base_measures.specs.Meaning.Limits as limits
 use Rattle.rules.specs.Meaning.Layout.{zoneCounts, orderCounts, orderFields}
 use Rattle.rules.specs.Meaning.Hour.{surplusOf}
 use Rattle.base_causes.specs.declared.Outcome.{Outcome}
-use Rattle.base_causes.specs.Meaning.Rows.{Row, Pass, verdict, refusal}
-use Rattle.base_causes.specs.Promised.RowLaws.{First, no-less, any-none, no-place, empty, Cause, caused, cause-refuses, passes-none, all-pass, not-refused, lacks}
+use Rattle.base_causes.specs.Meaning.Causes.{Cause, Pass, verdict, refusal}
+use Rattle.base_causes.specs.Promised.CauseLaws.{First, no-less, any-none, no-place, empty, CausedBy, caused, cause-refuses, passes-none, all-pass, not-refused, lacks}
 use Rattle.rules.specs.Meaning.Verdict.{rowFault, badRow}
-use Rattle.rules.specs.Meaning.Book.{BookRow, rowAt, priceAt, badBookRow, bookRows, bookRefusal, rowSurplus, BookAnswer, bookSurplus, bookAnswer, bookAnswerBy}
+use Rattle.rules.specs.Meaning.Book.{BookRow, rowAt, priceAt, badBookRow, bookCauses, bookRefusal, rowSurplus, BookAnswer, bookSurplus, bookAnswer, bookAnswerBy}
 
 -- how many prices there may be
 abbrev pub PricesCounted : List ℤ → Type 0
@@ -148,12 +148,12 @@ module _ (rows : List BookRow) (prices : List ℤ) where
   passes-price z t = let w = within limits.zonePrice (priceAt prices z) t in (w .least-le, w .le-greatest)
 
   -- THE ROWS OF THE TABLE, from the first: each passes where what it asks for holds
-  abbrev asked : List Row
-  asked = bookRows rows prices
+  abbrev asked : List Cause
+  asked = bookCauses rows prices
 
   passes : (i : ℕ) → (i ≡ 0 → PricesCounted prices) → (i ≡ 1 → length rows ≤ 512) → (i ≡ 2 → GoodRows rows prices)
       → (i ≡ 3 → (z : ℕ) → z < length prices → GoodPrice prices z) → Pass (getD asked i empty)
-  unfolding bookRows
+  unfolding bookCauses
   passes zero a b c d = record { pass = λ k h. count-passes (a refl) }
   passes (suc zero) a b c d = record { pass = λ k h. rows-pass (b refl) }
   passes (suc (suc zero)) a b c d = record { pass = λ k h. good-passes k (c refl k h) }
@@ -165,7 +165,7 @@ module _ (rows : List BookRow) (prices : List ℤ) where
   facts-none f = passes-none asked (λ i. passes i (λ e. f .prices-in) (λ e. f .rows-in) (λ e. f .rows-good) (λ e. f .prices-good))
 
   none-facts : bookRefusal rows prices ≡ none → BookFacts rows prices
-  unfolding bookRefusal bookRows
+  unfolding bookRefusal bookCauses
   none-facts e = record {
     prices-in = passes-count (all-pass asked e 0 .pass 0 (omega arith));
     rows-in = pass-rows (all-pass asked e 1 .pass 0 (omega arith));
@@ -180,11 +180,11 @@ module _ (rows : List BookRow) (prices : List ℤ) where
 
   -- and for no other book: with number 0 the facts hold, and with any other the sum is 0
   pub book-answered-facts : (bookAnswer rows prices) .number ≡ 0 → BookFacts rows prices
-  unfolding bookAnswer bookRefusal bookRows lacks
-  book-answered-facts e = none-facts (by (refusal (bookRows rows prices)) refl e)
+  unfolding bookAnswer bookRefusal bookCauses lacks
+  book-answered-facts e = none-facts (by (refusal (bookCauses rows prices)) refl e)
     where
-      by : (o : Option Outcome) → refusal (bookRows rows prices) ≡ o → (bookAnswerBy (bookSurplus rows prices) o) .number ≡ 0 → refusal (bookRows rows prices) ≡ none
-      by (some x) q z = absurd (not-refused 0 (bookRows rows prices) tt x q z)
+      by : (o : Option Outcome) → refusal (bookCauses rows prices) ≡ o → (bookAnswerBy (bookSurplus rows prices) o) .number ≡ 0 → refusal (bookCauses rows prices) ≡ none
+      by (some x) q z = absurd (not-refused 0 (bookCauses rows prices) tt x q z)
       by none q z = q
 
   pub book-refused-sum : (BookFacts rows prices → ⊥) → (bookAnswer rows prices) .sum ≡ pos 0
@@ -198,7 +198,7 @@ module _ (rows : List BookRow) (prices : List ℤ) where
   -- REFUSED, for its cause
   at-row : (j k : ℕ) → j < length asked → ((i : ℕ) → i < j → Pass (getD asked i empty)) → First ((getD asked j empty) .places) ((getD asked j empty) .fails) k
       → Refused rows prices ((getD asked j empty) .number) ((getD asked j empty) .index k)
-  unfolding bookRows
+  unfolding bookCauses
   at-row zero k l e f = miscounted-prices (of-fails wrongCount count-passes (f .holds))
   at-row (suc zero) k l e f = many-rows (passes-count (e 0 (omega arith) .pass 0 (omega arith))) (over (of-fails wrongRows rows-pass (f .holds)))
     where
@@ -222,12 +222,12 @@ module _ (rows : List BookRow) (prices : List ℤ) where
       by none q l = absurd (no-less 0 l)
 
   -- and where the cause holds, with sum 0
-  by-cause : (o : Outcome) → Cause asked o → bookAnswer rows prices ≡ refusedBook (o .number) (o .index)
+  by-cause : (o : Outcome) → CausedBy asked o → bookAnswer rows prices ≡ refusedBook (o .number) (o .index)
   unfolding bookAnswer bookRefusal
   by-cause o w = ap (bookAnswerBy (bookSurplus rows prices)) (cause-refuses asked o w)
 
   pub refused-book : {n k : ℕ} → Refused rows prices n k → bookAnswer rows prices ≡ refusedBook n k
-  unfolding bookRows
+  unfolding bookCauses
   refused-book (miscounted-prices n) = by-cause (verdict 4 5) (record {
     position = 0;
     place = 0;

@@ -10,11 +10,11 @@ use lib.Seq.{take-length, drop-length, take-append-seam, drop-append-seam}
 use lib.Dec.{nltb→le}
 use Rattle.base_integers.specs.Steps.Ranges.{nat-within, nat-inside}
 use Rattle.base_causes.specs.declared.Outcome.{Outcome}
-use Rattle.base_causes.specs.Meaning.Rows.{Pass}
-use Rattle.base_causes.specs.Promised.RowLaws.{Comes, past, none-left, rowOf, isRow, field-at-passes}
+use Rattle.base_causes.specs.Meaning.Causes.{Pass}
+use Rattle.base_causes.specs.Promised.CauseLaws.{Comes, past, none-left, rowOf, isCause, field-at-passes}
 use Rattle.rules.specs.Meaning.Layout.{u8At, u16At, caseVersion, zonesIn, branchesIn, linksIn, ordersIn, toleranceIn, caseLength}
 use Rattle.rules.specs.Meaning.Hour.{caseOf}
-use Rattle.rules.specs.Meaning.Verdict.{headerRefusal, caseHeaderRows}
+use Rattle.rules.specs.Meaning.Verdict.{headerRefusal, caseHeaderCauses}
 use Rattle.rules.specs.Meaning.Cut.{caseEnd, casePart, proposalPart}
 use Rattle.rules.specs.Meaning.Lines.{hourText, deskText}
 use Rattle.rules.specs.Steps.CaseEnd.{end-refused, end-short, end-good, SameHeader, same-refusal, same-length}
@@ -36,7 +36,7 @@ pub record HeaderFacts (s : List ℕ) : Type 0 where
 
 module _ (s : List ℕ) where
   pub header-facts : headerRefusal s ≡ none → HeaderFacts s
-  unfolding headerRefusal rowOf isRow caseOf u8At u16At caseVersion zonesIn branchesIn linksIn ordersIn
+  unfolding headerRefusal rowOf isCause caseOf u8At u16At caseVersion zonesIn branchesIn linksIn ordersIn
   header-facts e = record {
     header-there = nltb→le (length s) 14 ((row 1 0) .pass 0 (omega arith));
     mark-is = marked 76 84 67 s ((row 2 0) .pass 0 (omega arith));
@@ -48,13 +48,13 @@ module _ (s : List ℕ) where
     tolerance-in = subst (λ (n : ℕ). n ≤ 1000000000) (tolerance-bytes s) ((nat-within 0 1000000000 (toleranceIn s) ((row 4 10) .pass 0 (omega arith))) .1);
   }
     where
-      row : (n k : ℕ) → Pass (rowOf n k (caseHeaderRows s (caseOf s)))
-      row = field-at-passes (caseHeaderRows s (caseOf s)) e
+      row : (n k : ℕ) → Pass (rowOf n k (caseHeaderCauses s (caseOf s)))
+      row = field-at-passes (caseHeaderCauses s (caseOf s)) e
 
   pub facts-header : HeaderFacts s → headerRefusal s ≡ none
   unfolding headerRefusal caseOf u8At u16At caseVersion zonesIn branchesIn linksIn ordersIn
   facts-header f =
-      let rows : Comes (caseHeaderRows s (caseOf s)) none =
+      let rows : Comes (caseHeaderCauses s (caseOf s)) none =
       past (record { pass = λ k h. le-nltb (length s) 14 (f .header-there) })
       (past (record { pass = λ k h. mark-passes 76 84 67 s (f .mark-is) })
       (past (record { pass = λ k h. version-passes (caseVersion s) (f .version-in) })

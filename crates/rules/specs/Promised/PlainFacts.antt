@@ -15,9 +15,9 @@ use Rattle.base_integers.specs.Steps.Ranges.{inside, nat-within, nat-inside, no
 use Rattle.base_measures.specs.Meaning.Limits as limits
 use Rattle.rules.specs.Meaning.Layout.{u8At, caseVersion, zonesIn, branchesIn, linksIn, ordersIn, toleranceIn, ramIn, ptdfIn, fromIn, toIn, capacityIn, contractedIn, zoneIn, sideIn, quantityIn, priceIn, caseLength, proposalVersion, shareIn, shadowIn, proposalLength, linkFields, orderFields}
 use Rattle.rules.specs.Meaning.Hour.{caseOf, planOf, pricesOf}
-use Rattle.base_causes.specs.Meaning.Rows.{anyBelow, Pass}
-use Rattle.base_causes.specs.Promised.RowLaws.{any-none, no-place, rowNumbered, number-passes, Comes, past, none-left}
-use Rattle.rules.specs.Meaning.Verdict.{differ, unknown, notMark, branchFault, repeated, linkFault, rowFault, orderFault, caseRows, proposalRows, Readable, caseRefusal, proposalRefusal}
+use Rattle.base_causes.specs.Meaning.Causes.{anyBelow, Pass}
+use Rattle.base_causes.specs.Promised.CauseLaws.{any-none, no-place, causeNumbered, number-passes, Comes, past, none-left}
+use Rattle.rules.specs.Meaning.Verdict.{differ, unknown, notMark, branchFault, repeated, linkFault, rowFault, orderFault, caseCauses, proposalCauses, Readable, caseRefusal, proposalRefusal}
 use Rattle.rules.specs.Steps.Passed.{not-not, case-sound, case-length, case-pairs, proposal-sound, proposal-length}
 
 pub record CaseFacts (s : List ℕ) : Type 0 where
@@ -106,7 +106,7 @@ version-passes (suc (suc (suc v))) h = absurd (omega (arith, h .1))
 
 -- A CASE
 pub case-facts : (s : List ℕ) → Readable s → CaseFacts s
-unfolding caseRefusal caseRows rowNumbered caseOf linkFault
+unfolding caseRefusal caseCauses causeNumbered caseOf linkFault
 case-facts s r =
     let ok = case-sound s r in
     record {
@@ -133,8 +133,8 @@ case-facts s r =
       price-in = λ i h. (ok .price-in i h .least-le, ok .price-in i h .le-greatest);
     }
   where
-    row : (n : ℕ) → Pass (rowNumbered n (caseRows s (caseOf s)))
-    row = number-passes (caseRows s (caseOf s)) (r .none-holds)
+    row : (n : ℕ) → Pass (causeNumbered n (caseCauses s (caseOf s)))
+    row = number-passes (caseCauses s (caseOf s)) (r .none-holds)
 
     differ : (k l : ℕ) → k < l → k ≡ l → ⊥
     differ k l h e = omega arith
@@ -167,10 +167,10 @@ module _ (s : List ℕ) (f : CaseFacts s) where
   order-passes i h (suc (suc (suc n))) k = inside limits.orderPrice (priceIn s i) (record { least-le = (f .price-in i h) .0; le-greatest = (f .price-in i h) .1 })
 
   pub facts-readable : Readable s
-  unfolding caseRefusal caseRows caseOf
+  unfolding caseRefusal caseCauses caseOf
   facts-readable = record {
     none-holds =
-        let rows : Comes (caseRows s (caseOf s)) none =
+        let rows : Comes (caseCauses s (caseOf s)) none =
         past (record { pass = λ k h. le-nltb (length s) 14 (f .header-there) })
         (past (record { pass = λ k h. mark-passes 76 84 67 s (f .mark-is) })
         (past (record { pass = λ k h. version-passes (caseVersion s) (f .version-in) })
@@ -188,7 +188,7 @@ module _ (s : List ℕ) (f : CaseFacts s) where
 
 -- A PROPOSAL for the case s
 pub proposal-facts : (s t : List ℕ) → proposalRefusal s t ≡ none → ProposalFacts s t
-unfolding proposalRefusal proposalRows rowNumbered caseOf planOf pricesOf
+unfolding proposalRefusal proposalCauses causeNumbered caseOf planOf pricesOf
 proposal-facts s t e = record {
   header-there = nltb→le (length t) 13 ((row 9) .pass 0 (omega arith));
   mark-is = marked 76 84 80 t ((row 10) .pass 0 (omega arith));
@@ -198,13 +198,13 @@ proposal-facts s t e = record {
   shadow-in = (proposal-sound s t e) .shadow-in;
 }
   where
-    row : (n : ℕ) → Pass (rowNumbered n (proposalRows s t (caseOf s) (planOf s t) (pricesOf s t)))
-    row = number-passes (proposalRows s t (caseOf s) (planOf s t) (pricesOf s t)) e
+    row : (n : ℕ) → Pass (causeNumbered n (proposalCauses s t (caseOf s) (planOf s t) (pricesOf s t)))
+    row = number-passes (proposalCauses s t (caseOf s) (planOf s t) (pricesOf s t)) e
 
 pub facts-pass : (s t : List ℕ) → ProposalFacts s t → proposalRefusal s t ≡ none
-unfolding proposalRefusal proposalRows caseOf planOf pricesOf
+unfolding proposalRefusal proposalCauses caseOf planOf pricesOf
 facts-pass s t f =
-    let rows : Comes (proposalRows s t (caseOf s) (planOf s t) (pricesOf s t)) none =
+    let rows : Comes (proposalCauses s t (caseOf s) (planOf s t) (pricesOf s t)) none =
     past (record { pass = λ k h. le-nltb (length t) 13 (f .header-there) })
     (past (record { pass = λ k h. mark-passes 76 84 80 t (f .mark-is) })
     (past (record { pass = λ k h. yes-not-not (eqb (proposalVersion t) 1) (eq-eqb (proposalVersion t) 1 (f .version-is)) })

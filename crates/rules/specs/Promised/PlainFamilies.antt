@@ -18,12 +18,12 @@ use Rattle.rules.specs.Meaning.Layout.{u8At, u16At, ordersIn, toleranceI
 use Rattle.rules.specs.Meaning.Hour.{Case, caseOf, planOf, pricesOf, gap}
 use Rattle.rules.specs.Meaning.Families.{familyVersion, parentIn, familyLength, named, parentOf, missing, onward, ancestor, LeadsBack, isOrder, leadsBack}
 use Rattle.base_causes.specs.declared.Outcome.{Outcome}
-use Rattle.base_causes.specs.Meaning.Rows.{Pass, verdict, refusal, anyBelow}
-use Rattle.base_causes.specs.Promised.RowLaws.{any-some, any-place, none-both, none-each, row-passes, row-passed, row-by-number, row-answers, number-passes, rowNumbered, lacks, before, hasRow, rowOf, isRow}
-use Rattle.rules.specs.Meaning.Verdict.{differ, notMark, roomRows, caseRows, proposalRows, wrongFamilyList, missingParent, familyRows, excessVolume, exceedsParent, clearingRows, table, outcome, familyOutcome}
+use Rattle.base_causes.specs.Meaning.Causes.{Pass, verdict, refusal, anyBelow}
+use Rattle.base_causes.specs.Promised.CauseLaws.{any-some, any-place, none-both, none-each, row-passes, row-passed, row-by-number, row-answers, number-passes, causeNumbered, lacks, before, hasCause, rowOf, isCause}
+use Rattle.rules.specs.Meaning.Verdict.{differ, notMark, roomCauses, caseCauses, proposalCauses, wrongFamilyList, missingParent, familyCauses, excessVolume, exceedsParent, clearingCauses, table, outcome, familyOutcome}
 use Rattle.rules.specs.Promised.PlainFacts.{marked, mark-passes}
 use Rattle.rules.specs.Meaning.Report.{reports}
-use Rattle.rules.specs.Promised.PlainVerdicts.{ReadFacts, ClearedFacts, readRows, read-passes, passes-read, valued-facts, refused-26, accepted-0}
+use Rattle.rules.specs.Promised.PlainVerdicts.{ReadFacts, ClearedFacts, readCauses, read-passes, passes-read, valued-facts, refused-26, accepted-0}
 use Rattle.rules.specs.Promised.Families.{valued-alike, passed-alike}
 
 -- A FAMILY LIST beside so many orders: LTF, version 1, and 16 bits for each order
@@ -143,13 +143,13 @@ le-nltb m n h = not-T (ltb m n) (λ t. never (ltb→lt m n t))
 module _ (s t f : List ℕ) (room : ℕ) where
   -- 16 IF AND ONLY IF what is asked before passes and the bytes are no list for this case; its index is 0
   pub refused-16 : (familyOutcome s t f room) .number ≡ 16 → (familyOutcome s t f room ≡ verdict 16 0) × (ReadFacts s t room × (ListFacts f (ordersIn s) → ⊥))
-  unfolding familyOutcome table roomRows caseRows proposalRows clearingRows lacks before rowNumbered caseOf
+  unfolding familyOutcome table roomCauses caseCauses proposalCauses clearingCauses lacks before causeNumbered caseOf
   refused-16 e =
       let row = row-by-number 16 (table (some f) s t room (caseOf s) (planOf s t) (pricesOf s t)) (omega arith) tt tt e in
       (row .is, (passes-read s t room (row .earlier), λ l. T-not (notMark 76 84 70 f || differ (familyVersion f) 1 || differ (length f) (familyLength (ordersIn s))) ((list-passes f (caseOf s) l) .pass 0 (omega arith)) (row .first-place .holds)))
 
   pub is-16 : ReadFacts s t room → (ListFacts f (ordersIn s) → ⊥) → familyOutcome s t f room ≡ verdict 16 0
-  unfolding familyOutcome table roomRows caseRows proposalRows clearingRows lacks before rowNumbered caseOf
+  unfolding familyOutcome table roomCauses caseCauses proposalCauses clearingCauses lacks before causeNumbered caseOf
   is-16 r n = row-answers 16 (table (some f) s t room (caseOf s) (planOf s t) (pricesOf s t)) tt (read-passes s t room r) 0
       (record { place-in = omega arith; holds = by (notMark 76 84 70 f || differ (familyVersion f) 1 || differ (length f) (familyLength (ordersIn s))) refl; none-before = λ i l. absurd (nothing i l) })
     where
@@ -162,10 +162,10 @@ module _ (s t f : List ℕ) (room : ℕ) where
 
   -- 17 IF AND ONLY IF the bytes are a list and a parent is not there; its index is the first order that names such a one
   pub refused-17 : (familyOutcome s t f room) .number ≡ 17 → ReadFacts s t room × (ListFacts f (ordersIn s) × NoSuchParent f (ordersIn s) ((familyOutcome s t f room) .index))
-  unfolding familyOutcome table roomRows caseRows proposalRows clearingRows lacks before rowNumbered caseOf
+  unfolding familyOutcome table roomCauses caseCauses proposalCauses clearingCauses lacks before causeNumbered caseOf
   refused-17 e =
       let row = row-by-number 17 (table (some f) s t room (caseOf s) (planOf s t) (pricesOf s t)) (omega arith) tt tt e in
-      let a = none-each (readRows s t room) (wrongFamilyList f (caseOf s) ∷ []) (row .earlier) in
+      let a = none-each (readCauses s t room) (wrongFamilyList f (caseOf s) ∷ []) (row .earlier) in
       let place : row .place ≡ (familyOutcome s t f room) .index = sym (ap (λ (o : Outcome). o .index) (row .is)) in
       let held = holds-of f (missing (ordersIn s)) refl (row .place) .0 (row .first-place .holds) in (
         passes-read s t room (a .0),
@@ -181,9 +181,9 @@ module _ (s t f : List ℕ) (room : ℕ) where
       )
 
   pub is-17 : ReadFacts s t room → ListFacts f (ordersIn s) → (i : ℕ) → NoSuchParent f (ordersIn s) i → familyOutcome s t f room ≡ verdict 17 i
-  unfolding familyOutcome table roomRows caseRows proposalRows clearingRows lacks before rowNumbered refusal caseOf
+  unfolding familyOutcome table roomCauses caseCauses proposalCauses clearingCauses lacks before causeNumbered refusal caseOf
   is-17 r l i w = row-answers 17 (table (some f) s t room (caseOf s) (planOf s t) (pricesOf s t)) tt
-      (none-both (readRows s t room) (wrongFamilyList f (caseOf s) ∷ []) (read-passes s t room r) (row-passes (wrongFamilyList f (caseOf s)) [] (list-passes f (caseOf s) l))) i (record {
+      (none-both (readCauses s t room) (wrongFamilyList f (caseOf s) ∷ []) (read-passes s t room r) (row-passes (wrongFamilyList f (caseOf s)) [] (list-passes f (caseOf s) l))) i (record {
         place-in = w .is-order;
         holds = holds-of f (missing (ordersIn s)) refl i .1 (w .names-one, le→leb (ordersIn s) (parentAt f i) (w .not-there));
         none-before = λ j h. passes-of f (missing (ordersIn s)) refl j .1 (λ n. above (ordersIn s) (parentAt f j) (w .first-one j h n));
@@ -205,11 +205,11 @@ module _ (s t f : List ℕ) (room : ℕ) where
   -- 28: the child named is accepted in a larger fraction than its parent, which is an order, and no child before it is
   pub refused-28 : (familyOutcome s t f room) .number ≡ 28
       → ReadFacts s t room × (ListFacts f (ordersIn s) × (ParentsExist f (ordersIn s) × (VolumesWithin s t × ExceedsParent s t f ((familyOutcome s t f room) .index))))
-  unfolding familyOutcome table roomRows caseRows proposalRows clearingRows lacks before rowNumbered caseOf planOf
+  unfolding familyOutcome table roomCauses caseCauses proposalCauses clearingCauses lacks before causeNumbered caseOf planOf
   refused-28 e =
       let row = row-by-number 28 (table (some f) s t room (caseOf s) (planOf s t) (pricesOf s t)) (omega arith) tt tt e in
-      let a = none-each (readRows s t room) (familyRows (some f) (caseOf s) ++ (excessVolume (caseOf s) (planOf s t) ∷ [])) (row .earlier) in
-      let passed = number-passes (familyRows (some f) (caseOf s) ++ (excessVolume (caseOf s) (planOf s t) ∷ [])) (a .1) in
+      let a = none-each (readCauses s t room) (familyCauses (some f) (caseOf s) ++ (excessVolume (caseOf s) (planOf s t) ∷ [])) (row .earlier) in
+      let passed = number-passes (familyCauses (some f) (caseOf s) ++ (excessVolume (caseOf s) (planOf s t) ∷ [])) (a .1) in
       let place : row .place ≡ (familyOutcome s t f room) .index = sym (ap (λ (o : Outcome). o .index) (row .is)) in
       let held = holds-of f (exceedsParent (caseOf s) (planOf s t) (row .place)) refl (row .place) .0 (row .first-place .holds) in (
         passes-read s t room (a .0),
@@ -231,11 +231,11 @@ module _ (s t f : List ℕ) (room : ℕ) where
       )
 
   -- and back, where 16 to 18 pass
-  pub is-28 : ReadFacts s t room → refusal (familyRows (some f) (caseOf s)) ≡ none → VolumesWithin s t → (i : ℕ) → ExceedsParent s t f i → familyOutcome s t f room ≡ verdict 28 i
-  unfolding familyOutcome table roomRows caseRows proposalRows clearingRows lacks before rowNumbered refusal caseOf planOf
+  pub is-28 : ReadFacts s t room → refusal (familyCauses (some f) (caseOf s)) ≡ none → VolumesWithin s t → (i : ℕ) → ExceedsParent s t f i → familyOutcome s t f room ≡ verdict 28 i
+  unfolding familyOutcome table roomCauses caseCauses proposalCauses clearingCauses lacks before causeNumbered refusal caseOf planOf
   is-28 r l v i w = row-answers 28 (table (some f) s t room (caseOf s) (planOf s t) (pricesOf s t)) tt
-      (none-both (readRows s t room) (familyRows (some f) (caseOf s) ++ (excessVolume (caseOf s) (planOf s t) ∷ [])) (read-passes s t room r)
-      (none-both (familyRows (some f) (caseOf s)) (excessVolume (caseOf s) (planOf s t) ∷ []) l
+      (none-both (readCauses s t room) (familyCauses (some f) (caseOf s) ++ (excessVolume (caseOf s) (planOf s t) ∷ [])) (read-passes s t room r)
+      (none-both (familyCauses (some f) (caseOf s)) (excessVolume (caseOf s) (planOf s t) ∷ []) l
       (row-passes (excessVolume (caseOf s) (planOf s t)) [] (record { pass = λ k h. le-nltb (quantityIn s k) (volumeIn s t k) (v k h) })))) i (record {
         place-in = w .is-order;
         holds = holds-of f (exceedsParent (caseOf s) (planOf s t) i) refl i .1 (w .names-one, lt→ltb _ _ (w .exceeds));
@@ -244,7 +244,7 @@ module _ (s t f : List ℕ) (room : ℕ) where
 
   -- ACCEPTED: the bytes are a list, every parent exists, and every child's fraction is at most its parent's
   pub accepted-families : (familyOutcome s t f room) .number ≡ 0 → ListFacts f (ordersIn s) × (ParentsExist f (ordersIn s) × ChildrenWithin s t f)
-  unfolding familyOutcome table roomRows caseRows proposalRows clearingRows before hasRow rowOf isRow caseOf planOf
+  unfolding familyOutcome table roomCauses caseCauses proposalCauses clearingCauses before hasCause rowOf isCause caseOf planOf
   accepted-families e =
       let passed = row-passed 0 (table (some f) s t room (caseOf s) (planOf s t) (pricesOf s t)) e in (
         passes-list f (caseOf s) (passed 16 0 tt),
@@ -268,7 +268,7 @@ module _ (s t f : List ℕ) (room : ℕ) where
   families-0 e = (accepted-0 s t room (ap (λ (o : Outcome). o .number) (sym (valued-alike s t f room (subst (λ (n : ℕ). T (reports n)) (sym e) tt))) ∙ e)) .1 .1
 
   -- A LIST OF WHICH 16 TO 18 PASS, with no child's fraction above its parent's, judges as no list does
-  pub within-alike : refusal (familyRows (some f) (caseOf s)) ≡ none → ChildrenWithin s t f → familyOutcome s t f room ≡ outcome s t room
+  pub within-alike : refusal (familyCauses (some f) (caseOf s)) ≡ none → ChildrenWithin s t f → familyOutcome s t f room ≡ outcome s t room
   unfolding caseOf planOf
   within-alike l w = passed-alike s t f room l (record { pass = λ k h. passes-of f (exceedsParent (caseOf s) (planOf s t) k) refl k .1 (λ n. le-nltb _ _ (w k h n)) })
 
@@ -388,10 +388,10 @@ module _ (f : List ℕ) (orders i : ℕ) where
 module _ (s t f : List ℕ) (room : ℕ) where
   pub refused-18 : (familyOutcome s t f room) .number ≡ 18
       → ReadFacts s t room × (ListFacts f (ordersIn s) × (ParentsExist f (ordersIn s) × FirstShortRound f (ordersIn s) ((familyOutcome s t f room) .index)))
-  unfolding familyOutcome table roomRows caseRows proposalRows clearingRows lacks before rowNumbered caseOf
+  unfolding familyOutcome table roomCauses caseCauses proposalCauses clearingCauses lacks before causeNumbered caseOf
   refused-18 e =
       let row = row-by-number 18 (table (some f) s t room (caseOf s) (planOf s t) (pricesOf s t)) (omega arith) tt tt e in
-      let a = none-each (readRows s t room) (wrongFamilyList f (caseOf s) ∷ missingParent f (caseOf s) ∷ []) (row .earlier) in
+      let a = none-each (readCauses s t room) (wrongFamilyList f (caseOf s) ∷ missingParent f (caseOf s) ∷ []) (row .earlier) in
       let passed = number-passes (wrongFamilyList f (caseOf s) ∷ missingParent f (caseOf s) ∷ []) (a .1) in
       let place : row .place ≡ (familyOutcome s t f room) .index = sym (ap (λ (o : Outcome). o .index) (row .is)) in (
         passes-read s t room (a .0),
@@ -409,9 +409,9 @@ module _ (s t f : List ℕ) (room : ℕ) where
       )
 
   pub is-18 : ReadFacts s t room → ListFacts f (ordersIn s) → ParentsExist f (ordersIn s) → (i : ℕ) → FirstShortRound f (ordersIn s) i → familyOutcome s t f room ≡ verdict 18 i
-  unfolding familyOutcome table roomRows caseRows proposalRows clearingRows lacks before rowNumbered refusal caseOf
+  unfolding familyOutcome table roomCauses caseCauses proposalCauses clearingCauses lacks before causeNumbered refusal caseOf
   is-18 r l x i w = row-answers 18 (table (some f) s t room (caseOf s) (planOf s t) (pricesOf s t)) tt
-      (none-both (readRows s t room) (wrongFamilyList f (caseOf s) ∷ missingParent f (caseOf s) ∷ []) (read-passes s t room r)
+      (none-both (readCauses s t room) (wrongFamilyList f (caseOf s) ∷ missingParent f (caseOf s) ∷ []) (read-passes s t room r)
       (row-passes (wrongFamilyList f (caseOf s)) (missingParent f (caseOf s) ∷ []) (list-facts f (caseOf s) .1 l) ∙ row-passes (missingParent f (caseOf s)) [] (parents-exist f (caseOf s) .1 x))) i (record {
         place-in = w .is-order;
         holds = round-test f (ordersIn s) i (w .round);

@@ -18,9 +18,9 @@ use Rattle.base_measures.specs.Meaning.Limits as limits
 use Rattle.rules.specs.Meaning.Layout.{zonesIn, branchesIn, linksIn, ordersIn, branchSize, branchAt, branchFieldAt, linkAt, linkFields, linkFieldAt, linkFieldSize, contracts, caseVersion, fromIn, toIn, orderAt, orderFields, orderFieldAt, orderFieldSize, shadowAt, caseLength, proposalLength, u8At, u32At, i32At, ramIn, ptdfIn, capacityIn, contractedIn, zoneIn, sideIn, quantityIn, priceIn}
 use Rattle.rules.specs.Meaning.Hour.{caseOf, planOf, pricesOf}
 use Rattle.base_causes.specs.declared.Outcome.{Outcome}
-use Rattle.base_causes.specs.Meaning.Rows.{Row, verdict, anyBelow, placeElse, firstField, refusal}
-use Rattle.base_causes.specs.Promised.RowLaws.{First, no-less, first-some, any-some, any-none, row-fails, else-refusal, refusal-append, first-field, no-place, lacks, row-by-number, number-passes, before, behind, rowNumbered}
-use Rattle.rules.specs.Meaning.Verdict.{over, unknown, branchFault, repeated, linkFault, rowFault, orderFault, roomRows, caseRows, proposalRows, clearingRows, table, outcome, caseRefusal, linkField}
+use Rattle.base_causes.specs.Meaning.Causes.{Cause, verdict, anyBelow, placeElse, firstField, refusal}
+use Rattle.base_causes.specs.Promised.CauseLaws.{First, no-less, first-some, any-some, any-none, row-fails, else-refusal, refusal-append, first-field, no-place, lacks, row-by-number, number-passes, before, behind, causeNumbered}
+use Rattle.rules.specs.Meaning.Verdict.{_over_, unknown, branchFault, repeated, linkFault, rowFault, orderFault, roomCauses, caseCauses, proposalCauses, clearingCauses, table, outcome, caseRefusal, badLinkField}
 use Rattle.rules.specs.Steps.Passed.{not-not}
 
 -- the fields of a part: n rows of w fields each, where each stands, how many bytes it has, and whether it is at fault
@@ -150,7 +150,7 @@ module _ (s : List ℕ) where
 
   pub links-adjacent : Adjacent (linkPart s) (caseLength s)
   unfolding linkAt caseLength
-  links-adjacent = record { some-field = omega arith; next-field = next; next-row = over; last-ends = omega arith }
+  links-adjacent = record { some-field = omega arith; next-field = next; next-row = row-ends; last-ends = omega arith }
     where
       next : (l j : ℕ) → suc j < linkFields → linkFieldAt s l (suc j) ≡ linkFieldAt s l j + linkFieldSize (caseVersion s) j
       next l zero h = refl
@@ -158,15 +158,15 @@ module _ (s : List ℕ) where
       next l (suc (suc zero)) h = omega arith
       next l (suc (suc (suc j))) h = absurd (omega arith)
 
-      over : (l j : ℕ) → suc j ≡ linkFields → linkAt s (suc l) ≡ linkFieldAt s l j + linkFieldSize (caseVersion s) j
-      over l zero h = absurd (omega arith)
-      over l (suc zero) h = absurd (omega arith)
-      over l (suc (suc zero)) h = absurd (omega arith)
-      over l (suc (suc (suc j))) h = omega arith
+      row-ends : (l j : ℕ) → suc j ≡ linkFields → linkAt s (suc l) ≡ linkFieldAt s l j + linkFieldSize (caseVersion s) j
+      row-ends l zero h = absurd (omega arith)
+      row-ends l (suc zero) h = absurd (omega arith)
+      row-ends l (suc (suc zero)) h = absurd (omega arith)
+      row-ends l (suc (suc (suc j))) h = omega arith
 
   pub orders-adjacent : Adjacent (orderPart s) (caseLength s)
   unfolding orderAt caseLength
-  orders-adjacent = record { some-field = omega arith; next-field = next; next-row = over; last-ends = omega arith }
+  orders-adjacent = record { some-field = omega arith; next-field = next; next-row = row-ends; last-ends = omega arith }
     where
       next : (i j : ℕ) → suc j < orderFields → orderFieldAt s i (suc j) ≡ orderFieldAt s i j + orderFieldSize j
       next i zero h = refl
@@ -174,11 +174,11 @@ module _ (s : List ℕ) where
       next i (suc (suc zero)) h = omega arith
       next i (suc (suc (suc j))) h = absurd (omega arith)
 
-      over : (i j : ℕ) → suc j ≡ orderFields → orderAt s (suc i) ≡ orderFieldAt s i j + orderFieldSize j
-      over i zero h = absurd (omega arith)
-      over i (suc zero) h = absurd (omega arith)
-      over i (suc (suc zero)) h = absurd (omega arith)
-      over i (suc (suc (suc j))) h = omega arith
+      row-ends : (i j : ℕ) → suc j ≡ orderFields → orderAt s (suc i) ≡ orderFieldAt s i j + orderFieldSize j
+      row-ends i zero h = absurd (omega arith)
+      row-ends i (suc zero) h = absurd (omega arith)
+      row-ends i (suc (suc zero)) h = absurd (omega arith)
+      row-ends i (suc (suc (suc j))) h = omega arith
 
   pub shadows-adjacent : (t : List ℕ) → Adjacent (shadowPart s t) (proposalLength s)
   unfolding shadowAt proposalLength
@@ -191,25 +191,25 @@ module _ (s : List ℕ) where
 
 -- WHAT IS NAMED
 module _ (s t : List ℕ) (room : ℕ) where
-  abbrev rows : List Row
+  abbrev rows : List Cause
   rows = table none s t room (caseOf s) (planOf s t) (pricesOf s t)
 
   pub names-branch-field : (outcome s t room) .number ≡ 6 → FieldNamed 6 (branchPart s) (length s) (outcome s t room)
-  unfolding outcome table roomRows caseRows proposalRows clearingRows lacks before rowNumbered caseOf
+  unfolding outcome table roomCauses caseCauses proposalCauses clearingCauses lacks before causeNumbered caseOf
   names-branch-field e =
       let r = row-by-number 6 rows (omega arith) tt tt e in
       let whole = eqb→eq (length s) (caseLength s) (not-not (eqb (length s) (caseLength s)) ((number-passes (before 6 rows) (r .earlier) 5) .pass 0 (omega arith))) in
       named 6 (branchPart s) (length s) (outcome s t room) (subst (λ (n : ℕ). Adjacent (branchPart s) n) (sym whole) (branches-adjacent s)) (r .place) (r .first-place) (r .is)
 
   pub names-link-field : (outcome s t room) .number ≡ 7 → FieldNamed 7 (linkPart s) (length s) (outcome s t room)
-  unfolding outcome table roomRows caseRows proposalRows clearingRows lacks before rowNumbered caseOf
+  unfolding outcome table roomCauses caseCauses proposalCauses clearingCauses lacks before causeNumbered caseOf
   names-link-field e =
       let r = row-by-number 7 rows (omega arith) tt tt e in
       let whole = eqb→eq (length s) (caseLength s) (not-not (eqb (length s) (caseLength s)) ((number-passes (before 7 rows) (r .earlier) 5) .pass 0 (omega arith))) in
       named 7 (linkPart s) (length s) (outcome s t room) (subst (λ (n : ℕ). Adjacent (linkPart s) n) (sym whole) (links-adjacent s)) (r .place) (r .first-place) (r .is)
 
   pub names-order-field : (outcome s t room) .number ≡ 8 → FieldNamed 8 (orderPart s) (length s) (outcome s t room)
-  unfolding outcome table roomRows caseRows proposalRows clearingRows lacks before rowNumbered caseOf
+  unfolding outcome table roomCauses caseCauses proposalCauses clearingCauses lacks before causeNumbered caseOf
   names-order-field e =
       let r = row-by-number 8 rows (omega arith) tt tt e in
       let whole = eqb→eq (length s) (caseLength s) (not-not (eqb (length s) (caseLength s)) ((number-passes (before 8 rows) (r .earlier) 5) .pass 0 (omega arith))) in
@@ -217,24 +217,24 @@ module _ (s t : List ℕ) (room : ℕ) where
 
   -- in the proposal
   pub names-shadow-price : (outcome s t room) .number ≡ 14 → FieldNamed 14 (shadowPart s t) (length t) (outcome s t room)
-  unfolding outcome table roomRows caseRows proposalRows clearingRows lacks before rowNumbered caseOf anyBelow
+  unfolding outcome table roomCauses caseCauses proposalCauses clearingCauses lacks before causeNumbered caseOf anyBelow
   names-shadow-price e =
       let r = row-by-number 14 rows (omega arith) tt tt e in
       let whole = eqb→eq (length t) (proposalLength s) (not-not (eqb (length t) (proposalLength s)) ((number-passes (before 14 rows) (r .earlier) 12) .pass 0 (omega arith))) in
       named 14 (shadowPart s t) (length t) (outcome s t room) (subst (λ (n : ℕ). Adjacent (shadowPart s t) n) (sym whole) (shadows-adjacent s t)) (r .place) (r .first-place) (r .is)
 
 -- S-2'S OWN WORDS OF LINKS, for link l of a case whose rows before 7 pass and whose links before l have no field at fault
-module _ (s : List ℕ) (l : ℕ) (rows-before : refusal (before 7 (caseRows s (caseOf s))) ≡ none) (l-in : l < linksIn s)
+module _ (s : List ℕ) (l : ℕ) (rows-before : refusal (before 7 (caseCauses s (caseOf s))) ≡ none) (l-in : l < linksIn s)
     (links-before : (i n : ℕ) → i < l → n < linkFields → T (not (linkFault (caseOf s) i n))) where
   -- its first field at fault is named
   first-named : (n : ℕ) → First linkFields (linkFault (caseOf s) l) n → caseRefusal s ≡ some (verdict 7 (linkFieldAt s l n))
-  unfolding caseRefusal caseRows before caseOf firstField
+  unfolding caseRefusal caseCauses before caseOf firstField
   first-named n f =
-      let rows = caseRows s (caseOf s) in
-      let from-links = linkField s (caseOf s) ∷ behind 7 rows in
+      let rows = caseCauses s (caseOf s) in
+      let from-links = badLinkField s (caseOf s) ∷ behind 7 rows in
       refusal-append (before 7 rows) from-links
       ∙ ap (λ (x : Option Outcome). else-refusal x (refusal from-links)) rows-before
-      ∙ row-fails (linkField s (caseOf s)) (behind 7 rows) l (record {
+      ∙ row-fails (badLinkField s (caseOf s)) (behind 7 rows) l (record {
         place-in = l-in;
         holds = is-true (any-some linkFields (linkFault (caseOf s) l) n (f .place-in) (f .holds));
         none-before = λ i h. is-false (any-none linkFields (linkFault (caseOf s) i) (λ j k. links-before i j h k));
@@ -283,7 +283,7 @@ module _ (s : List ℕ) (l : ℕ) (rows-before : refusal (before 7 (caseRows s (
     unfolding linkFault caseOf contractedIn contracts
     contracted-volume-named good version h = first-named 3 (record {
       place-in = omega arith;
-      holds = subst (λ (v : ℕ). T (over (capacityIn s l) (cond (eqb v 2) (u32At s (linkAt s l + 6)) (capacityIn s l)))) (sym version) (is-true (lt-ltb (capacityIn s l) (u32At s (linkAt s l + 6)) h));
+      holds = subst (λ (v : ℕ). T ((cond (eqb v 2) (u32At s (linkAt s l + 6)) (capacityIn s l)) over capacityIn s l)) (sym version) (is-true (lt-ltb (capacityIn s l) (u32At s (linkAt s l + 6)) h));
       none-before = three-good;
     })
       where
@@ -297,14 +297,14 @@ module _ (s : List ℕ) (l : ℕ) (rows-before : refusal (before 7 (caseRows s (
 contracted-apart : (s : List ℕ) (l : ℕ) (b : Bool) → contracts (caseVersion s) ≡ b → T (linkFault (caseOf s) l 3) → T b
 unfolding linkFault caseOf contractedIn
 contracted-apart s l true q t = tt
-contracted-apart s l false q t = absurd (T-not (over (capacityIn s l) (capacityIn s l)) (is-false (le-ltb (capacityIn s l) (capacityIn s l) (omega arith)))
-    (subst (λ (b : Bool). T (over (capacityIn s l) (cond b (u32At s (linkFieldAt s l 3)) (capacityIn s l)))) q t))
+contracted-apart s l false q t = absurd (T-not (capacityIn s l over capacityIn s l) (is-false (le-ltb (capacityIn s l) (capacityIn s l) (omega arith)))
+    (subst (λ (b : Bool). T ((cond b (u32At s (linkFieldAt s l 3)) (capacityIn s l)) over capacityIn s l)) q t))
 
 pub contracted-named : (s : List ℕ) (l : ℕ) → T (linkFault (caseOf s) l 3) → (caseVersion s ≡ 2) × (capacityIn s l < u32At s (linkFieldAt s l 3))
 unfolding linkFault caseOf contractedIn contracts
 contracted-named s l t =
     let v = contracted-apart s l (contracts (caseVersion s)) refl t in
-    (eqb→eq (caseVersion s) 2 v, ltb→lt (capacityIn s l) (u32At s (linkFieldAt s l 3)) (subst (λ (b : Bool). T (over (capacityIn s l) (cond b (u32At s (linkFieldAt s l 3)) (capacityIn s l)))) (true-is (contracts (caseVersion s)) v) t))
+    (eqb→eq (caseVersion s) 2 v, ltb→lt (capacityIn s l) (u32At s (linkFieldAt s l 3)) (subst (λ (b : Bool). T ((cond b (u32At s (linkFieldAt s l 3)) (capacityIn s l)) over capacityIn s l)) (true-is (contracts (caseVersion s)) v) t))
   where
     true-is : (b : Bool) → T b → b ≡ true
     true-is true t = refl
@@ -332,15 +332,15 @@ module _ (s : List ℕ) where
   unfolding linkFault caseOf capacityIn
   capacity-tested l = refl
 
-  pub contracted-tested : (l : ℕ) → caseVersion s ≡ 2 → linkFault (caseOf s) l 3 ≡ over (u32At s (linkFieldAt s l 2)) (u32At s (linkFieldAt s l 3))
+  pub contracted-tested : (l : ℕ) → caseVersion s ≡ 2 → linkFault (caseOf s) l 3 ≡ u32At s (linkFieldAt s l 3) over u32At s (linkFieldAt s l 2)
   unfolding linkFault caseOf capacityIn contractedIn contracts
-  contracted-tested l e = ap (λ (v : ℕ). over (u32At s (linkFieldAt s l 2)) (cond (eqb v 2) (u32At s (linkFieldAt s l 3)) (u32At s (linkFieldAt s l 2)))) e
+  contracted-tested l e = ap (λ (v : ℕ). (cond (eqb v 2) (u32At s (linkFieldAt s l 3)) (u32At s (linkFieldAt s l 2))) over u32At s (linkFieldAt s l 2)) e
 
   pub zone-tested : (i : ℕ) → orderFault (caseOf s) i 0 ≡ unknown (zonesIn s) (u8At s (orderFieldAt s i 0))
   unfolding orderFault rowFault caseOf zoneIn
   zone-tested i = refl
 
-  pub side-tested : (i : ℕ) → orderFault (caseOf s) i 1 ≡ over 1 (u8At s (orderFieldAt s i 1))
+  pub side-tested : (i : ℕ) → orderFault (caseOf s) i 1 ≡ u8At s (orderFieldAt s i 1) over 1
   unfolding orderFault rowFault caseOf sideIn
   side-tested i = refl
 

@@ -15,9 +15,9 @@ use Rattle.base_measures.specs.Meaning.Limits as limits
 use Rattle.rules.specs.Meaning.Layout.{reportRoom}
 use Rattle.rules.specs.Meaning.Hour.{Case, Plan, Prices, caseOf, planOf, pricesOf}
 use Rattle.base_causes.specs.declared.Outcome.{Outcome}
-use Rattle.base_causes.specs.Meaning.Rows.{Row, Pass, verdict, refusal, answer}
-use Rattle.base_causes.specs.Promised.RowLaws.{else-refusal, refusal-append, row-found, field-passes, once-fails, lacks, before, rowNumbered, row-by-number}
-use Rattle.rules.specs.Meaning.Verdict.{roomRows, caseRows, proposalRows, wideTolerance, clearingRows, judgementRows, table, outcome, familyOutcome, Readable, caseRefusal, proposalRefusal}
+use Rattle.base_causes.specs.Meaning.Causes.{Cause, Pass, verdict, refusal, answer}
+use Rattle.base_causes.specs.Promised.CauseLaws.{else-refusal, refusal-append, row-found, field-passes, once-fails, lacks, before, causeNumbered, row-by-number}
+use Rattle.rules.specs.Meaning.Verdict.{roomCauses, caseCauses, proposalCauses, wideTolerance, clearingCauses, judgementCauses, table, outcome, familyOutcome, Readable, caseRefusal, proposalRefusal}
 
 -- above 10,000 cents, the paper's number, and no lower: 10,000 itself passes
 above : (cents : ℕ) → T (outside limits.acceptedTolerance (pos cents)) → 10000 < cents
@@ -28,11 +28,11 @@ narrow-passes c h = record { pass = λ k l. nat-inside 0 10000 (c .tolerance) (o
 
 -- 15 IS ANSWERED for a tolerance above 10,000 cents and for no other, without a family list and with one
 pub only-wide : (s t : List ℕ) (room : ℕ) → (outcome s t room) .number ≡ 15 → 10000 < (caseOf s) .tolerance
-unfolding outcome table roomRows caseRows proposalRows clearingRows lacks before rowNumbered
+unfolding outcome table roomCauses caseCauses proposalCauses clearingCauses lacks before causeNumbered
 only-wide s t room e = above ((caseOf s) .tolerance) ((row-by-number 15 (table none s t room (caseOf s) (planOf s t) (pricesOf s t)) (omega arith) tt tt e) .first-place .holds)
 
 pub only-wide-family : (s t f : List ℕ) (room : ℕ) → (familyOutcome s t f room) .number ≡ 15 → 10000 < (caseOf s) .tolerance
-unfolding familyOutcome table roomRows caseRows proposalRows clearingRows lacks before rowNumbered
+unfolding familyOutcome table roomCauses caseCauses proposalCauses clearingCauses lacks before causeNumbered
 only-wide-family s t f room e = above ((caseOf s) .tolerance) ((row-by-number 15 (table (some f) s t room (caseOf s) (planOf s t) (pricesOf s t)) (omega arith) tt tt e) .first-place .holds)
 
 -- and such a tolerance is 15, with room for a report, where case and proposal are read
@@ -46,16 +46,16 @@ wide-fails cents h = by (outside limits.acceptedTolerance (pos cents)) refl
     by true e = refl
     by false e = absurd (never ((nat-within 0 10000 cents (is-false e)) .1))
 
-passes : (qs rs : List Row) → refusal qs ≡ none → refusal (qs ++ rs) ≡ refusal rs
+passes : (qs rs : List Cause) → refusal qs ≡ none → refusal (qs ++ rs) ≡ refusal rs
 passes qs rs e = refusal-append qs rs ∙ ap (λ (x : Option Outcome). else-refusal x (refusal rs)) e
 
 module _ (s t : List ℕ) (room : ℕ) (enough : reportRoom ≤ room) (readable : Readable s) (proposed : proposalRefusal s t ≡ none) (wide : 10000 < (caseOf s) .tolerance) where
   by-15 : (fs : Option (List ℕ)) → refusal (table fs s t room (caseOf s) (planOf s t) (pricesOf s t)) ≡ some (verdict 15 0)
-  unfolding table roomRows caseRefusal proposalRefusal
+  unfolding table roomCauses caseRefusal proposalRefusal
   by-15 fs =
-      field-passes 30 0 (caseRows s (caseOf s) ++ (proposalRows s t (caseOf s) (planOf s t) (pricesOf s t) ++ judgementRows fs (caseOf s) (planOf s t) (pricesOf s t))) (le-ltb room reportRoom enough)
-      ∙ passes (caseRows s (caseOf s)) _ (readable .none-holds)
-      ∙ passes (proposalRows s t (caseOf s) (planOf s t) (pricesOf s t)) _ proposed
+      field-passes 30 0 (caseCauses s (caseOf s) ++ (proposalCauses s t (caseOf s) (planOf s t) (pricesOf s t) ++ judgementCauses fs (caseOf s) (planOf s t) (pricesOf s t))) (le-ltb room reportRoom enough)
+      ∙ passes (caseCauses s (caseOf s)) _ (readable .none-holds)
+      ∙ passes (proposalCauses s t (caseOf s) (planOf s t) (pricesOf s t)) _ proposed
       ∙ row-found (wideTolerance (caseOf s)) _ 0 (once-fails (wide-fails ((caseOf s) .tolerance) wide))
 
   pub wide-is-15 : outcome s t room ≡ verdict 15 0
@@ -67,6 +67,6 @@ module _ (s t : List ℕ) (room : ℕ) (enough : reportRoom ≤ room) (readable 
   wide-is-15-family f = ap answer (by-15 (some f))
 
 -- NO READER ASKS IT: such a case is readable as before, and its proposal is read; so it is columned and restored, its book summed, its dump turned into a proposal
-pub readers-never-15 : (s t : List ℕ) (c : Case) (p : Plan) (d : Prices) → T (lacks 15 (caseRows s c)) × T (lacks 15 (proposalRows s t c p d))
-unfolding caseRows proposalRows lacks
+pub readers-never-15 : (s t : List ℕ) (c : Case) (p : Plan) (d : Prices) → T (lacks 15 (caseCauses s c)) × T (lacks 15 (proposalCauses s t c p d))
+unfolding caseCauses proposalCauses lacks
 readers-never-15 s t c p d = (tt, tt)

@@ -19,9 +19,9 @@ use Rattle.base_measures.specs.Meaning.Limits as limits
 use Rattle.rules.specs.Meaning.Layout.{u32At, caseVersion, linksIn, contracts, capacityIn, contractedIn, branchFieldAt, linkFields, linkFieldAt, orderFields, orderFieldAt, zoneCounts, branchCounts, linkCounts, orderCounts, caseLength, flowIn, shadowAt, shadowIn, shareIn, systemIn, volumeIn, proposalLength}
 use Rattle.rules.specs.Meaning.Hour.{Case, Plan, Prices, caseOf, planOf, pricesOf, zonePrice, noLink}
 use Rattle.base_causes.specs.declared.Outcome.{Outcome}
-use Rattle.base_causes.specs.Meaning.Rows.{Row, verdict, firstBelow, anyBelow, firstField, placeElse, refusal, answer}
-use Rattle.base_causes.specs.Promised.RowLaws.{First, first-is, first-ext, first-field, row-found, row-clear, field-fails, else-refusal, refusal-append, behind}
-use Rattle.rules.specs.Meaning.Verdict.{overZ, differ, branchFault, linkFault, orderFault, roomRows, caseRows, proposalRows, clearingRows, judgementRows, table, outcome, caseRefusal, Readable, caseHeaderRows, caseBodyRows}
+use Rattle.base_causes.specs.Meaning.Causes.{Cause, verdict, firstBelow, anyBelow, firstField, placeElse, refusal, answer}
+use Rattle.base_causes.specs.Promised.CauseLaws.{First, first-is, first-ext, first-field, row-found, row-clear, field-fails, else-refusal, refusal-append, behind}
+use Rattle.rules.specs.Meaning.Verdict.{_overZ_, differ, branchFault, linkFault, orderFault, roomCauses, caseCauses, proposalCauses, clearingCauses, judgementCauses, table, outcome, caseRefusal, Readable, caseHeaderCauses, caseBodyCauses}
 use Rattle.rules.specs.Meaning.Report.{priceBytes, headerBytes, totalBytes, reportText, reportBytes, reportSize, reports, written, bufferAfter}
 use Rattle.rules.specs.Meaning.Clearing.{Placed}
 use Rattle.rules.specs.Steps.Passed.{case-rows-sound, case-rows-length, case-sound, sound}
@@ -37,7 +37,7 @@ abbrev mapped : (Outcome → Outcome) → Option Outcome → Option Outcome
 mapped f (some o) = some (f o)
 mapped f none = none
 
-row-mapped : (f : Outcome → Outcome) (r q : Row) (rs qs : List Row) → r .places ≡ q .places → ((k : ℕ) → k < r .places → r .fails k ≡ q .fails k)
+row-mapped : (f : Outcome → Outcome) (r q : Cause) (rs qs : List Cause) → r .places ≡ q .places → ((k : ℕ) → k < r .places → r .fails k ≡ q .fails k)
     → ((k : ℕ) → First (r .places) (r .fails) k → verdict (q .number) (q .index k) ≡ f (verdict (r .number) (r .index k)))
     → refusal qs ≡ mapped f (refusal rs) → refusal (q ∷ qs) ≡ mapped f (refusal (r ∷ rs))
 row-mapped f r q rs qs places fails index rest = by (firstBelow (r .places) (r .fails)) refl
@@ -50,18 +50,18 @@ row-mapped f r q rs qs places fails index rest = by (firstBelow (r .places) (r .
     by none x = row-clear q qs (other ∙ x) ∙ rest ∙ ap (mapped f) (sym (row-clear r rs x))
 
 -- rows that come out mapped, and one row more
-record Maps (f : Outcome → Outcome) (rs qs : List Row) : Type 0 where
+record Maps (f : Outcome → Outcome) (rs qs : List Cause) : Type 0 where
   is : refusal qs ≡ mapped f (refusal rs)
 
 no-rows : {f : Outcome → Outcome} → Maps f [] []
 unfolding refusal
 no-rows = record { is = refl }
 
-more : {f : Outcome → Outcome} {r q : Row} {rs qs : List Row} → r .places ≡ q .places → ((k : ℕ) → k < r .places → r .fails k ≡ q .fails k)
+more : {f : Outcome → Outcome} {r q : Cause} {rs qs : List Cause} → r .places ≡ q .places → ((k : ℕ) → k < r .places → r .fails k ≡ q .fails k)
     → ((k : ℕ) → First (r .places) (r .fails) k → verdict (q .number) (q .index k) ≡ f (verdict (r .number) (r .index k))) → Maps f rs qs → Maps f (r ∷ rs) (q ∷ qs)
 more {f} {r} {q} {rs} {qs} places fails index rest = record { is = row-mapped f r q rs qs places fails index (rest .is) }
 
-rows-mapped : (f : Outcome → Outcome) (rs qs xs ys : List Row) → refusal qs ≡ mapped f (refusal rs) → (refusal rs ≡ none → refusal ys ≡ mapped f (refusal xs))
+rows-mapped : (f : Outcome → Outcome) (rs qs xs ys : List Cause) → refusal qs ≡ mapped f (refusal rs) → (refusal rs ≡ none → refusal ys ≡ mapped f (refusal xs))
     → refusal (qs ++ ys) ≡ mapped f (refusal (rs ++ xs))
 rows-mapped f rs qs xs ys first rest = by (refusal rs) refl
   where
@@ -117,10 +117,10 @@ module _ (s : List ℕ) (version-1 : caseVersion s ≡ 1) (long : 14 ≤ length 
         other : caseVersion s ≡ 2 → ⊥
         other q = omega (arith, version-1, q)
 
-    case-mapped : refusal (caseRows v e) ≡ mapped f (refusal (caseRows s c))
-    unfolding caseRows counted movedIndex
+    case-mapped : refusal (caseCauses v e) ≡ mapped f (refusal (caseCauses s c))
+    unfolding caseCauses counted movedIndex
     case-mapped =
-        let rows : Maps f (caseRows s c) (caseRows v e) =
+        let rows : Maps f (caseCauses s c) (caseCauses v e) =
         more refl (λ k h. le-ltb (length s) 14 long ∙ sym (le-ltb (length v) 14 (bytes.still-long s version-1 long))) (λ k x. refl)
         (more refl (λ k h. bytes.mark-same s version-1 long) (λ k x. refl)
         (more refl (λ k h. bytes.version-same s version-1 long) (λ k x. refl)
@@ -155,7 +155,7 @@ module _ (s : List ℕ) (version-1 : caseVersion s ≡ 1) (long : 14 ≤ length 
     -- the second case under its own counts
     whole-refusal : caseRefusal v ≡ mapped f (caseRefusal s)
     unfolding caseRefusal
-    whole-refusal = ap (λ (x : Case). refusal (caseRows v x)) (sym (counted-is c (caseOf v) same)) ∙ case-mapped
+    whole-refusal = ap (λ (x : Case). refusal (caseCauses v x)) (sym (counted-is c (caseOf v) same)) ∙ case-mapped
 
     -- THE PROPOSAL is the same for both
     module _ (t : List ℕ) where
@@ -181,10 +181,10 @@ module _ (s : List ℕ) (version-1 : caseVersion s ≡ 1) (long : 14 ≤ length 
       unfolding proposalLength
       length-same = sym (λ j. 13 + 4 * (bytes.orders-are s version-1 long j + bytes.links-are s version-1 long j + bytes.branches-are s version-1 long j))
 
-      proposal-mapped : refusal (proposalRows v t e p d) ≡ mapped f (refusal (proposalRows s t c p d))
-      unfolding proposalRows counted movedIndex
+      proposal-mapped : refusal (proposalCauses v t e p d) ≡ mapped f (refusal (proposalCauses s t c p d))
+      unfolding proposalCauses counted movedIndex
       proposal-mapped =
-          let rows : Maps f (proposalRows s t c p d) (proposalRows v t e p d) =
+          let rows : Maps f (proposalCauses s t c p d) (proposalCauses v t e p d) =
           more refl (λ k h. refl) (λ k x. refl)
           (more refl (λ k h. refl) (λ k x. refl)
           (more refl (λ k h. refl) (λ k x. refl)
@@ -193,10 +193,10 @@ module _ (s : List ℕ) (version-1 : caseVersion s ≡ 1) (long : 14 ≤ length 
           (more refl (λ m h. refl) (λ m x. ap (verdict 14) (shadow-at m)) no-rows))))) in
           rows .is
 
-      judgement-mapped : Placed c → refusal (judgementRows none e p d) ≡ mapped f (refusal (judgementRows none c p d))
-      unfolding clearingRows counted movedIndex noLink
+      judgement-mapped : Placed c → refusal (judgementCauses none e p d) ≡ mapped f (refusal (judgementCauses none c p d))
+      unfolding clearingCauses counted movedIndex noLink
       judgement-mapped ok =
-          let rows : Maps f (judgementRows none c p d) (judgementRows none e p d) =
+          let rows : Maps f (judgementCauses none c p d) (judgementCauses none e p d) =
           more refl (λ k h. refl) (λ k x. refl)
           (more refl (λ i h. ap (λ (n : ℕ). ltb n (p .volume i)) (same .quantity-same i h)) (λ k x. refl)
           (more refl (λ k h. ap (λ (x : ℤ). not (isZero x)) (net-sum c (caseOf v) same p)) (λ k x. refl)
@@ -204,7 +204,7 @@ module _ (s : List ℕ) (version-1 : caseVersion s ≡ 1) (long : 14 ≤ length 
           (more refl (λ l h. link-broken c (caseOf v) same p l h) (λ k x. refl)
           (more refl (λ m h. branch-broken c (caseOf v) same p m h) (λ k x. refl)
           (more refl (λ z h. ap (outside limits.zonePrice) (zone-price c (caseOf v) same d z h)) (λ k x. refl)
-          (more refl (λ k h. ap (overZ (limits.microcentsOf (pos (c .tolerance)))) (gap-same c (caseOf v) same d ok p)) (λ k x. refl) no-rows))))))) in
+          (more refl (λ k h. ap (λ (x : ℤ). x overZ (limits.microcentsOf (pos (c .tolerance)))) (gap-same c (caseOf v) same d ok p)) (λ k x. refl) no-rows))))))) in
           rows .is
 
       case-is : caseOf v ≡ e
@@ -212,17 +212,17 @@ module _ (s : List ℕ) (version-1 : caseVersion s ≡ 1) (long : 14 ≤ length 
 
       -- THE OUTCOME
       whole-outcome : (room : ℕ) → outcome v t room ≡ moved s (outcome s t room)
-      unfolding outcome table roomRows movedIndex
+      unfolding outcome table roomCauses movedIndex
       whole-outcome room =
           (λ j. answer (refusal (table none v t room (case-is j) (plan-same j) (prices-are j))))
-          ∙ ap answer (rows-mapped f (roomRows room) (roomRows room) (caseRows s c ++ (proposalRows s t c p d ++ judgementRows none c p d)) (caseRows v e ++ (proposalRows v t e p d ++ judgementRows none e p d)) room-mapped
-          (λ x. rows-mapped f (caseRows s c) (caseRows v e) (proposalRows s t c p d ++ judgementRows none c p d) (proposalRows v t e p d ++ judgementRows none e p d) case-mapped
-          (λ readable. rows-mapped f (proposalRows s t c p d) (proposalRows v t e p d) (judgementRows none c p d) (judgementRows none e p d) proposal-mapped
+          ∙ ap answer (rows-mapped f (roomCauses room) (roomCauses room) (caseCauses s c ++ (proposalCauses s t c p d ++ judgementCauses none c p d)) (caseCauses v e ++ (proposalCauses v t e p d ++ judgementCauses none e p d)) room-mapped
+          (λ x. rows-mapped f (caseCauses s c) (caseCauses v e) (proposalCauses s t c p d ++ judgementCauses none c p d) (proposalCauses v t e p d ++ judgementCauses none e p d) case-mapped
+          (λ readable. rows-mapped f (proposalCauses s t c p d) (proposalCauses v t e p d) (judgementCauses none c p d) (judgementCauses none e p d) proposal-mapped
           (λ y. judgement-mapped ((case-rows-sound s c readable) .placed)))))
           ∙ answer-mapped s (refusal (table none s t room c p d))
         where
-          room-mapped : refusal (roomRows room) ≡ mapped f (refusal (roomRows room))
-          room-mapped = let rows : Maps f (roomRows room) (roomRows room) = more refl (λ k h. refl) (λ k x. refl) no-rows in rows .is
+          room-mapped : refusal (roomCauses room) ≡ mapped f (refusal (roomCauses room))
+          room-mapped = let rows : Maps f (roomCauses room) (roomCauses room) = more refl (λ k h. refl) (λ k x. refl) no-rows in rows .is
 
       -- THE REPORT BUFFER, every byte of it
       report-same : (number : ℕ) → Placed c → reportBytes number e p d ≡ reportBytes number c p d
@@ -247,10 +247,10 @@ module _ (s : List ℕ) (version-1 : caseVersion s ≡ 1) (long : 14 ≤ length 
     abbrev w : List ℕ
     w = upgraded s
 
-    header-mapped : refusal (caseHeaderRows w (caseOf w)) ≡ mapped (moved s) (refusal (caseHeaderRows s (caseOf s)))
+    header-mapped : refusal (caseHeaderCauses w (caseOf w)) ≡ mapped (moved s) (refusal (caseHeaderCauses s (caseOf s)))
     unfolding caseOf movedIndex
     header-mapped =
-        let rows : Maps (moved s) (caseHeaderRows s (caseOf s)) (caseHeaderRows w (caseOf w)) =
+        let rows : Maps (moved s) (caseHeaderCauses s (caseOf s)) (caseHeaderCauses w (caseOf w)) =
         more refl (λ k h. le-ltb (length s) 14 long ∙ sym (le-ltb (length w) 14 (bytes.still-long s version-1 long))) (λ k x. refl)
         (more refl (λ k h. bytes.mark-same s version-1 long) (λ k x. refl)
         (more refl (λ k h. bytes.version-same s version-1 long) (λ k x. refl)
@@ -261,19 +261,19 @@ module _ (s : List ℕ) (version-1 : caseVersion s ≡ 1) (long : 14 ≤ length 
         (more refl (λ k h. sym (ap (λ (n : ℕ). outside limits.tolerance (pos n)) (bytes.tolerance-is s version-1 long))) (λ k x. refl) no-rows))))))) in
         rows .is
 
-    other-refusal : refusal (caseRows w (caseOf w)) ≡ mapped (moved s) (refusal (caseRows s (caseOf s)))
-    unfolding caseRows movedIndex
-    other-refusal = rows-mapped (moved s) (caseHeaderRows s (caseOf s)) (caseHeaderRows w (caseOf w)) (caseBodyRows s (caseOf s)) (caseBodyRows w (caseOf w)) header-mapped (λ x.
-        field-fails 5 0 (behind 5 (caseBodyRows w (caseOf w))) (ap not (ne-eqb (length w) (caseLength w) (bytes.other-too s version-1 long other)))
-        ∙ ap (mapped (moved s)) (sym (field-fails 5 0 (behind 5 (caseBodyRows s (caseOf s))) (ap not (ne-eqb (length s) (caseLength s) other)))))
+    other-refusal : refusal (caseCauses w (caseOf w)) ≡ mapped (moved s) (refusal (caseCauses s (caseOf s)))
+    unfolding caseCauses movedIndex
+    other-refusal = rows-mapped (moved s) (caseHeaderCauses s (caseOf s)) (caseHeaderCauses w (caseOf w)) (caseBodyCauses s (caseOf s)) (caseBodyCauses w (caseOf w)) header-mapped (λ x.
+        field-fails 5 0 (behind 5 (caseBodyCauses w (caseOf w))) (ap not (ne-eqb (length w) (caseLength w) (bytes.other-too s version-1 long other)))
+        ∙ ap (mapped (moved s)) (sym (field-fails 5 0 (behind 5 (caseBodyCauses s (caseOf s))) (ap not (ne-eqb (length s) (caseLength s) other)))))
 
 -- A FILE OF UNDER 14 BYTES is refused by 1, and so is the other
 module _ (s : List ℕ) (short : length s < 14) where
-  short-refusal : refusal (caseRows (upgraded s) (caseOf (upgraded s))) ≡ mapped (moved s) (refusal (caseRows s (caseOf s)))
-  unfolding caseRows movedIndex
+  short-refusal : refusal (caseCauses (upgraded s) (caseOf (upgraded s))) ≡ mapped (moved s) (refusal (caseCauses s (caseOf s)))
+  unfolding caseCauses movedIndex
   short-refusal =
-      field-fails 1 0 (behind 1 (caseRows (upgraded s) (caseOf (upgraded s)))) (lt-ltb (length (upgraded s)) 14 (bytes.short-too s short))
-      ∙ ap (mapped (moved s)) (sym (field-fails 1 0 (behind 1 (caseRows s (caseOf s))) (lt-ltb (length s) 14 short)))
+      field-fails 1 0 (behind 1 (caseCauses (upgraded s) (caseOf (upgraded s)))) (lt-ltb (length (upgraded s)) 14 (bytes.short-too s short))
+      ∙ ap (mapped (moved s)) (sym (field-fails 1 0 (behind 1 (caseCauses s (caseOf s))) (lt-ltb (length s) 14 short)))
 
 -- EVERY CASE OF VERSION 1
 decEq : (a b : ℕ) → Dec (a ≡ b)
@@ -309,17 +309,17 @@ module _ (s : List ℕ) (version-1 : caseVersion s ≡ 1) where
   same-readable r = record { none-holds = same-refusal ∙ ap (mapped (moved s)) (r .none-holds) }
 
   -- a case that is refused, with any proposal
-  refused-outcome : (t : List ℕ) (room : ℕ) → (refusal (caseRows s (caseOf s)) ≡ none → ⊥) → outcome (upgraded s) t room ≡ moved s (outcome s t room)
-  unfolding outcome table caseRefusal roomRows movedIndex
+  refused-outcome : (t : List ℕ) (room : ℕ) → (refusal (caseCauses s (caseOf s)) ≡ none → ⊥) → outcome (upgraded s) t room ≡ moved s (outcome s t room)
+  unfolding outcome table caseRefusal roomCauses movedIndex
   refused-outcome t room refused =
       let v = upgraded s in
-      ap answer (rows-mapped (moved s) (roomRows room) (roomRows room) (caseRows s (caseOf s) ++ (proposalRows s t (caseOf s) (planOf s t) (pricesOf s t) ++ judgementRows none (caseOf s) (planOf s t) (pricesOf s t))) (caseRows v (caseOf v) ++ (proposalRows v t (caseOf v) (planOf v t) (pricesOf v t) ++ judgementRows none (caseOf v) (planOf v t) (pricesOf v t))) room-mapped
-      (λ x. rows-mapped (moved s) (caseRows s (caseOf s)) (caseRows v (caseOf v)) (proposalRows s t (caseOf s) (planOf s t) (pricesOf s t) ++ judgementRows none (caseOf s) (planOf s t) (pricesOf s t)) (proposalRows v t (caseOf v) (planOf v t) (pricesOf v t) ++ judgementRows none (caseOf v) (planOf v t) (pricesOf v t)) same-refusal
+      ap answer (rows-mapped (moved s) (roomCauses room) (roomCauses room) (caseCauses s (caseOf s) ++ (proposalCauses s t (caseOf s) (planOf s t) (pricesOf s t) ++ judgementCauses none (caseOf s) (planOf s t) (pricesOf s t))) (caseCauses v (caseOf v) ++ (proposalCauses v t (caseOf v) (planOf v t) (pricesOf v t) ++ judgementCauses none (caseOf v) (planOf v t) (pricesOf v t))) room-mapped
+      (λ x. rows-mapped (moved s) (caseCauses s (caseOf s)) (caseCauses v (caseOf v)) (proposalCauses s t (caseOf s) (planOf s t) (pricesOf s t) ++ judgementCauses none (caseOf s) (planOf s t) (pricesOf s t)) (proposalCauses v t (caseOf v) (planOf v t) (pricesOf v t) ++ judgementCauses none (caseOf v) (planOf v t) (pricesOf v t)) same-refusal
       (λ none-holds. absurd (refused none-holds))))
       ∙ answer-mapped s (refusal (table none s t room (caseOf s) (planOf s t) (pricesOf s t)))
     where
-      room-mapped : refusal (roomRows room) ≡ mapped (moved s) (refusal (roomRows room))
-      room-mapped = let rows : Maps (moved s) (roomRows room) (roomRows room) = more refl (λ k h. refl) (λ k x. refl) no-rows in rows .is
+      room-mapped : refusal (roomCauses room) ≡ mapped (moved s) (refusal (roomCauses room))
+      room-mapped = let rows : Maps (moved s) (roomCauses room) (roomCauses room) = more refl (λ k h. refl) (λ k x. refl) no-rows in rows .is
 
   -- NUMBER AND INDEX
   pub same-outcome : (t : List ℕ) (room : ℕ) → outcome (upgraded s) t room ≡ moved s (outcome s t room)

@@ -13,10 +13,10 @@ use lib.IntN.{pos}
 use Rattle.base_integers.specs.Meaning.Ranges.{outside}
 use Rattle.base_measures.specs.Meaning.Limits as limits
 use Rattle.base_causes.specs.declared.Outcome.{Outcome}
-use Rattle.base_causes.specs.Meaning.Rows.{Row, refusal, once, field}
+use Rattle.base_causes.specs.Meaning.Causes.{Cause, refusal, once, field}
 use Rattle.rules.specs.Meaning.Layout.{u8At, u16At, u32At, caseVersion, zonesIn, branchesIn, linksIn, ordersIn, toleranceIn, branchSize, linkSize, caseLength, zoneCounts, branchCounts, linkCounts, orderCounts}
 use Rattle.rules.specs.Meaning.Hour.{caseOf}
-use Rattle.rules.specs.Meaning.Verdict.{headerRefusal, differ, notMark, caseRows}
+use Rattle.rules.specs.Meaning.Verdict.{headerRefusal, differ, notMark, caseCauses}
 use Rattle.rules.specs.Meaning.Cut.{good, caseEnd}
 
 module _ (s : List ℕ) where
@@ -48,7 +48,7 @@ pub record SameHeader (s r : List ℕ) : Type 0 where
   pub same : (k : ℕ) → k < 14 → getD s k 0 ≡ getD r k 0
 
 -- the header's rows, from its fields
-rowsBy : Bool → Bool → ℕ → ℕ → ℕ → ℕ → ℕ → ℕ → List Row
+rowsBy : Bool → Bool → ℕ → ℕ → ℕ → ℕ → ℕ → ℕ → List Cause
 rowsBy short mark version zones branches links orders tolerance =
     once 1 short
     ∷ once 2 mark
@@ -74,7 +74,7 @@ module _ (s r : List ℕ) (h : SameHeader s r) where
   same-u32 k l = λ i. h .same k (omega arith) i + 256 * (h .same (k + 1) (omega arith) i + 256 * (h .same (k + 2) (omega arith) i + 256 * h .same (k + 3) l i))
 
   pub same-refusal : headerRefusal s ≡ headerRefusal r
-  unfolding headerRefusal caseRows caseOf rowsBy notMark caseVersion zonesIn branchesIn linksIn ordersIn toleranceIn
+  unfolding headerRefusal caseCauses caseOf rowsBy notMark caseVersion zonesIn branchesIn linksIn ordersIn toleranceIn
   same-refusal = λ i. refusal (rowsBy
       ((le-ltb (length s) 14 (h .long .0) ∙ sym (le-ltb (length r) 14 (h .long .1))) i)
       (not (eqb (same-u8 0 (omega arith) i) 76 && eqb (same-u8 1 (omega arith) i) 84 && eqb (same-u8 2 (omega arith) i) 67))

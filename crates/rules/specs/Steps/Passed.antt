@@ -18,9 +18,9 @@ use Rattle.rules.specs.Meaning.Layout.{reportRoom, linkFields, orderFiel
 use Rattle.rules.specs.Meaning.Hour.{Case, Plan, Prices, caseOf, planOf, pricesOf, netSum, linkUse, linkRoom, zonePrice, noLink, gap}
 use Rattle.rules.specs.Meaning.Clearing.{Placed, Clearing}
 use Rattle.rules.specs.Meaning.Annex.{PairsOnce}
-use Rattle.base_causes.specs.Meaning.Rows.{refusal, Pass}
-use Rattle.base_causes.specs.Promised.RowLaws.{has-before, isRow, rowOf, hasRow, before, row-passed, lacks, no-place, later, none-zero, rowNumbered, number-passes, field-at-passes}
-use Rattle.rules.specs.Meaning.Verdict.{over, unknown, branchFault, repeated, linkFault, rowFault, orderFault, roomRows, caseRows, proposalRows, wideTolerance, clearingRows, table, outcome, Readable, caseRefusal, proposalRefusal}
+use Rattle.base_causes.specs.Meaning.Causes.{refusal, Pass}
+use Rattle.base_causes.specs.Promised.CauseLaws.{has-before, isCause, rowOf, hasCause, before, row-passed, lacks, no-place, later, none-zero, causeNumbered, number-passes, field-at-passes}
+use Rattle.rules.specs.Meaning.Verdict.{_over_, unknown, branchFault, repeated, linkFault, rowFault, orderFault, roomCauses, caseCauses, proposalCauses, wideTolerance, clearingCauses, table, outcome, Readable, caseRefusal, proposalRefusal}
 use Rattle.rules.specs.Meaning.Report.{reports}
 
 -- ROWS 1 TO 8 PASSED
@@ -61,29 +61,29 @@ nor-4 false false true f t = absurd t
 nor-4 false true e f t = absurd t
 nor-4 true b e f t = absurd t
 
-module _ (s : List ℕ) (c : Case) (passed : refusal (caseRows s c) ≡ none) where
+module _ (s : List ℕ) (c : Case) (passed : refusal (caseCauses s c) ≡ none) where
   -- the row of a number, and of a header field by its offset
-  case-row : (n : ℕ) → Pass (rowNumbered n (caseRows s c))
-  case-row = number-passes (caseRows s c) passed
+  case-row : (n : ℕ) → Pass (causeNumbered n (caseCauses s c))
+  case-row = number-passes (caseCauses s c) passed
 
-  header-field : (k : ℕ) → Pass (rowOf 4 k (caseRows s c))
-  header-field = field-at-passes (caseRows s c) passed 4
+  header-field : (k : ℕ) → Pass (rowOf 4 k (caseCauses s c))
+  header-field = field-at-passes (caseCauses s c) passed 4
 
   -- no field of a branch, a link or an order is at fault
   branch-ok : (m n : ℕ) → m < c .branches → n < 1 + c .zones → T (not (branchFault c m n))
-  unfolding caseRows rowNumbered
+  unfolding caseCauses causeNumbered
   branch-ok m n h k = no-place (1 + c .zones) (branchFault c m) ((case-row 6) .pass m h) n k
 
   link-ok : (l n : ℕ) → l < c .links → n < linkFields → T (not (linkFault c l n))
-  unfolding caseRows rowNumbered
+  unfolding caseCauses causeNumbered
   link-ok l n h k = no-place linkFields (linkFault c l) ((case-row 7) .pass l h) n k
 
   order-ok : (i n : ℕ) → i < c .orders → n < orderFields → T (not (orderFault c i n))
-  unfolding caseRows rowNumbered
+  unfolding caseCauses causeNumbered
   order-ok i n h k = no-place orderFields (orderFault c i) ((case-row 8) .pass i h) n k
 
   pub case-rows-sound : CaseSound c
-  unfolding caseRows rowOf isRow branchFault linkFault orderFault rowFault
+  unfolding caseCauses rowOf isCause branchFault linkFault orderFault rowFault
   case-rows-sound = record {
     zones-in = nat-within 1 16 (c .zones) ((header-field 5) .pass 0 (omega arith));
     branches-in = (nat-within 0 64 (c .branches) ((header-field 6) .pass 0 (omega arith))) .1;
@@ -106,7 +106,7 @@ module _ (s : List ℕ) (c : Case) (passed : refusal (caseRows s c) ≡ none) wh
   }
 
   pub case-rows-length : length s ≡ caseLength s
-  unfolding caseRows rowNumbered
+  unfolding caseCauses causeNumbered
   case-rows-length = eqb→eq (length s) (caseLength s) (not-not (eqb (length s) (caseLength s)) ((case-row 5) .pass 0 (omega arith)))
 
   -- no link has an earlier one's pair
@@ -137,19 +137,19 @@ pub case-pairs : (s : List ℕ) → Readable s → PairsOnce (caseOf s)
 unfolding caseRefusal
 case-pairs s r = case-rows-pairs s (caseOf s) (r .none-holds)
 
-module _ (s t : List ℕ) (c : Case) (p : Plan) (d : Prices) (passed : refusal (proposalRows s t c p d) ≡ none) where
-  proposal-row : (n : ℕ) → Pass (rowNumbered n (proposalRows s t c p d))
-  proposal-row = number-passes (proposalRows s t c p d) passed
+module _ (s t : List ℕ) (c : Case) (p : Plan) (d : Prices) (passed : refusal (proposalCauses s t c p d) ≡ none) where
+  proposal-row : (n : ℕ) → Pass (causeNumbered n (proposalCauses s t c p d))
+  proposal-row = number-passes (proposalCauses s t c p d) passed
 
   pub proposal-rows-sound : ProposalSound c p d
-  unfolding proposalRows rowNumbered
+  unfolding proposalCauses causeNumbered
   proposal-rows-sound = record {
     share-in = (nat-within 0 100000 (p .share) ((proposal-row 13) .pass 0 (omega arith))) .1;
     shadow-in = λ m h. (nat-within 0 1000000 (d .shadow m) ((proposal-row 14) .pass m h)) .1;
   }
 
   pub proposal-rows-length : length t ≡ proposalLength s
-  unfolding proposalRows rowNumbered
+  unfolding proposalCauses causeNumbered
   proposal-rows-length = eqb→eq (length t) (proposalLength s) (not-not (eqb (length t) (proposalLength s)) ((proposal-row 12) .pass 0 (omega arith)))
 
 pub proposal-sound : (s t : List ℕ) → proposalRefusal s t ≡ none → ProposalSound (caseOf s) (planOf s t) (pricesOf s t)
@@ -161,18 +161,18 @@ unfolding proposalRefusal
 proposal-length s t e = proposal-rows-length s t (caseOf s) (planOf s t) (pricesOf s t) e
 
 -- row 27 (S-6)
-no-share : (c : Case) (share : ℕ) → c .links ≡ 0 → T (not (noLink c && over 0 share)) → share ≡ 0
+no-share : (c : Case) (share : ℕ) → c .links ≡ 0 → T (not (noLink c && share over 0)) → share ≡ 0
 unfolding noLink
-no-share c share e t = none (nltb→le 0 share (subst (λ (n : ℕ). T (not (eqb n 0 && over 0 share))) e t))
+no-share c share e t = none (nltb→le 0 share (subst (λ (n : ℕ). T (not (eqb n 0 && share over 0))) e t))
   where
     none : share ≤ 0 → share ≡ 0
     none h = omega arith
 
 -- the rows before 26
 module _ (c : Case) (p : Plan) (d : Prices) (one : p .den ≡ 1) (share-in : p .share ≤ partsInOne)
-    (rows : (n k : ℕ) → T (hasRow n k (before 26 (clearingRows none c p d))) → Pass (rowOf n k (clearingRows none c p d))) where
+    (rows : (n k : ℕ) → T (hasCause n k (before 26 (clearingCauses none c p d))) → Pass (rowOf n k (clearingCauses none c p d))) where
   pub clearing-rows-sound : ClearingSound c p d
-  unfolding clearingRows before hasRow rowOf isRow
+  unfolding clearingCauses before hasCause rowOf isCause
   clearing-rows-sound = record {
     clearing = record {
       den-positive = omega (arith, one);
@@ -208,35 +208,35 @@ module _ (s t : List ℕ) (room : ℕ) where
   d = pricesOf s t
 
   -- with a number n that no row before the clearing's has
-  parts : (n : ℕ) → T (lacks n (roomRows room)) → T (lacks n (caseRows s c)) → T (lacks n (proposalRows s t c p d)) → T (lacks n (wideTolerance c ∷ [])) → (outcome s t room) .number ≡ n
-      → ((i k : ℕ) → T (hasRow i k (before 26 (clearingRows none c p d))) → T (hasRow i k (before n (clearingRows none c p d)))) → Sound s t room
-  unfolding outcome table caseRefusal proposalRefusal roomRows before hasRow rowOf isRow planOf c p d
+  parts : (n : ℕ) → T (lacks n (roomCauses room)) → T (lacks n (caseCauses s c)) → T (lacks n (proposalCauses s t c p d)) → T (lacks n (wideTolerance c ∷ [])) → (outcome s t room) .number ≡ n
+      → ((i k : ℕ) → T (hasCause i k (before 26 (clearingCauses none c p d))) → T (hasCause i k (before n (clearingCauses none c p d)))) → Sound s t room
+  unfolding outcome table caseRefusal proposalRefusal roomCauses before hasCause rowOf isCause planOf c p d
   parts n l₀ l₁ l₂ l₃ e up =
-      let a = later n (roomRows room) _ l₀ e in
-      let b = later n (caseRows s c) _ l₁ (a .then-second) in
-      let f = later n (proposalRows s t c p d) _ l₂ (b .then-second) in
+      let a = later n (roomCauses room) _ l₀ e in
+      let b = later n (caseCauses s c) _ l₁ (a .then-second) in
+      let f = later n (proposalCauses s t c p d) _ l₂ (b .then-second) in
       let g = later n (wideTolerance c ∷ []) _ l₃ (f .then-second) in
       record {
         readable = record { none-holds = b .none-first };
         proposed = f .none-first;
         cleared = clearing-rows-sound c p d refl ((proposal-rows-sound s t c p d (f .none-first)) .share-in)
-            (λ i k h. row-passed n (clearingRows none c p d) (g .then-second) i k (up i k h));
-        enough-room = nltb→le room reportRoom ((row-passed 0 (roomRows room) (none-zero (roomRows room) (a .none-first)) 30 0 tt) .pass 0 (omega arith));
+            (λ i k h. row-passed n (clearingCauses none c p d) (g .then-second) i k (up i k h));
+        enough-room = nltb→le room reportRoom ((row-passed 0 (roomCauses room) (none-zero (roomCauses room) (a .none-first)) 30 0 tt) .pass 0 (omega arith));
       }
 
   -- VERDICT 0 OR 26
   pub sound : T (reports ((outcome s t room) .number)) → Sound s t room
-  unfolding reports roomRows caseRows proposalRows clearingRows lacks before
+  unfolding reports roomCauses caseCauses proposalCauses clearingCauses lacks before
   sound r = either (eqb ((outcome s t room) .number) 0) (eqb ((outcome s t room) .number) 26) r
-      (λ e. parts 0 tt tt tt tt (eqb→eq ((outcome s t room) .number) 0 e) (λ i k h. has-before 26 i k (clearingRows none c p d) h))
+      (λ e. parts 0 tt tt tt tt (eqb→eq ((outcome s t room) .number) 0 e) (λ i k h. has-before 26 i k (clearingCauses none c p d) h))
       (λ e. parts 26 tt tt tt tt (eqb→eq ((outcome s t room) .number) 26 e) (λ i k h. h))
 
   -- VERDICT 0: the gap is at most the tolerance
   pub within-tolerance : (outcome s t room) .number ≡ 0 → gap (caseOf s) (planOf s t) (pricesOf s t) ≤ℤ limits.microcentsOf (pos ((caseOf s) .tolerance))
-  unfolding outcome table roomRows caseRows proposalRows clearingRows before hasRow rowOf isRow
+  unfolding outcome table roomCauses caseCauses proposalCauses clearingCauses before hasCause rowOf isCause
   within-tolerance e = ltZ-no ((row-passed 0 (table none s t room (caseOf s) (planOf s t) (pricesOf s t)) e 26 0 tt) .pass 0 (omega arith))
 
   -- and the tolerance is at most 10,000 cents (S-12)
   pub narrow-tolerance : (outcome s t room) .number ≡ 0 → (caseOf s) .tolerance ≤ 10000
-  unfolding outcome table roomRows caseRows proposalRows clearingRows before hasRow rowOf isRow
+  unfolding outcome table roomCauses caseCauses proposalCauses clearingCauses before hasCause rowOf isCause
   narrow-tolerance e = (nat-within 0 10000 ((caseOf s) .tolerance) ((row-passed 0 (table none s t room (caseOf s) (planOf s t) (pricesOf s t)) e 15 0 tt) .pass 0 (omega arith))) .1

@@ -14,8 +14,8 @@ use Rattle.base_integers.specs.Steps.Sums.{sum-ext}
 use Rattle.base_measures.specs.Meaning.Limits as limits
 use Rattle.base_measures.specs.Meaning.Limits.{partsInOne}
 use Rattle.rules.specs.Meaning.Hour.{Case, Plan, Prices, signed, buys, orderNet, net, inflow, outflow, ltaPart, fbPart, netSum, broken, brokenZ, linkUse, linkRoom, linkRule, branchUse, branchRoom, branchRule, branchPrice, zonePrice, orderWelfare, welfare, surplusOf, orderSurplus, surplus, branchValue, branchTotal, spread, linkValue, linkTotal, linkOwed, owed, noLink, networkBound, bound, gap, rent}
-use Rattle.base_causes.specs.Meaning.Rows.{anyBelow}
-use Rattle.rules.specs.Meaning.Verdict.{over, unknown, branchFault, repeated, linkFault, rowFault, orderFault}
+use Rattle.base_causes.specs.Meaning.Causes.{anyBelow}
+use Rattle.rules.specs.Meaning.Verdict.{_over_, unknown, branchFault, repeated, linkFault, rowFault, orderFault}
 use Rattle.rules.specs.Meaning.Report.{totalsOf}
 use Rattle.rules.specs.Meaning.Clearing.{Placed}
 
@@ -100,7 +100,7 @@ module _ (c e : Case) (w : SameTables c e) where
   link-fault l zero h = λ j. unknown (c .zones) (w .from-same l h j) || same-pair l h j
   link-fault l (suc zero) h = λ j. unknown (c .zones) (w .to-same l h j) || eqb (w .from-same l h j) (w .to-same l h j)
   link-fault l (suc (suc zero)) h = ap (λ (n : ℕ). outside limits.capacity (pos n)) (w .capacity-same l h)
-  link-fault l (suc (suc (suc n))) h = λ j. over (w .capacity-same l h j) (w .contracted-same l h j)
+  link-fault l (suc (suc (suc n))) h = λ j. w .contracted-same l h j over w .capacity-same l h j
 
   pub order-fault : (i n : ℕ) → i < c .orders → orderFault c i n ≡ orderFault other i n
   unfolding orderFault counted

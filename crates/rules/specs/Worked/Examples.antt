@@ -14,12 +14,12 @@ use Rattle.text_decimal.specs.Meaning.Ascii.{ascii}
 use Rattle.text_decimal.specs.Meaning.Text.{placesIn, places, lastDigits, countText, sizeText, amountText}
 use Rattle.rules.specs.Meaning.Layout.{u8At, u16At, u32At, i32At, caseVersion, zonesIn, branchesIn, linksIn, ordersIn, toleranceIn, branchSize, branchAt, ramIn, ptdfIn, linkAt, fromIn, toIn, capacityIn, contracts, contractedSize, contractedIn, orderAt, zoneIn, sideIn, quantityIn, priceIn, caseLength, proposalVersion, shareIn, systemIn, volumeIn, flowIn, shadowAt, shadowIn, proposalLength}
 use Rattle.rules.specs.Meaning.Hour.{caseOf, planOf, pricesOf, buys, orderNet, net, inflow, outflow, ltaPart, fbPart, netSum, linkUse, linkRoom, branchUse, branchRoom, branchPrice, zonePrice, orderWelfare, welfare, surplusOf, orderSurplus, surplus, branchValue, branchTotal, spread, linkValue, linkTotal, linkOwed, owed, noLink, networkBound, bound, gap, rent}
-use Rattle.rules.specs.Meaning.Verdict.{outcome, notMark, branchFault, repeated, linkFault, rowFault, orderFault, roomRows, caseRows, proposalRows, clearingRows, table, headerRefusal}
+use Rattle.rules.specs.Meaning.Verdict.{outcome, notMark, branchFault, repeated, linkFault, rowFault, orderFault, roomCauses, caseCauses, proposalCauses, clearingCauses, table, headerRefusal}
 use Rattle.rules.specs.Meaning.Report.{priceBytes, headerBytes, totalBytes, reportText, totalsOf, reportBytes, reportSize, reports, written, bufferAfter}
 use Rattle.rules.specs.Meaning.Cut.{caseEnd, casePart, proposalPart}
 use Rattle.rules.specs.Meaning.Lines.{verdictLine, totalLine, totalLines, priceLine, priceLines, hourLines, linesOf, hourText, deskText}
 use Rattle.base_causes.specs.declared.Outcome.{Outcome}
-use Rattle.base_causes.specs.Meaning.Rows.{verdict, firstBelow, anyBelow, firstField, refusal}
+use Rattle.base_causes.specs.Meaning.Causes.{verdict, firstBelow, anyBelow, firstField, refusal}
 
 -- the fields of a case and a proposal, to be written as bytes
 pub record Branch : Type 0 where
@@ -291,7 +291,7 @@ said e = record { answered = e .expected; totals = map (λ v. v .value) (e .name
 
 -- every example comes out as the paper says
 pub examples-hold : map given examples ≡ map said examples
-unfolding u8At u16At u32At i32At caseVersion zonesIn branchesIn linksIn ordersIn toleranceIn branchSize branchAt ramIn ptdfIn linkAt fromIn toIn capacityIn contracts contractedSize contractedIn orderAt zoneIn sideIn quantityIn priceIn caseLength proposalVersion shareIn systemIn volumeIn flowIn shadowAt shadowIn proposalLength sumTo caseOf planOf pricesOf buys orderNet net inflow outflow ltaPart fbPart netSum linkUse linkRoom branchUse branchRoom branchPrice zonePrice orderWelfare welfare surplusOf orderSurplus surplus branchValue branchTotal spread linkValue linkTotal linkOwed owed noLink networkBound bound gap rent outcome firstBelow firstField refusal outside isZero anyBelow notMark branchFault repeated linkFault rowFault orderFault roomRows caseRows proposalRows clearingRows table bytesOf le32 joined branchBytes linkBytes orderBytes caseBytes proposalBytes linkAB threeZones proposal1 proposal2 oneZone noOrders signed64 priceBytes headerBytes totalBytes reportText totalsOf reportBytes reportSize reports written bufferAfter placesIn places lastDigits countText sizeText amountText verdictLine totalLine totalLines priceLine priceLines hourLines linesOf hourText headerRefusal caseEnd casePart proposalPart deskText stored1 text1 text3 examples judged given said
+unfolding u8At u16At u32At i32At caseVersion zonesIn branchesIn linksIn ordersIn toleranceIn branchSize branchAt ramIn ptdfIn linkAt fromIn toIn capacityIn contracts contractedSize contractedIn orderAt zoneIn sideIn quantityIn priceIn caseLength proposalVersion shareIn systemIn volumeIn flowIn shadowAt shadowIn proposalLength sumTo caseOf planOf pricesOf buys orderNet net inflow outflow ltaPart fbPart netSum linkUse linkRoom branchUse branchRoom branchPrice zonePrice orderWelfare welfare surplusOf orderSurplus surplus branchValue branchTotal spread linkValue linkTotal linkOwed owed noLink networkBound bound gap rent outcome firstBelow firstField refusal outside isZero anyBelow notMark branchFault repeated linkFault rowFault orderFault roomCauses caseCauses proposalCauses clearingCauses table bytesOf le32 joined branchBytes linkBytes orderBytes caseBytes proposalBytes linkAB threeZones proposal1 proposal2 oneZone noOrders signed64 priceBytes headerBytes totalBytes reportText totalsOf reportBytes reportSize reports written bufferAfter placesIn places lastDigits countText sizeText amountText verdictLine totalLine totalLines priceLine priceLines hourLines linesOf hourText headerRefusal caseEnd casePart proposalPart deskText stored1 text1 text3 examples judged given said
 examples-hold = refl
 
 -- case 102 bytes, proposal 45 bytes

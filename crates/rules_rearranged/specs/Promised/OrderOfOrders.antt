@@ -16,10 +16,10 @@ use Rattle.base_measures.specs.Meaning.Limits as limits
 use Rattle.rules.specs.Meaning.Layout.{toleranceIn, ordersIn, volumeIn, caseLength, proposalLength, caseHeader, proposalHeader, branchFieldAt, linkFields, linkFieldAt, orderFields, shadowAt, zonePriceAt}
 use Rattle.rules.specs.Meaning.Hour.{Case, Plan, Prices, caseOf, planOf, pricesOf, linkUse, linkRoom, branchRoom, branchPrice, zonePrice, noLink}
 use Rattle.base_causes.specs.declared.Outcome.{Outcome}
-use Rattle.base_causes.specs.Meaning.Rows.{firstBelow, anyBelow, refusal, answer, once}
-use Rattle.rules.specs.Meaning.Verdict.{under, over, overZ, differ, branchFault, linkFault, orderFault, orderField, roomRows, caseRows, proposalRows, clearingRows, table, outcome, Readable, caseRefusal}
+use Rattle.base_causes.specs.Meaning.Causes.{firstBelow, anyBelow, refusal, answer, once}
+use Rattle.rules.specs.Meaning.Verdict.{_under_, _over_, _overZ_, differ, branchFault, linkFault, orderFault, badOrderField, roomCauses, caseCauses, proposalCauses, clearingCauses, table, outcome, Readable, caseRefusal}
 use Rattle.rules.specs.Meaning.Report.{totalsOf, headerBytes, totalBytes, priceBytes, reportText, reportBytes, reportSize, reports, written, bufferAfter}
-use Rattle.base_causes.specs.Promised.RowLaws.{First, first-none, lacks, rowNumbered, number-passes, row-by-number}
+use Rattle.base_causes.specs.Promised.CauseLaws.{First, first-none, lacks, causeNumbered, number-passes, row-by-number}
 use Rattle.rules.specs.Meaning.Clearing.{Placed}
 use Rattle.rules.specs.Steps.SameTables.{SameTables, counted, counted-is, any-ext, branch-fault, link-fault, order-fault, net-sum, link-broken, branch-broken, zone-price, gap-same, totals-same}
 use Rattle.rules.specs.Steps.Passed.{case-sound, case-length}
@@ -67,8 +67,8 @@ module _ (s : List ℕ) (π : Permutation (ordersIn s)) (r : Readable s) where
   atFault x i = anyBelow orderFields (orderFault x i)
 
   none-before : firstBelow (c .orders) (atFault c) ≡ none
-  unfolding caseRefusal caseRows rowNumbered
-  none-before = first-none (c .orders) (atFault c) ((number-passes (caseRows s c) (r .none-holds) 8) .pass)
+  unfolding caseRefusal caseCauses causeNumbered
+  none-before = first-none (c .orders) (atFault c) ((number-passes (caseCauses s c) (r .none-holds) 8) .pass)
 
   none-after : firstBelow (c .orders) (atFault c′) ≡ none
   unfolding caseOf orderFault movedCase
@@ -83,10 +83,10 @@ module _ (s : List ℕ) (π : Permutation (ordersIn s)) (r : Readable s) where
   unfolding caseOf movedCase
   link-same l n h k = sym (link-fault moved (caseOf s′) m l n h) ∙ link-fault-is c π l n
 
-  case-rows : SameRows (caseRows s c) (caseRows s′ c′)
-  unfolding caseRows counted movedCase
+  case-rows : SameRows (caseCauses s c) (caseCauses s′ c′)
+  unfolding caseCauses counted movedCase
   case-rows =
-      and-row (same-row (λ j. once 1 (under caseHeader (length-same s π whole j))))
+      and-row (same-row (λ j. once 1 (length-same s π whole j under caseHeader)))
       (and-row (same-row (λ j. once 2 (mark-same s π whole 76 84 67 j)))
       (and-row (same-row (λ j. once 3 (differ (version-same s π whole j) 1 && differ (version-same s π whole j) 2)))
       (and-row (same-row refl)
@@ -97,12 +97,12 @@ module _ (s : List ℕ) (π : Permutation (ordersIn s)) (r : Readable s) where
       (and-row (same-row (λ j. once 5 (differ (length-same s π whole j) (length-demanded s π whole j))))
       (and-row (same-each-field 6 (branchFault c) (branchFault c′) (branchFieldAt s) (branchFieldAt s′) branch-same (branch-field-same s π whole))
       (and-row (same-each-field 7 (linkFault c) (linkFault c′) (linkFieldAt s) (linkFieldAt s′) link-same (link-field-same s π whole))
-      (and-row (nowhere-row (orderField s c) (orderField s′ c′) refl none-before none-after)
+      (and-row (nowhere-row (badOrderField s c) (badOrderField s′ c′) refl none-before none-after)
       no-row)))))))))))
 
   pub still-readable : Readable s′
   unfolding caseRefusal
-  still-readable = record { none-holds = ap (λ (x : Case). refusal (caseRows s′ x)) case-is ∙ refusal-same case-rows ∙ r .none-holds }
+  still-readable = record { none-holds = ap (λ (x : Case). refusal (caseCauses s′ x)) case-is ∙ refusal-same case-rows ∙ r .none-holds }
 
   -- ROWS 9 TO 26, of a proposal of the right length
   module _ (t : List ℕ) (right : length t ≡ proposalLength s) where
@@ -124,10 +124,10 @@ module _ (s : List ℕ) (π : Permutation (ordersIn s)) (r : Readable s) where
     prices-are : pricesOf s′ t′ ≡ d
     prices-are = prices-same s π whole t right
 
-    proposal-rows : SameRows (proposalRows s t c p d) (proposalRows s′ t′ c′ p′ d)
-    unfolding proposalRows counted movedCase withVolumes
+    proposal-rows : SameRows (proposalCauses s t c p d) (proposalCauses s′ t′ c′ p′ d)
+    unfolding proposalCauses counted movedCase withVolumes
     proposal-rows =
-        and-row (same-row (λ j. once 9 (under proposalHeader (proposal-length-same s π whole t right j))))
+        and-row (same-row (λ j. once 9 (proposal-length-same s π whole t right j under proposalHeader)))
         (and-row (same-row (λ j. once 10 (proposal-mark-same s π whole t right 76 84 80 j)))
         (and-row (same-row (λ j. once 11 (differ (proposal-version-same s π whole t right j) 1)))
         (and-row (same-row (λ j. once 12 (differ (proposal-length-same s π whole t right j) (proposal-demanded s π whole j))))
@@ -138,30 +138,30 @@ module _ (s : List ℕ) (π : Permutation (ordersIn s)) (r : Readable s) where
     -- the orders whose volume is above their quantity are the same orders, at their new places
     pub excess-moved : (i : ℕ) → i < ordersIn s → excess (caseOf s′) (planOf s′ t′) i ≡ excess c p (π .source i)
     unfolding caseOf planOf excess movedCase
-    excess-moved i h = λ j. over (sym (m .quantity-same i h) j) (volume-moved s π whole t right i h j)
+    excess-moved i h = λ j. volume-moved s π whole t right i h j over sym (m .quantity-same i h) j
 
-    clearing-rows : SameTable (clearingRows none c p d) (clearingRows none c′ p′ d)
-    unfolding clearingRows noLink excess caseOf planOf counted movedCase withVolumes linkUse linkRoom branchRoom zonePrice branchPrice
+    clearing-rows : SameTable (clearingCauses none c p d) (clearingCauses none c′ p′ d)
+    unfolding clearingCauses noLink excess caseOf planOf counted movedCase withVolumes linkUse linkRoom branchRoom zonePrice branchPrice
     clearing-rows =
         let x = volume-moved s π whole t right in
         same-but-21 π (excess c p) (excess c′ p′) excess-moved
         (and-row (same-row (λ j. once 22 (not (isZero ((sym (net-sum moved (caseOf s′) m p′) ∙ net-sum-moved c π p (volumeIn s′ t′) x) j)))))
         (and-row (same-row refl)
         (and-row (same-each 23 _ _ (λ l h. sym (link-broken moved (caseOf s′) m p′ l h)))
-        (and-row (same-each 24 _ _ (λ b h. sym (branch-broken moved (caseOf s′) m p′ b h) ∙ ap (overZ (branchRoom c p b)) (branch-use-moved c π p (volumeIn s′ t′) x b)))
+        (and-row (same-each 24 _ _ (λ b h. sym (branch-broken moved (caseOf s′) m p′ b h) ∙ ap (λ (x : ℤ). x overZ (branchRoom c p b)) (branch-use-moved c π p (volumeIn s′ t′) x b)))
         (and-row (same-each 25 _ _ (λ z h. ap (outside limits.zonePrice) (sym (zone-price moved (caseOf s′) m d z h))))
-        (and-row (same-row (λ j. once 26 (overZ (limits.microcentsOf (pos (c .tolerance))) ((sym (gap-same moved (caseOf s′) m d placed p′) ∙ gap-moved c π p (volumeIn s′ t′) x d) j))))
+        (and-row (same-row (λ j. once 26 (((sym (gap-same moved (caseOf s′) m d placed p′) ∙ gap-moved c π p (volumeIn s′ t′) x d) j) overZ (limits.microcentsOf (pos (c .tolerance))))))
         no-row))))))
 
     -- THE VERDICT IS THE SAME, but for the index of 21
     pub same-verdict : (room : ℕ) → SameVerdict (outcome s t room) (outcome s′ t′ room)
-    unfolding outcome table roomRows counted caseOf movedCase toleranceIn
+    unfolding outcome table roomCauses counted caseOf movedCase toleranceIn
     same-verdict room = subst (λ (x : Outcome). SameVerdict (outcome s t room) x) (λ j. answer (refusal (table none s′ t′ room (sym case-is j) (sym plan-is j) (sym prices-are j))))
         (same-answer (after-rows (and-row (same-row refl) no-row) (after-rows case-rows (after-rows proposal-rows (after-rows (and-row (same-row refl) no-row) clearing-rows))) .same))
 
     -- THE INDEX OF 21 is the first place to which an order at fault has gone
     pub index-of-21 : (room : ℕ) → (outcome s t room) .number ≡ 21 → First (ordersIn s) (λ i. excess c p (π .source i)) ((outcome s′ t′ room) .index)
-    unfolding outcome table roomRows caseRows proposalRows clearingRows lacks rowNumbered caseOf excess movedCase
+    unfolding outcome table roomCauses caseCauses proposalCauses clearingCauses lacks causeNumbered caseOf excess movedCase
     index-of-21 room e =
         let row = row-by-number 21 (table none s′ t′ room (caseOf s′) (planOf s′ t′) (pricesOf s′ t′)) (omega arith) tt tt (same-verdict room .number-same ∙ e) in
         let place = row .first-place in

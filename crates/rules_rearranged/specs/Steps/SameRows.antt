@@ -7,8 +7,8 @@ use Prim.Native.Nat.{ℕ, _<_}
 use lib.Dec.{T}
 use Rattle.rules_rearranged.specs.Meaning.Permutation.{Permutation}
 use Rattle.base_causes.specs.declared.Outcome.{Outcome}
-use Rattle.base_causes.specs.Meaning.Rows.{Row, verdict, firstBelow, anyBelow, placeElse, firstField, refusal, answer, each, eachAt, eachField}
-use Rattle.base_causes.specs.Promised.RowLaws.{first-is, first-none, first-ext, not-below, row-found, row-clear, else-refusal, refusal-append}
+use Rattle.base_causes.specs.Meaning.Causes.{Cause, verdict, firstBelow, anyBelow, placeElse, firstField, refusal, answer, each, eachAt, eachField}
+use Rattle.base_causes.specs.Promised.CauseLaws.{first-is, first-none, first-ext, not-below, row-found, row-clear, else-refusal, refusal-append}
 use Rattle.rules.specs.Steps.SameTables.{any-ext}
 use Rattle.rules_rearranged.specs.Meaning.Rearranged.{SameVerdict}
 
@@ -21,21 +21,21 @@ module _ {n : ℕ} (π : Permutation n) (f f′ : ℕ → Bool) (h : (k : ℕ) �
   nowhere-before e = first-none n f (λ i l. subst (λ (b : Bool). T (not b)) (h (π .target i) (π .target-in i l) ∙ ap f (π .source-target i l)) (not-below n f′ e (π .target i) (π .target-in i l)))
 
 -- ROWS THAT FAIL ALIKE
-pub record SameRow (r r′ : Row) : Type 0 where
+pub record SameRow (r r′ : Cause) : Type 0 where
   pub number-is : r′ .number ≡ r .number
   pub first-place : firstBelow (r′ .places) (r′ .fails) ≡ firstBelow (r .places) (r .fails)
   pub index-is : (k : ℕ) → firstBelow (r .places) (r .fails) ≡ some k → r′ .index k ≡ r .index k
 
-pub data SameRows : List Row → List Row → Type 0 where
+pub data SameRows : List Cause → List Cause → Type 0 where
   no-row : SameRows [] []
-  and-row : {r r′ : Row} {rs rs′ : List Row} → SameRow r r′ → SameRows rs rs′ → SameRows (r ∷ rs) (r′ ∷ rs′)
+  and-row : {r r′ : Cause} {rs rs′ : List Cause} → SameRow r r′ → SameRows rs rs′ → SameRows (r ∷ rs) (r′ ∷ rs′)
 
 -- equal rows; rows with as many places, whose tests agree
-pub same-row : {r r′ : Row} → r′ ≡ r → SameRow r r′
+pub same-row : {r r′ : Cause} → r′ ≡ r → SameRow r r′
 same-row e = record { number-is = λ j. e j .number; first-place = λ j. firstBelow (e j .places) (e j .fails); index-is = λ k l j. e j .index k }
 
 -- rows that fail nowhere
-pub nowhere-row : (r r′ : Row) → r′ .number ≡ r .number → firstBelow (r .places) (r .fails) ≡ none → firstBelow (r′ .places) (r′ .fails) ≡ none → SameRow r r′
+pub nowhere-row : (r r′ : Cause) → r′ .number ≡ r .number → firstBelow (r .places) (r .fails) ≡ none → firstBelow (r′ .places) (r′ .fails) ≡ none → SameRow r r′
 nowhere-row r r′ e before after = record { number-is = e; first-place = after ∙ sym before; index-is = λ k l. absurd (Option·some-ne-none k (sym l ∙ before)) }
 
 pub same-each-at : (number : ℕ) {n : ℕ} (f f′ : ℕ → Bool) (offset offset′ : ℕ → ℕ) → ((k : ℕ) → k < n → f′ k ≡ f k) → ((k : ℕ) → offset′ k ≡ offset k)
@@ -55,7 +55,7 @@ same-each-field number {n} {w} f f′ offset offset′ h o = record {
   index-is = λ k l. o k (firstField w (f′ k)) ∙ ap (λ (x : Option ℕ). offset k (placeElse x)) (first-ext w (f′ k) (f k) (λ i b. h k i (first-is n (λ k. anyBelow w (f k)) k l .place-in) b));
 }
 
-pub refusal-same : {rs rs′ : List Row} → SameRows rs rs′ → refusal rs′ ≡ refusal rs
+pub refusal-same : {rs rs′ : List Cause} → SameRows rs rs′ → refusal rs′ ≡ refusal rs
 refusal-same no-row = refl
 refusal-same (and-row {r} {r′} {rs} {rs′} q qs) = by (firstBelow (r .places) (r .fails)) refl (refusal-same qs)
   where
@@ -87,10 +87,10 @@ same-else x {x′} {y} {y′} e q = subst (λ (z : Option Outcome). SameRefusal 
     by (some o) = same-self (some o)
 
 -- two tables that give it, and rows that fail alike before them
-pub record SameTable (rs rs′ : List Row) : Type 0 where
+pub record SameTable (rs rs′ : List Cause) : Type 0 where
   pub same : SameRefusal (refusal rs) (refusal rs′)
 
-pub after-rows : {qs qs′ rs rs′ : List Row} → SameRows qs qs′ → SameTable rs rs′ → SameTable (qs ++ rs) (qs′ ++ rs′)
+pub after-rows : {qs qs′ rs rs′ : List Cause} → SameRows qs qs′ → SameTable rs rs′ → SameTable (qs ++ rs) (qs′ ++ rs′)
 after-rows {qs} {qs′} {rs} {rs′} e q = record {
   same = subst (λ (x : Option Outcome). SameRefusal x (refusal (qs′ ++ rs′))) (sym (refusal-append qs rs))
       (subst (λ (x : Option Outcome). SameRefusal (else-refusal (refusal qs) (refusal rs)) x) (sym (refusal-append qs′ rs′)) (same-else (refusal qs) (refusal-same e) (q .same)));
@@ -104,7 +104,7 @@ another-place : (k k′ : ℕ) → SameVerdict (verdict 21 k) (verdict 21 k′)
 another-place k k′ = record { number-same = refl; index-same = λ no-21. absurd (no-21 refl) }
 
 -- ROW 21 before rows that fail alike
-pub same-but-21 : {n : ℕ} (π : Permutation n) (f f′ : ℕ → Bool) → ((k : ℕ) → k < n → f′ k ≡ f (π .source k)) → {rs rs′ : List Row} → SameRows rs rs′
+pub same-but-21 : {n : ℕ} (π : Permutation n) (f f′ : ℕ → Bool) → ((k : ℕ) → k < n → f′ k ≡ f (π .source k)) → {rs rs′ : List Cause} → SameRows rs rs′
     → SameTable (each 21 n f ∷ rs) (each 21 n f′ ∷ rs′)
 same-but-21 {n} π f f′ h {rs} {rs′} q = record { same = by (firstBelow n f) refl (firstBelow n f′) refl }
   where

@@ -3,7 +3,7 @@ use mathlib.Core.Path.{_≡_}
 use mathlib.Core.List.{List}
 use Prim.Native.Nat.{ℕ}
 use lib.ListN.{length}
-use Rattle.base_causes.specs.Meaning.Rows.{verdict}
+use Rattle.base_causes.specs.Meaning.Causes.{verdict}
 use Rattle.base_output.specs.declared.Written.{Written}
 use Rattle.sheet_lines.specs.Meaning.Sheet.{sheetOutcome, sheetWritten, sheetOutput}
 

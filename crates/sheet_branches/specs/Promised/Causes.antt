@@ -10,30 +10,30 @@ use lib.ListN.{length, getD}
 use lib.Dec.{T}
 use Rattle.base_causes.specs.declared.Outcome.{Outcome}
 use Rattle.base_causes.specs.Promised.Asked.{unnamed, the-place, ask, Asks}
-use Rattle.base_causes.specs.Meaning.Rows.{Row, verdict, answer}
-use Rattle.base_causes.specs.Promised.RowLaws.{empty, Cause, answer-caused, Answered, answered, Soonest, soonest, lacks, zero-none}
+use Rattle.base_causes.specs.Meaning.Causes.{Cause, verdict, answer}
+use Rattle.base_causes.specs.Promised.CauseLaws.{empty, CausedBy, answer-caused, Answered, answered, Soonest, soonest, lacks, zero-none}
 use Rattle.base_output.specs.Meaning.Output.{writtenBy}
 use Rattle.sheet_numbers.specs.Meaning.Numeral.{digits, starts, before, negative, unsigned, whole, isNumber}
-use Rattle.sheet_lines.specs.Meaning.Sheet.{fields, fieldOf, malformed, sheetRows, sheetRefusal, sheetOutcome, sheetBytes, sheetWritten, sheetOutput}
+use Rattle.sheet_lines.specs.Meaning.Sheet.{fields, fieldOf, malformed, sheetCauses, sheetRefusal, sheetOutcome, sheetBytes, sheetWritten, sheetOutput}
 use Rattle.sheet_lines.specs.Promised.PlainBytes.{refusal-leaves}
 use Rattle.sheet_lines.specs.Steps.Lines.{malformed-field}
 
 module _ (zones : ℕ) (sheet : List ℕ) (room : ℕ) where
-  abbrev rows : List Row
-  rows = sheetRows zones sheet room
+  abbrev rows : List Cause
+  rows = sheetCauses zones sheet room
 
   -- 50 to 55, in this order; 51 to 53 name the line
   pub sheet-order : Asks rows (ask 50 unnamed ∷ ask 51 the-place ∷ ask 52 the-place ∷ ask 53 the-place ∷ ask 54 unnamed ∷ ask 55 unnamed ∷ [])
-  unfolding sheetRows
+  unfolding sheetCauses
   sheet-order = (refl, (λ k. refl, (refl, (λ k. refl, (refl, (λ k. refl, (refl, (λ k. refl, (refl, (λ k. refl, (refl, (λ k. refl, tt))))))))))))
 
   -- 0 if and only if every row passes at every place, else the first row that fails, at its first place
   pub sheet-answers : Answered rows (sheetOutcome zones sheet room)
-  unfolding sheetOutcome sheetRefusal sheetRows lacks
+  unfolding sheetOutcome sheetRefusal sheetCauses lacks
   sheet-answers = answered rows tt
 
   -- a refusal has a row of its number that fails at its place, and nothing asked before fails
-  pub sheet-caused : 0 < (sheetOutcome zones sheet room) .number → Cause rows (sheetOutcome zones sheet room)
+  pub sheet-caused : 0 < (sheetOutcome zones sheet room) .number → CausedBy rows (sheetOutcome zones sheet room)
   unfolding sheetOutcome sheetRefusal
   sheet-caused h = answer-caused rows h
 
@@ -44,7 +44,7 @@ module _ (zones : ℕ) (sheet : List ℕ) (room : ℕ) where
 
   -- the answer 0 has index 0, is given where no row fails, and writes the branches
   pub sheet-none : (sheetOutcome zones sheet room) .number ≡ 0 → sheetRefusal zones sheet room ≡ none
-  unfolding sheetOutcome sheetRefusal sheetRows lacks
+  unfolding sheetOutcome sheetRefusal sheetCauses lacks
   sheet-none e = zero-none rows tt e
 
   pub sheet-answered : (sheetOutcome zones sheet room) .number ≡ 0 → sheetOutcome zones sheet room ≡ verdict 0 0

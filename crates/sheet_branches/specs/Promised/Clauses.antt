@@ -5,7 +5,7 @@ use mathlib.Core.List.{List, _++_}
 use Prim.Native.Nat.{ℕ}
 use lib.ListN.{length, take}
 use Rattle.base_causes.specs.declared.Outcome.{Outcome}
-use Rattle.base_causes.specs.Meaning.Rows.{verdict}
+use Rattle.base_causes.specs.Meaning.Causes.{verdict}
 use Rattle.base_output.specs.declared.Written.{Written}
 use Rattle.sheet_lines.specs.Meaning.Sheet.{Header, Holds, lineCount, sheetOutcome, sheetWritten}
 use Rattle.sheet_lines.specs.Promised.PlainCauses.{Answers, AnswersTo, answers}

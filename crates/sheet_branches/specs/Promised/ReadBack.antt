@@ -16,7 +16,7 @@ use Rattle.base_measures.specs.Meaning.Limits as limits
 use Rattle.rules.specs.Meaning.Layout.{u8At, i32At, zonesIn, branchesIn, branchSize, branchAt, ramIn, ptdfIn}
 use Rattle.rules.specs.Steps.LayoutLaws.{signed-there}
 use Rattle.rules.specs.Meaning.Hour.{caseOf}
-use Rattle.base_causes.specs.Promised.RowLaws.{any-none}
+use Rattle.base_causes.specs.Promised.CauseLaws.{any-none}
 use Rattle.rules.specs.Meaning.Verdict.{branchFault}
 use Rattle.sheet_lines.specs.Meaning.Sheet.{limit, entry, Header, Holds, entryOf, lineOf, lineCount, branchPart, sheetBytes, sheetOutcome, sheetWritten, sheetOutput}
 use Rattle.sheet_branches.specs.Promised.Causes.{sheet-writes}

@@ -16,11 +16,11 @@ use Rattle.base_integers.specs.Steps.Ranges.{nat-within, is-false}
 use Rattle.rules.specs.Meaning.Layout.{zoneCounts}
 use Rattle.base_causes.specs.declared.Place.the-variants.{At, Nowhere}
 use Rattle.base_causes.specs.Meaning.Place.{placeOf}
-use Rattle.base_causes.specs.Meaning.Rows.{verdict, refusal, each}
-use Rattle.base_causes.specs.Promised.RowLaws.{row-found, row-clear, field-fails, field-passes}
+use Rattle.base_causes.specs.Meaning.Causes.{verdict, refusal, each}
+use Rattle.base_causes.specs.Promised.CauseLaws.{row-found, row-clear, field-fails, field-passes}
 use Rattle.base_output.specs.declared.Written.{Written}
 use Rattle.base_output.specs.Steps.Met as output
-use Rattle.sheet_lines.specs.Meaning.Sheet.{lineCount, branchPart, sheetRows, sheetRefusal, sheetOutcome, sheetBytes, sheetWritten, sheetOutput}
+use Rattle.sheet_lines.specs.Meaning.Sheet.{lineCount, branchPart, sheetCauses, sheetRefusal, sheetOutcome, sheetBytes, sheetWritten, sheetOutput}
 use Rattle.sheet_branches.specs.Meaning.Answer.{SheetAnswered}
 use Rattle.sheet_lines.specs.declared.SheetFaults.{SheetFaults}
 use Rattle.sheet_lines.specs.Meaning.Lines.{malformedAt, tooFineAt, outOfRangeAt, LinesRead, SheetRead}
@@ -46,20 +46,20 @@ module _ (zones : ℕ) (sheet out : List ℕ) where
 
   -- what is left of the table once its first n rows passed
   abbrev From : ℕ → Type 0
-  From n = sheetRefusal zones sheet room ≡ refusal (drop n (sheetRows zones sheet room))
+  From n = sheetRefusal zones sheet room ≡ refusal (drop n (sheetCauses zones sheet room))
 
   pub answer-50 : {w : Written} → outside zoneCounts (pos zones) ≡ true → w ≡ refusedBy 50 0 → SheetAnswered zones sheet out out w
-  unfolding sheetRefusal sheetRows
+  unfolding sheetRefusal sheetCauses
   answer-50 e q = refuse (field-fails 50 0 _ e) q
 
   -- THE ROWS AFTER IT, each where those before it passed, from what was read of the sheet
   module _ (z : outside zoneCounts (pos zones) ≡ false) {old new : List ℕ} {s : SheetFaults} (r : SheetRead zones sheet old new s) where
     from-1 : From 1
-    unfolding sheetRefusal sheetRows
+    unfolding sheetRefusal sheetCauses
     from-1 = field-passes 50 0 _ z
 
     pub answer-51 : {k : ℕ} {w : Written} → s .malformed ≡ At k → w ≡ refusedBy 51 k → SheetAnswered zones sheet out out w
-    unfolding sheetRefusal sheetRows
+    unfolding sheetRefusal sheetCauses
     answer-51 {k} e q = refuse (from-1 ∙ row-found (each 51 (lineCount sheet) (malformedAt zones sheet)) _ k (sym (r .malformed-is) ∙ ap placeOf e)) q
 
     module _ (m : s .malformed ≡ Nowhere) where
@@ -67,29 +67,29 @@ module _ (zones : ℕ) (sheet out : List ℕ) where
       lines-are = r .lines-read (ap placeOf m)
 
       from-2 : From 2
-      unfolding sheetRefusal sheetRows
+      unfolding sheetRefusal sheetCauses
       from-2 = from-1 ∙ row-clear (each 51 (lineCount sheet) (malformedAt zones sheet)) _ (sym (r .malformed-is) ∙ ap placeOf m)
 
       pub answer-52 : {k : ℕ} {w : Written} → s .finer ≡ At k → w ≡ refusedBy 52 k → SheetAnswered zones sheet out out w
-      unfolding sheetRefusal sheetRows
+      unfolding sheetRefusal sheetCauses
       answer-52 {k} e q = refuse (from-2 ∙ row-found (each 52 (lineCount sheet) (tooFineAt zones sheet)) _ k (sym (lines-are .finer-is) ∙ ap placeOf e)) q
 
       module _ (f : s .finer ≡ Nowhere) where
         from-3 : From 3
-        unfolding sheetRefusal sheetRows
+        unfolding sheetRefusal sheetCauses
         from-3 = from-2 ∙ row-clear (each 52 (lineCount sheet) (tooFineAt zones sheet)) _ (sym (lines-are .finer-is) ∙ ap placeOf f)
 
         pub answer-53 : {k : ℕ} {w : Written} → s .outside ≡ At k → w ≡ refusedBy 53 k → SheetAnswered zones sheet out out w
-        unfolding sheetRefusal sheetRows
+        unfolding sheetRefusal sheetCauses
         answer-53 {k} e q = refuse (from-3 ∙ row-found (each 53 (lineCount sheet) (outOfRangeAt zones sheet)) _ k (sym (lines-are .outside-is) ∙ ap placeOf e)) q
 
         module _ (o : s .outside ≡ Nowhere) where
           from-4 : From 4
-          unfolding sheetRefusal sheetRows
+          unfolding sheetRefusal sheetCauses
           from-4 = from-3 ∙ row-clear (each 53 (lineCount sheet) (outOfRangeAt zones sheet)) _ (sym (lines-are .outside-is) ∙ ap placeOf o)
 
           pub answer-54 : {w : Written} → 64 < s .lines → w ≡ refusedBy 54 0 → SheetAnswered zones sheet out out w
-          unfolding sheetRefusal sheetRows
+          unfolding sheetRefusal sheetCauses
           answer-54 h q = refuse (from-4 ∙ field-fails 54 0 _ (lt-ltb 64 (lineCount sheet) (omega (arith, lines-are .count)))) q
 
           module _ (l : s .lines ≤ 64) {part : ℕ} (p : part ≡ branchPart zones (s .lines)) where
@@ -97,15 +97,15 @@ module _ (zones : ℕ) (sheet out : List ℕ) where
             part-is = p ∙ ap (branchPart zones) (lines-are .count)
 
             from-5 : From 5
-            unfolding sheetRefusal sheetRows
+            unfolding sheetRefusal sheetCauses
             from-5 = from-4 ∙ field-passes 54 0 _ (le-ltb 64 (lineCount sheet) (omega (arith, lines-are .count)))
 
             pub answer-55 : {w : Written} → room < part → w ≡ refusedBy 55 0 → SheetAnswered zones sheet out out w
-            unfolding sheetRefusal sheetRows
+            unfolding sheetRefusal sheetCauses
             answer-55 h q = refuse (from-5 ∙ field-fails 55 0 _ (lt-ltb room (branchPart zones (lineCount sheet)) (omega (arith, part-is)))) q
 
             none-refused : part ≤ room → sheetRefusal zones sheet room ≡ none
-            unfolding sheetRefusal sheetRows refusal
+            unfolding sheetRefusal sheetCauses refusal
             none-refused h = from-5 ∙ field-passes 55 0 [] (le-ltb room (branchPart zones (lineCount sheet)) (omega (arith, part-is)))
 
             -- the front of the table is the branches

@@ -5,7 +5,7 @@ use mathlib.Core.List.{List}
 use mathlib.Core.Option.{none}
 use Prim.Native.Nat.{ℕ, _-_, _≤_}
 use lib.Seq.{sets}
-use Rattle.base_causes.specs.Meaning.Rows.{firstBelow}
+use Rattle.base_causes.specs.Meaning.Causes.{firstBelow}
 use Rattle.base_causes.specs.Meaning.Place.{placeOf}
 use Rattle.sheet_lines.specs.declared.SheetFaults.{SheetFaults}
 use Rattle.sheet_lines.specs.Meaning.Sheet.{lines, malformed, tooFine, outOfRange, lineOf, lineCount, sheetBytes}

@@ -15,8 +15,8 @@ use Rattle.base_measures.specs.Meaning.Limits as limits
 use Rattle.rules.specs.Meaning.Layout.{caseHeader, zonesIn, branchesIn, zoneCounts}
 use Rattle.rules.specs.Meaning.Hour.{caseOf}
 use Rattle.base_causes.specs.declared.Outcome.{Outcome}
-use Rattle.base_causes.specs.Meaning.Rows.{Row, anyBelow, refusal, answer, once, each, Pass}
-use Rattle.rules.specs.Meaning.Verdict.{under, over, differ, branchField}
+use Rattle.base_causes.specs.Meaning.Causes.{Cause, anyBelow, refusal, answer, once, each, Pass}
+use Rattle.rules.specs.Meaning.Verdict.{_under_, _over_, differ, badBranchField}
 use Rattle.base_output.specs.Meaning.Output.{writtenBy, outputAfter}
 use Rattle.sheet_numbers.specs.Meaning.Numeral.{isNumber, value, finer}
 
@@ -77,18 +77,18 @@ abbrev pub branchPart : ℕ → ℕ → ℕ
 branchPart zones n = 4 * (zones + 1) * n
 
 -- THE TABLE, for an output of `room` bytes: each row is asked over the whole sheet before the next
-unfoldable pub sheetRows : ℕ → List ℕ → ℕ → List Row
-sheetRows zones sheet room =
+unfoldable pub sheetCauses : ℕ → List ℕ → ℕ → List Cause
+sheetCauses zones sheet room =
     once 50 (outside zoneCounts (pos zones))
     ∷ each 51 (lineCount sheet) (λ i. malformed zones (lineOf sheet i))
     ∷ each 52 (lineCount sheet) (λ i. tooFine zones (lineOf sheet i))
     ∷ each 53 (lineCount sheet) (λ i. outOfRange zones (lineOf sheet i))
-    ∷ once 54 (over 64 (lineCount sheet))
-    ∷ once 55 (under (branchPart zones (lineCount sheet)) room)
+    ∷ once 54 (lineCount sheet over 64)
+    ∷ once 55 (room under branchPart zones (lineCount sheet))
     ∷ []
 
 unfoldable pub sheetRefusal : ℕ → List ℕ → ℕ → Option Outcome
-sheetRefusal zones sheet room = refusal (sheetRows zones sheet room)
+sheetRefusal zones sheet room = refusal (sheetCauses zones sheet room)
 
 unfoldable pub sheetOutcome : ℕ → List ℕ → ℕ → Outcome
 sheetOutcome zones sheet room = answer (sheetRefusal zones sheet room)
@@ -125,4 +125,4 @@ pub record Holds (zones : ℕ) (sheet s : List ℕ) : Type 0 where
   pub branches-are : (caseOf s) .branches ≡ lineCount sheet
   pub margins-are : (m : ℕ) → m < lineCount sheet → (caseOf s) .ram m ≡ value 1 (fieldOf (lineOf sheet m) 0)
   pub ptdfs-are : (m z : ℕ) → m < lineCount sheet → z < zones → (caseOf s) .ptdf m z ≡ negℤ (value 5 (fieldOf (lineOf sheet m) (suc z)))
-  pub row-6 : Pass (branchField s (caseOf s))
+  pub row-6 : Pass (badBranchField s (caseOf s))

@@ -18,12 +18,12 @@ use Rattle.base_integers.specs.Meaning.Ranges.{range, minus}
 use Rattle.base_integers.specs.Meaning.Bytes.{signed32}
 use Rattle.base_integers.specs.Steps.Bytes.{byte-at}
 use Rattle.base_causes.specs.declared.Outcome.{Outcome}
-use Rattle.base_causes.specs.Meaning.Rows.{answer}
-use Rattle.base_causes.specs.Promised.RowLaws.{zero-none, lacks}
+use Rattle.base_causes.specs.Meaning.Causes.{answer}
+use Rattle.base_causes.specs.Promised.CauseLaws.{zero-none, lacks}
 use Rattle.base_output.specs.Meaning.Output.{writtenBy, outputAfter}
 use Rattle.sheet_numbers.specs.Meaning.Numeral.{value}
 use Rattle.sheet_numbers.specs.Promised.PlainNumbers.{Times, times-value}
-use Rattle.sheet_lines.specs.Meaning.Sheet.{entry, fieldOf, entryOf, lineOf, lineCount, branchPart, lineBytes, sheetRows, sheetRefusal, sheetOutcome, sheetBytes, sheetWritten, sheetOutput}
+use Rattle.sheet_lines.specs.Meaning.Sheet.{entry, fieldOf, entryOf, lineOf, lineCount, branchPart, lineBytes, sheetCauses, sheetRefusal, sheetOutcome, sheetBytes, sheetWritten, sheetOutput}
 use Rattle.sheet_lines.specs.Steps.Lines.{lines-length}
 use Rattle.sheet_lines.specs.Steps.Stands.{line-there}
 use Rattle.sheet_lines.specs.Promised.PlainText.{Cells, cells-are}
@@ -69,8 +69,8 @@ module _ (zones : ℕ) (sheet out : List ℕ) (rows : List (List (List ℕ))) (c
   range-of = facts .0 .0 .1
 
   written : sheetWritten zones sheet (length out) ≡ lineBytes zones (lineCount sheet) sheet
-  unfolding sheetWritten sheetOutcome sheetRefusal sheetRows lacks sheetBytes
-  written = ap (λ (r : Option Outcome). writtenBy r (sheetBytes zones sheet)) (zero-none (sheetRows zones sheet (length out)) tt zero-is)
+  unfolding sheetWritten sheetOutcome sheetRefusal sheetCauses lacks sheetBytes
+  written = ap (λ (r : Option Outcome). writtenBy r (sheetBytes zones sheet)) (zero-none (sheetCauses zones sheet (length out)) tt zero-is)
 
   abbrev bytes : List ℕ
   bytes = lineBytes zones (lineCount sheet) sheet

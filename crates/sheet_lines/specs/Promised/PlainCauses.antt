@@ -19,12 +19,12 @@ use Rattle.base_integers.specs.Meaning.Ranges.{range, minus, outside, Within}
 use Rattle.base_integers.specs.Steps.Ranges.{within, inside, nat-within, nat-inside, is-false, not-is, nor-left, nor-right}
 use Rattle.base_measures.specs.Meaning.Limits as limits
 use Rattle.base_causes.specs.declared.Outcome.{Outcome}
-use Rattle.base_causes.specs.Meaning.Rows.{Row, Pass, verdict, refusal, answer}
-use Rattle.base_causes.specs.Promised.RowLaws.{empty, First, no-place, any-none, all-pass, Comes, past, none-left, row-by-number, row-answers, zero-none, rowNumbered, lacks, before}
+use Rattle.base_causes.specs.Meaning.Causes.{Cause, Pass, verdict, refusal, answer}
+use Rattle.base_causes.specs.Promised.CauseLaws.{empty, First, no-place, any-none, all-pass, Comes, past, none-left, row-by-number, row-answers, zero-none, causeNumbered, lacks, before}
 use Rattle.sheet_numbers.specs.Meaning.Numeral.{digits, starts, negative, unsigned, whole, isNumber, value, finer}
 use Rattle.sheet_numbers.specs.Meaning.Numeral as numeral
 use Rattle.sheet_numbers.specs.Promised.PlainNumbers.{Number, Times, number-bytes, value-times, times-value}
-use Rattle.sheet_lines.specs.Meaning.Sheet.{fields, decimalCount, limit, entry, fieldOf, entryOf, malformed, tooFine, outOfRange, lineOf, lineCount, branchPart, sheetRows, sheetRefusal, sheetOutcome}
+use Rattle.sheet_lines.specs.Meaning.Sheet.{fields, decimalCount, limit, entry, fieldOf, entryOf, malformed, tooFine, outOfRange, lineOf, lineCount, branchPart, sheetCauses, sheetRefusal, sheetOutcome}
 use Rattle.sheet_lines.specs.Promised.PlainText.{LineText, Cells, fields-bytes, cells-of, cells-are, empty-sheet}
 
 -- A LINE OF GOOD FORM: a margin and one PTDF for each zone, every one a number
@@ -264,56 +264,56 @@ module _ (zones : ℕ) (sheet : List ℕ) (room : ℕ) (rows : List (List (List 
     λ r. range-from zones (lineOf sheet k) (subst (Whole zones) (cells k h) (w k h)) (subst (InRange zones) (cells k h) r),
   ))
 
-  abbrev table : List Row
-  table = sheetRows zones sheet room
+  abbrev table : List Cause
+  table = sheetCauses zones sheet room
 
-  abbrev row : ℕ → Row
+  abbrev row : ℕ → Cause
   row i = getD table i empty
 
   -- past the rows before a cause, where what holds before it does
-  past-50 : {rs : List Row} {x : Option Outcome} → Before51 zones → Comes rs x → Comes (row 0 ∷ rs) x
-  unfolding sheetRows
+  past-50 : {rs : List Cause} {x : Option Outcome} → Before51 zones → Comes rs x → Comes (row 0 ∷ rs) x
+  unfolding sheetCauses
   past-50 h q = past (record { pass = λ k l. nat-inside 1 16 zones (h .0) (h .1) }) q
 
-  past-51 : {rs : List Row} {x : Option Outcome} → Before52 zones rows → Comes rs x → Comes (row 0 ∷ row 1 ∷ rs) x
-  unfolding sheetRows
+  past-51 : {rs : List Cause} {x : Option Outcome} → Before52 zones rows → Comes rs x → Comes (row 0 ∷ row 1 ∷ rs) x
+  unfolding sheetCauses
   past-51 h q = past-50 (h .0) (past (record { pass = forms .everywhere .1 (h .1) }) q)
 
-  past-52 : {rs : List Row} {x : Option Outcome} → Before53 zones rows → Comes rs x → Comes (row 0 ∷ row 1 ∷ row 2 ∷ rs) x
-  unfolding sheetRows
+  past-52 : {rs : List Cause} {x : Option Outcome} → Before53 zones rows → Comes rs x → Comes (row 0 ∷ row 1 ∷ row 2 ∷ rs) x
+  unfolding sheetCauses
   past-52 h q = past-51 (h .0) (past (record { pass = wholes (h .0 .1) .everywhere .1 (h .1) }) q)
 
-  past-53 : {rs : List Row} {x : Option Outcome} → Before54 zones rows → Comes rs x → Comes (row 0 ∷ row 1 ∷ row 2 ∷ row 3 ∷ rs) x
-  unfolding sheetRows
+  past-53 : {rs : List Cause} {x : Option Outcome} → Before54 zones rows → Comes rs x → Comes (row 0 ∷ row 1 ∷ row 2 ∷ row 3 ∷ rs) x
+  unfolding sheetCauses
   past-53 h q = past-52 (h .0) (past (record { pass = ranges (h .0 .1) .everywhere .1 (h .1) }) q)
 
-  past-54 : {rs : List Row} {x : Option Outcome} → Before55 zones rows → Comes rs x → Comes (row 0 ∷ row 1 ∷ row 2 ∷ row 3 ∷ row 4 ∷ rs) x
-  unfolding sheetRows
+  past-54 : {rs : List Cause} {x : Option Outcome} → Before55 zones rows → Comes rs x → Comes (row 0 ∷ row 1 ∷ row 2 ∷ row 3 ∷ row 4 ∷ rs) x
+  unfolding sheetCauses
   past-54 h q = past-53 (h .0) (past (record { pass = λ k l. le-nltb 64 (lineCount sheet) (omega (arith, many, h .1)) }) q)
 
   past-55 : Before55 zones rows → length rows * (4 + 4 * zones) ≤ room → Comes table none
-  unfolding sheetRows
+  unfolding sheetCauses
   past-55 h l = past-54 h (past (record { pass = λ k m. le-nltb room (branchPart zones (lineCount sheet)) (omega (arith, size-is, l)) }) none-left)
 
   -- and what holds before a cause, where the rows before it pass
   before-51 : Pass (row 0) → Before51 zones
-  unfolding sheetRows
+  unfolding sheetCauses
   before-51 p = nat-within 1 16 zones (p .pass 0 (omega arith))
 
   before-52 : Pass (row 0) → Pass (row 1) → Before52 zones rows
-  unfolding sheetRows
+  unfolding sheetCauses
   before-52 p q = (before-51 p, forms .everywhere .0 (q .pass))
 
   before-53 : Pass (row 0) → Pass (row 1) → Pass (row 2) → Before53 zones rows
-  unfolding sheetRows
+  unfolding sheetCauses
   before-53 p q r = let h = before-52 p q in (h, wholes (h .1) .everywhere .0 (r .pass))
 
   before-54 : Pass (row 0) → Pass (row 1) → Pass (row 2) → Pass (row 3) → Before54 zones rows
-  unfolding sheetRows
+  unfolding sheetCauses
   before-54 p q r s = let h = before-53 p q r in (h, ranges (h .1) .everywhere .0 (s .pass))
 
   before-55 : Pass (row 0) → Pass (row 1) → Pass (row 2) → Pass (row 3) → Pass (row 4) → Before55 zones rows
-  unfolding sheetRows
+  unfolding sheetCauses
   before-55 p q r s t = (before-54 p q r s, let l = nltb→le 64 (lineCount sheet) (t .pass 0 (omega arith)) in omega (arith, l, many))
 
   abbrev o : Outcome
@@ -325,30 +325,30 @@ module _ (zones : ℕ) (sheet : List ℕ) (room : ℕ) (rows : List (List (List 
 
   -- THE THEOREM
   given-50 : (zones ≡ 0) ⊎ (16 < zones) → o ≡ verdict 50 0
-  unfolding sheetOutcome sheetRefusal sheetRows lacks before rowNumbered refusal
+  unfolding sheetOutcome sheetRefusal sheetCauses lacks before causeNumbered refusal
   given-50 h = row-answers 50 table tt refl 0 (once-first (outside-zones zones h))
 
   found-50 : o .number ≡ 50 → (zones ≡ 0) ⊎ (16 < zones)
-  unfolding sheetOutcome sheetRefusal sheetRows lacks before rowNumbered
+  unfolding sheetOutcome sheetRefusal sheetCauses lacks before causeNumbered
   found-50 e = zones-outside zones ((row-by-number 50 table (omega arith) tt tt e) .first-place .holds)
 
   given-51 : (k : ℕ) → Before51 zones → FirstNot (Formed zones) rows k → o ≡ verdict 51 k
-  unfolding sheetOutcome sheetRefusal sheetRows lacks before rowNumbered
+  unfolding sheetOutcome sheetRefusal sheetCauses lacks before causeNumbered
   given-51 k h w = row-answers 51 table tt (past-50 h none-left .is) k (forms .at-first k .1 w)
 
   found-51 : o .number ≡ 51 → Before51 zones × FirstNot (Formed zones) rows (o .index)
-  unfolding sheetOutcome sheetRefusal sheetRows lacks before rowNumbered
+  unfolding sheetOutcome sheetRefusal sheetCauses lacks before causeNumbered
   found-51 e =
       let r = row-by-number 51 table (omega arith) tt tt e in
       let g = all-pass (before 51 table) (r .earlier) in
       (before-51 (g 0), named (Formed zones) forms (r .place) (o .index) (ap (λ (x : Outcome). x .index) (r .is)) (r .first-place))
 
   given-52 : (k : ℕ) → Before52 zones rows → FirstNot (Whole zones) rows k → o ≡ verdict 52 k
-  unfolding sheetOutcome sheetRefusal sheetRows lacks before rowNumbered
+  unfolding sheetOutcome sheetRefusal sheetCauses lacks before causeNumbered
   given-52 k h w = row-answers 52 table tt (past-51 h none-left .is) k (wholes (h .1) .at-first k .1 w)
 
   found-52 : o .number ≡ 52 → Before52 zones rows × FirstNot (Whole zones) rows (o .index)
-  unfolding sheetOutcome sheetRefusal sheetRows lacks before rowNumbered
+  unfolding sheetOutcome sheetRefusal sheetCauses lacks before causeNumbered
   found-52 e =
       let r = row-by-number 52 table (omega arith) tt tt e in
       let g = all-pass (before 52 table) (r .earlier) in
@@ -356,11 +356,11 @@ module _ (zones : ℕ) (sheet : List ℕ) (room : ℕ) (rows : List (List (List 
       (h, named (Whole zones) (wholes (h .1)) (r .place) (o .index) (ap (λ (x : Outcome). x .index) (r .is)) (r .first-place))
 
   given-53 : (k : ℕ) → Before53 zones rows → FirstNot (InRange zones) rows k → o ≡ verdict 53 k
-  unfolding sheetOutcome sheetRefusal sheetRows lacks before rowNumbered
+  unfolding sheetOutcome sheetRefusal sheetCauses lacks before causeNumbered
   given-53 k h w = row-answers 53 table tt (past-52 h none-left .is) k (ranges (h .1) .at-first k .1 w)
 
   found-53 : o .number ≡ 53 → Before53 zones rows × FirstNot (InRange zones) rows (o .index)
-  unfolding sheetOutcome sheetRefusal sheetRows lacks before rowNumbered
+  unfolding sheetOutcome sheetRefusal sheetCauses lacks before causeNumbered
   found-53 e =
       let r = row-by-number 53 table (omega arith) tt tt e in
       let g = all-pass (before 53 table) (r .earlier) in
@@ -368,11 +368,11 @@ module _ (zones : ℕ) (sheet : List ℕ) (room : ℕ) (rows : List (List (List 
       (h, named (InRange zones) (ranges (h .1)) (r .place) (o .index) (ap (λ (x : Outcome). x .index) (r .is)) (r .first-place))
 
   given-54 : Before54 zones rows → 64 < length rows → o ≡ verdict 54 0
-  unfolding sheetOutcome sheetRefusal sheetRows lacks before rowNumbered
+  unfolding sheetOutcome sheetRefusal sheetCauses lacks before causeNumbered
   given-54 h l = row-answers 54 table tt (past-53 h none-left .is) 0 (once-first (lt→ltb 64 (lineCount sheet) (omega (arith, l, many))))
 
   found-54 : o .number ≡ 54 → Before54 zones rows × (64 < length rows)
-  unfolding sheetOutcome sheetRefusal sheetRows lacks before rowNumbered
+  unfolding sheetOutcome sheetRefusal sheetCauses lacks before causeNumbered
   found-54 e =
       let r = row-by-number 54 table (omega arith) tt tt e in
       let g = all-pass (before 54 table) (r .earlier) in
@@ -380,11 +380,11 @@ module _ (zones : ℕ) (sheet : List ℕ) (room : ℕ) (rows : List (List (List 
       (before-54 (g 0) (g 1) (g 2) (g 3), omega (arith, l, many))
 
   given-55 : Before55 zones rows → room < length rows * (4 + 4 * zones) → o ≡ verdict 55 0
-  unfolding sheetOutcome sheetRefusal sheetRows lacks before rowNumbered
+  unfolding sheetOutcome sheetRefusal sheetCauses lacks before causeNumbered
   given-55 h l = row-answers 55 table tt (past-54 h none-left .is) 0 (once-first (lt→ltb room (branchPart zones (lineCount sheet)) (omega (arith, l, size-is))))
 
   found-55 : o .number ≡ 55 → Before55 zones rows × (room < length rows * (4 + 4 * zones))
-  unfolding sheetOutcome sheetRefusal sheetRows lacks before rowNumbered
+  unfolding sheetOutcome sheetRefusal sheetCauses lacks before causeNumbered
   found-55 e =
       let r = row-by-number 55 table (omega arith) tt tt e in
       let g = all-pass (before 55 table) (r .earlier) in
@@ -396,7 +396,7 @@ module _ (zones : ℕ) (sheet : List ℕ) (room : ℕ) (rows : List (List (List 
   given-0 h l = ap answer (past-55 h l .is)
 
   found-0 : o .number ≡ 0 → Before55 zones rows × (length rows * (4 + 4 * zones) ≤ room)
-  unfolding sheetOutcome sheetRefusal sheetRows lacks
+  unfolding sheetOutcome sheetRefusal sheetCauses lacks
   found-0 e =
       let g = all-pass table (zero-none table tt e) in
       let l = nltb→le room (branchPart zones (lineCount sheet)) ((g 5) .pass 0 (omega arith)) in

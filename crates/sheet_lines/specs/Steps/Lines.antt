@@ -15,8 +15,8 @@ use lib.Seq.{getD-drop, drop-drop, sets}
 use Rattle.base_integers.specs.Steps.Ranges.{is-false}
 use Rattle.base_integers.specs.Meaning.Bytes.{signed32}
 use Rattle.base_integers.specs.Steps.Bytes.{bytes-length, sets-append}
-use Rattle.base_causes.specs.Meaning.Rows.{anyBelow, firstBelow}
-use Rattle.base_causes.specs.Promised.RowLaws.{any-some}
+use Rattle.base_causes.specs.Meaning.Causes.{anyBelow, firstBelow}
+use Rattle.base_causes.specs.Promised.CauseLaws.{any-some}
 use Rattle.sheet_numbers.specs.declared.TextCursor.{TextCursor}
 use Rattle.sheet_numbers.specs.declared.Piece.{Piece}
 use Rattle.sheet_numbers.specs.Meaning.Numeral.{has, before, after, isNumber}

@@ -12,9 +12,9 @@ use lib.Seq.{sets, length-sets}
 use lib.IntN.{ℤ}
 use Rattle.base_integers.specs.Meaning.Bytes.{signed32}
 use Rattle.base_integers.specs.Meaning.Ranges.{outside}
-use Rattle.base_causes.specs.Meaning.Rows.{anyBelow, firstBelow}
+use Rattle.base_causes.specs.Meaning.Causes.{anyBelow, firstBelow}
 use Rattle.base_causes.specs.Meaning.Place.{placeOf}
-use Rattle.base_causes.specs.Promised.RowLaws.{any-later, first-here, first-later}
+use Rattle.base_causes.specs.Promised.CauseLaws.{any-later, first-here, first-later}
 use Rattle.base_causes.specs.declared.Place.{Place}
 use Rattle.base_causes.specs.declared.Place.the-variants.{At, Nowhere}
 use Rattle.sheet_numbers.specs.declared.TextCursor.{TextCursor}

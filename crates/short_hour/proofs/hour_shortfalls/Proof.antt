@@ -14,7 +14,7 @@ use Rattle.case_header.specs.declared.Counts.{Counts}
 use Rattle.short_rules.specs.Meaning.Answer.{shortfallCount}
 use Rattle.short_rules.specs.Promised.Answer.{numbers-long}
 use Rattle.short_rules.specs.Promised.Causes.{short-output, enough-room}
-use Rattle.short_single.specs.Meaning.Judged.{HourAccepted}
+use Rattle.short_single.specs.Meaning.HourAccepted.{HourAccepted}
 use Rattle.short_hour.specs.Steps.Kept.{kept-refused, kept-answer, found-refused, found-accepted, valued, judged, count-is, few}
 use Rattle.short_hour.specs.Steps.Pairs.{countOf}
 use Rattle.short_hour.proofs.hour_shortfalls.Statement.{statement}

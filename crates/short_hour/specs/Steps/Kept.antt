@@ -11,7 +11,7 @@ use lib.ListN.{length, drop}
 use lib.Seq.{sets, sets-eq}
 use lib.IntN.{ℤ}
 use Rattle.base_causes.specs.declared.Outcome.{Outcome}
-use Rattle.base_causes.specs.Meaning.Rows.{verdict, refusal, answer}
+use Rattle.base_causes.specs.Meaning.Causes.{verdict, refusal, answer}
 use Rattle.rules.specs.Meaning.Layout.{reportRoom}
 use Rattle.rules.specs.Meaning.Hour.{caseOf, planOf, pricesOf}
 use Rattle.rules.specs.Meaning.Report.{reports}
@@ -19,17 +19,17 @@ use Rattle.rules.specs.Meaning.Verdict.{outcome}
 use Rattle.rules.specs.Steps.Passed.{Sound, sound}
 use Rattle.rules.specs.Promised.Guarantee.{Accepted, allowed}
 use Rattle.base_output.specs.declared.Written.{Written}
-use Rattle.case_header.specs.Meaning.Opened.{Limited}
-use Rattle.case_header.specs.Steps.Opened.{headed, limited}
+use Rattle.case_header.specs.Meaning.CaseReadable.{CountsInRange}
+use Rattle.case_header.specs.Steps.CaseReadable.{headed, limited}
 use Rattle.judge_stages.specs.declared.Found.{Found}
-use Rattle.judge_stages.specs.Meaning.Found.{Finds, hourRows}
-use Rattle.short_rules.specs.Meaning.Answer.{shortfallNumbers, shortfallCount, shortfallRows, shortfallOutcome, writtenBy, shortfallWritten, shortfallOutput, Answers}
+use Rattle.judge_stages.specs.Meaning.Found.{Finds, hourCauses}
+use Rattle.short_rules.specs.Meaning.Answer.{shortfallNumbers, shortfallCount, shortfallCauses, shortfallOutcome, writtenBy, shortfallWritten, shortfallOutput, Answers}
 use Rattle.short_rules.specs.Promised.Account.{hour-accounted}
 use Rattle.short_rules.specs.Promised.Answer.{gap-small, hour-answers}
 use Rattle.short_rules.specs.Promised.Causes.{room-passes, refused-first}
 use Rattle.judge_clearing.specs.declared.HourRead.{HourRead}
 use Rattle.judge_clearing.specs.Steps.Read.{case-opened}
-use Rattle.short_single.specs.Meaning.Judged.{HourAccepted}
+use Rattle.short_single.specs.Meaning.HourAccepted.{HourAccepted}
 use Rattle.short_hour.specs.Meaning.HourShortfalls.{HourShortfalls}
 use Rattle.short_hour.specs.Steps.Pairs.{countOf}
 
@@ -38,7 +38,7 @@ module _ (s t : List ℕ) (out : List ℤ) where
   numbers = shortfallNumbers (caseOf s) (planOf s t) (pricesOf s t)
 
   -- REFUSED
-  pub kept-refused : (n k : ℕ) → 0 < n → refusal (shortfallRows s t (length out)) ≡ some (verdict n k) → {r : Written} → r ≡ record { number = n; index = k; length = 0 } → HourShortfalls s t out r out
+  pub kept-refused : (n k : ℕ) → 0 < n → refusal (shortfallCauses s t (length out)) ≡ some (verdict n k) → {r : Written} → r ≡ record { number = n; index = k; length = 0 } → HourShortfalls s t out r out
   unfolding shortfallOutcome shortfallWritten shortfallOutput
   kept-refused n k h e q = subst (λ (r : Written). HourShortfalls s t out r out) (sym q) (record {
     outcome-is = sym (ap answer e);
@@ -48,7 +48,7 @@ module _ (s t : List ℕ) (out : List ℤ) where
   })
 
   -- ANSWERED
-  pub kept-answer : Accepted s t reportRoom → {m : ℕ} {after : List ℤ} → refusal (shortfallRows s t (length out)) ≡ none → length numbers ≤ length out → m ≡ length numbers → after ≡ sets out 0 numbers
+  pub kept-answer : Accepted s t reportRoom → {m : ℕ} {after : List ℤ} → refusal (shortfallCauses s t (length out)) ≡ none → length numbers ≤ length out → m ≡ length numbers → after ≡ sets out 0 numbers
       → HourShortfalls s t out (record { number = 0; index = 0; length = m }) after
   unfolding shortfallOutcome shortfallWritten shortfallOutput
   kept-answer a {m} {after} e h q w =
@@ -61,11 +61,11 @@ module _ (s t : List ℕ) (out : List ℤ) where
       }
 
   -- WHAT WAS FOUND
-  module _ (f : Found) (h : Finds (hourRows none s t) s t f) where
-    pub found-refused : 0 < f .verdict .number → refusal (shortfallRows s t (length out)) ≡ some (verdict (f .verdict .number) (f .verdict .index))
-    found-refused l = by (refusal (hourRows none s t)) refl
+  module _ (f : Found) (h : Finds (hourCauses none s t) s t f) where
+    pub found-refused : 0 < f .verdict .number → refusal (shortfallCauses s t (length out)) ≡ some (verdict (f .verdict .number) (f .verdict .index))
+    found-refused l = by (refusal (hourCauses none s t)) refl
       where
-        by : (o : Option Outcome) → refusal (hourRows none s t) ≡ o → refusal (shortfallRows s t (length out)) ≡ some (verdict (f .verdict .number) (f .verdict .index))
+        by : (o : Option Outcome) → refusal (hourCauses none s t) ≡ o → refusal (shortfallCauses s t (length out)) ≡ some (verdict (f .verdict .number) (f .verdict .index))
         by (some x) q = refused-first s t (length out) x (room-passes s t (length out) ∙ q) ∙ ap (λ (y : Outcome). some y) (sym (h .verdict-is ∙ ap answer q))
         by none q = absurd (omega (arith, l, ap (λ (o : Outcome). o .number) (h .verdict-is ∙ ap answer q)))
 
@@ -97,5 +97,5 @@ module _ (s t : List ℕ) (out : List ℤ) where
       count-is = ap countOf (((h .hour-is valued) .proposed) .opened .counts)
 
 -- the counts are few
-pub few : {s t : List ℕ} {hour : HourRead} → HourAccepted s t hour → Limited (hour .counts)
+pub few : {s t : List ℕ} {hour : HourRead} → HourAccepted s t hour → CountsInRange (hour .counts)
 few j = limited (headed (case-opened (j .read)))

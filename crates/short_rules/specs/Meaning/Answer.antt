@@ -12,10 +12,10 @@ use mir.Val.{SFits}
 use Rattle.base_integers.specs.Meaning.Sums.{sumTo}
 use Rattle.base_measures.specs.Meaning.Limits.{partsInOne}
 use Rattle.base_causes.specs.declared.Outcome.{Outcome}
-use Rattle.base_causes.specs.Meaning.Rows.{Row, refusal, answer, once}
+use Rattle.base_causes.specs.Meaning.Causes.{Cause, refusal, answer, once}
 use Rattle.rules.specs.Meaning.Layout.{reportRoom}
 use Rattle.rules.specs.Meaning.Hour.{Case, Plan, Prices, caseOf, planOf, pricesOf, gap}
-use Rattle.rules.specs.Meaning.Verdict.{under, table}
+use Rattle.rules.specs.Meaning.Verdict.{_under_, table}
 use Rattle.short_rules.specs.Meaning.Shortfalls.{orderShortfall, branchShortfall, linkShortfall}
 
 -- TWO NUMBERS for a shortfall, which is never negative, so that whole microcents can be read off; and as one it would fit 64 bits only by the tolerance's limit
@@ -42,11 +42,11 @@ unfoldable pub shortfallCount : Case → ℕ
 shortfallCount c = c .orders + c .branches + c .links
 
 -- THE TABLE, for a case s, a proposal t and an output of `room` numbers: the verdict table, and then 86: the output is too short
-unfoldable pub shortfallRows : List ℕ → List ℕ → ℕ → List Row
-shortfallRows s t room = table none s t reportRoom (caseOf s) (planOf s t) (pricesOf s t) ++ (once 86 (under (2 * shortfallCount (caseOf s)) room) ∷ [])
+unfoldable pub shortfallCauses : List ℕ → List ℕ → ℕ → List Cause
+shortfallCauses s t room = table none s t reportRoom (caseOf s) (planOf s t) (pricesOf s t) ++ (once 86 (room under (2 * shortfallCount (caseOf s))) ∷ [])
 
 unfoldable pub shortfallOutcome : List ℕ → List ℕ → ℕ → Outcome
-shortfallOutcome s t room = answer (refusal (shortfallRows s t room))
+shortfallOutcome s t room = answer (refusal (shortfallCauses s t room))
 
 -- what is written, or for a refusal nothing; the output afterwards, and past what is written as it was
 abbrev pub writtenBy : Option Outcome → List ℤ → List ℤ
@@ -54,7 +54,7 @@ writtenBy (some o) numbers = []
 writtenBy none numbers = numbers
 
 unfoldable pub shortfallWritten : List ℕ → List ℕ → ℕ → List ℤ
-shortfallWritten s t room = writtenBy (refusal (shortfallRows s t room)) (shortfallNumbers (caseOf s) (planOf s t) (pricesOf s t))
+shortfallWritten s t room = writtenBy (refusal (shortfallCauses s t room)) (shortfallNumbers (caseOf s) (planOf s t) (pricesOf s t))
 
 unfoldable pub shortfallOutput : List ℕ → List ℕ → List ℤ → List ℤ
 shortfallOutput s t out = let w = shortfallWritten s t (length out) in w ++ drop (length w) out

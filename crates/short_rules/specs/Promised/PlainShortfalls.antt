@@ -15,11 +15,11 @@ use lib.Signed.{_≤ℤ_}
 use Rattle.base_integers.specs.Meaning.Order.{positive}
 use Rattle.base_integers.specs.Meaning.Sums.{sumTo}
 use Rattle.base_causes.specs.declared.Outcome.{Outcome}
-use Rattle.base_causes.specs.Meaning.Rows.{refusal, answer}
-use Rattle.base_causes.specs.Promised.RowLaws.{lacks, not-refused}
+use Rattle.base_causes.specs.Meaning.Causes.{refusal, answer}
+use Rattle.base_causes.specs.Promised.CauseLaws.{lacks, not-refused}
 use Rattle.rules.specs.Meaning.Layout.{u8At, u16At, zonesIn, branchesIn, linksIn, ordersIn, ramIn, ptdfIn, fromIn, toIn, capacityIn, zoneIn, sideIn, quantityIn, priceIn, shareIn, volumeIn, flowIn, shadowIn}
 use Rattle.rules.specs.Meaning.Hour.{caseOf, planOf, pricesOf, buys, above, fbPart, branchUse, branchRoom, zonePrice, surplusOf, orderSurplus, spread}
-use Rattle.rules.specs.Meaning.Verdict.{roomRows, caseRows, proposalRows, clearingRows, table, outcome}
+use Rattle.rules.specs.Meaning.Verdict.{roomCauses, caseCauses, proposalCauses, clearingCauses, table, outcome}
 use Rattle.short_rules.specs.Meaning.Shortfalls.{earned, orderShortfall, branchShortfall, linkShortfall}
 use Rattle.short_rules.specs.Meaning.Answer.{shortfallCount, shortfallOutcome, wholeAt, partsAt, shortfallAt, Answers}
 use Rattle.short_rules.specs.Promised.Causes.{not-accepted, short-output, enough-room}
@@ -47,7 +47,7 @@ module _ (s t : List ℕ) (room : ℕ) where
   needed = 2 * (orders s + branches s + links s)
 
   never-86 : (outcome s t 176) .number ≡ 86 → ⊥
-  unfolding outcome table roomRows caseRows proposalRows clearingRows lacks
+  unfolding outcome table roomCauses caseCauses proposalCauses clearingCauses lacks
   never-86 e = by (refusal (table none s t 176 (caseOf s) (planOf s t) (pricesOf s t))) refl e
     where
       by : (o : Option Outcome) → refusal (table none s t 176 (caseOf s) (planOf s t) (pricesOf s t)) ≡ o → (answer o) .number ≡ 86 → ⊥

@@ -19,9 +19,9 @@ use Rattle.base_measures.specs.Meaning.Limits.{partsInOne, grainsOf}
 use Rattle.rules.specs.Meaning.Hour.{Case, Plan, Prices, caseOf, planOf, pricesOf, fbPart, branchUse, branchRoom}
 use Rattle.case_branches.specs.Steps.Table.{table-entry, entry-within}
 use Rattle.judge_clearing.specs.Steps.Read.{case-opened, zones-is, branches-is, few-zones}
-use Rattle.judge_clearing.specs.Steps.Stages.{fit-ext}
+use Rattle.judge_clearing.specs.Steps.InRange.{fit-ext}
 use Rattle.short_single.specs.Steps.Short.{shortOf, shortable-by, exact-by}
-use Rattle.short_single.specs.Steps.Judged.{loadOn, rest-is, rest-near, branch-is, loads-fit, branch-shortable}
+use Rattle.short_single.specs.Steps.HourAccepted.{loadOn, rest-is, rest-near, branch-is, loads-fit, branch-shortable}
 use Rattle.short_single.proofs.branch_shortfall.Statement.{statement}
 use Rattle.short_single.proofs.branch_shortfall.Tie as tie
 

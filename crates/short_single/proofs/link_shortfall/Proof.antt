@@ -13,7 +13,7 @@ use Rattle.case_links.specs.declared.Link.{Link}
 use Rattle.judge_clearing.specs.Steps.Read.{case-opened, sound, links-is, share-is}
 use Rattle.judge_network.specs.Meaning.Prices.{grainsAt}
 use Rattle.short_single.specs.Steps.Short.{shortOf, shortable-by, exact-by}
-use Rattle.short_single.specs.Steps.Judged.{link-is, spread-near, link-shortable}
+use Rattle.short_single.specs.Steps.HourAccepted.{link-is, spread-near, link-shortable}
 use Rattle.short_single.proofs.link_shortfall.Statement.{statement}
 use Rattle.short_single.proofs.link_shortfall.Tie as tie
 

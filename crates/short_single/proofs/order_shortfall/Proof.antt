@@ -16,7 +16,7 @@ use Rattle.book_order.specs.declared.Order.{Order}
 use Rattle.judge_clearing.specs.Steps.Read.{case-opened, sound, orders-is}
 use Rattle.judge_network.specs.Meaning.Prices.{grainsAt}
 use Rattle.short_single.specs.Steps.Short.{shortOf, shortable-by, exact-by}
-use Rattle.short_single.specs.Steps.Judged.{gainOf, order-is, order-shortable}
+use Rattle.short_single.specs.Steps.HourAccepted.{gainOf, order-is, order-shortable}
 use Rattle.short_single.proofs.order_shortfall.Statement.{statement}
 use Rattle.short_single.proofs.order_shortfall.Tie as tie
 

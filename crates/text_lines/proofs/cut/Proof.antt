@@ -2,8 +2,8 @@
 use mathlib.Core.Path.{_≡_, sym, _∙_}
 use native.Mathlib.Omega.{arith}
 use Rattle.rules.specs.Meaning.Layout.{caseLength}
-use Rattle.case_header.specs.Meaning.Opened.{Headed}
-use Rattle.case_header.specs.Steps.Opened.{headed-of, header-refused-of, limited, length-is}
+use Rattle.case_header.specs.Meaning.CaseReadable.{HeaderValid}
+use Rattle.case_header.specs.Steps.CaseReadable.{headed-of, header-refused-of, limited, length-is}
 use Rattle.rules.specs.Steps.CaseEnd.{end-refused, end-short, end-good}
 use borrow.Author.Needs.{needs}
 use Rattle.text_lines.proofs.cut.Statement.{statement}
@@ -14,7 +14,7 @@ module _ (c : tie.After-counts) where
   abbrev start : tie.Start
   start = c .before .before .before .before
 
-  good-header : Headed (start .args .input .now) (c .counts .given .0 .0)
+  good-header : HeaderValid (start .args .input .now) (c .counts .given .0 .0)
   good-header = headed-of (start .args .input .now) (sym (c .before .before .read-header .ensures) ∙ c .counts .given .1)
 
 -- what it demands

@@ -8,7 +8,7 @@ use native.Mathlib.Omega.{arith}
 use lib.ListN.{length, length-append}
 use Rattle.text_decimal.specs.Steps.Put.{put-as, put-length, put-then}
 use Rattle.rules.specs.Meaning.Lines.{verdictLine}
-use Rattle.judge_stages.specs.Meaning.Found.{Finds, hourRows}
+use Rattle.judge_stages.specs.Meaning.Found.{Finds, hourCauses}
 use Rattle.text_lines.specs.Steps.Judged.{verdict-found, line-found, lines-found}
 use Rattle.text_lines.specs.Promised.Room.{first-room, hour-room}
 use Rattle.base_causes.specs.declared.Outcome.{Outcome}
@@ -25,7 +25,7 @@ file c = start c .args .«case» .now
 abbrev plan : tie.After-find → List ℕ
 plan c = start c .args .proposal .now
 
-found : (c : tie.After-find) → Finds (hourRows none (file c) (plan c)) (file c) (plan c) (c .find .result)
+found : (c : tie.After-find) → Finds (hourCauses none (file c) (plan c)) (file c) (plan c) (c .find .result)
 found c = c .find .ensures
 
 find-requires : tie.Need-find-requires

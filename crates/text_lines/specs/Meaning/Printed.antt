@@ -5,8 +5,8 @@ use mathlib.Core.Option.{Option}
 use Prim.Native.Nat.{ℕ}
 use lib.ListN.{length}
 use Rattle.base_causes.specs.declared.Outcome.{Outcome}
-use Rattle.base_causes.specs.Meaning.Rows.{Row, refusal, answer, once}
-use Rattle.rules.specs.Meaning.Verdict.{under}
+use Rattle.base_causes.specs.Meaning.Causes.{Cause, refusal, answer, once}
+use Rattle.rules.specs.Meaning.Verdict.{_under_}
 use Rattle.base_output.specs.Meaning.Output.{writtenBy, outputAfter}
 use Rattle.rules.specs.Meaning.Lines.{deskText}
 
@@ -14,11 +14,11 @@ abbrev pub deskRoom : ℕ
 deskRoom = 1024
 
 -- the cause, for an output of `room` bytes
-unfoldable pub deskRows : ℕ → List Row
-deskRows room = once 31 (under deskRoom room) ∷ []
+unfoldable pub deskCauses : ℕ → List Cause
+deskCauses room = once 31 (room under deskRoom) ∷ []
 
 unfoldable pub deskRefusal : ℕ → Option Outcome
-deskRefusal room = refusal (deskRows room)
+deskRefusal room = refusal (deskCauses room)
 
 unfoldable pub deskOutcome : ℕ → Outcome
 deskOutcome room = answer (deskRefusal room)

@@ -7,7 +7,7 @@ use Prim.Native.Nat.{ℕ, _≤_, _<_}
 use native.Mathlib.Omega.{arith}
 use lib.ListN.{length}
 use Rattle.base_causes.specs.declared.Outcome.{Outcome}
-use Rattle.base_causes.specs.Meaning.Rows.{verdict, answer}
+use Rattle.base_causes.specs.Meaning.Causes.{verdict, answer}
 use Rattle.rules.specs.Meaning.Lines.{deskText}
 use Rattle.base_output.specs.Meaning.Output.{writtenBy, outputAfter}
 use Rattle.base_output.specs.Promised.PlainOutput.{Wrote, refusal-leaves, answer-written}

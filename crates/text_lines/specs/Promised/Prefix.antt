@@ -13,8 +13,8 @@ use lib.Seq.{length-take-le, take-length, take-all, take-take, getD-take, getD-d
 use lib.Dec.{eqb}
 use Rattle.rules.specs.Meaning.Layout.{u8At, u16At, caseLength, proposalVersion, proposalLength}
 use Rattle.base_causes.specs.declared.Outcome.{Outcome}
-use Rattle.base_causes.specs.Meaning.Rows.{answer}
-use Rattle.base_causes.specs.Promised.RowLaws.{else-refusal}
+use Rattle.base_causes.specs.Meaning.Causes.{answer}
+use Rattle.base_causes.specs.Promised.CauseLaws.{else-refusal}
 use Rattle.rules.specs.Meaning.Verdict.{headerRefusal, differ, notMark, caseRefusal}
 use Rattle.rules.specs.Meaning.Cut.{good, caseEnd, casePart, proposalPart}
 use Rattle.rules.specs.Steps.CaseEnd.{end-refused, end-good, SameHeader, same-refusal, same-length}

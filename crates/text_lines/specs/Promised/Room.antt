@@ -15,18 +15,18 @@ use Rattle.text_decimal.specs.Promised.Sizes.{count-at-most, amount-at-most}
 use Rattle.rules.specs.Meaning.Layout.{branchesIn, linksIn, branchSize, caseLength, proposalLength, reportRoom}
 use Rattle.rules.specs.Meaning.Hour.{caseOf, planOf, pricesOf, zonePrice}
 use Rattle.base_causes.specs.declared.Outcome.{Outcome}
-use Rattle.base_causes.specs.Meaning.Rows.{Row, verdict, firstBelow, firstField, rowElse, refusal, answer}
-use Rattle.base_causes.specs.Promised.RowLaws.{first-is, field-below, else-refusal}
+use Rattle.base_causes.specs.Meaning.Causes.{Cause, verdict, firstBelow, firstField, causeElse, refusal, answer}
+use Rattle.base_causes.specs.Promised.CauseLaws.{first-is, field-below, else-refusal}
 use Rattle.rules.specs.Promised.RefusedField.{Part, Adjacent, field-inside, branchPart, linkPart, orderPart, shadowPart, branches-adjacent, links-adjacent, orders-adjacent, shadows-adjacent}
-use Rattle.rules.specs.Meaning.Verdict.{headerRefusal, caseRows, proposalRows, clearingRows, outcome}
+use Rattle.rules.specs.Meaning.Verdict.{headerRefusal, caseCauses, proposalCauses, clearingCauses, outcome}
 use Rattle.rules.specs.Meaning.Report.{Totals, totalsOf, reports}
 use Rattle.rules.specs.Steps.Passed.{sound, case-sound}
 use Rattle.rules.specs.Promised.Fits.{fits}
 use Rattle.case_header.specs.Meaning.Answer.{countsOf}
-use Rattle.case_header.specs.Meaning.Opened.{Limited}
-use Rattle.case_header.specs.Steps.Opened.{branches-bound, links-bound}
+use Rattle.case_header.specs.Meaning.CaseReadable.{CountsInRange}
+use Rattle.case_header.specs.Steps.CaseReadable.{branches-bound, links-bound}
 use Rattle.rules.specs.Meaning.Cut.{casePart, proposalPart}
-use Rattle.text_lines.specs.Steps.Header.{headerRows, laterRows, outcome-by-header, counted}
+use Rattle.text_lines.specs.Steps.Header.{headerCauses, laterCauses, outcome-by-header, counted}
 use Rattle.rules.specs.Meaning.Lines.{verdictLine, totalLine, totalLines, priceLine, priceLines, hourLines, linesOf, hourText, deskText}
 use Rattle.text_lines.specs.Meaning.Printed.{deskRoom}
 
@@ -37,16 +37,16 @@ pub record Short (o : Outcome) : Type 0 where
   pub index-in : o .index < 100000
 
 -- each of these rows refuses with such an outcome
-unfoldable ShortRows : List Row → Type 0
+unfoldable ShortRows : List Cause → Type 0
 ShortRows [] = Unit {0}
 ShortRows (r ∷ rs) = ((k : ℕ) → k < r .places → Short (verdict (r .number) (r .index k))) × ShortRows rs
 
-short-refusal : (rs : List Row) → ShortRows rs → (o : Outcome) → refusal rs ≡ some o → Short o
+short-refusal : (rs : List Cause) → ShortRows rs → (o : Outcome) → refusal rs ≡ some o → Short o
 unfolding refusal ShortRows
 short-refusal [] h o e = absurd (Option·none-ne-some o e)
 short-refusal (r ∷ rs) h o e = by (firstBelow (r .places) (r .fails)) refl (short-refusal rs (h .1) o) e
   where
-    by : (x : Option ℕ) → firstBelow (r .places) (r .fails) ≡ x → (refusal rs ≡ some o → Short o) → rowElse r x (refusal rs) ≡ some o → Short o
+    by : (x : Option ℕ) → firstBelow (r .places) (r .fails) ≡ x → (refusal rs ≡ some o → Short o) → causeElse r x (refusal rs) ≡ some o → Short o
     by (some k) q ih e = subst (λ (y : Outcome). Short y) (Option·some-injective (verdict (r .number) (r .index k)) o e) (h .0 k ((first-is (r .places) (r .fails) k q) .place-in))
     by none q ih e = ih e
 
@@ -61,7 +61,7 @@ at-offset : (n places : ℕ) (offset : ℕ → ℕ) → T (ltb n 1000) → ((k :
 at-offset n places offset h l k m = record { number-in = ltb→lt n 1000 h; index-in = l k m }
 
 -- a field within a file of so few bytes
-module _ (s : List ℕ) (n : Limited (countsOf s)) where
+module _ (s : List ℕ) (n : CountsInRange (countsOf s)) where
   case-bytes : caseLength s < 100000
   unfolding caseLength branchSize
   case-bytes = omega (arith, branches-bound (countsOf s) n (branchesIn s) (omega arith), links-bound (countsOf s) n (linksIn s) (omega arith), n .orders-in)
@@ -73,12 +73,12 @@ module _ (s : List ℕ) (n : Limited (countsOf s)) where
 in-file : (part : Part) {size : ℕ} → Adjacent part size → size < 100000 → (i : ℕ) → i < part .rows → part .offset i (firstField (part .fields) (part .fault i)) < 100000
 in-file part a h i l = omega (arith, field-inside part a i (firstField (part .fields) (part .fault i)) l (field-below (part .fields) (part .fault i) (a .some-field)))
 
-header-short : (s : List ℕ) → ShortRows (headerRows s)
+header-short : (s : List ℕ) → ShortRows (headerCauses s)
 unfolding ShortRows
 header-short s = (fixed 1 0 tt tt, (fixed 2 0 tt tt, (fixed 3 0 tt tt, (fixed 4 5 tt tt, (fixed 4 6 tt tt, (fixed 4 7 tt tt, (fixed 4 8 tt tt, (fixed 4 10 tt tt, tt))))))))
 
-later-short : (s t : List ℕ) → Limited (countsOf s) → ShortRows (laterRows s t)
-unfolding caseOf caseRows proposalRows clearingRows ShortRows
+later-short : (s t : List ℕ) → CountsInRange (countsOf s) → ShortRows (laterCauses s t)
+unfolding caseOf caseCauses proposalCauses clearingCauses ShortRows
 later-short s t n =
     let zones : (caseOf s) .zones ≤ 512 = omega (arith, n .zones-in) in
     let branches : (caseOf s) .branches ≤ 512 = omega (arith, n .branches-in) in
@@ -144,9 +144,9 @@ pub short : (s t : List ℕ) → Short (outcome s t reportRoom)
 unfolding headerRefusal
 short s t = rw (outcome-by-header s t) (by (headerRefusal s) refl)
   where
-    by : (x : Option Outcome) → headerRefusal s ≡ x → Short (answer (else-refusal x (refusal (laterRows s t))))
-    by (some o) e = short-refusal (headerRows s) (header-short s) o e
-    by none e = short-answer (refusal (laterRows s t)) (short-refusal (laterRows s t) (later-short s t (counted s e)))
+    by : (x : Option Outcome) → headerRefusal s ≡ x → Short (answer (else-refusal x (refusal (laterCauses s t))))
+    by (some o) e = short-refusal (headerCauses s) (header-short s) o e
+    by none e = short-answer (refusal (laterCauses s t)) (short-refusal (laterCauses s t) (later-short s t (counted s e)))
 
 -- THE LINES
 verdict-room : (o : Outcome) → Short o → length (verdictLine o) ≤ 18

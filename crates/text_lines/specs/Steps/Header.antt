@@ -8,28 +8,28 @@ use native.Mathlib.Omega.{arith}
 use Rattle.rules.specs.Meaning.Layout.{branchSize, caseLength, proposalLength, zonesIn, branchesIn, linksIn, reportRoom}
 use Rattle.rules.specs.Meaning.Hour.{caseOf, planOf, pricesOf}
 use Rattle.base_causes.specs.declared.Outcome.{Outcome}
-use Rattle.base_causes.specs.Meaning.Rows.{Row, refusal, answer}
-use Rattle.base_causes.specs.Promised.RowLaws.{field-passes, else-refusal, refusal-append}
-use Rattle.rules.specs.Meaning.Verdict.{roomRows, caseRows, proposalRows, judgementRows, table, outcome, headerRefusal, caseHeaderRows, caseBodyRows}
+use Rattle.base_causes.specs.Meaning.Causes.{Cause, refusal, answer}
+use Rattle.base_causes.specs.Promised.CauseLaws.{field-passes, else-refusal, refusal-append}
+use Rattle.rules.specs.Meaning.Verdict.{roomCauses, caseCauses, proposalCauses, judgementCauses, table, outcome, headerRefusal, caseHeaderCauses, caseBodyCauses}
 use Rattle.case_header.specs.Meaning.Answer.{countsOf}
-use Rattle.case_header.specs.Meaning.Opened.{Limited}
-use Rattle.case_header.specs.Steps.Opened.{limited, links-bound}
+use Rattle.case_header.specs.Meaning.CaseReadable.{CountsInRange}
+use Rattle.case_header.specs.Steps.CaseReadable.{limited, links-bound}
 
 -- the rows before 5, and those from 5 on
-abbrev pub headerRows : List ℕ → List Row
-headerRows s = caseHeaderRows s (caseOf s)
+abbrev pub headerCauses : List ℕ → List Cause
+headerCauses s = caseHeaderCauses s (caseOf s)
 
-abbrev pub laterRows : List ℕ → List ℕ → List Row
-laterRows s t = caseBodyRows s (caseOf s) ++ (proposalRows s t (caseOf s) (planOf s t) (pricesOf s t) ++ judgementRows none (caseOf s) (planOf s t) (pricesOf s t))
+abbrev pub laterCauses : List ℕ → List ℕ → List Cause
+laterCauses s t = caseBodyCauses s (caseOf s) ++ (proposalCauses s t (caseOf s) (planOf s t) (pricesOf s t) ++ judgementCauses none (caseOf s) (planOf s t) (pricesOf s t))
 
 -- with a report buffer of 176 bytes, an hour is refused by its header's rows, else by the later ones
-pub outcome-by-header : (s t : List ℕ) → outcome s t reportRoom ≡ answer (else-refusal (headerRefusal s) (refusal (laterRows s t)))
-unfolding outcome table roomRows caseRows headerRefusal
-outcome-by-header s t = ap (λ (o : Option Outcome). answer o) (field-passes 30 0 (headerRows s ++ laterRows s t) refl ∙ refusal-append (headerRows s) (laterRows s t))
+pub outcome-by-header : (s t : List ℕ) → outcome s t reportRoom ≡ answer (else-refusal (headerRefusal s) (refusal (laterCauses s t)))
+unfolding outcome table roomCauses caseCauses headerRefusal
+outcome-by-header s t = ap (λ (o : Option Outcome). answer o) (field-passes 30 0 (headerCauses s ++ laterCauses s t) refl ∙ refusal-append (headerCauses s) (laterCauses s t))
 
 -- A GOOD HEADER
 module _ (s : List ℕ) (good : headerRefusal s ≡ none) where
-  pub counted : Limited (countsOf s)
+  pub counted : CountsInRange (countsOf s)
   counted = limited (record { passed = good; counts = refl })
 
   -- the largest case and the largest proposal

@@ -9,14 +9,14 @@ use lib.IntN.{ℤ}
 use Rattle.rules.specs.Meaning.Layout.{reportRoom}
 use Rattle.rules.specs.Meaning.Hour.{caseOf, planOf, pricesOf, zonePrice}
 use Rattle.base_causes.specs.declared.Outcome.{Outcome}
-use Rattle.base_causes.specs.Meaning.Rows.{answer}
-use Rattle.base_causes.specs.Promised.RowLaws.{field-passes}
-use Rattle.rules.specs.Meaning.Verdict.{roomRows, table, outcome}
+use Rattle.base_causes.specs.Meaning.Causes.{answer}
+use Rattle.base_causes.specs.Promised.CauseLaws.{field-passes}
+use Rattle.rules.specs.Meaning.Verdict.{roomCauses, table, outcome}
 use Rattle.rules.specs.Meaning.Report.{Totals, totalsOf, reports}
 use Rattle.rules.specs.Meaning.Lines.{verdictLine, priceLines, totalLines, hourLines, linesOf, hourText}
 use Rattle.report_file.specs.Meaning.Written.{totalsIn, priceIn}
 use Rattle.judge_stages.specs.declared.Found.{Found}
-use Rattle.judge_stages.specs.Meaning.Found.{Finds, hourRows}
+use Rattle.judge_stages.specs.Meaning.Found.{Finds, hourCauses}
 use Rattle.text_lines.specs.Steps.Texts.{prices-same}
 
 module _ (s t : List ℕ) where
@@ -40,10 +40,10 @@ module _ (s t : List ℕ) where
   all-lines e = ap (λ (b : Bool). verdictLine (outcome s t reportRoom) ++ cond b (hourLines zones totals price) []) e
 
 -- WHAT THE DRIVER FINDS, as the lines have it
-module _ {s t : List ℕ} {f : Found} (h : Finds (hourRows none s t) s t f) where
+module _ {s t : List ℕ} {f : Found} (h : Finds (hourCauses none s t) s t f) where
   pub verdict-found : f .verdict ≡ outcome s t reportRoom
-  unfolding outcome table roomRows
-  verdict-found = h .verdict-is ∙ ap (λ (o : Option Outcome). answer o) (sym (field-passes 30 0 (hourRows none s t) refl))
+  unfolding outcome table roomCauses
+  verdict-found = h .verdict-is ∙ ap (λ (o : Option Outcome). answer o) (sym (field-passes 30 0 (hourCauses none s t) refl))
 
   reports-found : {b : Bool} → f .valued ≡ b → reports ((outcome s t reportRoom) .number) ≡ b
   reports-found v = ap (λ (o : Outcome). reports (o .number)) (sym verdict-found) ∙ sym (h .valued-is) ∙ v

@@ -11,16 +11,16 @@ use lib.Dec.{T}
 use Rattle.rules.specs.Meaning.Layout.{proposalVersion, proposalLength, reportRoom}
 use Rattle.rules.specs.Meaning.Hour.{caseOf, planOf, pricesOf}
 use Rattle.base_causes.specs.declared.Outcome.{Outcome}
-use Rattle.base_causes.specs.Meaning.Rows.{Row, verdict, firstBelow, refusal, answer, once}
-use Rattle.base_causes.specs.Promised.RowLaws.{field-passes, else-refusal, refusal-append, lacks, not-refused, behind}
-use Rattle.rules.specs.Meaning.Verdict.{under, differ, notMark, roomRows, caseRows, proposalRows, judgementRows, table, outcome, caseRefusal, headerRefusal}
+use Rattle.base_causes.specs.Meaning.Causes.{Cause, verdict, firstBelow, refusal, answer, once}
+use Rattle.base_causes.specs.Promised.CauseLaws.{field-passes, else-refusal, refusal-append, lacks, not-refused, behind}
+use Rattle.rules.specs.Meaning.Verdict.{_under_, differ, notMark, roomCauses, caseCauses, proposalCauses, judgementCauses, table, outcome, caseRefusal, headerRefusal}
 use Rattle.rules.specs.Meaning.Report.{reports}
-use Rattle.text_lines.specs.Steps.Header.{headerRows, laterRows, outcome-by-header}
+use Rattle.text_lines.specs.Steps.Header.{headerCauses, laterCauses, outcome-by-header}
 use Rattle.text_lines.specs.Steps.Judged.{one-line}
 use Rattle.rules.specs.Meaning.Lines.{verdictLine, hourText}
 
 -- A REFUSED HOUR: one line
-not-reported : (rs : List Row) → T (lacks 0 rs) → T (lacks 26 rs) → (o : Outcome) → refusal rs ≡ some o → reports (o .number) ≡ false
+not-reported : (rs : List Cause) → T (lacks 0 rs) → T (lacks 26 rs) → (o : Outcome) → refusal rs ≡ some o → reports (o .number) ≡ false
 unfolding reports
 not-reported rs h l o e = λ i. ne-eqb (o .number) 0 (not-refused 0 rs h o e) i || ne-eqb (o .number) 26 (not-refused 26 rs l o e) i
 
@@ -31,7 +31,7 @@ refused-line s t o e r = one-line s t (ap (λ (x : Outcome). reports (x .number)
 pub header-refused : (s t : List ℕ) (o : Outcome) → headerRefusal s ≡ some o → hourText s t ≡ verdictLine o
 unfolding headerRefusal lacks
 header-refused s t o e =
-    refused-line s t o (outcome-by-header s t ∙ ap (λ (x : Option Outcome). answer (else-refusal x (refusal (laterRows s t)))) e) (not-reported (headerRows s) tt tt o e)
+    refused-line s t o (outcome-by-header s t ∙ ap (λ (x : Option Outcome). answer (else-refusal x (refusal (laterCauses s t)))) e) (not-reported (headerCauses s) tt tt o e)
 
 -- A PROPOSAL THAT IS TOO LONG: refused by 10, 11 or 12, unless the case is refused
 unfoldable pub long : Bool → Bool → Outcome
@@ -39,7 +39,7 @@ long true version = verdict 10 0
 long false true = verdict 11 0
 long false false = verdict 12 0
 
-long-refused : (mark version : Bool) (short wrong : Bool) (rest : List Row) → short ≡ false → wrong ≡ true
+long-refused : (mark version : Bool) (short wrong : Bool) (rest : List Cause) → short ≡ false → wrong ≡ true
     → refusal (once 9 short ∷ once 10 mark ∷ once 11 version ∷ once 12 wrong ∷ rest) ≡ some (long mark version)
 unfolding refusal firstBelow long
 long-refused mark version true wrong rest e f = absurd (subst T e tt)
@@ -57,22 +57,22 @@ module _ (s t : List ℕ) (h : proposalLength s < length t) where
   answered = else-refusal (caseRefusal s) (some (long (notMark 76 84 80 t) (differ (proposalVersion t) 1)))
 
   long-outcome : outcome s t reportRoom ≡ answer answered
-  unfolding outcome table roomRows caseRefusal proposalRows
+  unfolding outcome table roomCauses caseRefusal proposalCauses
   long-outcome = ap (λ (x : Option Outcome). answer x) (
-      field-passes 30 0 (caseRows s (caseOf s) ++ later) refl
-      ∙ refusal-append (caseRows s (caseOf s)) later
-      ∙ ap (λ (x : Option Outcome). else-refusal (caseRefusal s) x) (long-refused (notMark 76 84 80 t) (differ (proposalVersion t) 1) (under 13 (length t)) (differ (length t) (proposalLength s)) (behind 12 later) (le-ltb (length t) 13 enough) wrong)
+      field-passes 30 0 (caseCauses s (caseOf s) ++ later) refl
+      ∙ refusal-append (caseCauses s (caseOf s)) later
+      ∙ ap (λ (x : Option Outcome). else-refusal (caseRefusal s) x) (long-refused (notMark 76 84 80 t) (differ (proposalVersion t) 1) (length t under 13) (differ (length t) (proposalLength s)) (behind 12 later) (le-ltb (length t) 13 enough) wrong)
       )
     where
-      later : List Row
-      later = proposalRows s t (caseOf s) (planOf s t) (pricesOf s t) ++ judgementRows none (caseOf s) (planOf s t) (pricesOf s t)
+      later : List Cause
+      later = proposalCauses s t (caseOf s) (planOf s t) (pricesOf s t) ++ judgementCauses none (caseOf s) (planOf s t) (pricesOf s t)
 
       wrong : differ (length t) (proposalLength s) ≡ true
       wrong = ap not (ne-eqb (length t) (proposalLength s) (λ e. omega arith))
 
   long-not-reported : (x : Option Outcome) (mark version : Bool) → caseRefusal s ≡ x → reports ((answer (else-refusal x (some (long mark version)))) .number) ≡ false
-  unfolding caseRefusal caseRows lacks long reports
-  long-not-reported (some o) mark version e = not-reported (caseRows s (caseOf s)) tt tt o e
+  unfolding caseRefusal caseCauses lacks long reports
+  long-not-reported (some o) mark version e = not-reported (caseCauses s (caseOf s)) tt tt o e
   long-not-reported none true version e = refl
   long-not-reported none false true e = refl
   long-not-reported none false false e = refl

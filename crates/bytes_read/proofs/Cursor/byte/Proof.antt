@@ -15,8 +15,8 @@ returns c =
     let a = c .before .before .before .args in
     field-lacks (a .s .now) (a .self .at) 1 (c .before .field-fits .ensures) Taken Short (u8At (a .s .now) (a .self .at)) (c .if1 .taken)
 
-byte-at-requires : tie.Need-byte-at-requires
-byte-at-requires c κs = let a = c .before .before .before .args in field-inside (a .s .now) (a .self .at) 1 (c .before .field-fits .ensures) (c .if1 .left)
+u8-at-requires : tie.Need-u8-at-requires
+u8-at-requires c κs = let a = c .before .before .before .args in field-inside (a .s .now) (a .self .at) 1 (c .before .field-fits .ensures) (c .if1 .left)
 
 add-t7 : tie.Need-add-t7
 add-t7 c = let e = c .before in let a = e .before .before .before .args in omega (arith, field-inside (a .s .now) (a .self .at) 1 (e .before .field-fits .ensures) (e .if1 .left))
@@ -25,7 +25,7 @@ returns-2 : tie.Need-returns-2
 returns-2 c =
     let e = c .before in
     let a = e .before .before .before .args in
-    field-takes (a .s .now) (a .self .at) 1 (e .before .field-fits .ensures) Taken Short (u8At (a .s .now) (a .self .at)) (e .if1 .left) (c .byte-at .ensures)
+    field-takes (a .s .now) (a .self .at) 1 (e .before .field-fits .ensures) Taken Short (u8At (a .s .now) (a .self .at)) (e .if1 .left) (c .u8-at .ensures)
 
 pub byte-spec : {M : Type 1} → statement M
-byte-spec = tie.close (tie.spec field-fits-requires returns byte-at-requires add-t7 returns-2)
+byte-spec = tie.close (tie.spec field-fits-requires returns u8-at-requires add-t7 returns-2)

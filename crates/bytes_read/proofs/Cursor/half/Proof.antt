@@ -15,8 +15,8 @@ returns c =
     let a = c .before .before .before .args in
     field-lacks (a .s .now) (a .self .at) 2 (c .before .field-fits .ensures) Taken Short (u16At (a .s .now) (a .self .at)) (c .if1 .taken)
 
-half-at-requires : tie.Need-half-at-requires
-half-at-requires c κs = let a = c .before .before .before .args in field-inside (a .s .now) (a .self .at) 2 (c .before .field-fits .ensures) (c .if1 .left)
+u16-at-requires : tie.Need-u16-at-requires
+u16-at-requires c κs = let a = c .before .before .before .args in field-inside (a .s .now) (a .self .at) 2 (c .before .field-fits .ensures) (c .if1 .left)
 
 add-t7 : tie.Need-add-t7
 add-t7 c = let e = c .before in let a = e .before .before .before .args in omega (arith, field-inside (a .s .now) (a .self .at) 2 (e .before .field-fits .ensures) (e .if1 .left))
@@ -25,7 +25,7 @@ returns-2 : tie.Need-returns-2
 returns-2 c =
     let e = c .before in
     let a = e .before .before .before .args in
-    field-takes (a .s .now) (a .self .at) 2 (e .before .field-fits .ensures) Taken Short (u16At (a .s .now) (a .self .at)) (e .if1 .left) (c .half-at .ensures .0)
+    field-takes (a .s .now) (a .self .at) 2 (e .before .field-fits .ensures) Taken Short (u16At (a .s .now) (a .self .at)) (e .if1 .left) (c .u16-at .ensures .0)
 
 pub half-spec : {M : Type 1} → statement M
-half-spec = tie.close (tie.spec field-fits-requires returns half-at-requires add-t7 returns-2)
+half-spec = tie.close (tie.spec field-fits-requires returns u16-at-requires add-t7 returns-2)

@@ -15,8 +15,8 @@ returns c =
     let a = c .before .before .before .args in
     field-lacks (a .s .now) (a .self .at) 8 (c .before .field-fits .ensures) Taken Short (u64At (a .s .now) (a .self .at)) (c .if1 .taken)
 
-long-at-requires : tie.Need-long-at-requires
-long-at-requires c κs = let a = c .before .before .before .args in field-inside (a .s .now) (a .self .at) 8 (c .before .field-fits .ensures) (c .if1 .left)
+u64-at-requires : tie.Need-u64-at-requires
+u64-at-requires c κs = let a = c .before .before .before .args in field-inside (a .s .now) (a .self .at) 8 (c .before .field-fits .ensures) (c .if1 .left)
 
 add-t7 : tie.Need-add-t7
 add-t7 c = let e = c .before in let a = e .before .before .before .args in omega (arith, field-inside (a .s .now) (a .self .at) 8 (e .before .field-fits .ensures) (e .if1 .left))
@@ -25,7 +25,7 @@ returns-2 : tie.Need-returns-2
 returns-2 c =
     let e = c .before in
     let a = e .before .before .before .args in
-    field-takes (a .s .now) (a .self .at) 8 (e .before .field-fits .ensures) Taken Short (u64At (a .s .now) (a .self .at)) (e .if1 .left) (c .long-at .ensures)
+    field-takes (a .s .now) (a .self .at) 8 (e .before .field-fits .ensures) Taken Short (u64At (a .s .now) (a .self .at)) (e .if1 .left) (c .u64-at .ensures)
 
 pub long-spec : {M : Type 1} → statement M
-long-spec = tie.close (tie.spec field-fits-requires returns long-at-requires add-t7 returns-2)
+long-spec = tie.close (tie.spec field-fits-requires returns u64-at-requires add-t7 returns-2)

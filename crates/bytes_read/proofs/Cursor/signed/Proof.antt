@@ -17,8 +17,8 @@ returns c =
     let a = c .before .before .before .args in
     field-lacks (a .s .now) (a .self .at) 4 (c .before .field-fits .ensures) Taken Short (raw (i32At (a .s .now) (a .self .at))) (c .if1 .taken)
 
-signed-at-requires : tie.Need-signed-at-requires
-signed-at-requires c κs = let a = c .before .before .before .args in field-inside (a .s .now) (a .self .at) 4 (c .before .field-fits .ensures) (c .if1 .left)
+raw-i32-at-requires : tie.Need-raw-i32-at-requires
+raw-i32-at-requires c κs = let a = c .before .before .before .args in field-inside (a .s .now) (a .self .at) 4 (c .before .field-fits .ensures) (c .if1 .left)
 
 add-t7 : tie.Need-add-t7
 add-t7 c = let e = c .before in let a = e .before .before .before .args in omega (arith, field-inside (a .s .now) (a .self .at) 4 (e .before .field-fits .ensures) (e .if1 .left))
@@ -27,7 +27,7 @@ returns-2 : tie.Need-returns-2
 returns-2 c =
     let e = c .before in
     let a = e .before .before .before .args in
-    field-takes (a .s .now) (a .self .at) 4 (e .before .field-fits .ensures) Taken Short (raw (i32At (a .s .now) (a .self .at))) (e .if1 .left) (ap raw (c .signed-at .ensures))
+    field-takes (a .s .now) (a .self .at) 4 (e .before .field-fits .ensures) Taken Short (raw (i32At (a .s .now) (a .self .at))) (e .if1 .left) (ap raw (c .raw-i32-at .ensures))
 
 pub signed-spec : {M : Type 1} → statement M
-signed-spec = tie.close (tie.spec field-fits-requires returns signed-at-requires add-t7 returns-2)
+signed-spec = tie.close (tie.spec field-fits-requires returns raw-i32-at-requires add-t7 returns-2)

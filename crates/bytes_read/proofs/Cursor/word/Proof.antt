@@ -15,8 +15,8 @@ returns c =
     let a = c .before .before .before .args in
     field-lacks (a .s .now) (a .self .at) 4 (c .before .field-fits .ensures) Taken Short (u32At (a .s .now) (a .self .at)) (c .if1 .taken)
 
-word-at-requires : tie.Need-word-at-requires
-word-at-requires c κs = let a = c .before .before .before .args in field-inside (a .s .now) (a .self .at) 4 (c .before .field-fits .ensures) (c .if1 .left)
+u32-at-requires : tie.Need-u32-at-requires
+u32-at-requires c κs = let a = c .before .before .before .args in field-inside (a .s .now) (a .self .at) 4 (c .before .field-fits .ensures) (c .if1 .left)
 
 add-t7 : tie.Need-add-t7
 add-t7 c = let e = c .before in let a = e .before .before .before .args in omega (arith, field-inside (a .s .now) (a .self .at) 4 (e .before .field-fits .ensures) (e .if1 .left))
@@ -25,7 +25,7 @@ returns-2 : tie.Need-returns-2
 returns-2 c =
     let e = c .before in
     let a = e .before .before .before .args in
-    field-takes (a .s .now) (a .self .at) 4 (e .before .field-fits .ensures) Taken Short (u32At (a .s .now) (a .self .at)) (e .if1 .left) (c .word-at .ensures)
+    field-takes (a .s .now) (a .self .at) 4 (e .before .field-fits .ensures) Taken Short (u32At (a .s .now) (a .self .at)) (e .if1 .left) (c .u32-at .ensures)
 
 pub word-spec : {M : Type 1} → statement M
-word-spec = tie.close (tie.spec field-fits-requires returns word-at-requires add-t7 returns-2)
+word-spec = tie.close (tie.spec field-fits-requires returns u32-at-requires add-t7 returns-2)

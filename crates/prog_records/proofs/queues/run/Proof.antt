@@ -21,17 +21,17 @@ sub-loop c = search needs
 shared-slice-read-act : tie.Need-shared-slice-read-act Inv-loop μ-loop
 shared-slice-read-act c = search needs
 
-add-word-at : tie.Need-add-word-at Inv-loop μ-loop
-add-word-at c = search needs
+add-u32-at : tie.Need-add-u32-at Inv-loop μ-loop
+add-u32-at c = search needs
 
-word-at-requires : tie.Need-word-at-requires Inv-loop μ-loop
-word-at-requires c κs = search needs
+u32-at-requires : tie.Need-u32-at-requires Inv-loop μ-loop
+u32-at-requires c κs = search needs
 
-add-word-at-2 : tie.Need-add-word-at-2 Inv-loop μ-loop
-add-word-at-2 c = search needs
+add-u32-at-2 : tie.Need-add-u32-at-2 Inv-loop μ-loop
+add-u32-at-2 c = search needs
 
-word-at-requires-2 : tie.Need-word-at-requires-2 Inv-loop μ-loop
-word-at-requires-2 c κs = search needs
+u32-at-requires-2 : tie.Need-u32-at-requires-2 Inv-loop μ-loop
+u32-at-requires-2 c κs = search needs
 
 act-requires : tie.Need-act-requires Inv-loop μ-loop
 act-requires c κs = search needs
@@ -57,10 +57,10 @@ run-spec =
     loop-holds
     sub-loop
     shared-slice-read-act
-    add-word-at
-    word-at-requires
-    add-word-at-2
-    word-at-requires-2
+    add-u32-at
+    u32-at-requires
+    add-u32-at-2
+    u32-at-requires-2
     act-requires
     add-at
     loop-less

@@ -18,8 +18,8 @@ loop-holds c = search needs
 sub-loop : tie.Need-sub-loop Inv-loop μ-loop
 sub-loop c = search needs
 
-word-at-requires : tie.Need-word-at-requires Inv-loop μ-loop
-word-at-requires c κs = search needs
+u32-at-requires : tie.Need-u32-at-requires Inv-loop μ-loop
+u32-at-requires c κs = search needs
 
 print-signed-requires : tie.Need-print-signed-requires Inv-loop μ-loop
 print-signed-requires c κs = search needs
@@ -59,7 +59,7 @@ print-numbers-spec =
     μ-loop
     loop-holds
     sub-loop
-    word-at-requires
+    u32-at-requires
     print-signed-requires
     add-at
     end-line-requires

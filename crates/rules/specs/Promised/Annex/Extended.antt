@@ -19,8 +19,8 @@ use Rattle.rules.specs.Meaning.Clearing.{Placed, Clearing}
 use Rattle.rules.specs.Meaning.Annex.{Solution, Feasible, PairsOnce, Connected, joins, byPair, capacityLTA, netFlow, objective}
 use Rattle.rules.specs.Meaning.AnnexPromise.{Same, Agree, IsClearing, IsFeasible}
 use Rattle.rules.specs.Steps.Duality.{signed-times}
-use Rattle.base_causes.specs.Meaning.Rows.{firstBelow}
-use Rattle.base_causes.specs.Promised.RowLaws.{first-is, not-below}
+use Rattle.base_causes.specs.Meaning.Causes.{firstBelow}
+use Rattle.base_causes.specs.Promised.CauseLaws.{first-is, not-below}
 use Rattle.rules.specs.Promised.Annex.CommercialFlows.{net-plain, net-sum, net-ext, Carried, balanced-carried}
 
 -- LINKS BY ORDERED PAIR

@@ -7,7 +7,7 @@ use lib.Dec.{T}
 use Rattle.base_causes.specs.declared.Outcome.{Outcome}
 
 -- a cause: its number, how many places are tested, whether it holds at a place, and the index returned for a place
-pub record Row : Type 0 where
+pub record Cause : Type 0 where
   pub number : ℕ
   pub places : ℕ
   pub fails : ℕ → Bool
@@ -36,21 +36,21 @@ unfoldable pub firstField : ℕ → (ℕ → Bool) → ℕ
 firstField w f = placeElse (firstBelow w f)
 
 -- a row passes: its cause holds at none of its places
-pub record Pass (r : Row) : Type 0 where
+pub record Pass (r : Cause) : Type 0 where
   pub pass : (k : ℕ) → k < r .places → T (not (r .fails k))
 
 -- the first place at which a row fails
-abbrev pub failing : Row → Option ℕ
+abbrev pub failing : Cause → Option ℕ
 failing r = firstBelow (r .places) (r .fails)
 
 -- the first row that fails, at its first place
-abbrev pub rowElse : Row → Option ℕ → Option Outcome → Option Outcome
-rowElse r (some k) rest = some (verdict (r .number) (r .index k))
-rowElse r none rest = rest
+abbrev pub causeElse : Cause → Option ℕ → Option Outcome → Option Outcome
+causeElse r (some k) rest = some (verdict (r .number) (r .index k))
+causeElse r none rest = rest
 
-unfoldable pub refusal : List Row → Option Outcome
+unfoldable pub refusal : List Cause → Option Outcome
 refusal [] = none
-refusal (r ∷ rs) = rowElse r (failing r) (refusal rs)
+refusal (r ∷ rs) = causeElse r (failing r) (refusal rs)
 
 -- none fails: 0
 abbrev pub answer : Option Outcome → Outcome
@@ -58,19 +58,19 @@ answer (some o) = o
 answer none = verdict 0 0
 
 -- a cause tested once, with index 0; a header field, with its offset; a cause tested at each of n places, with the place
-abbrev pub once : ℕ → Bool → Row
+abbrev pub once : ℕ → Bool → Cause
 once number f = record { number = number; places = 1; fails = λ k. f; index = λ k. 0 }
 
-abbrev pub field : ℕ → ℕ → Bool → Row
+abbrev pub field : ℕ → ℕ → Bool → Cause
 field number offset f = record { number = number; places = 1; fails = λ k. f; index = λ k. offset }
 
-abbrev pub each : ℕ → ℕ → (ℕ → Bool) → Row
+abbrev pub each : ℕ → ℕ → (ℕ → Bool) → Cause
 each number n f = record { number = number; places = n; fails = f; index = λ k. k }
 
 -- a cause tested at each of n places, with the offset at which the place stands (S-2)
-abbrev pub eachAt : ℕ → ℕ → (ℕ → Bool) → (ℕ → ℕ) → Row
+abbrev pub eachAt : ℕ → ℕ → (ℕ → Bool) → (ℕ → ℕ) → Cause
 eachAt number n f offset = record { number = number; places = n; fails = f; index = offset }
 
 -- a cause tested at each field of n rows in file order, w fields to a row: a row fails where a field of it is at fault, with the offset of the first (S-2)
-abbrev pub eachField : ℕ → ℕ → ℕ → (ℕ → ℕ → Bool) → (ℕ → ℕ → ℕ) → Row
+abbrev pub eachField : ℕ → ℕ → ℕ → (ℕ → ℕ → Bool) → (ℕ → ℕ → ℕ) → Cause
 eachField number n w fault offset = eachAt number n (λ i. anyBelow w (fault i)) (λ i. offset i (firstField w (fault i)))

@@ -5,9 +5,9 @@ use mathlib.Core.Option.{none}
 use Prim.Native.Nat.{ℕ}
 use Rattle.rules.specs.Meaning.Verdict.{proposalRefusal}
 use Rattle.case_header.specs.declared.Counts.{Counts}
-use Rattle.case_header.specs.Meaning.Opened.{Opened}
+use Rattle.case_header.specs.Meaning.CaseReadable.{CaseReadable}
 
 -- the counts k of the readable case s, and a proposal t for it that rows 9 to 14 pass
-pub record Proposed (s : List ℕ) (k : Counts) (t : List ℕ) : Type 0 where
-  pub opened : Opened s k
+pub record ProposalValid (s : List ℕ) (k : Counts) (t : List ℕ) : Type 0 where
+  pub opened : CaseReadable s k
   pub passed : proposalRefusal s t ≡ none

@@ -6,27 +6,27 @@ use Prim.Native.Nat.{ℕ, _+_, _*_, _≤_}
 use lib.ListN.{length}
 use Rattle.rules.specs.Meaning.Layout.{caseHeader, linkSize, linkFields, orderSize, orderFields, branchFieldAt, linkFieldAt, orderFieldAt, caseLength, zonesIn, branchesIn, linksIn, ordersIn}
 use Rattle.rules.specs.Meaning.Hour.{caseOf}
-use Rattle.base_causes.specs.Meaning.Rows.{Row, eachField}
+use Rattle.base_causes.specs.Meaning.Causes.{Cause, eachField}
 use Rattle.rules.specs.Meaning.Verdict.{branchFault, linkFault, orderFault, Readable, headerRefusal}
 use Rattle.case_header.specs.declared.Counts.{Counts}
 use Rattle.case_header.specs.Meaning.Answer.{countsOf}
 
 -- the counts of a readable case
-pub record Opened (s : List ℕ) (k : Counts) : Type 0 where
+pub record CaseReadable (s : List ℕ) (k : Counts) : Type 0 where
   pub readable : Readable s
   pub counts : k ≡ countsOf s
 
 -- the counts of a header that rows 1 to 4 pass
-pub record Headed (s : List ℕ) (k : Counts) : Type 0 where
+pub record HeaderValid (s : List ℕ) (k : Counts) : Type 0 where
   pub passed : headerRefusal s ≡ none
   pub counts : k ≡ countsOf s
 
 -- and of a case that row 5 passes too
-pub record Whole (s : List ℕ) (k : Counts) : Type 0 where
-  pub headed : Headed s k
+pub record LengthValid (s : List ℕ) (k : Counts) : Type 0 where
+  pub headed : HeaderValid s k
   pub whole : length s ≡ caseLength s
 
-pub record Limited (k : Counts) : Type 0 where
+pub record CountsInRange (k : Counts) : Type 0 where
   pub zones-in : k .zones ≤ 16
   pub branches-in : k .branches ≤ 64
   pub links-in : k .links ≤ 64
@@ -46,11 +46,11 @@ abbrev pub lengthOf : Counts → ℕ
 lengthOf k = orderStart k (k .orders)
 
 -- ROWS 5 TO 8
-abbrev pub branchRow : List ℕ → Row
-branchRow s = eachField 6 (branchesIn s) (1 + zonesIn s) (branchFault (caseOf s)) (branchFieldAt s)
+abbrev pub branchCause : List ℕ → Cause
+branchCause s = eachField 6 (branchesIn s) (1 + zonesIn s) (branchFault (caseOf s)) (branchFieldAt s)
 
-abbrev pub linkRow : List ℕ → Row
-linkRow s = eachField 7 (linksIn s) linkFields (linkFault (caseOf s)) (linkFieldAt s)
+abbrev pub linkCause : List ℕ → Cause
+linkCause s = eachField 7 (linksIn s) linkFields (linkFault (caseOf s)) (linkFieldAt s)
 
-abbrev pub orderRow : List ℕ → Row
-orderRow s = eachField 8 (ordersIn s) orderFields (orderFault (caseOf s)) (orderFieldAt s)
+abbrev pub orderCause : List ℕ → Cause
+orderCause s = eachField 8 (ordersIn s) orderFields (orderFault (caseOf s)) (orderFieldAt s)

@@ -14,13 +14,13 @@ use lib.IntN.{ℤ, pos, _+ℤ_, +ℤ-idr}
 use Rattle.base_integers.specs.Meaning.Sums.{sumTo, only}
 use Rattle.base_integers.specs.Steps.Sums.{sum-more}
 use Rattle.base_measures.specs.declared.Tenths.{Tenths}
-use Rattle.judge_clearing.specs.Meaning.Held.{noTenths, tenthsAt, Holds}
+use Rattle.judge_clearing.specs.Meaning.TenthsHold.{noTenths, tenthsAt, TenthsHold}
 
-pub zeros-hold : (f : ℕ → ℤ) → ((z : ℕ) → f z ≡ pos 0) → Holds f (replicate 16 noTenths)
+pub zeros-hold : (f : ℕ → ℤ) → ((z : ℕ) → f z ≡ pos 0) → TenthsHold f (replicate 16 noTenths)
 zeros-hold f h = record { long = refl; each = λ z l. ap (λ (t : Tenths). t .0) (getD-replicate 16 z noTenths noTenths l) ∙ sym (h z) }
 
 -- the entry k changed, where the definitions differ at k alone
-pub set-holds : (f g : ℕ → ℤ) (xs : List Tenths) (k : ℕ) (x : Tenths) → k < 16 → Holds f xs → x .0 ≡ g k → ((z : ℕ) → z ≢ k → f z ≡ g z) → Holds g (set xs k x)
+pub set-holds : (f g : ℕ → ℤ) (xs : List Tenths) (k : ℕ) (x : Tenths) → k < 16 → TenthsHold f xs → x .0 ≡ g k → ((z : ℕ) → z ≢ k → f z ≡ g z) → TenthsHold g (set xs k x)
 set-holds f g xs k x h a e o = record {
   long = length-set xs k x ∙ a .long;
   each = λ z l. elim (ℕ-discrete z k) [
@@ -46,9 +46,9 @@ module _ (key : ℕ → ℕ) (x : ℕ → ℤ) (n : ℕ) where
   keyed-at z e = subst (λ (k : ℕ). keyed key x (n + 1) k ≡ keyed key x n k +ℤ x n) (sym e) keyed-own
 
   -- the sum as the array has it
-  pub keyed-next : (xs : List Tenths) (z : ℕ) → z ≡ key n → key n < 16 → Holds (keyed key x n) xs → tenthsAt xs z +ℤ x n ≡ keyed key x (n + 1) z
+  pub keyed-next : (xs : List Tenths) (z : ℕ) → z ≡ key n → key n < 16 → TenthsHold (keyed key x n) xs → tenthsAt xs z +ℤ x n ≡ keyed key x (n + 1) z
   keyed-next xs z e l h = subst (λ (k : ℕ). tenthsAt xs k +ℤ x n ≡ keyed key x (n + 1) k) (sym e) (ap (λ (v : ℤ). v +ℤ x n) (h .each (key n) l) ∙ sym keyed-own)
 
-  pub keyed-set : (xs : List Tenths) (z : ℕ) (next : Tenths) → z ≡ key n → key n < 16 → Holds (keyed key x n) xs → next .0 ≡ tenthsAt xs z +ℤ x n → Holds (keyed key x (n + 1)) (set xs z next)
+  pub keyed-set : (xs : List Tenths) (z : ℕ) (next : Tenths) → z ≡ key n → key n < 16 → TenthsHold (keyed key x n) xs → next .0 ≡ tenthsAt xs z +ℤ x n → TenthsHold (keyed key x (n + 1)) (set xs z next)
   keyed-set xs z next e l h q =
       set-holds (keyed key x n) (keyed key x (n + 1)) xs z next (omega (arith, e)) h (q ∙ keyed-next xs z e l h) (λ k d. keyed-other k (λ r. d (r ∙ sym e)))

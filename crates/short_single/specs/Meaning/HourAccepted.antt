@@ -7,13 +7,13 @@ use Rattle.rules.specs.Meaning.Hour.{caseOf, planOf, pricesOf, gap}
 use Rattle.rules.specs.Meaning.Clearing.{Clearing}
 use Rattle.judge_clearing.specs.declared.HourRead.{HourRead}
 use Rattle.judge_clearing.specs.Meaning.Read.{HourReadFrom}
-use Rattle.judge_network.specs.Meaning.Prices.{PricesIn}
+use Rattle.judge_network.specs.Meaning.Prices.{PricesInRange}
 use Rattle.short_rules.specs.Meaning.Shortfalls.{Accounted}
 
 -- what was read of the case s and the proposal t, and that the proposal is accepted
 pub record HourAccepted (s t : List ℕ) (hour : HourRead) : Type 0 where
   pub read : HourReadFrom s t hour
   pub clearing : Clearing (caseOf s) (planOf s t)
-  pub prices-in : PricesIn (caseOf s) (pricesOf s t)
+  pub prices-in : PricesInRange (caseOf s) (pricesOf s t)
   pub accounted : Accounted (caseOf s) (planOf s t) (pricesOf s t) (gap (caseOf s) (planOf s t) (pricesOf s t))
   pub gap-small : gap (caseOf s) (planOf s t) (pricesOf s t) ≤ℤ pos 1000000000000000

@@ -14,16 +14,16 @@ use Rattle.base_measures.specs.Meaning.Limits as limits
 use Rattle.rules.specs.Meaning.Layout.{u32At, proposalHeader, proposalVersion, proposalLength, branchesIn, shareIn, flowIn, shadowAt, shadowIn}
 use Rattle.rules.specs.Meaning.Hour.{caseOf, planOf, pricesOf}
 use Rattle.base_causes.specs.declared.Outcome.{Outcome}
-use Rattle.base_causes.specs.Meaning.Rows.{Row, refusal, once, eachAt}
-use Rattle.rules.specs.Meaning.Verdict.{under, differ, notMark, proposalRows, proposalRefusal}
+use Rattle.base_causes.specs.Meaning.Causes.{Cause, refusal, once, eachAt}
+use Rattle.rules.specs.Meaning.Verdict.{_under_, differ, notMark, proposalCauses, proposalRefusal}
 use Rattle.rules.specs.Steps.Passed.{proposal-length, proposal-sound}
 use Rattle.case_header.specs.declared.Counts.{Counts}
-use Rattle.case_header.specs.Meaning.Opened.{Opened}
-use Rattle.case_header.specs.Steps.Opened.{headed, limited}
-use Rattle.proposal_file.specs.declared.Opening.{Opening}
+use Rattle.case_header.specs.Meaning.CaseReadable.{CaseReadable}
+use Rattle.case_header.specs.Steps.CaseReadable.{headed, limited}
+use Rattle.proposal_file.specs.declared.ProposalOpening.{ProposalOpening}
 use Rattle.proposal_file.specs.declared.ProposalAnswer.the-variants as answer
 use Rattle.proposal_file.specs.Meaning.Answer.{openingOf, proposalBy, proposalAnswer}
-use Rattle.proposal_file.specs.Meaning.Proposed.{Proposed}
+use Rattle.proposal_file.specs.Meaning.ProposalValid.{ProposalValid}
 
 -- where the n-th number after the header stands, and the length demanded, by the case's counts
 abbrev pub numberStart : ℕ → ℕ
@@ -36,21 +36,21 @@ lengthOf k = numberStart (k .orders + k .links + k .branches)
 abbrev pub badShadow : List ℕ → List ℕ → ℕ → Bool
 badShadow s t m = outside limits.shadowPrice (pos (shadowIn s t m))
 
-abbrev pub shadowRow : List ℕ → List ℕ → Row
-shadowRow s t = eachAt 14 (branchesIn s) (badShadow s t) (shadowAt s)
+abbrev pub shadowCause : List ℕ → List ℕ → Cause
+shadowCause s t = eachAt 14 (branchesIn s) (badShadow s t) (shadowAt s)
 
 -- AN ANSWER READ BACK
-pub opening-is : (s t : List ℕ) {p : Opening} → proposalAnswer s t ≡ answer.Sound p → p ≡ openingOf t
+pub opening-is : (s t : List ℕ) {p : ProposalOpening} → proposalAnswer s t ≡ answer.Sound p → p ≡ openingOf t
 opening-is s t {p} e = by (proposalRefusal s t) e
   where
     by : (o : Option Outcome) → proposalBy (openingOf t) o ≡ answer.Sound p → p ≡ openingOf t
     by (some o) e = cc
     by none e = cc
 
-pub proposed-of : {s : List ℕ} {k : Counts} (t : List ℕ) {p : Opening} → Opened s k → proposalAnswer s t ≡ answer.Sound p → Proposed s k t
+pub proposed-of : {s : List ℕ} {k : Counts} (t : List ℕ) {p : ProposalOpening} → CaseReadable s k → proposalAnswer s t ≡ answer.Sound p → ProposalValid s k t
 proposed-of {s} {k} t {p} w e = by (proposalRefusal s t) refl e
   where
-    by : (o : Option Outcome) → proposalRefusal s t ≡ o → proposalBy (openingOf t) o ≡ answer.Sound p → Proposed s k t
+    by : (o : Option Outcome) → proposalRefusal s t ≡ o → proposalBy (openingOf t) o ≡ answer.Sound p → ProposalValid s k t
     by (some o) q e = record { opened = w; passed = cc }
     by none q e = record { opened = w; passed = q }
 
@@ -62,18 +62,18 @@ refused-of s t {r} e = by (proposalRefusal s t) refl e
     by none q e = cc
 
 -- ROWS 9 TO 14
-abbrev pub rowsOf : List ℕ → List ℕ → List Row
+abbrev pub rowsOf : List ℕ → List ℕ → List Cause
 rowsOf s t =
-    once 9 (under proposalHeader (length t))
+    once 9 (length t under proposalHeader)
     ∷ once 10 (notMark 76 84 80 t)
     ∷ once 11 (differ (proposalVersion t) 1)
     ∷ once 12 (differ (length t) (proposalLength s))
     ∷ once 13 (outside limits.share (pos (shareIn t)))
-    ∷ shadowRow s t
+    ∷ shadowCause s t
     ∷ []
 
 pub rows-are : (s t : List ℕ) → proposalRefusal s t ≡ refusal (rowsOf s t)
-unfolding proposalRefusal proposalRows caseOf planOf pricesOf
+unfolding proposalRefusal proposalCauses caseOf planOf pricesOf
 rows-are s t = refl
 
 -- WHERE SHADOW PRICES STAND: one begins where the one before ends, and the proposal ends where the last ends
@@ -90,7 +90,7 @@ unfolding shadowAt proposalLength
 shadow-inside s m h = omega arith
 
 -- WITHIN THE FILE, by the counts
-module _ {s : List ℕ} {k : Counts} (o : Opened s k) (t : List ℕ) where
+module _ {s : List ℕ} {k : Counts} (o : CaseReadable s k) (t : List ℕ) where
   pub length-is : lengthOf k ≡ proposalLength s
   unfolding proposalLength
   length-is = ap lengthOf (o .counts)
@@ -113,11 +113,11 @@ module _ {s : List ℕ} {k : Counts} (o : Opened s k) (t : List ℕ) where
   unfolding shadowIn shadowAt
   shadow-is m = ap (λ (k : Counts). u32At t (numberStart (k .orders + k .links + m))) (o .counts)
 
-pub number-inside : {s : List ℕ} {k : Counts} {t : List ℕ} → Proposed s k t → (n : ℕ) → n < k .orders + k .links + k .branches → numberStart n + 4 ≤ length t
+pub number-inside : {s : List ℕ} {k : Counts} {t : List ℕ} → ProposalValid s k t → (n : ℕ) → n < k .orders + k .links + k .branches → numberStart n + 4 ≤ length t
 number-inside {s} {k} {t} p n h = omega (arith, proposal-length s t (p .passed), length-is (p .opened) t)
 
 -- row 14 passed
-pub shadow-within : {s : List ℕ} {k : Counts} {t : List ℕ} → Proposed s k t → (m : ℕ) → m < k .branches → Within limits.shadowPrice (pos (shadowIn s t m))
+pub shadow-within : {s : List ℕ} {k : Counts} {t : List ℕ} → ProposalValid s k t → (m : ℕ) → m < k .branches → Within limits.shadowPrice (pos (shadowIn s t m))
 unfolding caseOf pricesOf
 shadow-within {s} {k} {t} p m h =
     within limits.shadowPrice (pos (shadowIn s t m))

@@ -13,17 +13,17 @@ use Rattle.base_integers.specs.Meaning.Machine.{SumsFit}
 use Rattle.base_integers.specs.Steps.Machine.{sfits-by}
 use Rattle.rules.specs.Meaning.Layout.{u32At}
 use Rattle.rules.specs.Meaning.Hour.{Case, Plan, linkUse, linkRoom}
-use Rattle.base_causes.specs.Meaning.Rows.{failing}
-use Rattle.base_causes.specs.Promised.RowLaws.{not-below}
+use Rattle.base_causes.specs.Meaning.Causes.{failing}
+use Rattle.base_causes.specs.Promised.CauseLaws.{not-below}
 use Rattle.rules.specs.Meaning.Verdict.{excessVolume, overusedLink}
 use Rattle.rules.specs.Steps.Passed.{CaseSound}
 use Rattle.rules.specs.Promised.Fits.{flow-in}
-use Rattle.judge_clearing.specs.Meaning.Stages.{VolumesIn, FlowsIn}
+use Rattle.judge_clearing.specs.Meaning.InRange.{VolumesInRange, FlowsInRange}
 
-pub volumes-in : {c : Case} {p : Plan} → failing (excessVolume c p) ≡ none → VolumesIn c p
+pub volumes-in : {c : Case} {p : Plan} → failing (excessVolume c p) ≡ none → VolumesInRange c p
 volumes-in {c} {p} e = record { within = λ i h. nltb→le (c .quantity i) (p .volume i) (not-below _ _ e i h) }
 
-pub flows-in : {c : Case} {p : Plan} → CaseSound c → p .share ≤ 100000 → failing (overusedLink c p) ≡ none → FlowsIn c p
+pub flows-in : {c : Case} {p : Plan} → CaseSound c → p .share ≤ 100000 → failing (overusedLink c p) ≡ none → FlowsInRange c p
 flows-in {c} {p} cs share e = record { within = λ l h. flow-in c cs p share l h (nltb→le (linkRoom c p l) (linkUse c p l) (not-below _ _ e l h)) }
 
 -- an unsigned field of 32 bits, whose bytes are bytes

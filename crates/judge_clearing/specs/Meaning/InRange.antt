@@ -3,9 +3,9 @@ use Prim.Native.Nat.{ℕ, _≤_, _<_}
 use Rattle.rules.specs.Meaning.Hour.{Case, Plan}
 
 -- verdict 21 passed
-pub record VolumesIn (c : Case) (p : Plan) : Type 0 where
+pub record VolumesInRange (c : Case) (p : Plan) : Type 0 where
   pub within : (i : ℕ) → i < c .orders → p .volume i ≤ c .quantity i
 
 -- verdict 23 passed: no flow passes the greatest capacity
-pub record FlowsIn (c : Case) (p : Plan) : Type 0 where
+pub record FlowsInRange (c : Case) (p : Plan) : Type 0 where
   pub within : (l : ℕ) → l < c .links → p .flow l ≤ 100000

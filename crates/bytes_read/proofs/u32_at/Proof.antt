@@ -1,9 +1,9 @@
--- `bytes_read::word_at` meets its contract: each byte is below 256, so nothing wraps. Assumes nothing.
+-- `bytes_read::u32_at` meets its contract: each byte is below 256, so nothing wraps. Assumes nothing.
 use native.Mathlib.Omega.{arith}
 use borrow.Author.Needs.{needs}
 use Rattle.rules.specs.Meaning.Layout.{u32At}
-use Rattle.bytes_read.proofs.word_at.Statement.{statement}
-use Rattle.bytes_read.proofs.word_at.Tie as tie
+use Rattle.bytes_read.proofs.u32_at.Statement.{statement}
+use Rattle.bytes_read.proofs.u32_at.Tie as tie
 
 shared-slice-read-wide : tie.Need-shared-slice-read-wide
 shared-slice-read-wide c = search needs
@@ -60,8 +60,8 @@ returns : tie.Need-returns
 unfolding u32At
 returns c = omega arith
 
-pub word-at-spec : {M : Type 1} → statement M
-word-at-spec =
+pub u32-at-spec : {M : Type 1} → statement M
+u32-at-spec =
     tie.close
     (tie.spec
     shared-slice-read-wide

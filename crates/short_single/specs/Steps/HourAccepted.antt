@@ -18,11 +18,11 @@ use Rattle.rules.specs.Meaning.Hour.{Case, Plan, Prices, caseOf, planOf, prices
 use Rattle.rules.specs.Steps.Passed.{CaseSound}
 use Rattle.rules.specs.Promised.Fits.{in-grains, near-above, apart-prices, fbPart-near, branchUse-sums, flow-in, volumes-in}
 use Rattle.judge_clearing.specs.declared.HourRead.{HourRead}
-use Rattle.judge_clearing.specs.Meaning.Held.{tenthsAt}
+use Rattle.judge_clearing.specs.Meaning.TenthsHold.{tenthsAt}
 use Rattle.judge_clearing.specs.Steps.Read.{sound, share-is, share-in, shadow-in}
 use Rattle.short_rules.specs.Meaning.Shortfalls.{earned, orderShortfall, branchShortfall, linkShortfall}
 use Rattle.short_single.specs.Steps.Short.{shortOf, Shortable, order-as, branch-as, link-as}
-use Rattle.short_single.specs.Meaning.Judged.{HourAccepted}
+use Rattle.short_single.specs.Meaning.HourAccepted.{HourAccepted}
 
 -- what the part of a zone lays on a branch with these PTDFs
 abbrev pub loadOn : List ℤ → List Tenths → ℕ → ℤ

@@ -12,22 +12,22 @@ use Rattle.base_integers.specs.Steps.Ranges.{nat-within}
 use Rattle.rules.specs.Meaning.Layout.{caseHeader, contracts, contractedSize, linkSize, orderSize, caseLength, branchSize, branchAt, linkAt, orderAt, zonesIn, branchesIn, linksIn, ordersIn}
 use Rattle.rules.specs.Meaning.Hour.{caseOf}
 use Rattle.base_causes.specs.declared.Outcome.{Outcome}
-use Rattle.base_causes.specs.Meaning.Rows.{Row, refusal, once, Pass}
-use Rattle.base_causes.specs.Promised.RowLaws.{else-refusal, refusal-append, isRow, rowOf, field-at-passes}
-use Rattle.rules.specs.Meaning.Verdict.{differ, caseRows, caseRefusal, headerRefusal, caseHeaderRows}
+use Rattle.base_causes.specs.Meaning.Causes.{Cause, refusal, once, Pass}
+use Rattle.base_causes.specs.Promised.CauseLaws.{else-refusal, refusal-append, isCause, rowOf, field-at-passes}
+use Rattle.rules.specs.Meaning.Verdict.{differ, caseCauses, caseRefusal, headerRefusal, caseHeaderCauses}
 use Rattle.rules.specs.Steps.Passed.{case-length}
 use Rattle.bytes_read.specs.declared.Cursor.{Cursor}
 use Rattle.bytes_read.specs.Meaning.Field.{cursor}
 use Rattle.case_header.specs.declared.Counts.{Counts}
 use Rattle.case_header.specs.declared.HeaderAnswer.the-variants as header
 use Rattle.case_header.specs.Meaning.Answer.{countsOf, headerBy, headerAnswer}
-use Rattle.case_header.specs.Meaning.Opened.{Opened, Headed, Whole, Limited, branchStart, linkStart, orderStart, lengthOf, branchRow, linkRow, orderRow}
+use Rattle.case_header.specs.Meaning.CaseReadable.{CaseReadable, HeaderValid, LengthValid, CountsInRange, branchStart, linkStart, orderStart, lengthOf, branchCause, linkCause, orderCause}
 
 -- AN ANSWER READ BACK
-pub headed-of : (s : List ℕ) {k : Counts} {c : Cursor} → headerAnswer s ≡ header.Good k c → Headed s k
+pub headed-of : (s : List ℕ) {k : Counts} {c : Cursor} → headerAnswer s ≡ header.Good k c → HeaderValid s k
 headed-of s {k} {c} e = by (headerRefusal s) refl e
   where
-    by : (o : Option Outcome) → headerRefusal s ≡ o → headerBy (countsOf s) (cursor caseHeader) o ≡ header.Good k c → Headed s k
+    by : (o : Option Outcome) → headerRefusal s ≡ o → headerBy (countsOf s) (cursor caseHeader) o ≡ header.Good k c → HeaderValid s k
     by (some o) q e = record { passed = cc; counts = cc }
     by none q e = record { passed = q; counts = cc }
 
@@ -45,39 +45,39 @@ header-refused-of s {r} e = by (headerRefusal s) refl e
     by (some o) q e = q ∙ cc
     by none q e = cc
 
-abbrev pub bodyRows : List ℕ → List Row
-bodyRows s = once 5 (differ (length s) (caseLength s))
-    ∷ branchRow s
-    ∷ linkRow s
-    ∷ orderRow s
+abbrev pub bodyCauses : List ℕ → List Cause
+bodyCauses s = once 5 (differ (length s) (caseLength s))
+    ∷ branchCause s
+    ∷ linkCause s
+    ∷ orderCause s
     ∷ []
 
 -- the header's rows are asked before them
-pub header-first : (s : List ℕ) → caseRefusal s ≡ else-refusal (headerRefusal s) (refusal (bodyRows s))
-unfolding caseRefusal headerRefusal caseRows caseOf
-header-first s = refusal-append (caseHeaderRows s (caseOf s)) (bodyRows s)
+pub header-first : (s : List ℕ) → caseRefusal s ≡ else-refusal (headerRefusal s) (refusal (bodyCauses s))
+unfolding caseRefusal headerRefusal caseCauses caseOf
+header-first s = refusal-append (caseHeaderCauses s (caseOf s)) (bodyCauses s)
 
 none-first : (x y : Option Outcome) → else-refusal x y ≡ none → x ≡ none
 none-first (some o) y e = absurd (Option·some-ne-none o e)
 none-first none y e = refl
 
 module _ {s : List ℕ} {k : Counts} where
-  pub body : Headed s k → caseRefusal s ≡ refusal (bodyRows s)
-  body h = header-first s ∙ ap (λ (x : Option Outcome). else-refusal x (refusal (bodyRows s))) (h .passed)
+  pub body : HeaderValid s k → caseRefusal s ≡ refusal (bodyCauses s)
+  body h = header-first s ∙ ap (λ (x : Option Outcome). else-refusal x (refusal (bodyCauses s))) (h .passed)
 
-  pub headed : Opened s k → Headed s k
-  headed o = record { passed = none-first (headerRefusal s) (refusal (bodyRows s)) (sym (header-first s) ∙ o .readable .none-holds); counts = o .counts }
+  pub headed : CaseReadable s k → HeaderValid s k
+  headed o = record { passed = none-first (headerRefusal s) (refusal (bodyCauses s)) (sym (header-first s) ∙ o .readable .none-holds); counts = o .counts }
 
-  pub whole : Opened s k → Whole s k
+  pub whole : CaseReadable s k → LengthValid s k
   whole o = record { headed = headed o; whole = case-length s (o .readable) }
 
   -- a header field, by its offset
-  header-field : Headed s k → (j : ℕ) → Pass (rowOf 4 j (caseHeaderRows s (caseOf s)))
+  header-field : HeaderValid s k → (j : ℕ) → Pass (rowOf 4 j (caseHeaderCauses s (caseOf s)))
   unfolding headerRefusal
-  header-field h = field-at-passes (caseHeaderRows s (caseOf s)) (h .passed) 4
+  header-field h = field-at-passes (caseHeaderCauses s (caseOf s)) (h .passed) 4
 
-  counts-limited : Headed s k → Limited (countsOf s)
-  unfolding caseOf rowOf isRow
+  counts-limited : HeaderValid s k → CountsInRange (countsOf s)
+  unfolding caseOf rowOf isCause
   counts-limited h = record {
     zones-in = (nat-within 1 16 (zonesIn s) ((header-field h 5) .pass 0 (omega arith))) .1;
     branches-in = (nat-within 0 64 (branchesIn s) ((header-field h 6) .pass 0 (omega arith))) .1;
@@ -85,11 +85,11 @@ module _ {s : List ℕ} {k : Counts} where
     orders-in = (nat-within 0 512 (ordersIn s) ((header-field h 8) .pass 0 (omega arith))) .1;
   }
 
-  pub limited : Headed s k → Limited k
-  limited h = subst (λ (k : Counts). Limited k) (sym (h .counts)) (counts-limited h)
+  pub limited : HeaderValid s k → CountsInRange k
+  limited h = subst (λ (k : Counts). CountsInRange k) (sym (h .counts)) (counts-limited h)
 
   -- WHERE A ROW STANDS
-  module _ (h : Headed s k) where
+  module _ (h : HeaderValid s k) where
     pub branch-start-is : (m : ℕ) → branchStart k m ≡ branchAt s m
     unfolding branchAt branchSize
     branch-start-is m = ap (λ (k : Counts). branchStart k m) (h .counts)
@@ -107,7 +107,7 @@ module _ {s : List ℕ} {k : Counts} where
     length-is = ap lengthOf (h .counts)
 
   -- WITHIN THE FILE
-  module _ (w : Whole s k) where
+  module _ (w : LengthValid s k) where
     demanded : length s ≡ lengthOf k
     demanded = w .whole ∙ sym (length-is (w .headed))
 
@@ -121,7 +121,7 @@ module _ {s : List ℕ} {k : Counts} where
     order-inside i h = omega (arith, demanded)
 
 -- and no offset is large
-pub branches-bound : (k : Counts) → Limited k → (m : ℕ) → m ≤ k .branches → m * (4 + 4 * k .zones) ≤ 4352
+pub branches-bound : (k : Counts) → CountsInRange k → (m : ℕ) → m ≤ k .branches → m * (4 + 4 * k .zones) ≤ 4352
 branches-bound k h m l = let a : m ≤ 64 = omega arith in let b : 4 + 4 * k .zones ≤ 68 = omega arith in mul-le-mul a b
 
 -- a contracted volume has at most 4 bytes
@@ -133,8 +133,8 @@ contracted-bound version = by (contracts version)
     by true = omega arith
     by false = omega arith
 
-pub links-bound : (k : Counts) → Limited k → (l : ℕ) → l ≤ k .links → l * linkSize (k .version) ≤ 640
+pub links-bound : (k : Counts) → CountsInRange k → (l : ℕ) → l ≤ k .links → l * linkSize (k .version) ≤ 640
 links-bound k h l m = let a : l ≤ 64 = omega arith in let b : linkSize (k .version) ≤ 10 = omega (arith, contracted-bound (k .version)) in mul-le-mul a b
 
-pub small : {s : List ℕ} {k : Counts} → Whole s k → length s < 4294967296
+pub small : {s : List ℕ} {k : Counts} → LengthValid s k → length s < 4294967296
 small {s} {k} w = let l = limited (w .headed) in omega (arith, demanded w, l, branches-bound k l (k .branches) (omega arith), links-bound k l (k .links) (omega arith))

@@ -12,6 +12,6 @@ noTenths = record { 0 = pos 0 }
 abbrev pub tenthsAt : List Tenths → ℕ → ℤ
 tenthsAt xs z = (getD xs z noTenths) .0
 
-pub record Holds (f : ℕ → ℤ) (xs : List Tenths) : Type 0 where
+pub record TenthsHold (f : ℕ → ℤ) (xs : List Tenths) : Type 0 where
   pub long : length xs ≡ 16
   pub each : (z : ℕ) → z < 16 → tenthsAt xs z ≡ f z

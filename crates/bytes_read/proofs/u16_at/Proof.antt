@@ -1,9 +1,9 @@
--- `bytes_read::half_at` meets its contract: each byte is below 256, so nothing wraps. Assumes nothing.
+-- `bytes_read::u16_at` meets its contract: each byte is below 256, so nothing wraps. Assumes nothing.
 use native.Mathlib.Omega.{arith}
 use borrow.Author.Needs.{needs}
 use Rattle.rules.specs.Meaning.Layout.{u16At}
-use Rattle.bytes_read.proofs.half_at.Statement.{statement}
-use Rattle.bytes_read.proofs.half_at.Tie as tie
+use Rattle.bytes_read.proofs.u16_at.Statement.{statement}
+use Rattle.bytes_read.proofs.u16_at.Tie as tie
 
 shared-slice-read-wide : tie.Need-shared-slice-read-wide
 shared-slice-read-wide c = search needs
@@ -30,8 +30,8 @@ returns : tie.Need-returns
 unfolding u16At
 returns c = (omega arith, omega arith)
 
-pub half-at-spec : {M : Type 1} → statement M
-half-at-spec =
+pub u16-at-spec : {M : Type 1} → statement M
+u16-at-spec =
     tie.close
     (tie.spec
     shared-slice-read-wide

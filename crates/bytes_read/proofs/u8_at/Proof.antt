@@ -1,0 +1,16 @@
+-- `bytes_read::u8_at` meets its contract. Assumes nothing.
+use mathlib.Core.Path.{refl}
+use borrow.Author.Needs.{needs}
+use Rattle.rules.specs.Meaning.Layout.{u8At}
+use Rattle.bytes_read.proofs.u8_at.Statement.{statement}
+use Rattle.bytes_read.proofs.u8_at.Tie as tie
+
+shared-slice-read-result : tie.Need-shared-slice-read-result
+shared-slice-read-result c = search needs
+
+returns : tie.Need-returns
+unfolding u8At
+returns c = refl
+
+pub u8-at-spec : {M : Type 1} → statement M
+u8-at-spec = tie.close (tie.spec shared-slice-read-result returns)
