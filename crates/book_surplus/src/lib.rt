@@ -14,6 +14,8 @@ ghost use Rattle.base_causes.specs.Meaning.Place.{placeOf};
 ghost use Rattle.rules.specs.Meaning.Book.{priceAt};
 ghost use Rattle.book_surplus.specs.Meaning.BookState.{newState, isOpen, asksRow, refusedRow, withRow, firstPriceOutside, openOf, addOf, answered, closeOf, counted, Ready};
 ghost use Rattle.book_surplus.specs.Steps.BookState.{OrderIn};
+use base_causes::Place;
+use base_causes::count_outside;
 use base_measures::Grains;
 use base_measures::GrainsAnswer;
 use base_measures::Microcents;
@@ -22,8 +24,6 @@ use book_order::Order;
 use book_order::OrderAnswer;
 use book_order::admit;
 use book_order::surplus;
-use base_causes::Place;
-use base_causes::count_outside;
 
 // A row as the host lends it. Side 0 buys, 1 sells; the quantity is in tenths, the price in cents.
 #[repr(C)]

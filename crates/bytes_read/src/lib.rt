@@ -9,8 +9,8 @@ ghost use mir.Val.{toZ};
 ghost use Rattle.rules.specs.Meaning.Layout.{u8At, u16At, u32At, i32At};
 ghost use Rattle.bytes_read.specs.Meaning.Field.{u64At, fieldFits, cursor, markField, byteField, halfField, wordField, signedField, longField};
 ghost use Rattle.bytes_read.specs.Meaning.Walk.{refusedAt};
-use base_measures::Raw;
 use base_causes::Outcome;
+use base_measures::Raw;
 
 // A walk over a part of a file: the cursor past it, or the refusal that names the first field at fault.
 pub enum Walked {

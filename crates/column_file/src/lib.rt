@@ -9,11 +9,13 @@ ghost use Rattle.base_causes.specs.Meaning.Causes.{verdict};
 ghost use Rattle.column_file.specs.Meaning.Columns.{arranged, restoredOf, notRestored, columnedOutcome, columnedWritten, columnedOutput, restoredOutcome, restoredWritten, restoredOutput, Columned, ComesBack, NotJudged, Restored};
 ghost use Rattle.column_file.specs.Meaning.Answer.{restoreBy};
 ghost use Rattle.column_file.specs.Steps.Stored.{every, orders};
+use base_output::Written;
+use base_output::refused;
+use bytes_read::Mark;
 use case_file::CaseAnswer;
 use case_file::read_case;
 use case_header::HeaderField;
 use case_header::take_header;
-use bytes_read::Mark;
 use layout::CASE_HEADER;
 use layout::CASE_LETTER;
 use layout::COLUMNED_LETTER;
@@ -22,8 +24,6 @@ use layout::MARK;
 use layout::MARK_FIRST;
 use layout::MARK_SECOND;
 use layout::ORDER;
-use base_output::Written;
-use base_output::refused;
 
 const COLUMNED: Mark = Mark(MARK_FIRST, MARK_SECOND, COLUMNED_LETTER);
 

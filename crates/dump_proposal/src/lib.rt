@@ -13,23 +13,23 @@ ghost use Rattle.case_header.specs.Meaning.CaseReadable.{CaseReadable, CountsIn
 ghost use Rattle.dump_binary64.specs.Meaning.Value.{bitsAt, finite};
 ghost use Rattle.dump_proposal.specs.Meaning.Dump.{proposalMark, DumpAnswered};
 ghost use Rattle.dump_proposal.specs.Steps.Walks.{restOf, openingTaken, tableBytes, FiniteDump, OpeningHeld, RestConverted};
-use dump_binary64::is_finite;
-use dump_binary64::value;
+use base_causes::Place;
+use base_measures::Bits;
+use base_output::Written;
+use base_output::refused;
+use bytes_read::Cursor;
+use bytes_read::LongField;
+use bytes_write::put_low32;
+use bytes_write::put_word;
 use case_file::CaseAnswer;
 use case_file::read_case;
 use case_header::Counts;
+use dump_binary64::is_finite;
+use dump_binary64::value;
 use dump_values::DumpOpening;
 use dump_values::FieldAnswer;
 use dump_values::field_of;
 use dump_values::opening_fields;
-use bytes_read::Cursor;
-use bytes_read::LongField;
-use base_measures::Bits;
-use base_output::Written;
-use base_output::refused;
-use base_causes::Place;
-use bytes_write::put_low32;
-use bytes_write::put_word;
 
 // The values before the orders' shares: the LTA share and the system price.
 const OPENING: usize = layout::DUMP_OPENING;

@@ -11,17 +11,17 @@ ghost use Rattle.dump_values.specs.Meaning.Answer.{fieldOf};
 ghost use Rattle.dump_values.specs.Meaning.Fields.{shareField, systemField, openingFields};
 ghost use Rattle.dump_values.specs.Steps.Fields.{flowField, shadowField};
 ghost use Rattle.dump_values.specs.Meaning.Field.{afterOpening};
+use base_measures::Bits;
+use base_measures::Cents;
+use base_measures::CentsAnswer;
+use base_measures::Raw;
+use case_header::Counts;
+use case_orders::order_at;
 use dump_binary64::WholeAnswer;
 use dump_binary64::cut_to_word;
 use dump_binary64::nearest_up_to;
 use dump_binary64::part_of;
 use dump_binary64::value;
-use case_header::Counts;
-use case_orders::order_at;
-use base_measures::Bits;
-use base_measures::Cents;
-use base_measures::CentsAnswer;
-use base_measures::Raw;
 
 // The number of a field as it is written, or that the value leaves its field.
 pub enum FieldAnswer {

@@ -9,12 +9,12 @@ ghost use Rattle.base_causes.specs.Meaning.Place.{placeOf};
 ghost use Rattle.proposal_file.specs.Meaning.ProposalValid.{ProposalValid};
 ghost use Rattle.judge_clearing.specs.Meaning.InRange.{VolumesInRange};
 ghost use Rattle.family_list.specs.Meaning.Answer.{FamiliesReadable};
+use base_causes::Place;
 use case_header::Counts;
 use case_orders::order_at;
 use family_list::NO_PARENT;
 use family_list::parent_at;
 use proposal_file::volume_at;
-use base_causes::Place;
 
 // Whether the fraction of order i exceeds its parent's.
 fn exceeds_parent(case: &[u8], k: Counts, proposal: &[u8], families: &[u8], i: usize) -> bool
@@ -22,7 +22,8 @@ fn exceeds_parent(case: &[u8], k: Counts, proposal: &[u8], families: &[u8], i: u
     requires { ⌜ VolumesInRange (caseOf (now «case»)) (planOf (now «case») (now proposal)) ⌝ }
     requires { ⌜ FamiliesReadable (now families) (k .orders) ⌝ }
     requires { ⌜ i < k .orders ⌝ }
-    ensures { λ r. ⌜ r ≡ exceedsParent (caseOf (now («case» .entry))) (planOf (now («case» .entry)) (now (proposal .entry))) i (parentOf (now (families .entry)) i) ⌝ }
+    ensures { λ r. ⌜ r ≡ exceedsParent (caseOf (now («case» .entry))) (planOf (now («case» .entry)) (now (proposal .entry))) i
+        (parentOf (now (families .entry)) i) ⌝ }
 {
     let orders = k.orders;
     let parent = parent_at(families, orders, i);
@@ -43,7 +44,8 @@ pub fn first_over_parent(case: &[u8], k: Counts, proposal: &[u8], families: &[u8
     requires { ⌜ ProposalValid (now «case») k (now proposal) ⌝ }
     requires { ⌜ VolumesInRange (caseOf (now «case»)) (planOf (now «case») (now proposal)) ⌝ }
     requires { ⌜ FamiliesReadable (now families) (k .orders) ⌝ }
-    ensures { λ r. ⌜ placeOf r ≡ failing (excessFraction (now (families .entry)) (caseOf (now («case» .entry))) (planOf (now («case» .entry)) (now (proposal .entry)))) ⌝ }
+    ensures { λ r. ⌜ placeOf r ≡ failing (excessFraction (now (families .entry)) (caseOf (now («case» .entry)))
+        (planOf (now («case» .entry)) (now (proposal .entry)))) ⌝ }
 {
     let orders = k.orders;
     for i in 0..orders {

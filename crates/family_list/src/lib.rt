@@ -14,14 +14,14 @@ ghost use Rattle.family_list.specs.Steps.Walk.{held, Trail};
 ghost use Rattle.family_list.specs.Steps.Taken.{Taken, Search};
 ghost use Rattle.family_list.specs.Meaning.Answer.{headerBy, parentCause, listCauses, circleAnswer, familyAnswer, wrongList};
 ghost use Rattle.family_list.specs.Meaning.Answer.{ListLengthValid, FamiliesReadable};
+use base_causes::Outcome;
+use base_causes::Place;
 use bytes_read::Cursor;
 use bytes_read::Mark;
 use bytes_read::MarkField;
 use bytes_read::Walked;
 use bytes_read::WordField;
 use bytes_read::u16_at;
-use base_causes::Outcome;
-use base_causes::Place;
 
 const MARK: Mark = Mark(
     layout::MARK_FIRST,

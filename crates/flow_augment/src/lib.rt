@@ -6,11 +6,11 @@ ghost use Rattle.flow_pairs.specs.Meaning.Pairs.{secondZone};
 ghost use Rattle.flow_scratch.specs.Meaning.Places.{amountAt};
 ghost use Rattle.flow_augment.specs.Meaning.Path.{trailOf, SomeAugment, Augmented};
 ghost use Rattle.flow_augment.specs.Steps.Path.{Shifted, SomePath, Walked};
+use flow_pairs::zone_at;
 use flow_scratch::EXPORT_USED;
 use flow_scratch::IMPORT_USED;
 use flow_scratch::amount;
 use flow_scratch::store;
-use flow_pairs::zone_at;
 
 // What a search knows of the sixteen zones, and of the zones in the order in which it reached them.
 pub struct Labels {

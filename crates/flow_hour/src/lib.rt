@@ -10,15 +10,15 @@ ghost use Rattle.flow_intuitive.specs.Meaning.Intuitive.{scratchRoom};
 ghost use Rattle.flow_intuitive.specs.Meaning.SmallScratch.{smallRoom};
 ghost use Rattle.flow_hour.specs.Meaning.Hour.{HourAnswer};
 ghost use Rattle.flow_hour.specs.Steps.Lent.{FitsTo, Lists, refusedAs};
-use judge_stages::find;
+use base_causes::Outcome;
+use base_measures::Bits;
+use base_measures::Grains;
+use base_measures::Tenths;
 use flow_intuitive::Carried;
 use flow_intuitive::SCRATCH;
 use flow_intuitive::SMALL_SCRATCH;
 use flow_intuitive::intuitive_of;
-use base_measures::Bits;
-use base_measures::Grains;
-use base_measures::Tenths;
-use base_causes::Outcome;
+use judge_stages::find;
 
 // The number that 64 bits stand for in two's complement, as a list of numbers has it that is lent.
 fn lent(x: Bits) -> i64
@@ -95,7 +95,8 @@ fn hour_intuitive_in(
 
 // The judgement's number and index where the hour is not accepted; else the answer for its exports, its prices and these pairs.
 pub fn hour_intuitive(case: &[u8], proposal: &[u8], pairs: &[u8], scratch: &mut [i64]) -> Carried
-    ensures { λ r. ⌜ HourAnswer (now («case» .entry)) (now (proposal .entry)) (now (pairs .entry)) scratchRoom (now (scratch .entry)) r (now (scratch .exit)) ⌝ }
+    ensures { λ r. ⌜ HourAnswer (now («case» .entry)) (now (proposal .entry)) (now (pairs .entry)) scratchRoom (now (scratch .entry)) r
+        (now (scratch .exit)) ⌝ }
 {
     hour_intuitive_in(case, proposal, pairs, scratch, SCRATCH)
 }

@@ -8,17 +8,17 @@ ghost use Rattle.flow_intuitive.specs.Meaning.Intuitive.{scratchRoom, in
 ghost use Rattle.flow_intuitive.specs.Meaning.SmallScratch.{smallRoom};
 ghost use Rattle.flow_intuitive.specs.Meaning.Answers.{ListsPass};
 ghost use Rattle.flow_intuitive.specs.Steps.Answers.{restCauses, flagOf};
-use flow_max::max_flow;
-use base_measures::Tenths;
-use flow_positions::first_position_outside;
-use flow_positions::is_unbalanced;
-use book_surplus::PRICES_GREATEST;
-use book_surplus::PRICES_LEAST;
-use book_surplus::first_price_outside;
 use base_causes::Outcome;
 use base_causes::Place;
 use base_causes::count_outside;
+use base_measures::Tenths;
+use book_surplus::PRICES_GREATEST;
+use book_surplus::PRICES_LEAST;
+use book_surplus::first_price_outside;
+use flow_max::max_flow;
 use flow_pairs::first_bad_pair;
+use flow_positions::first_position_outside;
+use flow_positions::is_unbalanced;
 
 // The number and index of the refusal, with 0 and 0; or 0 and 0, 1 for a yes and 0 for a no, and the largest total in tenths.
 #[repr(C)]
@@ -108,7 +108,8 @@ fn answered(
 ) -> Carried
     requires { ⌜ 96 ≤ n ⌝ }
     requires { ⌜ o ≡ intuitiveOutcome (now «net_exports») (now prices) (now pairs) n (length (now scratch)) ⌝ }
-    ensures { λ r. ⌜ IntuitiveAnswer (now («net_exports» .entry)) (now (prices .entry)) (now (pairs .entry)) n (now (scratch .entry)) r (now (scratch .exit)) ⌝ }
+    ensures { λ r. ⌜ IntuitiveAnswer (now («net_exports» .entry)) (now (prices .entry)) (now (pairs .entry)) n (now (scratch .entry)) r
+        (now (scratch .exit)) ⌝ }
 {
     let number = o.number;
     if number != 0 {
@@ -137,7 +138,8 @@ pub fn intuitive_in(
     n: usize,
 ) -> Carried
     requires { ⌜ 96 ≤ n ⌝ }
-    ensures { λ r. ⌜ IntuitiveAnswer (now («net_exports» .entry)) (now (prices .entry)) (now (pairs .entry)) n (now (scratch .entry)) r (now (scratch .exit)) ⌝ }
+    ensures { λ r. ⌜ IntuitiveAnswer (now («net_exports» .entry)) (now (prices .entry)) (now (pairs .entry)) n (now (scratch .entry)) r
+        (now (scratch .exit)) ⌝ }
 {
     let o = examine(net_exports, prices, pairs, n, scratch.len());
     answered(net_exports, prices, pairs, scratch, n, o)
@@ -153,7 +155,8 @@ pub fn intuitive_of(
 ) -> Carried
     requires { ⌜ 96 ≤ n ⌝ }
     requires { ⌜ ListsPass (now «net_exports») (now prices) ⌝ }
-    ensures { λ r. ⌜ IntuitiveAnswer (now («net_exports» .entry)) (now (prices .entry)) (now (pairs .entry)) n (now (scratch .entry)) r (now (scratch .exit)) ⌝ }
+    ensures { λ r. ⌜ IntuitiveAnswer (now («net_exports» .entry)) (now (prices .entry)) (now (pairs .entry)) n (now (scratch .entry)) r
+        (now (scratch .exit)) ⌝ }
 {
     let o = examine_rest(pairs, net_exports.len(), n, scratch.len());
     answered(net_exports, prices, pairs, scratch, n, o)
@@ -161,7 +164,8 @@ pub fn intuitive_of(
 
 // Net positions with export positive, zone prices in grains and pairs of zones, two bytes to a pair.
 pub fn intuitive(net_exports: &[i64], prices: &[i64], pairs: &[u8], scratch: &mut [i64]) -> Carried
-    ensures { λ r. ⌜ IntuitiveAnswer (now («net_exports» .entry)) (now (prices .entry)) (now (pairs .entry)) scratchRoom (now (scratch .entry)) r (now (scratch .exit)) ⌝ }
+    ensures { λ r. ⌜ IntuitiveAnswer (now («net_exports» .entry)) (now (prices .entry)) (now (pairs .entry)) scratchRoom (now (scratch .entry)) r
+        (now (scratch .exit)) ⌝ }
 {
     intuitive_in(net_exports, prices, pairs, scratch, SCRATCH)
 }
@@ -173,7 +177,8 @@ pub fn intuitive_small(
     pairs: &[u8],
     scratch: &mut [i64],
 ) -> Carried
-    ensures { λ r. ⌜ IntuitiveAnswer (now («net_exports» .entry)) (now (prices .entry)) (now (pairs .entry)) smallRoom (now (scratch .entry)) r (now (scratch .exit)) ⌝ }
+    ensures { λ r. ⌜ IntuitiveAnswer (now («net_exports» .entry)) (now (prices .entry)) (now (pairs .entry)) smallRoom (now (scratch .entry)) r
+        (now (scratch .exit)) ⌝ }
 {
     intuitive_in(net_exports, prices, pairs, scratch, SMALL_SCRATCH)
 }

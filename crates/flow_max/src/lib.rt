@@ -14,13 +14,13 @@ ghost use Rattle.flow_augment.specs.Meaning.Path.{Sized};
 ghost use Rattle.flow_max.specs.Meaning.Filled.{Answer};
 ghost use Rattle.flow_max.specs.Steps.Filled.{Filled};
 use flow_augment::augment;
+use flow_pairs::pair_table;
 use flow_scratch::AMOUNTS;
 use flow_scratch::amount;
 use flow_scratch::clear;
 use flow_scratch::import_left;
 use flow_search::min;
 use flow_search::search;
-use flow_pairs::pair_table;
 
 // Whether every export is carried to imports, and the largest total that is, in tenths.
 pub struct MaxFlow {

@@ -9,10 +9,10 @@ ghost use Rattle.base_measures.specs.Meaning.Held.{tenthsIn};
 ghost use Rattle.base_causes.specs.Meaning.Causes.{firstBelow};
 ghost use Rattle.base_causes.specs.Meaning.Place.{placeOf};
 ghost use Rattle.flow_positions.specs.Meaning.Positions.{positionAt, positionOutside, unbalanced};
+use base_causes::Place;
 use base_measures::Raw;
 use base_measures::Tenths;
 use base_measures::TenthsAnswer;
-use base_causes::Place;
 
 // The position of a zone, held to its limits.
 fn position(net_exports: &[i64], zone: usize) -> TenthsAnswer

@@ -10,13 +10,13 @@ ghost use Rattle.flow_search.specs.Steps.Labelling.{Seeded};
 ghost use Rattle.flow_search.specs.Steps.Arcs.{PairOn, Tried, NextArc};
 ghost use Rattle.flow_search.specs.Meaning.Searched.{Searched};
 use flow_augment::Labels;
+use flow_pairs::TABLE;
+use flow_pairs::pair_at;
+use flow_pairs::pair_count;
 use flow_scratch::amount;
 use flow_scratch::counts;
 use flow_scratch::export_left;
 use flow_scratch::import_left;
-use flow_pairs::TABLE;
-use flow_pairs::pair_at;
-use flow_pairs::pair_count;
 
 pub fn min(a: u64, b: u64) -> u64
     ensures { λ r. ⌜ (r ≤ a) × ((r ≤ b) × (0 < a → 0 < b → 0 < r)) ⌝ }

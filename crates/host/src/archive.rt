@@ -3,9 +3,9 @@ ghost use mathlib.Core.Path.{_≡_};
 ghost use lib.ListN.{length, take};
 ghost use Rattle.base_causes.specs.Meaning.Causes.{verdict};
 ghost use Rattle.column_file.specs.Meaning.Columns.{columnedOutcome, columnedWritten, columnedOutput, restoredOutcome, restoredWritten, restoredOutput, Columned, ComesBack, NotJudged, Restored};
+use base_output::Written;
 use column_file::columned;
 use column_file::restored;
-use base_output::Written;
 
 // The columned file at the start of `out`, and how many bytes it is; or a refusal, 71 and then 72, with length 0 and `out` as it was. An answer's bytes are
 // those of the case in columns, the way back gives the case again, and the judgement refuses them by 2.

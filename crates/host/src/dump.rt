@@ -4,8 +4,8 @@ ghost use lib.ListN.{length, take};
 ghost use Rattle.base_causes.specs.Meaning.Causes.{verdict};
 ghost use Rattle.dump_proposal.specs.Meaning.Dump.{dumpOutcome, dumpWritten, dumpOutput, ProposalHolds, VolumesWithin};
 ghost use Rattle.dump_proposal.specs.Promised.PlainBytes.{WrittenProposal};
-use dump_proposal::dump_proposal;
 use base_output::Written;
+use dump_proposal::dump_proposal;
 
 // The proposal at the start of `out`, and how many bytes it is; or a refusal, 56 to 60 in that order, with length 0
 // and `out` as it was. An answer's bytes have the right length for the case and pass rows 9 to 14; each field holds

@@ -28,12 +28,17 @@ pub extern "C" fn lta_intuitive(
     pairs: &[u8],
     scratch: &mut [i64],
 ) -> Carried
-    ensures outcome { λ r. ⌜ verdict (r .number) (r .index) ≡ intuitiveOutcome (now («net_exports» .entry)) (now («zone_prices» .entry)) (now (pairs .entry)) scratchRoom (length (now (scratch .entry))) ⌝ }
-    ensures yes { λ r. ⌜ (r .number ≡ 0 → r .intuitive ≡ 1 → FeasibleAll (networkOf (now («net_exports» .entry)) (now («zone_prices» .entry)) (now (pairs .entry)))) ⌝ }
-    ensures no { λ r. ⌜ (r .number ≡ 0 → r .intuitive ≡ 0 → DeficientSet (networkOf (now («net_exports» .entry)) (now («zone_prices» .entry)) (now (pairs .entry)))) ⌝ }
+    ensures outcome { λ r. ⌜ verdict (r .number) (r .index) ≡ intuitiveOutcome (now («net_exports» .entry)) (now («zone_prices» .entry))
+        (now (pairs .entry)) scratchRoom (length (now (scratch .entry))) ⌝ }
+    ensures yes { λ r. ⌜ (r .number ≡ 0 → r .intuitive ≡ 1 → FeasibleAll
+        (networkOf (now («net_exports» .entry)) (now («zone_prices» .entry)) (now (pairs .entry)))) ⌝ }
+    ensures no { λ r. ⌜ (r .number ≡ 0 → r .intuitive ≡ 0 → DeficientSet
+        (networkOf (now («net_exports» .entry)) (now («zone_prices» .entry)) (now (pairs .entry)))) ⌝ }
     ensures yes_or_no { λ r. ⌜ r .intuitive < 2 ⌝ }
-    ensures largest { λ r. ⌜ (r .number ≡ 0 → LargestTotal (networkOf (now («net_exports» .entry)) (now («zone_prices» .entry)) (now (pairs .entry))) (r .total .0)) ⌝ }
-    ensures scratch { λ r. ⌜ now (scratch .exit) ≡ intuitiveScratch (now («net_exports» .entry)) (now («zone_prices» .entry)) (now (pairs .entry)) scratchRoom (now (scratch .entry)) ⌝ }
+    ensures largest { λ r. ⌜ (r .number ≡ 0 → LargestTotal (networkOf (now («net_exports» .entry)) (now («zone_prices» .entry)) (now (pairs .entry)))
+        (r .total .0)) ⌝ }
+    ensures scratch { λ r. ⌜ now (scratch .exit) ≡ intuitiveScratch (now («net_exports» .entry)) (now («zone_prices» .entry)) (now (pairs .entry))
+        scratchRoom (now (scratch .entry)) ⌝ }
     ensures refused { λ r. ⌜ (0 < r .number → (r .intuitive ≡ 0) × (r .total .0 ≡ pos 0)) ⌝ }
     ensures yes_rent { λ r. ⌜ (r .number ≡ 0 → r .intuitive ≡ 1 → pos 0 ≤ℤ importsWorth (now («net_exports» .entry)) (now («zone_prices» .entry))) ⌝ }
 {
@@ -50,12 +55,14 @@ pub extern "C" fn lta_hour_intuitive(
     pairs: &[u8],
     scratch: &mut [i64],
 ) -> Carried
-    ensures outcome { λ r. ⌜ verdict (r .number) (r .index) ≡ hourOutcome (now («case» .entry)) (now (proposal .entry)) (now (pairs .entry)) scratchRoom (length (now (scratch .entry))) ⌝ }
+    ensures outcome { λ r. ⌜ verdict (r .number) (r .index) ≡ hourOutcome (now («case» .entry)) (now (proposal .entry)) (now (pairs .entry)) scratchRoom
+        (length (now (scratch .entry))) ⌝ }
     ensures yes { λ r. ⌜ (r .number ≡ 0 → r .intuitive ≡ 1 → FeasibleAll (hourNetwork (now («case» .entry)) (now (proposal .entry)) (now (pairs .entry)))) ⌝ }
     ensures no { λ r. ⌜ (r .number ≡ 0 → r .intuitive ≡ 0 → DeficientSet (hourNetwork (now («case» .entry)) (now (proposal .entry)) (now (pairs .entry)))) ⌝ }
     ensures yes_or_no { λ r. ⌜ r .intuitive < 2 ⌝ }
     ensures largest { λ r. ⌜ (r .number ≡ 0 → LargestTotal (hourNetwork (now («case» .entry)) (now (proposal .entry)) (now (pairs .entry))) (r .total .0)) ⌝ }
-    ensures scratch { λ r. ⌜ now (scratch .exit) ≡ hourScratch (now («case» .entry)) (now (proposal .entry)) (now (pairs .entry)) scratchRoom (now (scratch .entry)) ⌝ }
+    ensures scratch { λ r. ⌜ now (scratch .exit) ≡ hourScratch (now («case» .entry)) (now (proposal .entry)) (now (pairs .entry)) scratchRoom
+        (now (scratch .entry)) ⌝ }
     ensures refused { λ r. ⌜ (0 < r .number → (r .intuitive ≡ 0) × (r .total .0 ≡ pos 0)) ⌝ }
     ensures yes_rent { λ r. ⌜ (r .number ≡ 0 → r .intuitive ≡ 1 → pos 0 ≤ℤ hourRent (now («case» .entry)) (now (proposal .entry))) ⌝ }
 {
@@ -71,12 +78,17 @@ pub extern "C" fn lta_intuitive_small(
     pairs: &[u8],
     scratch: &mut [i64],
 ) -> Carried
-    ensures outcome { λ r. ⌜ verdict (r .number) (r .index) ≡ intuitiveOutcome (now («net_exports» .entry)) (now («zone_prices» .entry)) (now (pairs .entry)) smallRoom (length (now (scratch .entry))) ⌝ }
-    ensures yes { λ r. ⌜ (r .number ≡ 0 → r .intuitive ≡ 1 → FeasibleAll (networkOf (now («net_exports» .entry)) (now («zone_prices» .entry)) (now (pairs .entry)))) ⌝ }
-    ensures no { λ r. ⌜ (r .number ≡ 0 → r .intuitive ≡ 0 → DeficientSet (networkOf (now («net_exports» .entry)) (now («zone_prices» .entry)) (now (pairs .entry)))) ⌝ }
+    ensures outcome { λ r. ⌜ verdict (r .number) (r .index) ≡ intuitiveOutcome (now («net_exports» .entry)) (now («zone_prices» .entry))
+        (now (pairs .entry)) smallRoom (length (now (scratch .entry))) ⌝ }
+    ensures yes { λ r. ⌜ (r .number ≡ 0 → r .intuitive ≡ 1 → FeasibleAll
+        (networkOf (now («net_exports» .entry)) (now («zone_prices» .entry)) (now (pairs .entry)))) ⌝ }
+    ensures no { λ r. ⌜ (r .number ≡ 0 → r .intuitive ≡ 0 → DeficientSet
+        (networkOf (now («net_exports» .entry)) (now («zone_prices» .entry)) (now (pairs .entry)))) ⌝ }
     ensures yes_or_no { λ r. ⌜ r .intuitive < 2 ⌝ }
-    ensures largest { λ r. ⌜ (r .number ≡ 0 → LargestTotal (networkOf (now («net_exports» .entry)) (now («zone_prices» .entry)) (now (pairs .entry))) (r .total .0)) ⌝ }
-    ensures scratch { λ r. ⌜ now (scratch .exit) ≡ intuitiveScratch (now («net_exports» .entry)) (now («zone_prices» .entry)) (now (pairs .entry)) smallRoom (now (scratch .entry)) ⌝ }
+    ensures largest { λ r. ⌜ (r .number ≡ 0 → LargestTotal (networkOf (now («net_exports» .entry)) (now («zone_prices» .entry)) (now (pairs .entry)))
+        (r .total .0)) ⌝ }
+    ensures scratch { λ r. ⌜ now (scratch .exit) ≡ intuitiveScratch (now («net_exports» .entry)) (now («zone_prices» .entry)) (now (pairs .entry))
+        smallRoom (now (scratch .entry)) ⌝ }
     ensures refused { λ r. ⌜ (0 < r .number → (r .intuitive ≡ 0) × (r .total .0 ≡ pos 0)) ⌝ }
     ensures yes_rent { λ r. ⌜ (r .number ≡ 0 → r .intuitive ≡ 1 → pos 0 ≤ℤ importsWorth (now («net_exports» .entry)) (now («zone_prices» .entry))) ⌝ }
 {
@@ -91,12 +103,14 @@ pub extern "C" fn lta_hour_intuitive_small(
     pairs: &[u8],
     scratch: &mut [i64],
 ) -> Carried
-    ensures outcome { λ r. ⌜ verdict (r .number) (r .index) ≡ hourOutcome (now («case» .entry)) (now (proposal .entry)) (now (pairs .entry)) smallRoom (length (now (scratch .entry))) ⌝ }
+    ensures outcome { λ r. ⌜ verdict (r .number) (r .index) ≡ hourOutcome (now («case» .entry)) (now (proposal .entry)) (now (pairs .entry)) smallRoom
+        (length (now (scratch .entry))) ⌝ }
     ensures yes { λ r. ⌜ (r .number ≡ 0 → r .intuitive ≡ 1 → FeasibleAll (hourNetwork (now («case» .entry)) (now (proposal .entry)) (now (pairs .entry)))) ⌝ }
     ensures no { λ r. ⌜ (r .number ≡ 0 → r .intuitive ≡ 0 → DeficientSet (hourNetwork (now («case» .entry)) (now (proposal .entry)) (now (pairs .entry)))) ⌝ }
     ensures yes_or_no { λ r. ⌜ r .intuitive < 2 ⌝ }
     ensures largest { λ r. ⌜ (r .number ≡ 0 → LargestTotal (hourNetwork (now («case» .entry)) (now (proposal .entry)) (now (pairs .entry))) (r .total .0)) ⌝ }
-    ensures scratch { λ r. ⌜ now (scratch .exit) ≡ hourScratch (now («case» .entry)) (now (proposal .entry)) (now (pairs .entry)) smallRoom (now (scratch .entry)) ⌝ }
+    ensures scratch { λ r. ⌜ now (scratch .exit) ≡ hourScratch (now («case» .entry)) (now (proposal .entry)) (now (pairs .entry)) smallRoom
+        (now (scratch .entry)) ⌝ }
     ensures refused { λ r. ⌜ (0 < r .number → (r .intuitive ≡ 0) × (r .total .0 ≡ pos 0)) ⌝ }
     ensures yes_rent { λ r. ⌜ (r .number ≡ 0 → r .intuitive ≡ 1 → pos 0 ≤ℤ hourRent (now («case» .entry)) (now (proposal .entry))) ⌝ }
 {

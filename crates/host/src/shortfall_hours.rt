@@ -4,8 +4,8 @@ ghost use lib.ListN.{length};
 ghost use Rattle.base_causes.specs.Meaning.Causes.{verdict};
 ghost use Rattle.rules.specs.Meaning.Hour.{caseOf, planOf, pricesOf};
 ghost use Rattle.short_rules.specs.Meaning.Answer.{shortfallOutcome, shortfallWritten, shortfallOutput, Answers};
-use short_hour::hour_shortfalls;
 use base_output::Written;
+use short_hour::hour_shortfalls;
 
 // Two numbers for each order, then each branch, then each link, at the start of `out`: whole microcents, and
 // hundred-thousandths of one, below 100,000; and how many numbers that is. An hour that is not accepted is refused by

@@ -5,8 +5,8 @@ ghost use lib.ListN.{length, take};
 ghost use Rattle.base_causes.specs.Meaning.Causes.{verdict};
 ghost use Rattle.text_lines.specs.Meaning.Printed.{deskOutcome, deskWritten, deskOutput};
 ghost use Rattle.text_lines.specs.Promised.PlainText.{PlainText};
-use text_lines::lines;
 use base_output::Written;
+use text_lines::lines;
 
 // The lines for a case and at once its proposal, at the start of `out`, and how many bytes they are; or the refusal by 31, where `out` has less than the
 // desk's room, with length 0 and `out` as it was. The verdict on the hour is the text's first line and not this number.

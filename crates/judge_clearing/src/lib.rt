@@ -15,15 +15,15 @@ ghost use Rattle.rules.specs.Meaning.Verdict.{excessVolume, overusedLink};
 ghost use Rattle.judge_clearing.specs.Meaning.TenthsHold.{tenthsAt, TenthsHold};
 ghost use Rattle.judge_clearing.specs.Meaning.Read.{HourReadFrom};
 ghost use Rattle.judge_clearing.specs.Meaning.InRange.{VolumesInRange};
+use base_causes::Place;
+use base_measures::Microcents;
+use base_measures::Tenths;
 use case_header::Counts;
 use case_links::link_at;
 use case_orders::order_at;
-use base_measures::Microcents;
-use base_measures::Tenths;
 use proposal_file::ProposalOpening;
 use proposal_file::flow_at;
 use proposal_file::volume_at;
-use base_causes::Place;
 
 // What was read of an hour, in one value: the counts of its case and the opening of its proposal. The files go with it as slices, since a struct does not
 // hold a slice.
@@ -53,9 +53,12 @@ pub struct OrderSums {
 // Rules 1 and 7, and verdict 21.
 pub fn order_sums(case: &[u8], proposal: &[u8], hour: HourRead) -> OrderSums
     requires { ⌜ HourReadFrom (now «case») (now proposal) hour ⌝ }
-    ensures excess { λ r. ⌜ placeOf (r .excess) ≡ failing (excessVolume (caseOf (now («case» .entry))) (planOf (now («case» .entry)) (now (proposal .entry)))) ⌝ }
-    ensures nets { λ r. ⌜ (placeOf (r .excess) ≡ none → TenthsHold (net (caseOf (now («case» .entry))) (planOf (now («case» .entry)) (now (proposal .entry)))) (r .nets)) ⌝ }
-    ensures welfare { λ r. ⌜ (placeOf (r .excess) ≡ none → r .welfare .0 ≡ rules.welfare (caseOf (now («case» .entry))) (planOf (now («case» .entry)) (now (proposal .entry)))) ⌝ }
+    ensures excess { λ r. ⌜ placeOf (r .excess) ≡ failing (excessVolume (caseOf (now («case» .entry)))
+        (planOf (now («case» .entry)) (now (proposal .entry)))) ⌝ }
+    ensures nets { λ r. ⌜ (placeOf (r .excess) ≡ none → TenthsHold
+        (net (caseOf (now («case» .entry))) (planOf (now («case» .entry)) (now (proposal .entry)))) (r .nets)) ⌝ }
+    ensures welfare { λ r. ⌜ (placeOf (r .excess) ≡ none → r .welfare .0
+        ≡ rules.welfare (caseOf (now («case» .entry))) (planOf (now («case» .entry)) (now (proposal .entry)))) ⌝ }
 {
     let k = hour.counts;
     let orders = k.orders;
@@ -112,8 +115,10 @@ pub fn link_sums(case: &[u8], proposal: &[u8], hour: HourRead, nets: [Tenths; 16
     requires { ⌜ HourReadFrom (now «case») (now proposal) hour ⌝ }
     requires { ⌜ VolumesInRange (caseOf (now «case»)) (planOf (now «case») (now proposal)) ⌝ }
     requires { ⌜ TenthsHold (net (caseOf (now «case»)) (planOf (now «case») (now proposal))) nets ⌝ }
-    ensures overused { λ r. ⌜ placeOf (r .overused) ≡ failing (overusedLink (caseOf (now («case» .entry))) (planOf (now («case» .entry)) (now (proposal .entry)))) ⌝ }
-    ensures parts { λ r. ⌜ (placeOf (r .overused) ≡ none → TenthsHold (fbPart (caseOf (now («case» .entry))) (planOf (now («case» .entry)) (now (proposal .entry)))) (r .parts)) ⌝ }
+    ensures overused { λ r. ⌜ placeOf (r .overused) ≡ failing
+        (overusedLink (caseOf (now («case» .entry))) (planOf (now («case» .entry)) (now (proposal .entry)))) ⌝ }
+    ensures parts { λ r. ⌜ (placeOf (r .overused) ≡ none → TenthsHold
+        (fbPart (caseOf (now («case» .entry))) (planOf (now («case» .entry)) (now (proposal .entry)))) (r .parts)) ⌝ }
 {
     let k = hour.counts;
     let share = hour.opening.share;

@@ -8,11 +8,11 @@ ghost use Rattle.rules.specs.Meaning.Verdict.{table};
 ghost use Rattle.judge_stages.specs.Meaning.Found.{listOf};
 ghost use Rattle.judge_hour.specs.Steps.Judged.{Reportable, Judged, concluded};
 ghost use Rattle.judge_hour.specs.Meaning.HourJudged.{HourJudged, FamilyHourJudged};
+use base_causes::Outcome;
 use judge_stages::FamilyList;
 use judge_stages::Found;
 use judge_stages::find_with_families;
 use report_file::write_report;
-use base_causes::Outcome;
 
 fn byte_of(zones: usize) -> u8
     requires { ⌜ zones ≤ 16 ⌝ }
@@ -63,7 +63,9 @@ fn judge_with_families(
     list: FamilyList,
     report: &mut [u8],
 ) -> Outcome
-    ensures { λ r. ⌜ Judged (table (listOf list (now (families .entry))) (now («case» .entry)) (now (proposal .entry)) (length (now (report .entry))) (caseOf (now («case» .entry))) (planOf (now («case» .entry)) (now (proposal .entry))) (pricesOf (now («case» .entry)) (now (proposal .entry)))) (now («case» .entry)) (now (proposal .entry)) (now (report .entry)) r (now (report .exit)) ⌝ }
+    ensures { λ r. ⌜ Judged (table (listOf list (now (families .entry))) (now («case» .entry)) (now (proposal .entry)) (length (now (report .entry)))
+        (caseOf (now («case» .entry))) (planOf (now («case» .entry)) (now (proposal .entry))) (pricesOf (now («case» .entry)) (now (proposal .entry))))
+        (now («case» .entry)) (now (proposal .entry)) (now (report .entry)) r (now (report .exit)) ⌝ }
 {
     if report.len() < REPORT_ROOM {
         return Outcome {

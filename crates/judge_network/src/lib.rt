@@ -11,15 +11,15 @@ ghost use Rattle.judge_clearing.specs.Meaning.InRange.{VolumesInRange, FlowsInR
 ghost use Rattle.judge_clearing.specs.Meaning.TenthsHold.{TenthsHold};
 ghost use Rattle.judge_clearing.specs.Meaning.Read.{HourReadFrom};
 ghost use Rattle.judge_network.specs.Meaning.Prices.{PricesHold};
-use case_branches::margin_at;
-use judge_clearing::HourRead;
+use base_causes::Place;
 use base_measures::Grains;
 use base_measures::Load;
 use base_measures::Microcents;
 use base_measures::Ptdf;
 use base_measures::Tenths;
+use case_branches::margin_at;
+use judge_clearing::HourRead;
 use proposal_file::shadow_at;
-use base_causes::Place;
 
 // What one pass over the branches yields: the first that is overloaded; where none is, the price of each zone and the branch total.
 pub struct Network {
@@ -41,9 +41,12 @@ pub fn branch_sums(
     requires { ⌜ FlowsInRange (caseOf (now «case»)) (planOf (now «case») (now proposal)) ⌝ }
     requires { ⌜ table ≡ tableOf (now «case») ⌝ }
     requires { ⌜ TenthsHold (fbPart (caseOf (now «case»)) (planOf (now «case») (now proposal))) parts ⌝ }
-    ensures overloaded { λ r. ⌜ placeOf (r .overloaded) ≡ failing (overloadedBranch (caseOf (now («case» .entry))) (planOf (now («case» .entry)) (now (proposal .entry)))) ⌝ }
-    ensures prices { λ r. ⌜ (placeOf (r .overloaded) ≡ none → PricesHold (caseOf (now («case» .entry))) (pricesOf (now («case» .entry)) (now (proposal .entry))) (r .prices)) ⌝ }
-    ensures total { λ r. ⌜ (placeOf (r .overloaded) ≡ none → r .total .0 ≡ rules.branchTotal (caseOf (now («case» .entry))) (pricesOf (now («case» .entry)) (now (proposal .entry)))) ⌝ }
+    ensures overloaded { λ r. ⌜ placeOf (r .overloaded) ≡ failing
+        (overloadedBranch (caseOf (now («case» .entry))) (planOf (now («case» .entry)) (now (proposal .entry)))) ⌝ }
+    ensures prices { λ r. ⌜ (placeOf (r .overloaded) ≡ none → PricesHold (caseOf (now («case» .entry)))
+        (pricesOf (now («case» .entry)) (now (proposal .entry))) (r .prices)) ⌝ }
+    ensures total { λ r. ⌜ (placeOf (r .overloaded) ≡ none → r .total .0
+        ≡ rules.branchTotal (caseOf (now («case» .entry))) (pricesOf (now («case» .entry)) (now (proposal .entry)))) ⌝ }
 {
     let k = hour.counts;
     let share = hour.opening.share;

@@ -24,32 +24,32 @@ ghost use Rattle.judge_stages.specs.declared.FamilyList.the-variants.{Gi
 ghost use Rattle.judge_stages.specs.Meaning.Found.{Finds, HourCleared, hourCauses, listOf};
 ghost use Rattle.judge_stages.specs.Steps.Found.{readCauses, clearCauses, orderCauses, linkAnswer, valueCauses, unreadAs, unclearedAs, refusedAs};
 ghost use Rattle.judge_stages.specs.Steps.Listed.{Admitted, listedAnswer, fractionPlace};
-use case_branches::ptdf_table;
-use case_file::CaseAnswer;
-use case_file::read_case;
-use case_header::Counts;
-use judge_clearing::HourRead;
-use judge_clearing::link_sums;
-use judge_clearing::net_sum;
-use judge_clearing::order_sums;
-use family_fractions::first_over_parent;
-use family_list::FamilyAnswer;
-use family_list::read_families;
+use base_causes::Outcome;
+use base_causes::Place;
 use base_measures::Cents;
 use base_measures::Grains;
 use base_measures::Microcents;
 use base_measures::MicrocentsAnswer;
 use base_measures::Share;
 use base_measures::Tenths;
+use case_branches::ptdf_table;
+use case_file::CaseAnswer;
+use case_file::read_case;
+use case_header::Counts;
+use family_fractions::first_over_parent;
+use family_list::FamilyAnswer;
+use family_list::read_families;
+use judge_clearing::HourRead;
+use judge_clearing::link_sums;
+use judge_clearing::net_sum;
+use judge_clearing::order_sums;
 use judge_network::branch_sums;
-use proposal_file::ProposalOpening;
-use proposal_file::ProposalAnswer;
-use proposal_file::read_proposal;
-use report_file::Totals;
-use base_causes::Outcome;
-use base_causes::Place;
 use judge_totals::totals;
 use judge_totals::zone_sums;
+use proposal_file::ProposalAnswer;
+use proposal_file::ProposalOpening;
+use proposal_file::read_proposal;
+use report_file::Totals;
 
 // Whether there is a family list (S-11). An enum holds no slice, so the list goes next to this mark, and where it is absent the slice next to it is empty.
 pub enum FamilyList {
@@ -214,7 +214,8 @@ fn first_over(
     requires { ⌜ HourReadFrom (now «case») (now proposal) hour ⌝ }
     requires { ⌜ VolumesInRange (caseOf (now «case»)) (planOf (now «case») (now proposal)) ⌝ }
     requires { ⌜ (list ≡ Given → FamiliesReadable (now families) (hour .counts .orders)) ⌝ }
-    ensures { λ r. ⌜ placeOf r ≡ fractionPlace (listOf list (now (families .entry))) (caseOf (now («case» .entry))) (planOf (now («case» .entry)) (now (proposal .entry))) ⌝ }
+    ensures { λ r. ⌜ placeOf r ≡ fractionPlace (listOf list (now (families .entry))) (caseOf (now («case» .entry)))
+        (planOf (now («case» .entry)) (now (proposal .entry))) ⌝ }
 {
     let k = hour.counts;
     match list {
@@ -235,7 +236,8 @@ fn order_verdict(
     requires { ⌜ HourReadFrom (now «case») (now proposal) hour ⌝ }
     requires { ⌜ (list ≡ Given → FamiliesReadable (now families) (hour .counts .orders)) ⌝ }
     requires { ⌜ placeOf excess ≡ failing (excessVolume (caseOf (now «case»)) (planOf (now «case») (now proposal))) ⌝ }
-    ensures verdict { λ r. ⌜ r ≡ answer (refusal (orderCauses (listOf list (now (families .entry))) (caseOf (now («case» .entry))) (planOf (now («case» .entry)) (now (proposal .entry))))) ⌝ }
+    ensures verdict { λ r. ⌜ r ≡ answer (refusal (orderCauses (listOf list (now (families .entry))) (caseOf (now («case» .entry)))
+        (planOf (now («case» .entry)) (now (proposal .entry))))) ⌝ }
     ensures volumes { λ r. ⌜ (r .number ≡ 0 → placeOf excess ≡ none) ⌝ }
 {
     if let Place::At(i) = excess {
@@ -263,7 +265,8 @@ fn link_verdict(hour: HourRead, nets: [Tenths; 16], overused: Place) -> Outcome
     requires { ⌜ hour .counts .zones ≤ 16 ⌝ }
     requires { ⌜ SumsFit (λ z. tenthsAt nets z) (hour .counts .zones) ⌝ }
     requires { ⌜ ((l : ℕ) → placeOf overused ≡ some l → l < 4294967296) ⌝ }
-    ensures { λ r. ⌜ r ≡ linkAnswer (not (isZero (sumTo (hour .counts .zones) (λ z. tenthsAt nets z)))) (eqb (hour .counts .links) 0 && ltZ (pos 0) (hour .opening .share .0)) (placeOf overused) ⌝ }
+    ensures { λ r. ⌜ r ≡ linkAnswer (not (isZero (sumTo (hour .counts .zones) (λ z. tenthsAt nets z))))
+        (eqb (hour .counts .links) 0 && ltZ (pos 0) (hour .opening .share .0)) (placeOf overused) ⌝ }
 {
     let k = hour.counts;
     let share = hour.opening.share;
@@ -285,7 +288,8 @@ fn link_verdict(hour: HourRead, nets: [Tenths; 16], overused: Place) -> Outcome
 fn clear(case: &[u8], proposal: &[u8], families: &[u8], list: FamilyList, hour: HourRead) -> Cleared
     requires { ⌜ HourReadFrom (now «case») (now proposal) hour ⌝ }
     requires { ⌜ (list ≡ Given → FamiliesReadable (now families) (hour .counts .orders)) ⌝ }
-    ensures verdict { λ r. ⌜ r .verdict ≡ answer (refusal (clearCauses (listOf list (now (families .entry))) (caseOf (now («case» .entry))) (planOf (now («case» .entry)) (now (proposal .entry))))) ⌝ }
+    ensures verdict { λ r. ⌜ r .verdict ≡ answer (refusal (clearCauses (listOf list (now (families .entry))) (caseOf (now («case» .entry)))
+        (planOf (now («case» .entry)) (now (proposal .entry))))) ⌝ }
     ensures cleared { λ r. ⌜ (r .verdict .number ≡ 0 → HourCleared (caseOf (now («case» .entry))) (planOf (now («case» .entry)) (now (proposal .entry))) r) ⌝ }
 {
     // 21, the volumes; 28, the families.
@@ -321,7 +325,8 @@ fn gap_verdict(gap: Microcents, tolerance: Microcents) -> u32
 fn value(case: &[u8], proposal: &[u8], hour: HourRead, cleared: Cleared) -> Found
     requires { ⌜ HourReadFrom (now «case») (now proposal) hour ⌝ }
     requires { ⌜ HourCleared (caseOf (now «case»)) (planOf (now «case») (now proposal)) cleared ⌝ }
-    ensures { λ r. ⌜ Finds (valueCauses (caseOf (now («case» .entry))) (planOf (now («case» .entry)) (now (proposal .entry))) (pricesOf (now («case» .entry)) (now (proposal .entry)))) (now («case» .entry)) (now (proposal .entry)) r ⌝ }
+    ensures { λ r. ⌜ Finds (valueCauses (caseOf (now («case» .entry))) (planOf (now («case» .entry)) (now (proposal .entry)))
+        (pricesOf (now («case» .entry)) (now (proposal .entry)))) (now («case» .entry)) (now (proposal .entry)) r ⌝ }
 {
     let k = hour.counts;
     let nets = cleared.nets;
@@ -361,7 +366,8 @@ fn value(case: &[u8], proposal: &[u8], hour: HourRead, cleared: Cleared) -> Foun
 
 // The hour, from its first byte: the table's rows top to bottom, stage by stage.
 pub fn find_with_families(case: &[u8], proposal: &[u8], families: &[u8], list: FamilyList) -> Found
-    ensures { λ r. ⌜ Finds (hourCauses (listOf list (now (families .entry))) (now («case» .entry)) (now (proposal .entry))) (now («case» .entry)) (now (proposal .entry)) r ⌝ }
+    ensures { λ r. ⌜ Finds (hourCauses (listOf list (now (families .entry))) (now («case» .entry)) (now (proposal .entry))) (now («case» .entry))
+        (now (proposal .entry)) r ⌝ }
 {
     // 1 to 8, the case; 9 to 14, the proposal; 15, the tolerance; 16 to 18, the family list where there is one (S-11).
     let reading = read(case, proposal, families, list);

@@ -20,17 +20,17 @@ ghost use Rattle.judge_clearing.specs.Meaning.Read.{HourReadFrom};
 ghost use Rattle.judge_network.specs.Meaning.Prices.{grainsAt, PricesHold, PricesInRange};
 ghost use Rattle.report_file.specs.Meaning.Written.{totalsIn};
 ghost use Rattle.judge_totals.specs.Meaning.Rent.{RentFits};
-use case_links::contracted_at;
-use case_links::link_at;
-use case_orders::order_at;
-use judge_clearing::HourRead;
+use base_causes::Place;
 use base_measures::Grains;
 use base_measures::GrainsAnswer;
 use base_measures::Microcents;
 use base_measures::Tenths;
 use book_order::surplus;
+use case_links::contracted_at;
+use case_links::link_at;
+use case_orders::order_at;
+use judge_clearing::HourRead;
 use report_file::Totals;
-use base_causes::Place;
 
 // What one pass over the zones yields: the first whose price lies outside its limits; where none does, the congestion rent.
 pub struct ZoneSums {
@@ -140,7 +140,8 @@ pub fn totals(
     requires { ⌜ «on_branches» .0 ≡ rules.branchTotal (caseOf (now «case»)) (pricesOf (now «case») (now proposal)) ⌝ }
     requires { ⌜ «total_welfare» .0 ≡ rules.welfare (caseOf (now «case»)) (planOf (now «case») (now proposal)) ⌝ }
     requires { ⌜ congestion .0 ≡ rules.rent (caseOf (now «case»)) (planOf (now «case») (now proposal)) (pricesOf (now «case») (now proposal)) ⌝ }
-    ensures { λ r. ⌜ totalsIn r ≡ totalsOf (caseOf (now («case» .entry))) (planOf (now («case» .entry)) (now (proposal .entry))) (pricesOf (now («case» .entry)) (now (proposal .entry))) ⌝ }
+    ensures { λ r. ⌜ totalsIn r ≡ totalsOf (caseOf (now («case» .entry))) (planOf (now («case» .entry)) (now (proposal .entry)))
+        (pricesOf (now («case» .entry)) (now (proposal .entry))) ⌝ }
 {
     let on_links = link_totals(case, proposal, hour, prices);
     let link_total = on_links.total;

@@ -67,7 +67,12 @@ fn small(net: &[i64], prices: &[i64], pairs: &[u8], scratch: &mut [i64]) {
 
 fn ask(room: usize, small_room: usize, net: &[i64], prices: &[i64], pairs: &[u8]) {
     let mut scratch = [7i64; ROOM];
-    wide(net, prices, pairs, prog_common::lent_numbers(&mut scratch, room));
+    wide(
+        net,
+        prices,
+        pairs,
+        prog_common::lent_numbers(&mut scratch, room),
+    );
     print(b"; ");
     let mut small_scratch = [7i64; SMALL_ROOM];
     small(

@@ -68,7 +68,10 @@ fn parts_length(opening: &[u8]) -> usize {
 
 fn read_parts(letter: u8, opening: &[u8]) {
     let mut buffer = io::large_buffer();
-    let kept = io::read_full(STDIN_FILENO, prog_common::lent(&mut buffer, parts_length(opening)));
+    let kept = io::read_full(
+        STDIN_FILENO,
+        prog_common::lent(&mut buffer, parts_length(opening)),
+    );
     run_parts(letter, opening, prog_common::first(&buffer, kept));
 }
 

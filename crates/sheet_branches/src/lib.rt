@@ -4,11 +4,11 @@ ghost use Prim.Native.Nat.{_≤_};
 ghost use lib.ListN.{length};
 ghost use lib.Seq.{sets};
 ghost use Rattle.sheet_branches.specs.Meaning.Answer.{SheetAnswered};
-use case_header::Counts;
-use base_output::Written;
-use base_output::refused;
 use base_causes::Place;
 use base_causes::count_outside;
+use base_output::Written;
+use base_output::refused;
+use case_header::Counts;
 use sheet_lines::branch_part;
 use sheet_lines::read_lines;
 

@@ -10,16 +10,16 @@ ghost use Rattle.sheet_lines.specs.Meaning.Sheet.{decimalCount, limit, b
 ghost use Rattle.sheet_lines.specs.Steps.Entries.{turned, entryOfNumber};
 ghost use Rattle.sheet_lines.specs.Meaning.Lines.{SheetRead};
 ghost use Rattle.sheet_lines.specs.Steps.Lines.{markOf, commaMissing, LineRead, rowOf, firstWith};
+use base_causes::Place;
 use base_measures::Ptdf;
 use base_measures::PtdfAnswer;
 use base_measures::Raw;
 use base_measures::Tenths;
 use base_measures::TenthsAnswer;
+use bytes_write::put_signed32;
 use sheet_numbers::Number;
 use sheet_numbers::NumberAnswer;
 use sheet_numbers::TextCursor;
-use base_causes::Place;
-use bytes_write::put_signed32;
 
 // What is wrong with a number: a decimal past ours is not zero; out of range.
 struct Flaws {

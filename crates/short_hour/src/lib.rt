@@ -12,15 +12,15 @@ ghost use Rattle.short_rules.specs.Meaning.Answer.{pairsTo, shortfallNumbers};
 ghost use Rattle.short_single.specs.Meaning.HourAccepted.{HourAccepted};
 ghost use Rattle.short_hour.specs.Meaning.HourShortfalls.{HourShortfalls};
 ghost use Rattle.short_hour.specs.Steps.Pairs.{numbersIn, Writable, countOf};
-use case_branches::ptdf_table;
-use judge_clearing::HourRead;
-use judge_stages::Found;
-use judge_stages::find;
 use base_measures::ExactMicrocents;
 use base_measures::Grains;
 use base_measures::Tenths;
 use base_output::Written;
 use base_output::refused;
+use case_branches::ptdf_table;
+use judge_clearing::HourRead;
+use judge_stages::Found;
+use judge_stages::find;
 use short_single::branch_shortfall;
 use short_single::link_shortfall;
 use short_single::order_shortfall;
@@ -41,7 +41,8 @@ fn put_orders(case: &[u8], proposal: &[u8], hour: HourRead, prices: [Grains; 16]
     requires { ⌜ PricesHold (caseOf (now «case»)) (pricesOf (now «case») (now proposal)) prices ⌝ }
     requires { ⌜ 2 * hour .counts .orders ≤ length (now out) ⌝ }
     ensures { λ _. ⌜ now (out .exit) ≡ sets (now (out .entry)) 0 (pairsTo (hour .counts .orders)
-        (orderShortfall (caseOf (now («case» .entry))) (planOf (now («case» .entry)) (now (proposal .entry))) (pricesOf (now («case» .entry)) (now (proposal .entry))))) ⌝ }
+        (orderShortfall (caseOf (now («case» .entry))) (planOf (now («case» .entry)) (now (proposal .entry)))
+        (pricesOf (now («case» .entry)) (now (proposal .entry))))) ⌝ }
 {
     for i in 0..hour.counts.orders {
         put(out, i, order_shortfall(case, proposal, hour, prices, i));
@@ -61,7 +62,8 @@ fn put_branches(
     requires { ⌜ TenthsHold (fbPart (caseOf (now «case»)) (planOf (now «case») (now proposal))) parts ⌝ }
     requires { ⌜ 2 * (hour .counts .orders + hour .counts .branches) ≤ length (now out) ⌝ }
     ensures { λ _. ⌜ now (out .exit) ≡ sets (now (out .entry)) (2 * hour .counts .orders) (pairsTo (hour .counts .branches)
-        (branchShortfall (caseOf (now («case» .entry))) (planOf (now («case» .entry)) (now (proposal .entry))) (pricesOf (now («case» .entry)) (now (proposal .entry))))) ⌝ }
+        (branchShortfall (caseOf (now («case» .entry))) (planOf (now («case» .entry)) (now (proposal .entry)))
+        (pricesOf (now («case» .entry)) (now (proposal .entry))))) ⌝ }
 {
     for m in 0..hour.counts.branches {
         let row = table[m];
@@ -78,7 +80,8 @@ fn put_links(case: &[u8], proposal: &[u8], hour: HourRead, prices: [Grains; 16],
     requires { ⌜ PricesHold (caseOf (now «case»)) (pricesOf (now «case») (now proposal)) prices ⌝ }
     requires { ⌜ 2 * countOf (hour .counts) ≤ length (now out) ⌝ }
     ensures { λ _. ⌜ now (out .exit) ≡ sets (now (out .entry)) (2 * (hour .counts .orders + hour .counts .branches)) (pairsTo (hour .counts .links)
-        (linkShortfall (caseOf (now («case» .entry))) (planOf (now («case» .entry)) (now (proposal .entry))) (pricesOf (now («case» .entry)) (now (proposal .entry))))) ⌝ }
+        (linkShortfall (caseOf (now («case» .entry))) (planOf (now («case» .entry)) (now (proposal .entry)))
+        (pricesOf (now («case» .entry)) (now (proposal .entry))))) ⌝ }
 {
     for l in 0..hour.counts.links {
         put(
@@ -95,7 +98,9 @@ fn put_all(case: &[u8], proposal: &[u8], found: Found, out: &mut [i64])
     requires { ⌜ TenthsHold (fbPart (caseOf (now «case»)) (planOf (now «case») (now proposal))) (found .cleared .parts) ⌝ }
     requires { ⌜ PricesHold (caseOf (now «case»)) (pricesOf (now «case») (now proposal)) (found .prices) ⌝ }
     requires { ⌜ 2 * countOf (found .hour .counts) ≤ length (now out) ⌝ }
-    ensures { λ _. ⌜ now (out .exit) ≡ sets (now (out .entry)) 0 (shortfallNumbers (caseOf (now («case» .entry))) (planOf (now («case» .entry)) (now (proposal .entry))) (pricesOf (now («case» .entry)) (now (proposal .entry)))) ⌝ }
+    ensures { λ _. ⌜ now (out .exit) ≡ sets (now (out .entry)) 0
+        (shortfallNumbers (caseOf (now («case» .entry))) (planOf (now («case» .entry)) (now (proposal .entry)))
+        (pricesOf (now («case» .entry)) (now (proposal .entry)))) ⌝ }
 {
     let hour = found.hour;
     let k = hour.counts;

@@ -18,16 +18,16 @@ ghost use Rattle.short_single.specs.Meaning.Short.{Exact};
 ghost use Rattle.short_single.specs.Steps.Short.{shortOf, Shortable};
 ghost use Rattle.short_single.specs.Meaning.HourAccepted.{HourAccepted};
 ghost use Rattle.short_single.specs.Steps.HourAccepted.{loadOn};
-use case_branches::margin_at;
-use case_links::link_at;
-use case_orders::order_at;
-use judge_clearing::HourRead;
 use base_measures::ExactMicrocents;
 use base_measures::Grains;
 use base_measures::Load;
 use base_measures::Ptdf;
 use base_measures::Tenths;
 use book_order::unit_gain;
+use case_branches::margin_at;
+use case_links::link_at;
+use case_orders::order_at;
+use judge_clearing::HourRead;
 use proposal_file::flow_at;
 use proposal_file::shadow_at;
 use proposal_file::volume_at;
@@ -55,7 +55,8 @@ pub fn order_shortfall(
     requires { ⌜ HourAccepted (now «case») (now proposal) hour ⌝ }
     requires { ⌜ PricesHold (caseOf (now «case»)) (pricesOf (now «case») (now proposal)) prices ⌝ }
     requires { ⌜ i < hour .counts .orders ⌝ }
-    ensures { λ r. ⌜ Exact (orderShortfall (caseOf (now («case» .entry))) (planOf (now («case» .entry)) (now (proposal .entry))) (pricesOf (now («case» .entry)) (now (proposal .entry))) i) r ⌝ }
+    ensures { λ r. ⌜ Exact (orderShortfall (caseOf (now («case» .entry))) (planOf (now («case» .entry)) (now (proposal .entry)))
+        (pricesOf (now («case» .entry)) (now (proposal .entry))) i) r ⌝ }
 {
     let k = hour.counts;
     let order = order_at(case, k, i);
@@ -95,7 +96,8 @@ pub fn branch_shortfall(
     requires { ⌜ m < hour .counts .branches ⌝ }
     requires { ⌜ row ≡ getD (tableOf (now «case»)) m [] ⌝ }
     requires { ⌜ TenthsHold (fbPart (caseOf (now «case»)) (planOf (now «case») (now proposal))) parts ⌝ }
-    ensures { λ r. ⌜ Exact (branchShortfall (caseOf (now («case» .entry))) (planOf (now («case» .entry)) (now (proposal .entry))) (pricesOf (now («case» .entry)) (now (proposal .entry))) m) r ⌝ }
+    ensures { λ r. ⌜ Exact (branchShortfall (caseOf (now («case» .entry))) (planOf (now («case» .entry)) (now (proposal .entry)))
+        (pricesOf (now («case» .entry)) (now (proposal .entry))) m) r ⌝ }
 {
     let k = hour.counts;
     let share = hour.opening.share;
@@ -120,7 +122,8 @@ pub fn link_shortfall(
     requires { ⌜ HourAccepted (now «case») (now proposal) hour ⌝ }
     requires { ⌜ PricesHold (caseOf (now «case»)) (pricesOf (now «case») (now proposal)) prices ⌝ }
     requires { ⌜ l < hour .counts .links ⌝ }
-    ensures { λ r. ⌜ Exact (linkShortfall (caseOf (now («case» .entry))) (planOf (now («case» .entry)) (now (proposal .entry))) (pricesOf (now («case» .entry)) (now (proposal .entry))) l) r ⌝ }
+    ensures { λ r. ⌜ Exact (linkShortfall (caseOf (now («case» .entry))) (planOf (now («case» .entry)) (now (proposal .entry)))
+        (pricesOf (now («case» .entry)) (now (proposal .entry))) l) r ⌝ }
 {
     let k = hour.counts;
     let share = hour.opening.share;

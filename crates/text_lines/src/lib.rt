@@ -14,18 +14,18 @@ ghost use Rattle.rules.specs.Meaning.Lines.{verdictLine, totalLine, totalLines,
 ghost use Rattle.report_file.specs.Meaning.Written.{totalsIn, priceIn};
 ghost use Rattle.text_lines.specs.Meaning.Printed.{deskRoom, deskOutcome, deskWritten, deskOutput};
 ghost use Rattle.text_lines.specs.Promised.PlainText.{PlainText};
-use case_header::HeaderAnswer;
-use case_header::read_header;
-use text_decimal::put_count;
-use text_decimal::put_money;
-use text_decimal::put_price;
-use judge_stages::find;
+use base_causes::Outcome;
 use base_measures::Grains;
 use base_measures::Microcents;
 use base_output::Written;
 use base_output::refused;
+use case_header::HeaderAnswer;
+use case_header::read_header;
+use judge_stages::find;
 use report_file::Totals;
-use base_causes::Outcome;
+use text_decimal::put_count;
+use text_decimal::put_money;
+use text_decimal::put_price;
 
 // A text as it stands.
 fn put_text(out: &mut [u8], at: usize, text: &[u8]) -> usize

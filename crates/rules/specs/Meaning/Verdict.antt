@@ -18,7 +18,6 @@ use Rattle.base_causes.specs.declared.Outcome.{Outcome}
 use Rattle.base_causes.specs.Meaning.Causes.{Cause, anyBelow, refusal, answer, once, field, each, eachAt, eachField}
 
 infix 90 _under_ _over_ _overZ_
-
 abbrev pub _under_ : ℕ → ℕ → Bool
 x under least = ltb x least
 
