@@ -1,6 +1,6 @@
 # For those who type make. Each target only calls what the README names.
 #
-#   make                       the archive and the shared object, in target/
+#   make                       the static library and the shared object, in target/
 #   make install PREFIX=..     header, both libraries and a pkg-config file; DESTDIR is put before all paths
 #   make check                 tests/run
 
@@ -20,7 +20,7 @@ all: target/shared/lib$(NAME).so
 target/staticlib/libhost.a: FORCE
 	rt staticlib host
 
-# Linked anew each time, so that what is installed comes from this archive and from no other.
+# Linked anew each time, so that what is installed comes from this library and from no other.
 target/shared/lib$(NAME).so: target/staticlib/libhost.a FORCE
 	mkdir -p target/shared
 	tools/link_shared target/staticlib/libhost.a $@
