@@ -21,30 +21,28 @@ use Rattle.base_measures.specs.declared.Share.{Share}
 use Rattle.base_measures.specs.declared.ShareAnswer.{ShareAnswer}
 use Rattle.base_measures.specs.declared.ShareAnswer.the-variants as share
 
--- by the test that the number lies outside its range
+-- one of two answers, by the test that the number lies outside its range
+abbrev pub heldBy : {A : Type 0} → A → A → Bool → A
+heldBy refused held true = refused
+heldBy refused held false = held
+
 abbrev pub tenthsBy : ℤ → Bool → TenthsAnswer
-tenthsBy x true = tenths.Outside
-tenthsBy x false = tenths.Held (record { 0 = x })
+tenthsBy x = heldBy tenths.Outside (tenths.Held (record { 0 = x }))
 
 abbrev pub centsBy : ℤ → Bool → CentsAnswer
-centsBy x true = cents.Outside
-centsBy x false = cents.Held (record { 0 = x })
+centsBy x = heldBy cents.Outside (cents.Held (record { 0 = x }))
 
 abbrev pub grainsBy : ℤ → Bool → GrainsAnswer
-grainsBy x true = grains.Outside
-grainsBy x false = grains.Held (record { 0 = x })
+grainsBy x = heldBy grains.Outside (grains.Held (record { 0 = x }))
 
 abbrev pub microcentsBy : ℤ → Bool → MicrocentsAnswer
-microcentsBy x true = microcents.Outside
-microcentsBy x false = microcents.Held (record { 0 = x })
+microcentsBy x = heldBy microcents.Outside (microcents.Held (record { 0 = x }))
 
 abbrev pub ptdfBy : ℤ → Bool → PtdfAnswer
-ptdfBy x true = ptdf.Outside
-ptdfBy x false = ptdf.Held (record { 0 = x })
+ptdfBy x = heldBy ptdf.Outside (ptdf.Held (record { 0 = x }))
 
 abbrev pub shareBy : ℤ → Bool → ShareAnswer
-shareBy x true = share.Outside
-shareBy x false = share.Held (record { 0 = x })
+shareBy x = heldBy share.Outside (share.Held (record { 0 = x }))
 
 abbrev pub tenthsIn : Range → ℤ → TenthsAnswer
 tenthsIn r x = tenthsBy x (outside r x)

@@ -9,7 +9,7 @@ use lib.Dec.{ltb}
 use lib.IntN.{ℤ, pos}
 use Rattle.base_integers.specs.Meaning.Ranges.{range, outside}
 use Rattle.base_measures.specs.Meaning.Limits.{microcentsOf}
-use Rattle.base_measures.specs.Meaning.Held.{tenthsBy, centsBy, grainsBy, microcentsBy, ptdfBy, shareBy}
+use Rattle.base_measures.specs.Meaning.Held.{heldBy, tenthsBy, centsBy, grainsBy, microcentsBy, ptdfBy, shareBy}
 use Rattle.base_measures.specs.declared.Tenths.{Tenths}
 use Rattle.base_measures.specs.declared.TenthsAnswer.{TenthsAnswer}
 use Rattle.base_measures.specs.declared.TenthsAnswer.the-variants as tenths
@@ -29,54 +29,51 @@ use Rattle.base_measures.specs.declared.Share.{Share}
 use Rattle.base_measures.specs.declared.ShareAnswer.{ShareAnswer}
 use Rattle.base_measures.specs.declared.ShareAnswer.the-variants as share
 
--- an answer read back: outside its range, or held
+-- an answer read back, where the two answers differ: by the one that refuses, and by any that does not
+by-refused : {A : Type 0} {refused held : A} → (held ≡ refused → false ≡ true) → (b : Bool) → heldBy refused held b ≡ refused → b ≡ true
+by-refused differ true e = refl
+by-refused differ false e = differ e
+
+by-held : {A : Type 0} {refused held got : A} → (refused ≡ got → true ≡ false) → (b : Bool) → heldBy refused held b ≡ got → (b ≡ false) × (held ≡ got)
+by-held differ true e = let d = differ e in (d, cc)
+by-held differ false e = (refl, e)
+
+-- the same of each measure
 pub tenths-outside : (x : ℤ) (b : Bool) → tenthsBy x b ≡ tenths.Outside → b ≡ true
-tenths-outside x true e = refl
-tenths-outside x false e = cc
+tenths-outside x = by-refused (λ d. cc)
 
 pub tenths-held : (x : ℤ) (b : Bool) (t : Tenths) → tenthsBy x b ≡ tenths.Held t → (b ≡ false) × (t .0 ≡ x)
-tenths-held x true t e = (cc, cc)
-tenths-held x false t e = (refl, cc)
+tenths-held x b t e = let h = by-held (λ d. cc) b e in (h .0, cc)
 
 pub cents-outside : (x : ℤ) (b : Bool) → centsBy x b ≡ cents.Outside → b ≡ true
-cents-outside x true e = refl
-cents-outside x false e = cc
+cents-outside x = by-refused (λ d. cc)
 
 pub cents-held : (x : ℤ) (b : Bool) (t : Cents) → centsBy x b ≡ cents.Held t → (b ≡ false) × (t .0 ≡ x)
-cents-held x true t e = (cc, cc)
-cents-held x false t e = (refl, cc)
+cents-held x b t e = let h = by-held (λ d. cc) b e in (h .0, cc)
 
 pub grains-outside : (x : ℤ) (b : Bool) → grainsBy x b ≡ grains.Outside → b ≡ true
-grains-outside x true e = refl
-grains-outside x false e = cc
+grains-outside x = by-refused (λ d. cc)
 
 pub grains-held : (x : ℤ) (b : Bool) (t : Grains) → grainsBy x b ≡ grains.Held t → (b ≡ false) × (t .0 ≡ x)
-grains-held x true t e = (cc, cc)
-grains-held x false t e = (refl, cc)
+grains-held x b t e = let h = by-held (λ d. cc) b e in (h .0, cc)
 
 pub microcents-outside : (x : ℤ) (b : Bool) → microcentsBy x b ≡ microcents.Outside → b ≡ true
-microcents-outside x true e = refl
-microcents-outside x false e = cc
+microcents-outside x = by-refused (λ d. cc)
 
 pub microcents-held : (x : ℤ) (b : Bool) (t : Microcents) → microcentsBy x b ≡ microcents.Held t → (b ≡ false) × (t .0 ≡ x)
-microcents-held x true t e = (cc, cc)
-microcents-held x false t e = (refl, cc)
+microcents-held x b t e = let h = by-held (λ d. cc) b e in (h .0, cc)
 
 pub ptdf-outside : (x : ℤ) (b : Bool) → ptdfBy x b ≡ ptdf.Outside → b ≡ true
-ptdf-outside x true e = refl
-ptdf-outside x false e = cc
+ptdf-outside x = by-refused (λ d. cc)
 
 pub ptdf-held : (x : ℤ) (b : Bool) (t : Ptdf) → ptdfBy x b ≡ ptdf.Held t → (b ≡ false) × (t .0 ≡ x)
-ptdf-held x true t e = (cc, cc)
-ptdf-held x false t e = (refl, cc)
+ptdf-held x b t e = let h = by-held (λ d. cc) b e in (h .0, cc)
 
 pub share-outside : (x : ℤ) (b : Bool) → shareBy x b ≡ share.Outside → b ≡ true
-share-outside x true e = refl
-share-outside x false e = cc
+share-outside x = by-refused (λ d. cc)
 
 pub share-held : (x : ℤ) (b : Bool) (t : Share) → shareBy x b ≡ share.Held t → (b ≡ false) × (t .0 ≡ x)
-share-held x true t e = (cc, cc)
-share-held x false t e = (refl, cc)
+share-held x b t e = let h = by-held (λ d. cc) b e in (h .0, cc)
 
 -- a range of money asked in microcents is the same range asked in cents
 pub money-tests : (greatest cents : ℕ) → outside (range (microcentsOf (pos 0)) (microcentsOf (pos greatest))) (microcentsOf (pos cents)) ≡ outside (range (pos 0) (pos greatest)) (pos cents)

@@ -1,7 +1,6 @@
 -- `base_measures::Cents::held` meets its contract: by the test of the range. Assumes nothing.
-use mathlib.Core.Path.{_≡_, ap, sym, _∙_}
+use mathlib.Core.Path.{_≡_, ap}
 use Rattle.base_integers.specs.Meaning.Ranges.{range, outside}
-use Rattle.base_measures.specs.Meaning.Held.{centsBy}
 use Rattle.base_measures.specs.declared.CentsAnswer.the-variants.{Held as held}
 use borrow.Author.Needs.{needs}
 use Rattle.base_measures.proofs.Cents.held.Statement.{statement}
@@ -17,18 +16,16 @@ outside-requires : tie.Need-outside-requires
 outside-requires c κs = search needs
 
 tested : (c : tie.After-outside) → let a = c .before .before .before .args in c .outside .result ≡ outside (range (a .least .0) (a .greatest .0)) (a .x .0)
-tested c = c .outside .ensures ∙ (λ j. outside (range (c .before .before .raw .ensures j) (c .before .raw2 .ensures j)) (c .before .before .before .args .x .0))
+tested c = cc
 
 returns : tie.Need-returns
-returns c = ap (centsBy (c .before .before .before .before .args .x .0)) (sym (c .if1 .taken) ∙ tested (c .before))
+returns c = rw (← tested (c .before), c .if1 .taken)
 
 of-requires : tie.Need-of-requires
 of-requires c κs = search needs
 
 returns-2 : tie.Need-returns-2
-returns-2 c =
-    let o = c .before .before in
-    ap held (c .of .ensures) ∙ ap (centsBy (o .before .before .before .args .x .0)) (sym (c .before .if1 .left) ∙ tested o)
+returns-2 c = rw (← tested (c .before .before), c .before .if1 .left) (ap held (c .of .ensures))
 
 pub held-spec : {M : Type 1} → statement M
 held-spec =

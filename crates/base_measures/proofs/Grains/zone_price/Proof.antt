@@ -1,8 +1,7 @@
 -- `base_measures::Grains::zone_price` meets its contract: by the test of the range. Assumes nothing.
-use mathlib.Core.Path.{_≡_, ap, sym, _∙_}
-use Rattle.base_integers.specs.Meaning.Ranges.{range, outside}
+use mathlib.Core.Path.{_≡_}
+use Rattle.base_integers.specs.Meaning.Ranges.{outside}
 use Rattle.base_measures.specs.Meaning.Limits as limits
-use Rattle.base_measures.specs.Meaning.Held.{grainsBy}
 use borrow.Author.Needs.{needs}
 use Rattle.base_measures.proofs.Grains.zone_price.Statement.{statement}
 use Rattle.base_measures.proofs.Grains.zone_price.Tie as tie
@@ -20,13 +19,13 @@ outside-requires : tie.Need-outside-requires
 outside-requires c κs = search needs
 
 tested : (c : tie.After-outside) → c .outside .result ≡ outside limits.zonePrice (c .before .before .before .before .args .self .0)
-tested c = c .outside .ensures ∙ (λ j. outside (range (c .before .before .before .raw .ensures j) (c .before .before .raw2 .ensures j)) (c .before .raw3 .ensures j))
+tested c = cc
 
 returns : tie.Need-returns
-returns c = ap (grainsBy (c .before .before .before .before .before .args .self .0)) (sym (c .if1 .taken) ∙ tested (c .before))
+returns c = rw (← tested (c .before), c .if1 .taken)
 
 returns-2 : tie.Need-returns-2
-returns-2 c = ap (grainsBy (c .before .before .before .before .before .args .self .0)) (sym (c .if1 .left) ∙ tested (c .before))
+returns-2 c = rw (← tested (c .before), c .if1 .left)
 
 pub zone-price-spec : {M : Type 1} → statement M
 zone-price-spec =

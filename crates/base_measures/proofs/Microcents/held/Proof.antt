@@ -1,7 +1,6 @@
 -- `base_measures::Microcents::held` meets its contract: by the test of the range. Assumes nothing.
-use mathlib.Core.Path.{_≡_, ap, sym, _∙_}
+use mathlib.Core.Path.{_≡_}
 use Rattle.base_integers.specs.Meaning.Ranges.{range, outside}
-use Rattle.base_measures.specs.Meaning.Held.{microcentsBy}
 use borrow.Author.Needs.{needs}
 use Rattle.base_measures.proofs.Microcents.held.Statement.{statement}
 use Rattle.base_measures.proofs.Microcents.held.Tie as tie
@@ -19,13 +18,13 @@ outside-requires : tie.Need-outside-requires
 outside-requires c κs = search needs
 
 tested : (c : tie.After-outside) → let a = c .before .before .before .before .args in c .outside .result ≡ outside (range (a .least .0) (a .greatest .0)) (a .self .0)
-tested c = c .outside .ensures ∙ (λ j. outside (range (c .before .before .before .raw .ensures j) (c .before .before .raw2 .ensures j)) (c .before .raw3 .ensures j))
+tested c = cc
 
 returns : tie.Need-returns
-returns c = ap (microcentsBy (c .before .before .before .before .before .args .self .0)) (sym (c .if1 .taken) ∙ tested (c .before))
+returns c = rw (← tested (c .before), c .if1 .taken)
 
 returns-2 : tie.Need-returns-2
-returns-2 c = ap (microcentsBy (c .before .before .before .before .before .args .self .0)) (sym (c .if1 .left) ∙ tested (c .before))
+returns-2 c = rw (← tested (c .before), c .if1 .left)
 
 pub held-spec : {M : Type 1} → statement M
 held-spec =

@@ -1,8 +1,7 @@
 -- `base_measures::Ptdf::new` meets its contract: by the test of the range. Assumes nothing.
-use mathlib.Core.Path.{_≡_, ap, sym, _∙_}
-use Rattle.base_integers.specs.Meaning.Ranges.{range, outside}
+use mathlib.Core.Path.{_≡_, ap}
+use Rattle.base_integers.specs.Meaning.Ranges.{outside}
 use Rattle.base_measures.specs.Meaning.Limits as limits
-use Rattle.base_measures.specs.Meaning.Held.{ptdfBy}
 use Rattle.base_measures.specs.declared.PtdfAnswer.the-variants.{Held as held}
 use borrow.Author.Needs.{needs}
 use Rattle.base_measures.proofs.Ptdf.new.Statement.{statement}
@@ -18,18 +17,16 @@ outside-requires : tie.Need-outside-requires
 outside-requires c κs = search needs
 
 tested : (c : tie.After-outside) → c .outside .result ≡ outside limits.ptdf (c .before .before .before .args .x .0)
-tested c = c .outside .ensures ∙ (λ j. outside (range (c .before .before .raw .ensures j) (c .before .raw2 .ensures j)) (c .before .before .before .args .x .0))
+tested c = cc
 
 returns : tie.Need-returns
-returns c = ap (ptdfBy (c .before .before .before .before .args .x .0)) (sym (c .if1 .taken) ∙ tested (c .before))
+returns c = rw (← tested (c .before), c .if1 .taken)
 
 of-requires : tie.Need-of-requires
 of-requires c κs = search needs
 
 returns-2 : tie.Need-returns-2
-returns-2 c =
-    let o = c .before .before in
-    ap held (c .of .ensures) ∙ ap (ptdfBy (o .before .before .before .args .x .0)) (sym (c .before .if1 .left) ∙ tested o)
+returns-2 c = rw (← tested (c .before .before), c .before .if1 .left) (ap held (c .of .ensures))
 
 pub new-spec : {M : Type 1} → statement M
 new-spec =
