@@ -35,7 +35,7 @@ use dump_values::opening_fields;
 const OPENING: usize = layout::DUMP_OPENING;
 
 // The bytes of a value.
-const VALUE: usize = 8;
+const VALUE: usize = layout::DUMP_VALUE;
 
 // Where the proposal's fields stand: after mark and version, and after the opening's two.
 const FIELDS_AT: usize = layout::PROPOSAL_SHARE_AT;
@@ -44,12 +44,12 @@ const REST_AT: usize = layout::PROPOSAL_HEADER;
 
 // The entries of the table of converted fields: as many as the largest case has orders, links and branches, and few
 // for a small case, since clearing the large table takes longer than converting a small dump.
-const TABLE: usize = 640;
+const TABLE: usize = layout::ORDERS + layout::LINKS + layout::BRANCHES;
 
 const SMALL_TABLE: usize = 64;
 
 // 2 ^ 32.
-const WORD_END: u64 = 4294967296;
+const WORD_END: u64 = layout::WORD_VALUES;
 
 // The opening as it is taken, with the cursor past it; or that the dump is too short for it.
 enum OpeningField {
@@ -147,9 +147,9 @@ fn put_mark(out: &mut [u8])
     requires { ⌜ 5 ≤ length (now out) ⌝ }
     ensures { λ _. ⌜ now (out .exit) ≡ sets (now (out .entry)) 0 proposalMark ⌝ }
 {
-    out[0] = b'L';
-    out[1] = b'T';
-    out[2] = b'P';
+    out[0] = layout::MARK_FIRST;
+    out[1] = layout::MARK_SECOND;
+    out[2] = layout::PROPOSAL_LETTER;
     out[3] = 1;
     out[4] = 0;
 }

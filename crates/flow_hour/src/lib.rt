@@ -31,12 +31,12 @@ fn lent(x: Bits) -> i64
 }
 
 // The net positions of the zones with export positive: ours are import positive.
-fn turned(nets: [Tenths; 16], zones: usize) -> [i64; 16]
+fn turned(nets: [Tenths; layout::ZONES], zones: usize) -> [i64; layout::ZONES]
     requires { ⌜ zones ≤ 16 ⌝ }
     requires { ⌜ FitsTo (λ z. pos 0 -ℤ tenthsAt nets z) zones ⌝ }
     ensures { λ r. ⌜ Lists (λ z. pos 0 -ℤ tenthsAt nets z) zones r ⌝ }
 {
-    let mut exports = [0i64; 16];
+    let mut exports = [0i64; layout::ZONES];
     for z in 0..zones {
         let net = nets[z];
         exports[z] = lent(Tenths::ZERO.minus(net).bits());
@@ -45,12 +45,12 @@ fn turned(nets: [Tenths; 16], zones: usize) -> [i64; 16]
 }
 
 // The zones' prices.
-fn listed(prices: [Grains; 16], zones: usize) -> [i64; 16]
+fn listed(prices: [Grains; layout::ZONES], zones: usize) -> [i64; layout::ZONES]
     requires { ⌜ zones ≤ 16 ⌝ }
     requires { ⌜ FitsTo (λ z. grainsAt prices z) zones ⌝ }
     ensures { λ r. ⌜ Lists (λ z. grainsAt prices z) zones r ⌝ }
 {
-    let mut list = [0i64; 16];
+    let mut list = [0i64; layout::ZONES];
     for z in 0..zones {
         let price = prices[z];
         list[z] = lent(price.bits());

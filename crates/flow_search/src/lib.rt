@@ -37,12 +37,12 @@ fn seed_zones(net_exports: &[i64], s: &[i64]) -> Labels
     ensures { λ r. ⌜ Seeded (now («net_exports» .entry)) (now (s .entry)) r (length (now («net_exports» .entry))) ⌝ }
 {
     let mut labels = Labels {
-        label: [0u64; 16],
-        depth: [0u8; 16],
-        via: [0u8; 16],
-        queue: [0u8; 16],
+        label: [0u64; layout::ZONES],
+        depth: [0u8; layout::ZONES],
+        via: [0u8; layout::ZONES],
+        queue: [0u8; layout::ZONES],
         count: 0,
-        sink: 16,
+        sink: layout::ZONES,
     };
     let mut z = 0;
     while z < net_exports.len() {
@@ -84,7 +84,7 @@ fn try_arc(
     pairs: &[u8],
     table: &[u8; TABLE],
     s: &[i64],
-    label: &[u64; 16],
+    label: &[u64; layout::ZONES],
     u: usize,
     w: usize,
 ) -> Arc
@@ -130,7 +130,7 @@ fn next_arc(
     pairs: &[u8],
     table: &[u8; TABLE],
     s: &[i64],
-    label: &[u64; 16],
+    label: &[u64; layout::ZONES],
     u: usize,
     w: usize,
 ) -> Arc

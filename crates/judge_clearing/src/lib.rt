@@ -46,7 +46,7 @@ fn signed_volume(buys: bool, volume: Tenths) -> Tenths
 // What one pass over the orders yields: the first volume above its order's quantity; where none is, the net position of each zone and the welfare.
 pub struct OrderSums {
     pub excess: Place,
-    pub nets: [Tenths; 16],
+    pub nets: [Tenths; layout::ZONES],
     pub welfare: Microcents,
 }
 
@@ -62,7 +62,7 @@ pub fn order_sums(case: &[u8], proposal: &[u8], hour: HourRead) -> OrderSums
 {
     let k = hour.counts;
     let orders = k.orders;
-    let mut nets = [Tenths::ZERO; 16];
+    let mut nets = [Tenths::ZERO; layout::ZONES];
     let mut welfare = Microcents::ZERO;
     for i in 0..orders {
         let order = order_at(case, k, i);
@@ -90,7 +90,7 @@ pub fn order_sums(case: &[u8], proposal: &[u8], hour: HourRead) -> OrderSums
 }
 
 // Rule 3: the sum of the net positions.
-pub fn net_sum(nets: [Tenths; 16], zones: usize) -> Tenths
+pub fn net_sum(nets: [Tenths; layout::ZONES], zones: usize) -> Tenths
     requires { ⌜ zones ≤ 16 ⌝ }
     requires { ⌜ SumsFit (λ z. tenthsAt nets z) zones ⌝ }
     ensures { λ r. ⌜ r .0 ≡ sumTo zones (λ z. tenthsAt nets z) ⌝ }
@@ -107,11 +107,16 @@ pub fn net_sum(nets: [Tenths; 16], zones: usize) -> Tenths
 // each zone, its net position less its LTA part.
 pub struct Exchange {
     pub overused: Place,
-    pub parts: [Tenths; 16],
+    pub parts: [Tenths; layout::ZONES],
 }
 
 // Rules 2 and 4, and verdict 23.
-pub fn link_sums(case: &[u8], proposal: &[u8], hour: HourRead, nets: [Tenths; 16]) -> Exchange
+pub fn link_sums(
+    case: &[u8],
+    proposal: &[u8],
+    hour: HourRead,
+    nets: [Tenths; layout::ZONES],
+) -> Exchange
     requires { ⌜ HourReadFrom (now «case») (now proposal) hour ⌝ }
     requires { ⌜ VolumesInRange (caseOf (now «case»)) (planOf (now «case») (now proposal)) ⌝ }
     requires { ⌜ TenthsHold (net (caseOf (now «case»)) (planOf (now «case») (now proposal))) nets ⌝ }

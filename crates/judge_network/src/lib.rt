@@ -24,7 +24,7 @@ use proposal_file::shadow_at;
 // What one pass over the branches yields: the first that is overloaded; where none is, the price of each zone and the branch total.
 pub struct Network {
     pub overloaded: Place,
-    pub prices: [Grains; 16],
+    pub prices: [Grains; layout::ZONES],
     pub total: Microcents,
 }
 
@@ -34,7 +34,7 @@ pub fn branch_sums(
     proposal: &[u8],
     hour: HourRead,
     table: [[i32; 16]; 64],
-    parts: [Tenths; 16],
+    parts: [Tenths; layout::ZONES],
 ) -> Network
     requires { ⌜ HourReadFrom (now «case») (now proposal) hour ⌝ }
     requires { ⌜ VolumesInRange (caseOf (now «case»)) (planOf (now «case») (now proposal)) ⌝ }
@@ -55,7 +55,7 @@ pub fn branch_sums(
     let zones = k.zones;
     let branches = k.branches;
     let base = system.in_grains();
-    let mut prices = [base; 16];
+    let mut prices = [base; layout::ZONES];
     let mut total = Microcents::ZERO;
     for m in 0..branches {
         let shadow = shadow_at(case, k, proposal, m);

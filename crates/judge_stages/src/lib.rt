@@ -66,8 +66,8 @@ struct Reading {
 // What `clear` answers: the verdict of rows 21, 28, 22, 27 and 23 and, where they pass, net positions, flow-based parts and welfare.
 pub struct Cleared {
     pub verdict: Outcome,
-    pub nets: [Tenths; 16],
-    pub parts: [Tenths; 16],
+    pub nets: [Tenths; layout::ZONES],
+    pub parts: [Tenths; layout::ZONES],
     pub welfare: Microcents,
 }
 
@@ -78,7 +78,7 @@ pub struct Found {
     pub valued: bool,
     pub hour: HourRead,
     pub cleared: Cleared,
-    pub prices: [Grains; 16],
+    pub prices: [Grains; layout::ZONES],
     pub totals: Totals,
 }
 
@@ -117,8 +117,8 @@ fn uncleared(verdict: Outcome) -> Cleared
 {
     Cleared {
         verdict,
-        nets: [Tenths::ZERO; 16],
-        parts: [Tenths::ZERO; 16],
+        nets: [Tenths::ZERO; layout::ZONES],
+        parts: [Tenths::ZERO; layout::ZONES],
         welfare: Microcents::ZERO,
     }
 }
@@ -133,7 +133,7 @@ fn refused_by(verdict: Outcome) -> Found
         valued: false,
         hour: NOTHING_READ,
         cleared,
-        prices: [Grains::ZERO; 16],
+        prices: [Grains::ZERO; layout::ZONES],
         totals: NO_TOTALS,
     }
 }
@@ -261,7 +261,7 @@ fn share_without_link(links: usize, share: Share) -> bool
 }
 
 // Rows 22, 27 and 23: the balance, the share without links, and the first link that is overused.
-fn link_verdict(hour: HourRead, nets: [Tenths; 16], overused: Place) -> Outcome
+fn link_verdict(hour: HourRead, nets: [Tenths; layout::ZONES], overused: Place) -> Outcome
     requires { ⌜ hour .counts .zones ≤ 16 ⌝ }
     requires { ⌜ SumsFit (λ z. tenthsAt nets z) (hour .counts .zones) ⌝ }
     requires { ⌜ ((l : ℕ) → placeOf overused ≡ some l → l < 4294967296) ⌝ }

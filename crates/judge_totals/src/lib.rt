@@ -39,7 +39,11 @@ pub struct ZoneSums {
 }
 
 // Verdict 25 and rule 11. The rent fits as far as the prices lie within their limits.
-pub fn zone_sums(nets: [Tenths; 16], prices: [Grains; 16], zones: usize) -> ZoneSums
+pub fn zone_sums(
+    nets: [Tenths; layout::ZONES],
+    prices: [Grains; layout::ZONES],
+    zones: usize,
+) -> ZoneSums
     requires { ⌜ zones ≤ 16 ⌝ }
     requires { ⌜ RentFits nets prices zones ⌝ }
     ensures outside { λ r. ⌜ placeOf (r .outside) ≡ firstBelow zones (λ z. outside limits.zonePrice (grainsAt prices z)) ⌝ }
@@ -64,7 +68,12 @@ pub fn zone_sums(nets: [Tenths; 16], prices: [Grains; 16], zones: usize) -> Zone
 }
 
 // Rule 8: all order surpluses.
-pub fn surpluses(case: &[u8], proposal: &[u8], hour: HourRead, prices: [Grains; 16]) -> Microcents
+pub fn surpluses(
+    case: &[u8],
+    proposal: &[u8],
+    hour: HourRead,
+    prices: [Grains; layout::ZONES],
+) -> Microcents
     requires { ⌜ HourReadFrom (now «case») (now proposal) hour ⌝ }
     requires { ⌜ PricesHold (caseOf (now «case»)) (pricesOf (now «case») (now proposal)) prices ⌝ }
     requires { ⌜ PricesInRange (caseOf (now «case»)) (pricesOf (now «case») (now proposal)) ⌝ }
@@ -89,7 +98,12 @@ pub struct LinkTotals {
 }
 
 // Rule 9: capacities and contracted volumes (S-4) at the positive spreads. A volume times a negative spread is as negative, so that the product is held at zero.
-pub fn link_totals(case: &[u8], proposal: &[u8], hour: HourRead, prices: [Grains; 16]) -> LinkTotals
+pub fn link_totals(
+    case: &[u8],
+    proposal: &[u8],
+    hour: HourRead,
+    prices: [Grains; layout::ZONES],
+) -> LinkTotals
     requires { ⌜ HourReadFrom (now «case») (now proposal) hour ⌝ }
     requires { ⌜ PricesHold (caseOf (now «case»)) (pricesOf (now «case») (now proposal)) prices ⌝ }
     requires { ⌜ PricesInRange (caseOf (now «case»)) (pricesOf (now «case») (now proposal)) ⌝ }
@@ -129,7 +143,7 @@ pub fn totals(
     proposal: &[u8],
     hour: HourRead,
     total_welfare: Microcents,
-    prices: [Grains; 16],
+    prices: [Grains; layout::ZONES],
     on_branches: Microcents,
     congestion: Microcents,
 ) -> Totals

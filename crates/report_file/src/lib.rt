@@ -44,7 +44,7 @@ fn put_totals(report: &mut [u8], totals: Totals)
     put_signed64(report, layout::OWED_AT, totals.owed.bits());
 }
 
-fn put_prices(report: &mut [u8], zones: usize, prices: [Grains; 16])
+fn put_prices(report: &mut [u8], zones: usize, prices: [Grains; layout::ZONES])
     requires { ⌜ zones ≤ 16 ⌝ }
     requires { ⌜ zonePriceAt zones ≤ length (now report) ⌝ }
     ensures { λ _. ⌜ now (report .exit) ≡ sets (now (report .entry)) pricesAt (priceBytes zones (priceIn prices)) ⌝ }
@@ -60,7 +60,13 @@ fn put_prices(report: &mut [u8], zones: usize, prices: [Grains; 16])
 }
 
 // The whole report; what stands past it is left as it was.
-pub fn write_report(report: &mut [u8], number: u8, zones: u8, totals: Totals, prices: [Grains; 16])
+pub fn write_report(
+    report: &mut [u8],
+    number: u8,
+    zones: u8,
+    totals: Totals,
+    prices: [Grains; layout::ZONES],
+)
     requires { ⌜ zones ≤ 16 ⌝ }
     requires { ⌜ zonePriceAt zones ≤ length (now report) ⌝ }
     ensures { λ _. ⌜ now (report .exit) ≡ reportText number zones (totalsIn totals) (priceIn prices) ++ drop (zonePriceAt zones) (now (report .entry)) ⌝ }

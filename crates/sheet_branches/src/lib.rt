@@ -12,8 +12,8 @@ use case_header::Counts;
 use sheet_lines::branch_part;
 use sheet_lines::read_lines;
 
-// A row of 17 numbers for each of 64 lines, and one more that the lines past them share.
-const TABLE: usize = 4420;
+// A row for each branch that there may be, and one more that the lines past them share.
+const TABLE: usize = (layout::BRANCHES + 1) * (layout::MARGIN + layout::PTDF * layout::ZONES);
 
 // The branches, at the start of the output.
 fn put_branches(branches: &[u8], out: &mut [u8])

@@ -171,10 +171,10 @@ fn first(found: Place, n: usize, holds: bool) -> Place
 fn row(n: usize) -> usize
     ensures { λ r. ⌜ r ≡ rowOf n ⌝ }
 {
-    if n < 64 {
+    if n < layout::BRANCHES {
         return n;
     }
-    64
+    layout::BRANCHES
 }
 
 // One walk over the whole sheet. A malformed line ends it, since row 51 is asked before the others.

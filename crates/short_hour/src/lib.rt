@@ -36,7 +36,13 @@ fn put(out: &mut [i64], n: usize, x: ExactMicrocents)
     out[2 * n + 1] = x.parts().0 as i64;
 }
 
-fn put_orders(case: &[u8], proposal: &[u8], hour: HourRead, prices: [Grains; 16], out: &mut [i64])
+fn put_orders(
+    case: &[u8],
+    proposal: &[u8],
+    hour: HourRead,
+    prices: [Grains; layout::ZONES],
+    out: &mut [i64],
+)
     requires { ⌜ HourAccepted (now «case») (now proposal) hour ⌝ }
     requires { ⌜ PricesHold (caseOf (now «case»)) (pricesOf (now «case») (now proposal)) prices ⌝ }
     requires { ⌜ 2 * hour .counts .orders ≤ length (now out) ⌝ }
@@ -54,7 +60,7 @@ fn put_branches(
     proposal: &[u8],
     hour: HourRead,
     table: [[i32; 16]; 64],
-    parts: [Tenths; 16],
+    parts: [Tenths; layout::ZONES],
     out: &mut [i64],
 )
     requires { ⌜ HourAccepted (now «case») (now proposal) hour ⌝ }
@@ -75,7 +81,13 @@ fn put_branches(
     }
 }
 
-fn put_links(case: &[u8], proposal: &[u8], hour: HourRead, prices: [Grains; 16], out: &mut [i64])
+fn put_links(
+    case: &[u8],
+    proposal: &[u8],
+    hour: HourRead,
+    prices: [Grains; layout::ZONES],
+    out: &mut [i64],
+)
     requires { ⌜ HourAccepted (now «case») (now proposal) hour ⌝ }
     requires { ⌜ PricesHold (caseOf (now «case»)) (pricesOf (now «case») (now proposal)) prices ⌝ }
     requires { ⌜ 2 * countOf (hour .counts) ≤ length (now out) ⌝ }

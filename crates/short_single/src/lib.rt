@@ -49,7 +49,7 @@ pub fn order_shortfall(
     case: &[u8],
     proposal: &[u8],
     hour: HourRead,
-    prices: [Grains; 16],
+    prices: [Grains; layout::ZONES],
     i: usize,
 ) -> ExactMicrocents
     requires { ⌜ HourAccepted (now «case») (now proposal) hour ⌝ }
@@ -68,7 +68,7 @@ pub fn order_shortfall(
 }
 
 // Rule 5's sum over the zones, of a branch with these PTDFs.
-fn load_of(row: [i32; 16], parts: [Tenths; 16], zones: usize) -> Load
+fn load_of(row: [i32; 16], parts: [Tenths; layout::ZONES], zones: usize) -> Load
     requires { ⌜ zones ≤ 16 ⌝ }
     requires { ⌜ SumsFit (loadOn row parts) zones ⌝ }
     requires { ⌜ ((z : ℕ) → z < zones → Within limits.ptdf (getD row z (pos 0))) ⌝ }
@@ -89,7 +89,7 @@ pub fn branch_shortfall(
     proposal: &[u8],
     hour: HourRead,
     row: [i32; 16],
-    parts: [Tenths; 16],
+    parts: [Tenths; layout::ZONES],
     m: usize,
 ) -> ExactMicrocents
     requires { ⌜ HourAccepted (now «case») (now proposal) hour ⌝ }
@@ -116,7 +116,7 @@ pub fn link_shortfall(
     case: &[u8],
     proposal: &[u8],
     hour: HourRead,
-    prices: [Grains; 16],
+    prices: [Grains; layout::ZONES],
     l: usize,
 ) -> ExactMicrocents
     requires { ⌜ HourAccepted (now «case») (now proposal) hour ⌝ }
