@@ -4,3 +4,4 @@ pub mod Prefix
 pub mod ShortOutput
 pub mod PlainText
 pub mod PlainOutput
+pub mod Answered

@@ -3,17 +3,15 @@
 ghost use mathlib.Core.Path.{_≡_};
 ghost use mathlib.Core.List.{_++_};
 ghost use Prim.Native.Nat.{_+_, _≤_};
-ghost use lib.ListN.{length, take};
+ghost use lib.ListN.{length};
 ghost use Rattle.text_decimal.specs.Meaning.Ascii.{ascii};
 ghost use Rattle.text_decimal.specs.Meaning.Text.{countText};
 ghost use Rattle.text_decimal.specs.Meaning.Put.{Put};
-ghost use Rattle.base_causes.specs.Meaning.Causes.{verdict};
 ghost use Rattle.rules.specs.Meaning.Verdict.{_under_};
 ghost use Rattle.rules.specs.Meaning.Cut.{caseEnd};
 ghost use Rattle.rules.specs.Meaning.Lines.{verdictLine, totalLine, totalLines, priceLine, priceLines, hourLines, hourText};
 ghost use Rattle.report_file.specs.Meaning.Written.{totalsIn, priceIn};
-ghost use Rattle.text_lines.specs.Meaning.Printed.{deskRoom, deskOutcome, deskWritten, deskOutput};
-ghost use Rattle.text_lines.specs.Promised.PlainText.{PlainText};
+ghost use Rattle.text_lines.specs.Meaning.Printed.{deskRoom, DeskPrinted};
 use base_causes::Outcome;
 use base_measures::Grains;
 use base_measures::Microcents;
@@ -157,11 +155,7 @@ fn too_short(room: usize) -> bool
 // The lines for an input, at the start of `out`, and how many bytes they are; or, where `out` has less than that
 // room, the refusal by 31, with length 0 and `out` as it was.
 pub fn lines(input: &[u8], out: &mut [u8]) -> Written
-    ensures outcome { λ r. ⌜ verdict (r .number) (r .index) ≡ deskOutcome (length (now (out .entry))) ⌝ }
-    ensures length { λ r. ⌜ r .length ≡ length (deskWritten (length (now (out .entry))) (now (input .entry))) ⌝ }
-    ensures output { λ r. ⌜ now (out .exit) ≡ deskOutput (now (input .entry)) (now (out .entry)) ⌝ }
-    ensures within { λ r. ⌜ (r .length ≤ length (now (out .exit))) × (r .length ≡ length (take (r .length) (now (out .exit)))) ⌝ }
-    ensures text { λ r. ⌜ (1024 ≤ length (now (out .entry)) → PlainText (now (input .entry)) (take (r .length) (now (out .exit)))) ⌝ }
+    ensures { λ r. ⌜ DeskPrinted (now (input .entry)) (now (out .entry)) r (now (out .exit)) ⌝ }
 {
     if too_short(out.len()) {
         return refused(31, 0);

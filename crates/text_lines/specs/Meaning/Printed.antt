@@ -1,12 +1,14 @@
 -- The desk's text in a lent output: its lines where the output has the room that the lines of every input have
 -- (`Room.desk-room`), else the refusal by 31. Assumes nothing.
+use mathlib.Core.Path.{_≡_}
 use mathlib.Core.List.{List, [], _∷_}
 use mathlib.Core.Option.{Option}
-use Prim.Native.Nat.{ℕ}
-use lib.ListN.{length}
+use Prim.Native.Nat.{ℕ, _≤_}
+use lib.ListN.{length, take}
 use Rattle.base_causes.specs.declared.Outcome.{Outcome}
-use Rattle.base_causes.specs.Meaning.Causes.{Cause, refusal, answer, once}
+use Rattle.base_causes.specs.Meaning.Causes.{Cause, verdict, refusal, answer, once}
 use Rattle.rules.specs.Meaning.Verdict.{_under_}
+use Rattle.base_output.specs.declared.Written.{Written}
 use Rattle.base_output.specs.Meaning.Output.{writtenBy, outputAfter}
 use Rattle.rules.specs.Meaning.Lines.{deskText}
 
@@ -30,3 +32,11 @@ deskWritten room input = writtenBy (deskRefusal room) (deskText input)
 -- the output afterwards: what is written, and then what stood past it
 unfoldable pub deskOutput : List ℕ → List ℕ → List ℕ
 deskOutput input out = outputAfter (deskWritten (length out) input) out
+
+-- WHAT IS OWED of an answer r: number and index, the length of what it wrote, every byte of the output afterwards, and
+-- that the length lies within the output
+pub record DeskPrinted (input before : List ℕ) (r : Written) (after : List ℕ) : Type 0 where
+  pub outcome : verdict (r .number) (r .index) ≡ deskOutcome (length before)
+  pub written : r .length ≡ length (deskWritten (length before) input)
+  pub output : after ≡ deskOutput input before
+  pub within : (r .length ≤ length after) × (r .length ≡ length (take (r .length) after))

@@ -1,5 +1,5 @@
 -- ALL THAT THE DESK PRINTS for an input, in plain bytes: where the input is cut, and which lines its two parts have.
--- The clause `text` of `lines` cites it. Assumes nothing.
+-- The clause `text` of the exported entry cites it. Assumes nothing.
 use mathlib.Core.Path.{_≡_, ap, _∙_}
 use mathlib.Core.Logic.{_⊎_, _≢_}
 use mathlib.Core.List.{List, [], _++_}
