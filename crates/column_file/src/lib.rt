@@ -3,10 +3,9 @@ ghost use mathlib.Core.Path.{_≡_};
 ghost use mathlib.Core.Bool.{true};
 ghost use mathlib.Core.List.{_++_};
 ghost use Prim.Native.Nat.{ℕ, _+_, _*_, _^_, _≤_, _<_};
-ghost use lib.ListN.{length, take, drop};
+ghost use lib.ListN.{length, drop};
 ghost use lib.Seq.{sets};
-ghost use Rattle.base_causes.specs.Meaning.Causes.{verdict};
-ghost use Rattle.column_file.specs.Meaning.Columns.{arranged, restoredOf, notRestored, columnedOutcome, columnedWritten, columnedOutput, restoredOutcome, restoredWritten, restoredOutput, Columned, ComesBack, NotJudged, Restored};
+ghost use Rattle.column_file.specs.Meaning.Columns.{arranged, restoredOf, notRestored, CaseColumned, CaseRestored};
 ghost use Rattle.column_file.specs.Meaning.Answer.{restoreBy};
 ghost use Rattle.column_file.specs.Steps.Stored.{every, orders};
 use base_output::Written;
@@ -70,12 +69,7 @@ fn put_file(source: &[u8], out: &mut [u8], letter: u8, start: usize, rows: usize
 
 // A readable case in columns.
 pub fn columned(case: &[u8], out: &mut [u8]) -> Written
-    ensures outcome { λ r. ⌜ verdict (r .number) (r .index) ≡ columnedOutcome (now («case» .entry)) (length (now (out .entry))) ⌝ }
-    ensures length { λ r. ⌜ r .length ≡ length (columnedWritten (now («case» .entry)) (length (now (out .entry)))) ⌝ }
-    ensures output { λ r. ⌜ now (out .exit) ≡ columnedOutput (now («case» .entry)) (now (out .entry)) ⌝ }
-    ensures columns { λ r. ⌜ (r .number ≡ 0 → Columned (now («case» .entry)) (take (r .length) (now (out .exit)))) ⌝ }
-    ensures back { λ r. ⌜ (r .number ≡ 0 → ComesBack (now («case» .entry)) (take (r .length) (now (out .exit)))) ⌝ }
-    ensures not_judged { λ r. ⌜ (r .number ≡ 0 → NotJudged (take (r .length) (now (out .exit)))) ⌝ }
+    ensures { λ r. ⌜ CaseColumned (now («case» .entry)) (now (out .entry)) r (now (out .exit)) ⌝ }
 {
     let CaseAnswer::Readable(k) = read_case(case) else {
         return refused(71, 0);
@@ -138,10 +132,7 @@ pub fn blank() -> [u8; LONGEST]
 
 // The case of a columned file. It is made in a local array first, since a refusal leaves the output as it was.
 pub fn restored(file: &[u8], out: &mut [u8]) -> Written
-    ensures outcome { λ r. ⌜ verdict (r .number) (r .index) ≡ restoredOutcome (now (file .entry)) (length (now (out .entry))) ⌝ }
-    ensures length { λ r. ⌜ r .length ≡ length (restoredWritten (now (file .entry)) (length (now (out .entry)))) ⌝ }
-    ensures output { λ r. ⌜ now (out .exit) ≡ restoredOutput (now (file .entry)) (now (out .entry)) ⌝ }
-    ensures restored { λ r. ⌜ (r .number ≡ 0 → Restored (now (file .entry)) (take (r .length) (now (out .exit)))) ⌝ }
+    ensures { λ r. ⌜ CaseRestored (now (file .entry)) (now (out .entry)) r (now (out .exit)) ⌝ }
 {
     let length = file.len();
     if LONGEST < length {

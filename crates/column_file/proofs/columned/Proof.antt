@@ -6,11 +6,10 @@ use native.Mathlib.Omega.{arith}
 use borrow.Author.Needs.{needs}
 use lib.ListN.{length, take, drop}
 use Rattle.base_causes.specs.declared.Outcome.{Outcome}
-use Rattle.base_causes.specs.Meaning.Causes.{verdict}
 use Rattle.base_output.specs.declared.Written.{Written}
 use Rattle.case_header.specs.Meaning.CaseReadable.{CaseReadable}
 use Rattle.case_file.specs.Steps.Answer.{opened-of}
-use Rattle.column_file.specs.Meaning.Columns.{columnedOf, unreadable, columnedCauses, columnedOutcome, columnedWritten, columnedOutput, Columned, ComesBack, NotJudged}
+use Rattle.column_file.specs.Meaning.Columns.{columnedOf, unreadable, columnedCauses, columnedOutcome, columnedWritten, columnedOutput, Columned, ComesBack, NotJudged, CaseColumned}
 use Rattle.column_file.specs.Promised.RoundTrip.{columned-length, columned-stands}
 use Rattle.column_file.specs.Steps.Counts.{unreadable-of, start-past}
 use Rattle.column_file.specs.Steps.Answers.{Owed, by-71, by-72, by-0}
@@ -18,18 +17,11 @@ use Rattle.column_file.specs.Steps.Read.{refused-case, longest, orders-e
 use Rattle.column_file.proofs.columned.Statement.{statement}
 use Rattle.column_file.proofs.columned.Tie as tie
 
--- what is owed of an answer beside its bytes
-abbrev All : List ℕ → List ℕ → Written → List ℕ → Type 0
-All s out r after =
-    (verdict (r .number) (r .index) ≡ columnedOutcome s (length out))
-    × ((r .length ≡ length (columnedWritten s (length out)))
-    × ((after ≡ columnedOutput s out)
-    × ((r .number ≡ 0 → Columned s (take (r .length) after))
-    × ((r .number ≡ 0 → ComesBack s (take (r .length) after)) × (r .number ≡ 0 → NotJudged (take (r .length) after))))))
-
-all : (s out : List ℕ) {r : Written} {after : List ℕ} → Owed (unreadable s) (length s) (columnedOf s) out r after → All s out r after
+-- an answer by 0 holds what is promised of its bytes
+all : (s out : List ℕ) {r : Written} {after : List ℕ} → Owed (unreadable s) (length s) (columnedOf s) out r after → CaseColumned s out r after
 unfolding columnedOutcome columnedWritten columnedOutput columnedCauses
-all s out {r} {after} m = (m .0, (m .1 .0, (m .1 .1, (λ z. stands z .0, (λ z. stands z .1, λ z. stands z .2)))))
+all s out {r} {after} m =
+    record { outcome-is = m .0; written = m .1 .0; output = m .1 .1; columns = λ z. stands z .0; back = λ z. stands z .1; not-judged = λ z. stands z .2 }
   where
     stands : r .number ≡ 0 → Columned s (take (r .length) after) × ComesBack s (take (r .length) after) × NotJudged (take (r .length) after)
     stands z = subst (λ (u : List ℕ). Columned s u × ComesBack s u × NotJudged u) (λ i. take (sym (m .1 .0) i) (sym (m .1 .1) i)) (columned-stands s out (sym (ap (λ (o : Outcome). o .number) (m .0)) ∙ z))

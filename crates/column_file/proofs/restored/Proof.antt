@@ -8,9 +8,8 @@ use borrow.Author.Needs.{needs}
 use lib.ListN.{length, take, drop, length-append, length-drop}
 use lib.Seq.{sets, length-take-le}
 use Rattle.base_causes.specs.declared.Outcome.{Outcome}
-use Rattle.base_causes.specs.Meaning.Causes.{verdict}
 use Rattle.base_output.specs.declared.Written.{Written}
-use Rattle.column_file.specs.Meaning.Columns.{restoredOf, notRestored, restoredCauses, restoredOutcome, restoredWritten, restoredOutput, Restored}
+use Rattle.column_file.specs.Meaning.Columns.{restoredOf, notRestored, restoredCauses, restoredOutcome, restoredWritten, restoredOutput, Restored, CaseRestored}
 use Rattle.column_file.specs.Promised.RoundTrip.{restored-length, restored-stands}
 use Rattle.column_file.specs.Steps.Answers.{restore-refused, restore-made, Owed, by-71, by-72, by-0}
 use Rattle.column_file.specs.Steps.Stored.{every, copy-run}
@@ -18,17 +17,10 @@ use Rattle.column_file.specs.Steps.Read.{too-long, not-readable}
 use Rattle.column_file.proofs.restored.Statement.{statement}
 use Rattle.column_file.proofs.restored.Tie as tie
 
--- what is owed of an answer beside its bytes
-abbrev All : List ℕ → List ℕ → Written → List ℕ → Type 0
-All t out r after =
-    (verdict (r .number) (r .index) ≡ restoredOutcome t (length out))
-    × ((r .length ≡ length (restoredWritten t (length out)))
-    × ((after ≡ restoredOutput t out)
-    × (r .number ≡ 0 → Restored t (take (r .length) after))))
-
-all : (t out : List ℕ) {r : Written} {after : List ℕ} → Owed (notRestored t) (length t) (restoredOf t) out r after → All t out r after
+-- an answer by 0 holds what is promised of its bytes
+all : (t out : List ℕ) {r : Written} {after : List ℕ} → Owed (notRestored t) (length t) (restoredOf t) out r after → CaseRestored t out r after
 unfolding restoredOutcome restoredWritten restoredOutput restoredCauses
-all t out {r} {after} m = (m .0, (m .1 .0, (m .1 .1, stands)))
+all t out {r} {after} m = record { outcome-is = m .0; written = m .1 .0; output = m .1 .1; restored = stands }
   where
     stands : r .number ≡ 0 → Restored t (take (r .length) after)
     stands z = subst (λ (u : List ℕ). Restored t u) (λ i. take (sym (m .1 .0) i) (sym (m .1 .1) i)) (restored-stands t out (sym (ap (λ (o : Outcome). o .number) (m .0)) ∙ z))

@@ -5,11 +5,12 @@ use mathlib.Core.List.{List, [], _∷_, _++_}
 use mathlib.Core.Option.{Option, none, some}
 use Prim.Native.Nat.{ℕ, zero, suc, _+_, _*_, _-_, _/_, _%_, _≤_, _<_}
 use lib.Dec.{ltb}
-use lib.ListN.{length, getD}
+use lib.ListN.{length, getD, take}
 use Rattle.base_causes.specs.declared.Outcome.{Outcome}
 use Rattle.base_causes.specs.Meaning.Causes.{Cause, verdict, refusal, answer, once}
 use Rattle.rules.specs.Meaning.Layout.{orderAt, orderSize, ordersIn, reportRoom}
 use Rattle.rules.specs.Meaning.Verdict.{_under_, notMark, caseRefusal, outcome, Readable}
+use Rattle.base_output.specs.declared.Written.{Written}
 use Rattle.base_output.specs.Meaning.Output.{writtenBy, outputAfter}
 
 -- n bytes: f k at each place k
@@ -106,3 +107,19 @@ pub record Restored (t s : List ℕ) : Type 0 where
   pub readable : Readable s
   pub bytes : Columned s t
   pub same : columnedOf s ≡ t
+
+-- WHAT IS OWED of an answer r, the output being `before` and then `after`: number and index, the length of what is written, every byte of the output, and of
+-- an answer by 0 what its bytes hold
+pub record CaseColumned (s before : List ℕ) (r : Written) (after : List ℕ) : Type 0 where
+  pub outcome-is : verdict (r .number) (r .index) ≡ columnedOutcome s (length before)
+  pub written : r .length ≡ length (columnedWritten s (length before))
+  pub output : after ≡ columnedOutput s before
+  pub columns : r .number ≡ 0 → Columned s (take (r .length) after)
+  pub back : r .number ≡ 0 → ComesBack s (take (r .length) after)
+  pub not-judged : r .number ≡ 0 → NotJudged (take (r .length) after)
+
+pub record CaseRestored (t before : List ℕ) (r : Written) (after : List ℕ) : Type 0 where
+  pub outcome-is : verdict (r .number) (r .index) ≡ restoredOutcome t (length before)
+  pub written : r .length ≡ length (restoredWritten t (length before))
+  pub output : after ≡ restoredOutput t before
+  pub restored : r .number ≡ 0 → Restored t (take (r .length) after)
