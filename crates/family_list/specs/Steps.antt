@@ -3,5 +3,5 @@ pub mod Pigeonhole
 pub mod Ancestors
 pub mod Round
 pub mod Walk
-pub mod Taken
+pub mod Parents
 pub mod Answer

@@ -11,7 +11,7 @@ ghost use Rattle.rules.specs.Meaning.Families.{familyHeader, familyLength, name
 ghost use Rattle.family_list.specs.Steps.Round.{Least};
 ghost use Rattle.family_list.specs.Steps.Round as round;
 ghost use Rattle.family_list.specs.Steps.Walk.{held, Trail};
-ghost use Rattle.family_list.specs.Steps.Taken.{Taken, Search};
+ghost use Rattle.family_list.specs.Steps.Parents.{ParentsTaken, Search};
 ghost use Rattle.family_list.specs.Meaning.Answer.{headerBy, parentCause, listCauses, circleAnswer, familyAnswer, wrongList};
 ghost use Rattle.family_list.specs.Meaning.Answer.{ListLengthValid, FamiliesReadable};
 use base_causes::Outcome;
@@ -110,7 +110,7 @@ fn walk_parents(
     requires { ⌜ start .at ≡ familyHeader ⌝ }
     requires { ⌜ length (now up) ≡ 512 ⌝ }
     ensures walk { λ r. ⌜ r ≡ walked (parentCause (now (families .entry)) orders) (cursor (familyLength orders)) ⌝ }
-    ensures taken { λ r. ⌜ (r ≡ pastAt (familyLength orders) → Taken (now (families .entry)) orders (now (up .exit))) ⌝ }
+    ensures taken { λ r. ⌜ (r ≡ pastAt (familyLength orders) → ParentsTaken (now (families .entry)) orders (now (up .exit))) ⌝ }
 {
     let count = orders as u32;
     let mut cursor = start;
@@ -137,7 +137,7 @@ fn walk_list(families: &[u8], orders: usize, up: &mut [u32; layout::ORDERS]) -> 
     requires { ⌜ orders ≤ 512 ⌝ }
     requires { ⌜ length (now up) ≡ 512 ⌝ }
     ensures walk { λ r. ⌜ r ≡ rowsWalked (listCauses (now (families .entry)) orders) (cursor (familyLength orders)) ⌝ }
-    ensures taken { λ r. ⌜ (r ≡ pastAt (familyLength orders) → Taken (now (families .entry)) orders (now (up .exit))) ⌝ }
+    ensures taken { λ r. ⌜ (r ≡ pastAt (familyLength orders) → ParentsTaken (now (families .entry)) orders (now (up .exit))) ⌝ }
 {
     let header = walk_header(families, orders);
     let Walked::Past(parents) = header else {
@@ -226,7 +226,7 @@ fn first_after(
 // The first order that leads back to itself. One that leads into a circle does so only where it lies on it.
 fn first_on_circle(families: &[u8], orders: usize, up: &mut [u32; layout::ORDERS]) -> Place
     requires { ⌜ FamiliesReadable (now families) orders ⌝ }
-    requires { ⌜ Taken (now families) orders (now up) ⌝ }
+    requires { ⌜ ParentsTaken (now families) orders (now up) ⌝ }
     ensures { λ r. ⌜ placeOf r ≡ firstBelow orders (leadsBack orders (parentOf (now (families .entry)))) ⌝ }
 {
     let mut first = orders;
@@ -244,7 +244,7 @@ fn first_on_circle(families: &[u8], orders: usize, up: &mut [u32; layout::ORDERS
 // ROW 18 of a family list that rows 16 and 17 pass.
 fn hold_circles(families: &[u8], orders: usize, up: &mut [u32; layout::ORDERS]) -> FamilyAnswer
     requires { ⌜ FamiliesReadable (now families) orders ⌝ }
-    requires { ⌜ Taken (now families) orders (now up) ⌝ }
+    requires { ⌜ ParentsTaken (now families) orders (now up) ⌝ }
     ensures { λ r. ⌜ r ≡ circleAnswer (now (families .entry)) orders ⌝ }
 {
     if let Place::At(i) = first_on_circle(families, orders, up) {

@@ -1,2 +1,2 @@
 -- THE MEANING of what the contracts cite
-pub mod Filled
+pub mod MaxFlow

@@ -10,8 +10,8 @@ ghost use Rattle.flow_scratch.specs.Meaning.Places.{flowOf};
 ghost use Rattle.flow_scratch.specs.Steps.Scratch.{Rest};
 ghost use Rattle.flow_scratch.specs.Meaning.Cleared.{Cleared};
 ghost use Rattle.flow_augment.specs.Steps.Lacking.{State};
-ghost use Rattle.flow_augment.specs.Meaning.Path.{Sized};
-ghost use Rattle.flow_max.specs.Meaning.Filled.{Answer};
+ghost use Rattle.flow_augment.specs.Meaning.Path.{InputsInRange};
+ghost use Rattle.flow_max.specs.Meaning.MaxFlow.{MaxFlowAnswer};
 ghost use Rattle.flow_max.specs.Steps.Filled.{Filled};
 use flow_augment::augment;
 use flow_pairs::pair_table;
@@ -30,7 +30,7 @@ pub struct MaxFlow {
 
 // Augments as long as a zone with import left is reached. The flow is empty at first.
 fn fill(net_exports: &[i64], prices: &[i64], pairs: &[u8], s: &mut [i64]) -> u64
-    requires { ⌜ Sized (now «net_exports») (now prices) (now pairs) ⌝ }
+    requires { ⌜ InputsInRange (now «net_exports») (now prices) (now pairs) ⌝ }
     requires { ⌜ 96 ≤ length (now s) ⌝ }
     requires { ⌜ State (networkOf (now «net_exports») (now prices) (now pairs)) (flowOf (now s)) 0 ⌝ }
     ensures filled { λ r. ⌜ Filled (networkOf (now («net_exports» .entry)) (now (prices .entry)) (now (pairs .entry))) (flowOf (now (s .exit))) r ⌝ }
@@ -71,9 +71,9 @@ pub fn max_flow(
     s: &mut [i64],
     n: usize,
 ) -> MaxFlow
-    requires { ⌜ Sized (now «net_exports») (now prices) (now pairs) ⌝ }
+    requires { ⌜ InputsInRange (now «net_exports») (now prices) (now pairs) ⌝ }
     requires { ⌜ (96 ≤ n) × (n ≤ length (now s)) ⌝ }
-    ensures answer { λ r. ⌜ Answer (networkOf (now («net_exports» .entry)) (now (prices .entry)) (now (pairs .entry))) (r .all) (r .total) ⌝ }
+    ensures answer { λ r. ⌜ MaxFlowAnswer (networkOf (now («net_exports» .entry)) (now (prices .entry)) (now (pairs .entry))) (r .all) (r .total) ⌝ }
     ensures total { λ r. ⌜ r .total ≤ 819200000 ⌝ }
     ensures scratch { λ r. ⌜ Cleared n (now (s .entry)) (now (s .exit)) ⌝ }
 {

@@ -5,8 +5,8 @@ ghost use lib.ListN.{length, getD};
 ghost use Rattle.base_causes.specs.Meaning.Causes.{firstBelow};
 ghost use Rattle.base_causes.specs.Meaning.Place.{placeOf};
 ghost use Rattle.base_zone_set.specs.Steps.Pairs.{Seen};
-ghost use Rattle.flow_pairs.specs.Meaning.Table.{Distinct, pairIn, Tabled};
-ghost use Rattle.flow_pairs.specs.Steps.Tests.{Good};
+ghost use Rattle.flow_pairs.specs.Meaning.Table.{Distinct, pairIn, PairsTabled};
+ghost use Rattle.flow_pairs.specs.Steps.Tests.{PairValid};
 ghost use Rattle.flow_pairs.specs.Meaning.Pairs.{pairCount, firstZone, secondZone, badPair};
 use base_causes::Place;
 
@@ -78,7 +78,7 @@ fn bad_pair(pairs: &[u8], zones: usize, seen: &[u16; layout::ZONES], k: usize) -
 
 // Pair k is seen too.
 fn see_pair(pairs: &[u8], seen: &mut [u16; layout::ZONES], k: usize)
-    requires { ⌜ Good 16 (now pairs) k ⌝ }
+    requires { ⌜ PairValid 16 (now pairs) k ⌝ }
     requires { ⌜ Seen (firstZone (now pairs)) (secondZone (now pairs)) k (now seen) ⌝ }
     ensures { λ _. ⌜ Seen (firstZone (now (pairs .entry))) (secondZone (now (pairs .entry))) (k + 1) (now (seen .exit)) ⌝ }
 {
@@ -110,7 +110,7 @@ pub const TABLE: usize = layout::ZONES * layout::ZONES;
 
 pub fn pair_table(pairs: &[u8]) -> [u8; TABLE]
     requires { ⌜ Distinct (now pairs) ⌝ }
-    ensures { λ r. ⌜ Tabled (now (pairs .entry)) (pairCount (now (pairs .entry))) r ⌝ }
+    ensures { λ r. ⌜ PairsTabled (now (pairs .entry)) (pairCount (now (pairs .entry))) r ⌝ }
 {
     let mut table = [64u8; TABLE];
     let count = pair_count(pairs);

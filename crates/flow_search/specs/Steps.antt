@@ -3,4 +3,4 @@ pub mod Listing
 pub mod Search
 pub mod Labelling
 pub mod Arcs
-pub mod Searched
+pub mod SearchAnswer

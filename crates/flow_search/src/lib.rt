@@ -4,11 +4,11 @@ ghost use mathlib.Core.Path.{_≡_};
 ghost use Prim.Native.Nat.{_≤_, _<_};
 ghost use lib.ListN.{length, getD};
 ghost use Rattle.flow_pairs.specs.Meaning.Pairs.{pairCount};
-ghost use Rattle.flow_pairs.specs.Meaning.Table.{Tabled};
-ghost use Rattle.flow_augment.specs.Meaning.Path.{Sized};
+ghost use Rattle.flow_pairs.specs.Meaning.Table.{PairsTabled};
+ghost use Rattle.flow_augment.specs.Meaning.Path.{InputsInRange};
 ghost use Rattle.flow_search.specs.Steps.Labelling.{Seeded};
 ghost use Rattle.flow_search.specs.Steps.Arcs.{PairOn, Tried, NextArc};
-ghost use Rattle.flow_search.specs.Meaning.Searched.{Searched};
+ghost use Rattle.flow_search.specs.Meaning.SearchAnswer.{SearchAnswer};
 use flow_augment::Labels;
 use flow_pairs::TABLE;
 use flow_pairs::pair_at;
@@ -63,7 +63,7 @@ fn seed_zones(net_exports: &[i64], s: &[i64]) -> Labels
 // The pair from zone u to zone w that counts, or the number of pairs.
 fn pair_on(prices: &[i64], pairs: &[u8], table: &[u8; TABLE], u: usize, w: usize) -> usize
     requires { ⌜ (u < length (now prices)) × ((w < length (now prices)) × (length (now prices) ≤ 16)) ⌝ }
-    requires { ⌜ (pairCount (now pairs) ≤ 64) × Tabled (now pairs) (pairCount (now pairs)) (now table) ⌝ }
+    requires { ⌜ (pairCount (now pairs) ≤ 64) × PairsTabled (now pairs) (pairCount (now pairs)) (now table) ⌝ }
     ensures { λ r. ⌜ PairOn (now (prices .entry)) (now (pairs .entry)) u w r ⌝ }
 {
     let count = pair_count(pairs);
@@ -89,7 +89,7 @@ fn try_arc(
     w: usize,
 ) -> Arc
     requires { ⌜ (u < length (now prices)) × ((w < length (now prices)) × (length (now prices) ≤ 16)) ⌝ }
-    requires { ⌜ (pairCount (now pairs) ≤ 64) × Tabled (now pairs) (pairCount (now pairs)) (now table) ⌝ }
+    requires { ⌜ (pairCount (now pairs) ≤ 64) × PairsTabled (now pairs) (pairCount (now pairs)) (now table) ⌝ }
     requires { ⌜ (96 ≤ length (now s)) × (0 < getD (now label) u 0) ⌝ }
     ensures { λ r. ⌜ Tried (now (prices .entry)) (now (pairs .entry)) (now (s .entry)) (now (label .entry)) u w r ⌝ }
 {
@@ -135,7 +135,7 @@ fn next_arc(
     w: usize,
 ) -> Arc
     requires { ⌜ (u < length (now prices)) × ((w ≤ length (now prices)) × (length (now prices) ≤ 16)) ⌝ }
-    requires { ⌜ (pairCount (now pairs) ≤ 64) × Tabled (now pairs) (pairCount (now pairs)) (now table) ⌝ }
+    requires { ⌜ (pairCount (now pairs) ≤ 64) × PairsTabled (now pairs) (pairCount (now pairs)) (now table) ⌝ }
     requires { ⌜ (96 ≤ length (now s)) × (0 < getD (now label) u 0) ⌝ }
     ensures { λ r. ⌜ NextArc (now (prices .entry)) (now (pairs .entry)) (now (s .entry)) (now (label .entry)) u w r ⌝ }
 {
@@ -169,10 +169,10 @@ pub fn search(
     table: &[u8; TABLE],
     s: &[i64],
 ) -> Labels
-    requires { ⌜ Sized (now «net_exports») (now prices) (now pairs) ⌝ }
-    requires { ⌜ Tabled (now pairs) (pairCount (now pairs)) (now table) ⌝ }
+    requires { ⌜ InputsInRange (now «net_exports») (now prices) (now pairs) ⌝ }
+    requires { ⌜ PairsTabled (now pairs) (pairCount (now pairs)) (now table) ⌝ }
     requires { ⌜ 96 ≤ length (now s) ⌝ }
-    ensures { λ r. ⌜ Searched (now («net_exports» .entry)) (now (prices .entry)) (now (pairs .entry)) (now (s .entry)) r ⌝ }
+    ensures { λ r. ⌜ SearchAnswer (now («net_exports» .entry)) (now (prices .entry)) (now (pairs .entry)) (now (s .entry)) r ⌝ }
 {
     let mut labels = seed_zones(net_exports, s);
     let mut h = 0;

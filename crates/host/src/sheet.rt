@@ -4,7 +4,7 @@ ghost use mathlib.Core.List.{List, _++_};
 ghost use Prim.Native.Nat.{ℕ};
 ghost use lib.ListN.{length, take};
 ghost use Rattle.base_causes.specs.Meaning.Causes.{verdict};
-ghost use Rattle.sheet_lines.specs.Meaning.Sheet.{Header, Holds, lineCount, sheetOutcome, sheetWritten, sheetOutput};
+ghost use Rattle.sheet_lines.specs.Meaning.Sheet.{Header, SheetInCase, lineCount, sheetOutcome, sheetWritten, sheetOutput};
 ghost use Rattle.sheet_lines.specs.Promised.PlainBytes.{BranchesOf};
 ghost use Rattle.sheet_lines.specs.Promised.PlainCauses.{AnswersTo};
 use base_output::Written;
@@ -19,7 +19,7 @@ pub extern "C" fn lta_sheet_branches(sheet: &[u8], zones: usize, out: &mut [u8])
     ensures length { λ r. ⌜ r .length ≡ length (sheetWritten zones (now (sheet .entry)) (length (now (out .entry)))) ⌝ }
     ensures output { λ r. ⌜ now (out .exit) ≡ sheetOutput zones (now (sheet .entry)) (now (out .entry)) ⌝ }
     ensures branches { λ r. ⌜ (r .number ≡ 0 → (header rest : List ℕ) → Header zones (lineCount (now (sheet .entry))) header
-        → Holds zones (now (sheet .entry)) (header ++ (take (r .length) (now (out .exit)) ++ rest))) ⌝ }
+        → SheetInCase zones (now (sheet .entry)) (header ++ (take (r .length) (now (out .exit)) ++ rest))) ⌝ }
     ensures causes { λ r. ⌜ AnswersTo zones (now (sheet .entry)) (length (now (out .entry))) (verdict (r .number) (r .index)) ⌝ }
     ensures bytes { λ r. ⌜ (r .number ≡ 0 → BranchesOf zones (now (sheet .entry)) (r .length) (now (out .entry)) (now (out .exit))) ⌝ }
 {

@@ -6,7 +6,7 @@ use native.Mathlib.Omega.{arith}
 use borrow.Author.Needs.{needs}
 use denote.Ref.{now}
 use Rattle.rules.specs.Meaning.Families.{parentOf}
-use Rattle.family_list.specs.Steps.Walk.{held, Trail, Searched, came-back, next-been, next-found, next-none}
+use Rattle.family_list.specs.Steps.Walk.{held, Trail, SearchSoFar, came-back, next-been, next-found, next-none}
 use Rattle.family_list.proofs.first_after.Statement.{statement}
 use Rattle.family_list.proofs.first_after.Tie as tie
 
@@ -75,7 +75,7 @@ returns-3 c =
     let k = a w .pre .0 in
     record {
       long = w .walk-up .ensures .0;
-      found = subst (λ (first : ℕ). Searched (parent w) (a w .args .orders) (a w .args .i + 1) first (held (w .walk-up .last .0))) (sym (c .smaller .ensures))
+      found = subst (λ (first : ℕ). SearchSoFar (parent w) (a w .args .orders) (a w .args .i + 1) first (held (w .walk-up .last .0))) (sym (c .smaller .ensures))
           (next-found (parent w) (k .whole .few) (k .exist) (a w .pre .1 .0) (a w .pre .1 .1 .found) (trail w) (c .before .least-on-circle .ensures));
     }
 

@@ -6,7 +6,7 @@ use native.Mathlib.Omega.{arith}
 use denote.Ref.{now}
 use Rattle.rules.specs.Meaning.Families.{parentOf}
 use Rattle.family_list.specs.Steps.Walk.{first-found, none-found}
-use Rattle.family_list.specs.Steps.Taken.{Search, none-walked}
+use Rattle.family_list.specs.Steps.Parents.{Search, none-walked}
 use Rattle.family_list.proofs.first_on_circle.Statement.{statement}
 use Rattle.family_list.proofs.first_on_circle.Tie as tie
 

@@ -7,7 +7,7 @@ use borrow.Author.Needs.{needs}
 use denote.Ref.{now}
 use Rattle.rules.specs.Meaning.Families.{parentIn, parentOf}
 use Rattle.family_list.specs.Steps.Round.{Least, Round, round-starts, round-goes-on, round-ends, at-in, not-round, itself, smaller}
-use Rattle.family_list.specs.Steps.Taken.{parent-is}
+use Rattle.family_list.specs.Steps.Parents.{parent-is}
 use Rattle.family_list.proofs.least_on_circle.Statement.{statement}
 use Rattle.family_list.proofs.least_on_circle.Tie as tie
 

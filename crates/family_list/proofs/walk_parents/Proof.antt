@@ -17,12 +17,12 @@ use Rattle.bytes_read.specs.Meaning.Field.{cursor}
 use Rattle.bytes_read.specs.Steps.Record.{RecordWithin, FieldRead, half-read, half-there}
 use Rattle.bytes_read.specs.Steps.Walked.{refused-past, walk-stops, walk-done}
 use Rattle.family_list.specs.Meaning.Answer.{absent, parentCause}
-use Rattle.family_list.specs.Steps.Taken.{Taken, take-none, take-more}
+use Rattle.family_list.specs.Steps.Parents.{ParentsTaken, take-none, take-more}
 use Rattle.family_list.proofs.walk_parents.Statement.{statement}
 use Rattle.family_list.proofs.walk_parents.Tie as tie
 
 abbrev Inv-loop : tie.InvT-loop
-Inv-loop families orders up₀ count cursor₀ i₀ up cursor i = (i ≤ orders) × ((cursor .at ≡ 5 + 2 * i) × ((firstBelow i (absent families orders) ≡ none) × Taken families i up))
+Inv-loop families orders up₀ count cursor₀ i₀ up cursor i = (i ≤ orders) × ((cursor .at ≡ 5 + 2 * i) × ((firstBelow i (absent families orders) ≡ none) × ParentsTaken families i up))
 
 abbrev μ-loop : tie.MeasureT-loop
 μ-loop families orders up₀ count cursor₀ i₀ up cursor i = orders - i
@@ -143,7 +143,7 @@ returns-3 c =
     let a = l .before .before in
     let all : l .loop .i ≡ a .args .orders = omega (arith, l .loop .inv .0, c .loop-test .left) in (
       walk-done (parentCause (now (a .args .families)) (a .args .orders)) (λ (n : ℕ). 5 + 2 * n) (l .loop .inv .1 .0) (l .loop .inv .1 .1 .0) all refl,
-      λ e. subst (λ (n : ℕ). Taken (now (a .args .families)) n (l .loop .up)) all (l .loop .inv .1 .1 .1),
+      λ e. subst (λ (n : ℕ). ParentsTaken (now (a .args .families)) n (l .loop .up)) all (l .loop .inv .1 .1 .1),
     )
 
 pub walk-parents-spec : {M : Type 1} → statement M

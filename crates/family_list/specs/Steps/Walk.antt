@@ -164,7 +164,7 @@ module _ (parent : ℕ → Option ℕ) (n : ℕ) where
       last (some m) q e ih = w .closed m k (stays-in parent x s h q) (ih m q) e
 
 -- A SEARCH UNDER WAY: of the orders that the walks have been at, none that leads back to itself stands before first, which does so if it is an order
-pub record Searched (parent : ℕ → Option ℕ) (n i first : ℕ) (v : ℕ → ℕ) : Type 0 where
+pub record SearchSoFar (parent : ℕ → Option ℕ) (n i first : ℕ) (v : ℕ → ℕ) : Type 0 where
   pub walked : Walked parent n i v
   pub first-in : first ≤ n
   pub back : first < n → LeadsBack parent first
@@ -176,7 +176,7 @@ pub record Trail (n i : ℕ) (u : ℕ → ℕ) (tip : ℕ) (v : ℕ → ℕ) : T
   pub ended : n ≤ v tip
   pub walking : (parent : ℕ → Option ℕ) → Walked parent n i u → Walking parent n i u tip v
 
-module _ (parent : ℕ → Option ℕ) {n : ℕ} (few : n ≤ 512) (x : Exist n parent) {i first : ℕ} (inside : i < n) {u v : ℕ → ℕ} {tip : ℕ} (s : Searched parent n i first u) (t : Trail n i u tip v) where
+module _ (parent : ℕ → Option ℕ) {n : ℕ} (few : n ≤ 512) (x : Exist n parent) {i first : ℕ} (inside : i < n) {u v : ℕ → ℕ} {tip : ℕ} (s : SearchSoFar parent n i first u) (t : Trail n i u tip v) where
   walk : Walking parent n i u tip v
   walk = t .walking parent (s .walked)
 
@@ -213,7 +213,7 @@ module _ (parent : ℕ → Option ℕ) {n : ℕ} (few : n ≤ 512) (x : Exist n 
       by (as-before q) = absurd (s .walked .ahead tip i (t .tip-in) (omega arith) (omega arith) (sym q ∙ e))
       by (been-at q f w) = record { steps = w .steps; one-or-more = w .one-or-more; back = w .there }
 
-  pub next-found : {r : ℕ} → Least parent n i tip r → Searched parent n (i + 1) (smaller first r) v
+  pub next-found : {r : ℕ} → Least parent n i tip r → SearchSoFar parent n (i + 1) (smaller first r) v
   next-found {r} l = record {
     walked = after;
     first-in = omega (arith, smaller-left first r, s .first-in);
@@ -229,7 +229,7 @@ module _ (parent : ℕ → Option ℕ) {n : ℕ} (few : n ≤ 512) (x : Exist n 
       ]
 
   -- THE WALK ENDED at an order that walks before it had been at, or that has no parent: none that it was at leads back to itself
-  pub next-none : (v tip ≡ 512 + i → ⊥) → Searched parent n (i + 1) first v
+  pub next-none : (v tip ≡ 512 + i → ⊥) → SearchSoFar parent n (i + 1) first v
   next-none d = record {
     walked = after;
     first-in = s .first-in;
@@ -248,7 +248,7 @@ module _ (parent : ℕ → Option ℕ) {n : ℕ} (few : n ≤ 512) (x : Exist n 
           absurd (omega (arith, f, closed-up parent n x i u (s .walked) (a .0) tip j (t .tip-in) (known (walk .each tip (t .tip-in))) (a .1)))
 
 -- AN ORDER THAT A WALK HAS BEEN AT, or that has no parent, needs none of its own
-pub next-been : (parent : ℕ → Option ℕ) {n i first : ℕ} {v : ℕ → ℕ} → Searched parent n i first v → n ≤ v i → Searched parent n (i + 1) first v
+pub next-been : (parent : ℕ → Option ℕ) {n i first : ℕ} {v : ℕ → ℕ} → SearchSoFar parent n i first v → n ≤ v i → SearchSoFar parent n (i + 1) first v
 next-been parent {n} {i} {first} {v} s g = record {
   walked = record {
     holds-parent = s .walked .holds-parent;
@@ -262,7 +262,7 @@ next-been parent {n} {i} {first} {v} s g = record {
 }
 
 -- THE SEARCH AT ITS END
-module _ (parent : ℕ → Option ℕ) {n : ℕ} (x : Exist n parent) {i first : ℕ} {v : ℕ → ℕ} (s : Searched parent n i first v) (all : first ≤ i) where
+module _ (parent : ℕ → Option ℕ) {n : ℕ} (x : Exist n parent) {i first : ℕ} {v : ℕ → ℕ} (s : SearchSoFar parent n i first v) (all : first ≤ i) where
   none-before : (j : ℕ) → j < n → j < first → LeadsBack parent j → ⊥
   none-before j h l b = omega (arith, s .none-less j h (s .walked .before j h (omega arith)) b)
 

@@ -18,7 +18,7 @@ abbrev pub trailOf : Labels → Trail
 trailOf m = record { lab = λ z. getD (m .label) z 0; dep = λ z. getD (m .depth) z 0; by = λ z. getD (m .via) z 0 }
 
 -- the sizes of an hour that no row refuses
-pub record Sized (netExports prices : List ℤ) (bytes : List ℕ) : Type 0 where
+pub record InputsInRange (netExports prices : List ℤ) (bytes : List ℕ) : Type 0 where
   pub zones : length netExports ≤ 16
   pub prices-too : length prices ≡ length netExports
   pub even : length bytes ≡ 2 * pairCount bytes
@@ -30,7 +30,7 @@ pub record Sized (netExports prices : List ℤ) (bytes : List ℕ) : Type 0 wher
 
 -- D MORE IS BROUGHT TO ZONE t
 pub record Augment (netExports prices : List ℤ) (total : ℕ) (bytes : List ℕ) (s : List ℤ) (m : Trail) (d t : ℕ) : Type 0 where
-  pub sized : Sized netExports prices bytes
+  pub sized : InputsInRange netExports prices bytes
   pub room : 96 ≤ length s
   pub state : State (networkOf netExports prices bytes) (flowOf s) total
   pub links : (n : ℕ) → Links (networkOf netExports prices bytes) (flowOf s) total m n

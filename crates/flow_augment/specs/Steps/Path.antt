@@ -13,11 +13,11 @@ use Rattle.flow_scratch.specs.Meaning.Places.{amountAt, flowOf}
 use Rattle.flow_scratch.specs.Steps.Scratch.{Rest, rest-set, set-flow, set-export-used, set-import-used}
 use Rattle.flow_augment.specs.Steps.Lacking.{Lacking, State, more-along, less-along, use-import, use-export}
 use Rattle.flow_augment.specs.Steps.Links.{Trail, Link, Links, links-on, links-back, links-import-used}
-use Rattle.flow_augment.specs.Meaning.Path.{Sized, Augment}
+use Rattle.flow_augment.specs.Meaning.Path.{InputsInRange, Augment}
 
 -- A PATH WALKED BACK, at zone z, which lacks d
 pub record PathBack (netExports prices : List ℤ) (total : ℕ) (bytes : List ℕ) (s : List ℤ) (m : Trail) (d z : ℕ) : Type 0 where
-  pub sized : Sized netExports prices bytes
+  pub sized : InputsInRange netExports prices bytes
   pub room : 96 ≤ length s
   pub lacking : Lacking (networkOf netExports prices bytes) (flowOf s) total d z
   pub links : Links (networkOf netExports prices bytes) (flowOf s) total m (m .dep z)

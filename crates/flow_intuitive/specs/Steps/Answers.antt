@@ -23,7 +23,7 @@ use Rattle.flow_pairs.specs.Meaning.Pairs.{pairCount, badPair, networkOf}
 use Rattle.flow_pairs.specs.Steps.Tests.{pair-past}
 use Rattle.flow_network.specs.Meaning.Network.{Network, FeasibleAll, DeficientSet}
 use Rattle.flow_scratch.specs.Meaning.Cleared.{Cleared}
-use Rattle.flow_max.specs.Meaning.Filled.{Answer}
+use Rattle.flow_max.specs.Meaning.MaxFlow.{MaxFlowAnswer}
 use Rattle.flow_intuitive.specs.declared.Carried.{Carried}
 use Rattle.flow_intuitive.specs.Meaning.Intuitive.{priceOutside, intuitiveCauses, intuitiveRefusal, intuitiveOutcome, LargestTotal, EntryAnswer, IntuitiveAnswer}
 use Rattle.flow_intuitive.specs.Promised.Causes.{intuitive-none, scratch-refused, scratch-answered}
@@ -173,7 +173,7 @@ module _ (netExports prices : List ℤ) (pairs : List ℕ) (n : ℕ) (s : List �
   pub passed : o .number ≡ 0 → intuitiveRefusal netExports prices pairs n (length s) ≡ none
   passed z = intuitive-none netExports prices pairs n (length s) (sym number-is ∙ z)
 
-  pub answer-given : o .number ≡ 0 → (s' : List ℤ) (all : Bool) (volume flag : ℕ) (total : ℤ) → Answer (networkOf netExports prices pairs) all volume → n ≤ length s → Cleared n s s' → flag ≡ flagOf all → total ≡ pos volume
+  pub answer-given : o .number ≡ 0 → (s' : List ℤ) (all : Bool) (volume flag : ℕ) (total : ℤ) → MaxFlowAnswer (networkOf netExports prices pairs) all volume → n ≤ length s → Cleared n s s' → flag ≡ flagOf all → total ≡ pos volume
       → IntuitiveAnswer netExports prices pairs n s (record { number = 0; index = 0; intuitive = flag; total = record { 0 = total } }) s'
   answer-given z s' all volume flag total a h w f t = record {
     outcome = outcome-by netExports prices pairs n (length s) (passed z);

@@ -20,9 +20,9 @@ use Rattle.base_causes.specs.Meaning.Causes.{Pass}
 use Rattle.base_causes.specs.Promised.CauseLaws.{empty, all-pass}
 use Rattle.flow_positions.specs.Meaning.Positions.{positionAt, positionOutside, unbalanced}
 use Rattle.flow_pairs.specs.Meaning.Pairs.{pairCount, firstZone, secondZone, badPair, networkOf}
-use Rattle.flow_pairs.specs.Steps.Tests.{Good, good}
+use Rattle.flow_pairs.specs.Steps.Tests.{PairValid, good}
 use Rattle.flow_network.specs.Meaning.Network.{Placed}
-use Rattle.flow_augment.specs.Meaning.Path.{Sized}
+use Rattle.flow_augment.specs.Meaning.Path.{InputsInRange}
 use Rattle.flow_intuitive.specs.Meaning.Intuitive.{intuitiveCauses, intuitiveRefusal, unfit}
 
 -- a position within its limits, in both parts
@@ -60,7 +60,7 @@ module _ (netExports prices : List ℤ) (pairs : List ℕ) (n room : ℕ) (passe
   unfolding intuitiveCauses
   balanced = zero-is _ (is-true (not-false (isZero (sumTo (length netExports) (positionAt netExports))) (not-is (unbalanced netExports) ((row 2) .pass 0 (omega arith)))))
 
-  pub pair-good : (k : ℕ) → k < pairCount pairs → Good (length netExports) pairs k
+  pub pair-good : (k : ℕ) → k < pairCount pairs → PairValid (length netExports) pairs k
   unfolding intuitiveCauses
   pair-good k h = good (length netExports) pairs k (not-is _ ((row 4) .pass k h))
 
@@ -96,7 +96,7 @@ module _ (netExports prices : List ℤ) (pairs : List ℕ) (n room : ℕ) (passe
   pub placed : Placed (networkOf netExports prices pairs)
   placed = record { from-in = λ k h. pair-good k h .first-in; to-in = λ k h. pair-good k h .second-in }
 
-  pub sized : Sized netExports prices pairs
+  pub sized : InputsInRange netExports prices pairs
   sized = record {
     zones = zones-in .1;
     prices-too = one-length;

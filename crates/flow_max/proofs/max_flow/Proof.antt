@@ -6,7 +6,7 @@ use lib.Dec.{eqb}
 use denote.Ref.{now}
 use Rattle.flow_pairs.specs.Meaning.Pairs.{networkOf}
 use Rattle.flow_scratch.specs.Steps.Cleared.{cleared-again}
-use Rattle.flow_max.specs.Meaning.Filled.{Answer}
+use Rattle.flow_max.specs.Meaning.MaxFlow.{MaxFlowAnswer}
 use Rattle.flow_max.specs.Steps.Filled.{total-le, exports-few, cleared-state, answer-of}
 use borrow.Author.Needs.{needs}
 use Rattle.flow_max.proofs.max_flow.Statement.{statement}
@@ -43,7 +43,7 @@ returns c =
     let n = now (st .args .net-exports) in
     let p = now (st .args .prices) in
     let b = now (st .args .pairs) in (
-      subst (λ (x : ℕ). Answer (networkOf n p b) (eqb (f .fill .result) x) (f .fill .result)) (sym (c .all-exports .ensures)) (answer-of _ _ (f .fill .result) (st .pre .0 .placed) (f .fill .ensures .0)),
+      subst (λ (x : ℕ). MaxFlowAnswer (networkOf n p b) (eqb (f .fill .result) x) (f .fill .result)) (sym (c .all-exports .ensures)) (answer-of _ _ (f .fill .result) (st .pre .0 .placed) (f .fill .ensures .0)),
       (
         omega (arith, total-le _ _ _ (f .fill .ensures .0 .state), exports-few n p b (st .pre .0)),
         cleared-again 96 (st .args .n) _ _ _ _ (st .pre .1 .0) (st .pre .1 .0) (e .clear .ensures) (f .fill .ensures .1) (c .before .before .clear2 .ensures),

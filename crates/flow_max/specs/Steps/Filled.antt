@@ -22,9 +22,9 @@ use Rattle.flow_scratch.specs.Meaning.Places.{amountAt, flowOf}
 use Rattle.flow_scratch.specs.Meaning.Cleared.{Cleared}
 use Rattle.flow_augment.specs.declared.Labels.{Labels}
 use Rattle.flow_augment.specs.Steps.Lacking.{State}
-use Rattle.flow_augment.specs.Meaning.Path.{trailOf, Sized, Augment}
-use Rattle.flow_search.specs.Meaning.Searched.{Searched}
-use Rattle.flow_max.specs.Meaning.Filled.{Answer}
+use Rattle.flow_augment.specs.Meaning.Path.{trailOf, InputsInRange, Augment}
+use Rattle.flow_search.specs.Meaning.SearchAnswer.{SearchAnswer}
+use Rattle.flow_max.specs.Meaning.MaxFlow.{MaxFlowAnswer}
 
 -- flows that leave no augmenting path, and carry the total
 pub record Filled (c : Network) (b : Flow) (total : ℕ) : Type 0 where
@@ -35,7 +35,7 @@ pub record Filled (c : Network) (b : Flow) (total : ℕ) : Type 0 where
 pub total-le : (c : Network) (b : Flow) (total : ℕ) → State c b total → total ≤ allExports c
 total-le c b total st = omega (arith, st .sum, sum-le (c .zones) (b .export-used) (c .exports) (st .feasible .export-used-le))
 
-module _ (netExports prices : List ℤ) (bytes : List ℕ) (z : Sized netExports prices bytes) where
+module _ (netExports prices : List ℤ) (bytes : List ℕ) (z : InputsInRange netExports prices bytes) where
   abbrev c : Network
   c = networkOf netExports prices bytes
 
@@ -52,7 +52,7 @@ module _ (netExports prices : List ℤ) (bytes : List ℕ) (z : Sized netExports
   pub exports-few : allExports c ≤ 819200000
   exports-few = omega (arith, sum-bound (length netExports) 51200000 (λ y. up (positionAt netExports y)) (z .exports-le), mul-le-mul-right 51200000 (z .zones))
 
-  module _ (s : List ℤ) (total : ℕ) (room : 96 ≤ length s) (st : State c (flowOf s) total) (m : Labels) (r : Searched netExports prices bytes s m) where
+  module _ (s : List ℤ) (total : ℕ) (room : 96 ≤ length s) (st : State c (flowOf s) total) (m : Labels) (r : SearchAnswer netExports prices bytes s m) where
     -- a zone was found: d more can be brought to it
     pub augment-of : (d : ℕ) → m .sink < length netExports → 0 < d → d ≤ getD (m .label) (m .sink) 0 → d ≤ dn (positionAt netExports (m .sink)) - amountAt s (80 + m .sink) → Augment netExports prices total bytes s (trailOf m) d (m .sink)
     augment-of d h some l i = record {
@@ -86,12 +86,12 @@ empty-state c b f e i = record {
   flows = λ k l. omega (arith, f k l);
 }
 
-pub cleared-state : (netExports prices : List ℤ) (bytes : List ℕ) (n : ℕ) (s s' : List ℤ) → Sized netExports prices bytes → 96 ≤ n → Cleared n s s' → State (networkOf netExports prices bytes) (flowOf s') 0
+pub cleared-state : (netExports prices : List ℤ) (bytes : List ℕ) (n : ℕ) (s s' : List ℤ) → InputsInRange netExports prices bytes → 96 ≤ n → Cleared n s s' → State (networkOf netExports prices bytes) (flowOf s') 0
 cleared-state netExports prices bytes n s s' z h w =
     empty-state (networkOf netExports prices bytes) (flowOf s') (λ k l. ap up (w .zeros k (omega (arith, z .pairs)))) (λ y l. ap up (w .zeros (64 + y) (omega (arith, z .zones))))
     (λ y l. ap up (w .zeros (80 + y) (omega (arith, z .zones))))
 
-pub answer-of : (c : Network) (b : Flow) (total : ℕ) → Placed c → Filled c b total → Answer c (eqb total (allExports c)) total
+pub answer-of : (c : Network) (b : Flow) (total : ℕ) → Placed c → Filled c b total → MaxFlowAnswer c (eqb total (allExports c)) total
 answer-of c b total ok d = record {
   largest = rw (d .state .sum) at (largest-of c ok b (d .state .feasible) (d .set) (d .saturated));
   feasible-all = λ e. yes-of c b (d .state .feasible) (d .state .sum ∙ eqb-true total (allExports c) e);

@@ -11,7 +11,7 @@ use Rattle.base_causes.specs.Meaning.Causes.{firstBelow}
 use Rattle.base_causes.specs.Promised.CauseLaws.{first-here, first-later, first-nowhere}
 use Rattle.base_zone_set.specs.Steps.Pairs.{Seen, seen-none}
 use Rattle.flow_pairs.specs.Meaning.Pairs.{pairCount, firstZone, secondZone, badPair}
-use Rattle.flow_pairs.specs.Steps.Tests.{Good, good}
+use Rattle.flow_pairs.specs.Steps.Tests.{PairValid, good}
 use Rattle.flow_pairs.proofs.first_bad_pair.Statement.{statement}
 use Rattle.flow_pairs.proofs.first_bad_pair.Tie as tie
 
@@ -41,7 +41,7 @@ returns c =
 not-bad : (c : tie.Else1 Inv-loop μ-loop) → badPair (c .before .before .before .before .before .before .before .args .zones) (now (c .before .before .before .before .before .before .before .args .pairs)) (c .before .before .before .before .loop .k) ≡ false
 not-bad c = sym (c .before .bad-pair .ensures) ∙ c .if1 .left
 
-passes : (c : tie.Else1 Inv-loop μ-loop) → Good 16 (now (c .before .before .before .before .before .before .before .args .pairs)) (c .before .before .before .before .loop .k)
+passes : (c : tie.Else1 Inv-loop μ-loop) → PairValid 16 (now (c .before .before .before .before .before .before .before .args .pairs)) (c .before .before .before .before .loop .k)
 passes c =
     let t = c .before .before .before .before .before .before .before in
     let g = good (t .args .zones) (now (t .args .pairs)) (c .before .before .before .before .loop .k) (not-bad c) in

@@ -5,13 +5,13 @@ use native.Mathlib.Omega.{arith}
 use denote.Ref.{now}
 use borrow.Author.Needs.{needs}
 use Rattle.flow_pairs.specs.Meaning.Pairs.{pairCount, firstZone, secondZone}
-use Rattle.flow_pairs.specs.Meaning.Table.{Tabled}
+use Rattle.flow_pairs.specs.Meaning.Table.{PairsTabled}
 use Rattle.flow_pairs.specs.Steps.Table.{tabled-none, tabled-more}
 use Rattle.flow_pairs.proofs.pair_table.Statement.{statement}
 use Rattle.flow_pairs.proofs.pair_table.Tie as tie
 
 abbrev Inv-loop : tie.InvT-loop
-Inv-loop pairs table₀ count k₀ table k = (k ≤ count) × Tabled pairs k table
+Inv-loop pairs table₀ count k₀ table k = (k ≤ count) × PairsTabled pairs k table
 
 abbrev μ-loop : tie.MeasureT-loop
 μ-loop pairs table₀ count k₀ table k = count - k

@@ -17,7 +17,7 @@ abbrev pub pairIn : List ℕ → ℕ → ℕ → ℕ
 pairIn table a b = getD table (16 * a + b) 0
 
 -- the first n pairs stand in it
-pub record Tabled (bytes : List ℕ) (n : ℕ) (table : List ℕ) : Type 0 where
+pub record PairsTabled (bytes : List ℕ) (n : ℕ) (table : List ℕ) : Type 0 where
   pub wide : length table ≡ 256
   pub sound : (a b : ℕ) → a < 16 → b < 16 → pairIn table a b < 64 → (pairIn table a b < n) × ((firstZone bytes (pairIn table a b) ≡ a) × (secondZone bytes (pairIn table a b) ≡ b))
   pub complete : (k : ℕ) → k < n → pairIn table (firstZone bytes k) (secondZone bytes k) ≡ k

@@ -7,16 +7,16 @@ use native.Mathlib.Decide.{ℕ-discrete}
 use lib.ListN.{getD, set, replicate, length-set, getD-replicate}
 use lib.Seq.{getD-set-same, getD-set-other}
 use Rattle.flow_pairs.specs.Meaning.Pairs.{pairCount, firstZone, secondZone}
-use Rattle.flow_pairs.specs.Meaning.Table.{Distinct, pairIn, Tabled}
+use Rattle.flow_pairs.specs.Meaning.Table.{Distinct, pairIn, PairsTabled}
 
-pub tabled-none : (bytes : List ℕ) → Tabled bytes 0 (replicate 256 64)
+pub tabled-none : (bytes : List ℕ) → PairsTabled bytes 0 (replicate 256 64)
 tabled-none bytes = record {
   wide = refl;
   sound = λ a b h l w. absurd (omega (arith, getD-replicate {A = ℕ} 256 (16 * a + b) 64 0 (omega arith)));
   complete = λ k h. absurd (omega arith);
 }
 
-pub tabled-more : (bytes : List ℕ) (n : ℕ) (table : List ℕ) (i : ℕ) → Distinct bytes → n < pairCount bytes → Tabled bytes n table → i ≡ 16 * firstZone bytes n + secondZone bytes n → Tabled bytes (n + 1) (set table i n)
+pub tabled-more : (bytes : List ℕ) (n : ℕ) (table : List ℕ) (i : ℕ) → Distinct bytes → n < pairCount bytes → PairsTabled bytes n table → i ≡ 16 * firstZone bytes n + secondZone bytes n → PairsTabled bytes (n + 1) (set table i n)
 tabled-more bytes n table i d h t e = record {
   wide = length-set table i n ∙ t .wide;
   sound = λ a b p q w. by-sound a b p q w (ℕ-discrete (16 * a + b) i);

@@ -48,7 +48,7 @@ unfolding repeated
 seen-repeated bytes k a b {seen} w ea eb = (λ i. holds seen (ea i) (eb i)) ∙ w .held (firstZone bytes k) (secondZone bytes k)
 
 -- A PAIR THAT PASSES
-pub record Good (zones : ℕ) (bytes : List ℕ) (k : ℕ) : Type 0 where
+pub record PairValid (zones : ℕ) (bytes : List ℕ) (k : ℕ) : Type 0 where
   pub few : k < 64
   pub first-in : firstZone bytes k < zones
   pub second-in : secondZone bytes k < zones
@@ -61,7 +61,7 @@ new-by bytes k t j h f g =
     T-not (samePair (firstZone bytes) (secondZone bytes) (firstZone bytes k) (secondZone bytes k) j) (no-place k (samePair (firstZone bytes) (secondZone bytes) (firstZone bytes k) (secondZone bytes k)) t j h)
     (is-true (λ i. eq-eqb (firstZone bytes j) (firstZone bytes k) f i && eq-eqb (secondZone bytes j) (secondZone bytes k) g i))
 
-pub good : (zones : ℕ) (bytes : List ℕ) (k : ℕ) → badPair zones bytes k ≡ false → Good zones bytes k
+pub good : (zones : ℕ) (bytes : List ℕ) (k : ℕ) → badPair zones bytes k ≡ false → PairValid zones bytes k
 unfolding badPair
 good zones bytes k w =
     let p = is-false w in

@@ -12,7 +12,7 @@ use borrow.Author.Needs.{needs}
 use Rattle.flow_search.specs.declared.Arc.{Arc}
 use Rattle.flow_search.specs.Steps.Labelling.{queueOf}
 use Rattle.flow_search.specs.Steps.Arcs.{NextArc}
-use Rattle.flow_search.specs.Steps.Searched.{Progress, progress-start, from-in, from-reached, place-low, progress-next, pair-low, zone-low, count-low, progress-label, searched-sink, searched-none}
+use Rattle.flow_search.specs.Steps.SearchAnswer.{Progress, progress-start, from-in, from-reached, place-low, progress-next, pair-low, zone-low, count-low, progress-label, searched-sink, searched-none}
 use Rattle.flow_search.proofs.search.Statement.{statement}
 use Rattle.flow_search.proofs.search.Tie as tie
 

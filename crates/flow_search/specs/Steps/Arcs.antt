@@ -10,7 +10,7 @@ use lib.ListN.{length, getD}
 use lib.IntN.{ℤ}
 use lib.Signed.{leZ}
 use Rattle.flow_pairs.specs.Meaning.Pairs.{pairCount, firstZone, secondZone, priceAt}
-use Rattle.flow_pairs.specs.Meaning.Table.{pairIn, Tabled}
+use Rattle.flow_pairs.specs.Meaning.Table.{pairIn, PairsTabled}
 use Rattle.flow_scratch.specs.Meaning.Places.{amountAt}
 use Rattle.flow_search.specs.declared.Arc.{Arc}
 
@@ -22,7 +22,7 @@ pub record PairOn (prices : List ℤ) (bytes : List ℕ) (u w r : ℕ) : Type 0 
   pub found : r < pairCount bytes → (firstZone bytes r ≡ u) × ((secondZone bytes r ≡ w) × (leZ (priceAt prices (firstZone bytes r)) (priceAt prices (secondZone bytes r)) ≡ true))
   pub none : pairCount bytes ≤ r → (j : ℕ) → j < pairCount bytes → firstZone bytes j ≡ u → secondZone bytes j ≡ w → leZ (priceAt prices (firstZone bytes j)) (priceAt prices (secondZone bytes j)) ≡ true → ⊥
 
-module _ (prices : List ℤ) (bytes table : List ℕ) (t : Tabled bytes (pairCount bytes) table) (few64 : pairCount bytes ≤ 64) (u w : ℕ) (u16 : u < 16) (w16 : w < 16) where
+module _ (prices : List ℤ) (bytes table : List ℕ) (t : PairsTabled bytes (pairCount bytes) table) (few64 : pairCount bytes ≤ 64) (u w : ℕ) (u16 : u < 16) (w16 : w < 16) where
   -- a pair in the table is the pair of its zones
   pub in-table : pairIn table u w < pairCount bytes → (firstZone bytes (pairIn table u w) ≡ u) × (secondZone bytes (pairIn table u w) ≡ w)
   in-table h = t .sound u w u16 w16 (omega (arith, h, few64)) .1

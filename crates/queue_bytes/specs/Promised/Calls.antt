@@ -10,7 +10,7 @@ use lib.ListN.{length, getD, replicate}
 use Rattle.base_causes.specs.declared.Outcome.{Outcome}
 use Rattle.queue_turns.specs.Meaning.Queue.{empty, pair, postNumber, serveAnswer}
 use Rattle.queue_turns.specs.Meaning.Runs.{Event, post, serve, step, after, serves, ServedWithin, AreaServedWithin}
-use Rattle.queue_turns.specs.Steps.Invariant.{Hours, Taken, Refused, posting, hours-more}
+use Rattle.queue_turns.specs.Steps.Invariant.{Hours, PostTaken, PostRefused, posting, hours-more}
 use Rattle.queue_turns.specs.Steps.Fairness.{area-served, hour-served}
 use Rattle.queue_bytes.specs.Meaning.Bytes.{hoursAt, queueOf, bytesUnless, bytesAfterPost, bytesAfterServe, bytesAfter}
 use Rattle.queue_bytes.specs.Steps.ReadBack.{outside, post-means, serve-means, length-post, length-serve, zeros-empty, good-bytes}
@@ -36,11 +36,11 @@ serves-answer run = ap serveAnswer (from-zeros run)
 pub post-elsewhere : (a h : ℕ) (b : List ℕ) → length b ≡ 101 → (i : ℕ) → (i < 25 * a) ⊎ (25 * a + 25 ≤ i) → getD (bytesAfterPost a h b) i 0 ≡ getD b i 0
 unfolding bytesAfterPost
 post-elsewhere a h b len i out = ⊎-elim
-    (λ (t : Taken a h (queueOf b)). ap (λ (o : Option Outcome). getD (bytesUnless o a h b) i 0) (t .passes) ∙ outside b a (hoursAt b a ++ (h ∷ [])) len (t .area-in) (longer t) i out)
-    (λ (r : Refused a h (queueOf b)). ap (λ (o : Option Outcome). getD (bytesUnless o a h b) i 0) (r .by-row))
+    (λ (t : PostTaken a h (queueOf b)). ap (λ (o : Option Outcome). getD (bytesUnless o a h b) i 0) (t .passes) ∙ outside b a (hoursAt b a ++ (h ∷ [])) len (t .area-in) (longer t) i out)
+    (λ (r : PostRefused a h (queueOf b)). ap (λ (o : Option Outcome). getD (bytesUnless o a h b) i 0) (r .by-row))
     (posting a h (queueOf b))
   where
-    longer : Taken a h (queueOf b) → Hours (hoursAt b a ++ (h ∷ []))
+    longer : PostTaken a h (queueOf b) → Hours (hoursAt b a ++ (h ∷ []))
     longer t = unfold queueOf in hours-more h {l = hoursAt b a} (t .hour-in) (t .new) (good-bytes b .hours a)
 
 -- BOTH BOUNDS from any 101 bytes

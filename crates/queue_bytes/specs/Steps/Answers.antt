@@ -15,7 +15,7 @@ use Rattle.queue_bytes.specs.declared.Waiting.{Waiting}
 use Rattle.queue_bytes.specs.declared.AfterPost.{AfterPost}
 use Rattle.queue_bytes.specs.declared.AfterServe.{AfterServe}
 use Rattle.queue_turns.specs.Meaning.Queue.{Pair, pair, among, postCauses, postNumber, next, ServeAnswer, serveAnswer}
-use Rattle.queue_turns.specs.Steps.Invariant.{Hours, also, Taken, Refused, posting, at-most-25, Heads, next-heads, refused-61, refused-62, refused-63, not-refused, number-by, answerBy, answer-by}
+use Rattle.queue_turns.specs.Steps.Invariant.{Hours, also, PostTaken, PostRefused, posting, at-most-25, Heads, next-heads, refused-61, refused-62, refused-63, not-refused, number-by, answerBy, answer-by}
 use Rattle.queue_bytes.specs.Meaning.Bytes.{cellsOf, hoursAt, queueOf, withHours, bytesUnless, bytesAfterPost, bytesWithout, bytesAfterServe}
 use Rattle.queue_bytes.specs.Steps.ReadBack.{good-bytes}
 use Rattle.queue_bytes.specs.Steps.Cells.{waitingOf, Addable, addable, among-of, cells-less}
@@ -166,7 +166,7 @@ post-stored b a h v e =
 -- ---- a refused call leaves the bytes
 
 pub post-leaves : (a h : ℕ) (b : List ℕ) → 0 < postNumber a h (queueOf b) → b ≡ bytesAfterPost a h b
-post-leaves a h b p = ⊎-elim (λ (t : Taken a h (queueOf b)). absurd (never (t .number-is))) (λ (r : Refused a h (queueOf b)). bytes-by a h b (some (r .outcome)) (r .by-row)) (posting a h (queueOf b))
+post-leaves a h b p = ⊎-elim (λ (t : PostTaken a h (queueOf b)). absurd (never (t .number-is))) (λ (r : PostRefused a h (queueOf b)). bytes-by a h b (some (r .outcome)) (r .by-row)) (posting a h (queueOf b))
   where
     never : postNumber a h (queueOf b) ≡ 0 → ⊥
     never e = omega arith

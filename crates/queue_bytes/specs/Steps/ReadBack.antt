@@ -14,7 +14,7 @@ use lib.Seq.{paste, length-paste, getD-append-add, getD-take, getD-drop, getD-se
 use Rattle.base_causes.specs.declared.Outcome.{Outcome}
 use Rattle.base_causes.specs.Meaning.Causes.{refusal}
 use Rattle.queue_turns.specs.Meaning.Queue.{empty, Pair, among, put, postCauses, taken, afterPost, next, without, afterServe}
-use Rattle.queue_turns.specs.Steps.Invariant.{Hours, nothing, also, Good, Taken, Refused, posting, hours-more, hours-less, at-most-25, or-parts, next-heads, put-here, put-other}
+use Rattle.queue_turns.specs.Steps.Invariant.{Hours, nothing, also, QueueValid, PostTaken, PostRefused, posting, hours-more, hours-less, at-most-25, or-parts, next-heads, put-here, put-other}
 use Rattle.queue_bytes.specs.Meaning.Bytes.{isNew, keep, keepAll, hoursIn, cellsOf, cellsAt, hoursAt, queueOf, withHours, bytesUnless, bytesAfterPost, bytesWithout, bytesAfterServe}
 
 -- ---- hours in cells
@@ -60,7 +60,7 @@ unfolding hoursIn
 hours-in cells = hours-all cells [] nothing
 
 -- ANY BYTES MEAN A GOOD QUEUE
-pub good-bytes : (bytes : List ℕ) → Good (queueOf bytes)
+pub good-bytes : (bytes : List ℕ) → QueueValid (queueOf bytes)
 unfolding queueOf hoursAt
 good-bytes bytes = record { turn-in = omega arith; hours = λ a. by a (ltb a 4) }
   where
@@ -266,10 +266,10 @@ post-means a h b len = ⊎-elim now-waits unchanged (posting a h (queueOf b))
     bytes-by : (o : Option Outcome) → refusal (postCauses a h (queueOf b)) ≡ o → queueOf (bytesAfterPost a h b) ≡ queueOf (bytesUnless o a h b)
     bytes-by o e = ap (λ (x : Option Outcome). queueOf (bytesUnless x a h b)) e
 
-    unchanged : Refused a h (queueOf b) → queueOf (bytesAfterPost a h b) ≡ afterPost a h (queueOf b)
+    unchanged : PostRefused a h (queueOf b) → queueOf (bytesAfterPost a h b) ≡ afterPost a h (queueOf b)
     unchanged r = bytes-by (some (r .outcome)) (r .by-row) ∙ sym (r .unchanged)
 
-    now-waits : Taken a h (queueOf b) → queueOf (bytesAfterPost a h b) ≡ afterPost a h (queueOf b)
+    now-waits : PostTaken a h (queueOf b) → queueOf (bytesAfterPost a h b) ≡ afterPost a h (queueOf b)
     now-waits t =
         bytes-by none (t .passes)
         ∙ queue-with b a (hoursAt b a ++ (h ∷ [])) len (t .area-in) (hours-more h (t .hour-in) (new-in (t .new)) (hours-of a))
@@ -316,11 +316,11 @@ serve-means b len = by (next (queueOf b)) refl
 pub length-post : (a h : ℕ) (b : List ℕ) → length b ≡ 101 → length (bytesAfterPost a h b) ≡ 101
 unfolding bytesAfterPost
 length-post a h b len = ⊎-elim
-    (λ (t : Taken a h (queueOf b)). ap (λ (o : Option Outcome). length (bytesUnless o a h b)) (t .passes) ∙ length-with b a (hoursAt b a ++ (h ∷ [])) len (t .area-in) (longer t))
-    (λ (r : Refused a h (queueOf b)). ap (λ (o : Option Outcome). length (bytesUnless o a h b)) (r .by-row) ∙ len)
+    (λ (t : PostTaken a h (queueOf b)). ap (λ (o : Option Outcome). length (bytesUnless o a h b)) (t .passes) ∙ length-with b a (hoursAt b a ++ (h ∷ [])) len (t .area-in) (longer t))
+    (λ (r : PostRefused a h (queueOf b)). ap (λ (o : Option Outcome). length (bytesUnless o a h b)) (r .by-row) ∙ len)
     (posting a h (queueOf b))
   where
-    longer : Taken a h (queueOf b) → Hours (hoursAt b a ++ (h ∷ []))
+    longer : PostTaken a h (queueOf b) → Hours (hoursAt b a ++ (h ∷ []))
     longer t = unfold queueOf in hours-more h {l = hoursAt b a} (t .hour-in) (t .new) (good-bytes b .hours a)
 
 pub length-serve : (b : List ℕ) → length b ≡ 101 → length (bytesAfterServe b) ≡ 101

@@ -12,7 +12,7 @@ use lib.Seq.{getD-set-other, getD-set-same}
 use Rattle.base_causes.specs.declared.Outcome.{Outcome}
 use Rattle.queue_turns.specs.Meaning.Queue.{Queue, Pair, next}
 use Rattle.queue_turns.specs.Meaning.Runs.{Event, post, serve}
-use Rattle.queue_turns.specs.Steps.Invariant.{Hours, Taken, Refused, posting, hours-more, hours-less, next-heads, put-here, put-other}
+use Rattle.queue_turns.specs.Steps.Invariant.{Hours, PostTaken, PostRefused, posting, hours-more, hours-less, next-heads, put-here, put-other}
 use Rattle.queue_bytes.specs.Meaning.Bytes.{cellsOf, cellsAt, hoursAt, queueOf, withHours, bytesUnless, bytesAfterPost, bytesWithout, bytesAfterServe, bytesAfter}
 use Rattle.queue_bytes.specs.Steps.ReadBack.{good-bytes, cells-agree, length-with, cells-own, cells-other, hours-at-with, turn-with, hours-turned, zeros-empty}
 
@@ -48,11 +48,11 @@ tidied-turned b n m t = record {
 pub tidied-post : (a h : ℕ) (b : List ℕ) → Tidied b → Tidied (bytesAfterPost a h b)
 unfolding bytesAfterPost
 tidied-post a h b t = ⊎-elim
-    (λ (w : Taken a h (queueOf b)). subst (λ (o : Option Outcome). Tidied (bytesUnless o a h b)) (sym (w .passes)) (tidied-with b a (hoursAt b a ++ (h ∷ [])) (w .area-in) (longer w) t))
-    (λ (r : Refused a h (queueOf b)). subst (λ (o : Option Outcome). Tidied (bytesUnless o a h b)) (sym (r .by-row)) t)
+    (λ (w : PostTaken a h (queueOf b)). subst (λ (o : Option Outcome). Tidied (bytesUnless o a h b)) (sym (w .passes)) (tidied-with b a (hoursAt b a ++ (h ∷ [])) (w .area-in) (longer w) t))
+    (λ (r : PostRefused a h (queueOf b)). subst (λ (o : Option Outcome). Tidied (bytesUnless o a h b)) (sym (r .by-row)) t)
     (posting a h (queueOf b))
   where
-    longer : Taken a h (queueOf b) → Hours (hoursAt b a ++ (h ∷ []))
+    longer : PostTaken a h (queueOf b) → Hours (hoursAt b a ++ (h ∷ []))
     longer w = unfold queueOf in hours-more h {l = hoursAt b a} (w .hour-in) (w .new) (good-bytes b .hours a)
 
 pub tidied-serve : (b : List ℕ) → Tidied b → Tidied (bytesAfterServe b)

@@ -13,7 +13,7 @@ use Rattle.base_causes.specs.Promised.Asked.{unnamed, ask, Asks}
 use Rattle.base_causes.specs.Meaning.Causes.{Cause, verdict, refusal, answer}
 use Rattle.base_causes.specs.Promised.CauseLaws.{empty, Answered, answered, Soonest, soonest, lacks}
 use Rattle.queue_turns.specs.Meaning.Queue.{Queue, among, postCauses, postNumber, afterPost, Pair, next, serveCauses, serveAnswer, afterServe}
-use Rattle.queue_turns.specs.Steps.Invariant.{Taken, Refused, posting, refused-61, refused-62, refused-63, not-refused, number-by, answer-by, after-next, found-none}
+use Rattle.queue_turns.specs.Steps.Invariant.{PostTaken, PostRefused, posting, refused-61, refused-62, refused-63, not-refused, number-by, answer-by, after-next, found-none}
 
 module _ (a h : ℕ) (q : Queue) where
   abbrev rows : List Cause
@@ -48,7 +48,7 @@ module _ (a h : ℕ) (q : Queue) where
 
   -- "the queue unchanged"
   pub refused-post-unchanged : 0 < postNumber a h q → afterPost a h q ≡ q
-  refused-post-unchanged p = ⊎-elim (λ (t : Taken a h q). absurd (never (t .number-is))) (λ (r : Refused a h q). r .unchanged) (posting a h q)
+  refused-post-unchanged p = ⊎-elim (λ (t : PostTaken a h q). absurd (never (t .number-is))) (λ (r : PostRefused a h q). r .unchanged) (posting a h q)
     where
       never : postNumber a h q ≡ 0 → ⊥
       never e = omega arith

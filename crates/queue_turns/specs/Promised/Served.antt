@@ -8,12 +8,12 @@ use Prim.Native.Nat.{ℕ, _+_, _≤_, _<_}
 use lib.ListN.{length, length-append}
 use Rattle.queue_turns.specs.Meaning.Queue.{Queue, empty, Pair, pair, postNumber, afterPost, next, without, serveAnswer, afterServe}
 use Rattle.queue_turns.specs.Meaning.Runs.{Event, post, serve, step, after, serves, servings, ServedWithin, AreaServedWithin, postedIn, servedIn, turnAfter}
-use Rattle.queue_turns.specs.Steps.Invariant.{Good, Taken, Refused, posting, taken-of, at-most-25, room, good-empty, good-after}
+use Rattle.queue_turns.specs.Steps.Invariant.{QueueValid, PostTaken, PostRefused, posting, taken-of, at-most-25, room, good-empty, good-after}
 use Rattle.queue_turns.specs.Steps.Fairness.{area-served, hour-served, nothing-found, nothing-waits}
 use Rattle.queue_turns.specs.Steps.Account as kept
 
 -- in every queue that a run leads to, an area's hours are from 0 to 24 and none waits twice
-pub reached : (run : List Event) → Good (after run empty)
+pub reached : (run : List Event) → QueueValid (after run empty)
 reached run = good-after run empty good-empty
 
 -- "A waiting area is served within four serves": after any run, if area a has an hour waiting, then of any later events with four serves among them one of the
@@ -42,8 +42,8 @@ unfolding after servings step turnAfter
 turn-from [] q = refl
 turn-from (post a h ∷ run) q = turn-from run (afterPost a h q) ∙ ap (λ (t : ℕ). turnAfter t (servings run (afterPost a h q))) (same (posting a h q))
   where
-    same : Taken a h q ⊎ Refused a h q → afterPost a h q .turn ≡ q .turn
-    same = ⊎-elim (λ (t : Taken a h q). ap (λ (x : Queue). x .turn) (t .leaves)) (λ (r : Refused a h q). ap (λ (x : Queue). x .turn) (r .unchanged))
+    same : PostTaken a h q ⊎ PostRefused a h q → afterPost a h q .turn ≡ q .turn
+    same = ⊎-elim (λ (t : PostTaken a h q). ap (λ (x : Queue). x .turn) (t .leaves)) (λ (r : PostRefused a h q). ap (λ (x : Queue). x .turn) (r .unchanged))
 turn-from (serve ∷ run) q = turn-from run (afterServe q) ∙ by (next q) refl
   where
     by : (o : Option Pair) → next q ≡ o → turnAfter (afterServe q .turn) (servings run (afterServe q)) ≡ turnAfter (q .turn) (o ∷ servings run (afterServe q))

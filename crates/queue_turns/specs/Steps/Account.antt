@@ -12,7 +12,7 @@ use borrow.Author.Tests.{eq-eqb, ne-eqb}
 use lib.Dec.{eqb}
 use Rattle.queue_turns.specs.Meaning.Queue.{Queue, among, put, postNumber, afterPost, Pair, next, without, afterServe}
 use Rattle.queue_turns.specs.Meaning.Runs.{Event, post, serve, step, after, servings, postedIn, ofArea, hoursOf, servedIn}
-use Rattle.queue_turns.specs.Steps.Invariant.{Hours, also, Good, Taken, Refused, Heads, posting, next-heads, put-here, put-other, served-first, not-refused, number-by}
+use Rattle.queue_turns.specs.Steps.Invariant.{Hours, also, QueueValid, PostTaken, PostRefused, Heads, posting, next-heads, put-here, put-other, served-first, not-refused, number-by}
 
 -- what a post adds to the hours that an area posted
 adds : ℕ → ℕ → ℕ → Queue → List ℕ → List ℕ
@@ -25,7 +25,7 @@ post-account a b h q l = ⊎-elim now-waits unchanged (posting b h q)
     adds-by : (x : Bool) → (eqb b a && eqb (postNumber b h q) 0) ≡ x → q .waiting a ++ adds a b h q l ≡ q .waiting a ++ cond x (h ∷ l) l
     adds-by x e = ap (λ (y : Bool). q .waiting a ++ cond y (h ∷ l) l) e
 
-    unchanged : Refused b h q → q .waiting a ++ adds a b h q l ≡ afterPost b h q .waiting a ++ l
+    unchanged : PostRefused b h q → q .waiting a ++ adds a b h q l ≡ afterPost b h q .waiting a ++ l
     unchanged r =
         adds-by false (ap (λ (y : Bool). eqb b a && y) (ne-eqb (postNumber b h q) 0 (λ e. above (postNumber b h q) (r .some-number) e)) ∙ and-false (eqb b a))
         ∙ sym (ap (λ (x : Queue). x .waiting a ++ l) (r .unchanged))
@@ -33,7 +33,7 @@ post-account a b h q l = ⊎-elim now-waits unchanged (posting b h q)
         above : (n : ℕ) → 0 < n → n ≡ 0 → ⊥
         above n p e = omega arith
 
-    now-waits : Taken b h q → q .waiting a ++ adds a b h q l ≡ afterPost b h q .waiting a ++ l
+    now-waits : PostTaken b h q → q .waiting a ++ adds a b h q l ≡ afterPost b h q .waiting a ++ l
     now-waits t = by (ℕ-discrete b a)
       where
         more : List ℕ
@@ -97,7 +97,7 @@ account a (serve ∷ run) q =
 new-again : {h : ℕ} {rest : List ℕ} → Hours (h ∷ rest) → (among h rest ≡ false) × (h ≤ 24)
 new-again (also small new more) = (new, small)
 
-pub post-again : (q : Queue) (p : Pair) → Good q → next q ≡ some p → postNumber (p .area) (p .hour) (afterServe q) ≡ 0
+pub post-again : (q : Queue) (p : Pair) → QueueValid q → next q ≡ some p → postNumber (p .area) (p .hour) (afterServe q) ≡ 0
 unfolding afterServe
 post-again q p g e =
     let k = next-heads q p e in

@@ -10,7 +10,7 @@ use native.Mathlib.Decide.{decLt, ℕ-discrete}
 use lib.ListN.{length}
 use Rattle.queue_turns.specs.Meaning.Queue.{Queue, put, postNumber, afterPost, pair, inTurn, firstWaiting, earliestElse, next, ServeAnswer, serveAnswer, afterServe}
 use Rattle.queue_turns.specs.Meaning.Runs.{Event, post, serve, step, serves, servings, ServedWithin, AreaServedWithin}
-use Rattle.queue_turns.specs.Steps.Invariant.{Good, Taken, Refused, posting, taken-of, room, put-here, put-other, taken-last, answer-by, after-next, found-none, good-post, good-serve}
+use Rattle.queue_turns.specs.Steps.Invariant.{QueueValid, PostTaken, PostRefused, posting, taken-of, room, put-here, put-other, taken-last, answer-by, after-next, found-none, good-post, good-serve}
 
 -- ---- what the next serve takes, when an area that is d areas from its turn has an hour waiting: an area at most as far from its turn
 
@@ -89,7 +89,7 @@ distance t a = (a + 4 - t) % 4
 
 -- what stands in an area's list behind some hours, after one event
 pub record Stands (a h : ℕ) (before behind : List ℕ) (q : Queue) : Type 0 where
-  pub good : Good q
+  pub good : QueueValid q
   pub area-in : a < 4
   pub line : q .waiting a ≡ before ++ (h ∷ behind)
 
@@ -98,10 +98,10 @@ stands-post : (b k a h : ℕ) (before behind : List ℕ) (q : Queue) → Stands 
     → (more : List ℕ) × Stands a h before more (afterPost b k q) × ((afterPost b k q) .turn ≡ q .turn)
 stands-post b k a h before behind q s = ⊎-elim one-more as-it-was (posting b k q)
   where
-    as-it-was : Refused b k q → (more : List ℕ) × Stands a h before more (afterPost b k q) × ((afterPost b k q) .turn ≡ q .turn)
+    as-it-was : PostRefused b k q → (more : List ℕ) × Stands a h before more (afterPost b k q) × ((afterPost b k q) .turn ≡ q .turn)
     as-it-was r = (behind, record { good = good-post b k q (s .good); area-in = s .area-in; line = ap (λ (x : Queue). x .waiting a) (r .unchanged) ∙ s .line }, ap (λ (x : Queue). x .turn) (r .unchanged))
 
-    one-more : Taken b k q → (more : List ℕ) × Stands a h before more (afterPost b k q) × ((afterPost b k q) .turn ≡ q .turn)
+    one-more : PostTaken b k q → (more : List ℕ) × Stands a h before more (afterPost b k q) × ((afterPost b k q) .turn ≡ q .turn)
     one-more t = by (ℕ-discrete a b)
       where
         turned : (afterPost b k q) .turn ≡ q .turn
@@ -283,7 +283,7 @@ due (serve ∷ run) (suc n) a h before behind q s l m =
         record { place = suc (r .place); within = omega (arith, r .within); serving = r .serving }
 
 -- ---- in any good queue: an area with an hour waiting is served within four serves
-pub area-served : (run : List Event) (a : ℕ) (q : Queue) → Good q → a < 4 → 0 < length (q .waiting a) → 4 ≤ serves run → AreaServedWithin 4 a run q
+pub area-served : (run : List Event) (a : ℕ) (q : Queue) → QueueValid q → a < 4 → 0 < length (q .waiting a) → 4 ≤ serves run → AreaServedWithin 4 a run q
 area-served run a q g l waits m = by (q .waiting a) refl waits
   where
     by : (hours : List ℕ) → q .waiting a ≡ hours → 0 < length hours → AreaServedWithin 4 a run q
@@ -294,7 +294,7 @@ area-served run a q g l waits m = by (q .waiting a) refl waits
     }
 
 -- and an hour that was posted within one hundred
-pub hour-served : (run : List Event) (a h : ℕ) (q : Queue) → Good q → postNumber a h q ≡ 0 → 100 ≤ serves run
+pub hour-served : (run : List Event) (a h : ℕ) (q : Queue) → QueueValid q → postNumber a h q ≡ 0 → 100 ≤ serves run
     → ServedWithin 100 (pair a h) run (afterPost a h q)
 hour-served run a h q g taken-is m =
     let t = taken-of a h q taken-is in
@@ -319,7 +319,7 @@ pub nothing-found : (q : Queue) → ((a : ℕ) → a < 4 → q .waiting a ≡ []
 unfolding next
 nothing-found q e = ap (λ (x : ServeAnswer). x .number) (answer-by q none (all-empty (q .waiting) 4 (q .turn) e))
 
-pub nothing-waits : (q : Queue) → Good q → serveAnswer q .number ≡ 64 → (a : ℕ) → a < 4 → q .waiting a ≡ []
+pub nothing-waits : (q : Queue) → QueueValid q → serveAnswer q .number ≡ 64 → (a : ℕ) → a < 4 → q .waiting a ≡ []
 unfolding next
 nothing-waits q g e a l = by (q .waiting a) refl
   where

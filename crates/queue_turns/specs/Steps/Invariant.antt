@@ -24,7 +24,7 @@ pub data Hours : List ℕ → Type 0 where
   nothing : Hours []
   also : {h : ℕ} {hours : List ℕ} → h ≤ 24 → among h hours ≡ false → Hours hours → Hours (h ∷ hours)
 
-pub record Good (q : Queue) : Type 0 where
+pub record QueueValid (q : Queue) : Type 0 where
   pub turn-in : q .turn < 4
   pub hours : (a : ℕ) → Hours (q .waiting a)
 
@@ -109,7 +109,7 @@ module _ (a h : ℕ) (q : Queue) where
   after-by o e = ap (λ (x : Option Outcome). takenUnless x a h q) e
 
 -- a post is taken, or refused with a number other than 0
-pub record Taken (a h : ℕ) (q : Queue) : Type 0 where
+pub record PostTaken (a h : ℕ) (q : Queue) : Type 0 where
   pub area-in : a < 4
   pub hour-in : h ≤ 24
   pub new : among h (q .waiting a) ≡ false
@@ -117,19 +117,19 @@ pub record Taken (a h : ℕ) (q : Queue) : Type 0 where
   pub number-is : postNumber a h q ≡ 0
   pub leaves : afterPost a h q ≡ taken a h q
 
-pub record Refused (a h : ℕ) (q : Queue) : Type 0 where
+pub record PostRefused (a h : ℕ) (q : Queue) : Type 0 where
   pub outcome : Outcome
   pub by-row : refusal (postCauses a h q) ≡ some outcome
   pub some-number : 0 < postNumber a h q
   pub unchanged : afterPost a h q ≡ q
 
-pub posting : (a h : ℕ) (q : Queue) → Taken a h q ⊎ Refused a h q
+pub posting : (a h : ℕ) (q : Queue) → PostTaken a h q ⊎ PostRefused a h q
 posting a h q = by (decLt 3 a) (decLt 24 h) (among h (q .waiting a)) refl
   where
-    refused : (n : ℕ) → 0 < n → refusal (postCauses a h q) ≡ some (verdict n 0) → Refused a h q
+    refused : (n : ℕ) → 0 < n → refusal (postCauses a h q) ≡ some (verdict n 0) → PostRefused a h q
     refused n pos e = record { outcome = verdict n 0; by-row = e; some-number = omega (arith, number-by a h q (some (verdict n 0)) e); unchanged = after-by a h q (some (verdict n 0)) e }
 
-    by : Dec (3 < a) → Dec (24 < h) → (z : Bool) → among h (q .waiting a) ≡ z → Taken a h q ⊎ Refused a h q
+    by : Dec (3 < a) → Dec (24 < h) → (z : Bool) → among h (q .waiting a) ≡ z → PostTaken a h q ⊎ PostRefused a h q
     by (yes p) y z s = inr (refused 61 (omega arith) (refused-61 a h q p))
     by (no p) (yes r) z s = inr (refused 62 (omega arith) (refused-62 a h q (omega arith) r))
     by (no p) (no r) true s = inr (refused 63 (omega arith) (refused-63 a h q (omega arith) (omega arith) s))
@@ -138,8 +138,8 @@ posting a h q = by (decLt 3 a) (decLt 24 h) (among h (q .waiting a)) refl
         inl (record { area-in = omega arith; hour-in = omega arith; new = s; passes = e; number-is = number-by a h q none e; leaves = after-by a h q none e })
 
 -- the number 0 is answered only to a post that is taken
-pub taken-of : (a h : ℕ) (q : Queue) → postNumber a h q ≡ 0 → Taken a h q
-taken-of a h q e = ⊎-elim (λ (t : Taken a h q). t) (λ (r : Refused a h q). absurd (never (r .some-number))) (posting a h q)
+pub taken-of : (a h : ℕ) (q : Queue) → postNumber a h q ≡ 0 → PostTaken a h q
+taken-of a h q e = ⊎-elim (λ (t : PostTaken a h q). t) (λ (r : PostRefused a h q). absurd (never (r .some-number))) (posting a h q)
   where
     never : 0 < postNumber a h q → ⊥
     never p = omega (arith, e)
@@ -218,38 +218,38 @@ hours-put a l w g all b = by (eqb b a)
     by true = g
     by false = all b
 
-pub good-empty : Good empty
+pub good-empty : QueueValid empty
 good-empty = record { turn-in = omega arith; hours = λ a. nothing }
 
-pub good-taken : (a h : ℕ) (q : Queue) → h ≤ 24 → among h (q .waiting a) ≡ false → Good q → Good (taken a h q)
+pub good-taken : (a h : ℕ) (q : Queue) → h ≤ 24 → among h (q .waiting a) ≡ false → QueueValid q → QueueValid (taken a h q)
 good-taken a h q small new g = record {
   turn-in = g .turn-in;
   hours = hours-put a (q .waiting a ++ (h ∷ [])) (q .waiting) (hours-more h small new (g .hours a)) (g .hours);
 }
 
-pub good-without : (o : Option Pair) (q : Queue) → Good q → Good (without o q)
+pub good-without : (o : Option Pair) (q : Queue) → QueueValid q → QueueValid (without o q)
 good-without none q g = g
 good-without (some p) q g = record {
   turn-in = omega arith;
   hours = hours-put (p .area) (tail (q .waiting (p .area))) (q .waiting) (hours-less (g .hours (p .area))) (g .hours);
 }
 
-pub good-post : (a h : ℕ) (q : Queue) → Good q → Good (afterPost a h q)
+pub good-post : (a h : ℕ) (q : Queue) → QueueValid q → QueueValid (afterPost a h q)
 good-post a h q g = ⊎-elim
-    (λ (t : Taken a h q). subst (λ (x : Queue). Good x) (sym (t .leaves)) (good-taken a h q (t .hour-in) (t .new) g))
-    (λ (r : Refused a h q). subst (λ (x : Queue). Good x) (sym (r .unchanged)) g)
+    (λ (t : PostTaken a h q). subst (λ (x : Queue). QueueValid x) (sym (t .leaves)) (good-taken a h q (t .hour-in) (t .new) g))
+    (λ (r : PostRefused a h q). subst (λ (x : Queue). QueueValid x) (sym (r .unchanged)) g)
     (posting a h q)
 
-pub good-serve : (q : Queue) → Good q → Good (afterServe q)
+pub good-serve : (q : Queue) → QueueValid q → QueueValid (afterServe q)
 unfolding afterServe
 good-serve q g = good-without (next q) q g
 
-pub good-step : (e : Event) (q : Queue) → Good q → Good (step e q)
+pub good-step : (e : Event) (q : Queue) → QueueValid q → QueueValid (step e q)
 unfolding step
 good-step (post a h) q g = good-post a h q g
 good-step serve q g = good-serve q g
 
-pub good-after : (run : List Event) (q : Queue) → Good q → Good (after run q)
+pub good-after : (run : List Event) (q : Queue) → QueueValid q → QueueValid (after run q)
 unfolding after
 good-after [] q g = g
 good-after (e ∷ run) q g = good-after run (step e q) (good-step e q g)

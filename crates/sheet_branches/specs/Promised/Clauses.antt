@@ -7,7 +7,7 @@ use lib.ListN.{length, take}
 use Rattle.base_causes.specs.declared.Outcome.{Outcome}
 use Rattle.base_causes.specs.Meaning.Causes.{verdict}
 use Rattle.base_output.specs.declared.Written.{Written}
-use Rattle.sheet_lines.specs.Meaning.Sheet.{Header, Holds, lineCount, sheetOutcome, sheetWritten}
+use Rattle.sheet_lines.specs.Meaning.Sheet.{Header, SheetInCase, lineCount, sheetOutcome, sheetWritten}
 use Rattle.sheet_lines.specs.Promised.PlainCauses.{Answers, AnswersTo, answers}
 use Rattle.sheet_lines.specs.Promised.PlainBytes.{Branches, BranchesOf, branches-written}
 use Rattle.sheet_branches.specs.Meaning.Answer.{SheetAnswered}
@@ -17,9 +17,9 @@ module _ {zones : ℕ} {sheet old new : List ℕ} {r : Written} (a : SheetAnswer
   zero-is : r .number ≡ 0 → (sheetOutcome zones sheet (length old)) .number ≡ 0
   zero-is z = sym (ap (λ (o : Outcome). o .number) (a .outcome)) ∙ z
 
-  pub branches-held : r .number ≡ 0 → (header rest : List ℕ) → Header zones (lineCount sheet) header → Holds zones sheet (header ++ (take (r .length) new ++ rest))
+  pub branches-held : r .number ≡ 0 → (header rest : List ℕ) → Header zones (lineCount sheet) header → SheetInCase zones sheet (header ++ (take (r .length) new ++ rest))
   branches-held z header rest good =
-      subst (λ (t : List ℕ). Holds zones sheet (header ++ (t ++ rest))) (λ i. take (sym (a .length-is) i) (sym (a .output) i)) (written-back zones sheet old (zero-is z) header rest good)
+      subst (λ (t : List ℕ). SheetInCase zones sheet (header ++ (t ++ rest))) (λ i. take (sym (a .length-is) i) (sym (a .output) i)) (written-back zones sheet old (zero-is z) header rest good)
 
   pub causes-plain : AnswersTo zones sheet (length old) (verdict (r .number) (r .index))
   causes-plain rows c = subst (Answers zones rows (length old)) (sym (a .outcome)) (answers zones sheet (length old) rows c)

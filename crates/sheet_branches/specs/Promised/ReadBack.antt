@@ -18,7 +18,7 @@ use Rattle.rules.specs.Steps.LayoutLaws.{signed-there}
 use Rattle.rules.specs.Meaning.Hour.{caseOf}
 use Rattle.base_causes.specs.Promised.CauseLaws.{any-none}
 use Rattle.rules.specs.Meaning.Verdict.{branchFault}
-use Rattle.sheet_lines.specs.Meaning.Sheet.{limit, entry, Header, Holds, entryOf, lineOf, lineCount, branchPart, sheetBytes, sheetOutcome, sheetWritten, sheetOutput}
+use Rattle.sheet_lines.specs.Meaning.Sheet.{limit, entry, Header, SheetInCase, entryOf, lineOf, lineCount, branchPart, sheetBytes, sheetOutcome, sheetWritten, sheetOutput}
 use Rattle.sheet_branches.specs.Promised.Causes.{sheet-writes}
 use Rattle.sheet_branches.specs.Promised.Answered.{not-outside}
 use Rattle.sheet_lines.specs.Steps.Stands.{line-there}
@@ -67,7 +67,7 @@ module _ (zones : ℕ) (sheet : List ℕ) (room : ℕ) (answered : (sheetOutcome
     ptdf-at m z h l = entry-read m (suc z) _ h (omega arith) (ap (λ (n : ℕ). 14 + m * (4 + 4 * n) + 4 + 4 * z) has-zones ∙ omega arith)
 
     -- THE THEOREM
-    pub read-back : Holds zones sheet sheetCase
+    pub read-back : SheetInCase zones sheet sheetCase
     unfolding entryOf entry branchFault caseOf
     read-back = record {
       zones-are = has-zones;
@@ -83,10 +83,10 @@ module _ (zones : ℕ) (sheet : List ℕ) (room : ℕ) (answered : (sheetOutcome
 
 -- the same of the bytes that the entry says it wrote, as they then stand in its output
 pub written-back : (zones : ℕ) (sheet out : List ℕ) → (sheetOutcome zones sheet (length out)) .number ≡ 0 → (header rest : List ℕ) → Header zones (lineCount sheet) header
-    → Holds zones sheet (header ++ (take (length (sheetWritten zones sheet (length out))) (sheetOutput zones sheet out) ++ rest))
+    → SheetInCase zones sheet (header ++ (take (length (sheetWritten zones sheet (length out))) (sheetOutput zones sheet out) ++ rest))
 unfolding sheetOutput
 written-back zones sheet out e header rest good =
-    subst (λ (b : List ℕ). Holds zones sheet (header ++ (b ++ rest))) (sym stands) (read-back zones sheet (length out) e header rest good)
+    subst (λ (b : List ℕ). SheetInCase zones sheet (header ++ (b ++ rest))) (sym stands) (read-back zones sheet (length out) e header rest good)
   where
     stands : take (length (sheetWritten zones sheet (length out))) (sheetOutput zones sheet out) ≡ sheetBytes zones sheet
     stands = take-append-seam (sheetWritten zones sheet (length out)) (drop (length (sheetWritten zones sheet (length out))) out) ∙ sheet-writes zones sheet (length out) e

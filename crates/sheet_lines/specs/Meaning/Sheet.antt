@@ -120,7 +120,7 @@ pub record Header (zones branches : ℕ) (header : List ℕ) : Type 0 where
   pub branches-in : branchesIn header ≡ branches
 
 -- what the case s holds of the sheet: the margins as they stand, the PTDFs turned, and row 6 passes
-pub record Holds (zones : ℕ) (sheet s : List ℕ) : Type 0 where
+pub record SheetInCase (zones : ℕ) (sheet s : List ℕ) : Type 0 where
   pub zones-are : (caseOf s) .zones ≡ zones
   pub branches-are : (caseOf s) .branches ≡ lineCount sheet
   pub margins-are : (m : ℕ) → m < lineCount sheet → (caseOf s) .ram m ≡ value 1 (fieldOf (lineOf sheet m) 0)

@@ -5,7 +5,7 @@ use Prim.Native.Nat.{ℕ, _-_}
 use Rattle.flow_network.specs.Meaning.Network.{Network, Largest, DeficientSet, FeasibleAll}
 
 -- THE ANSWER: the largest total, a flow of every export for a yes, and a deficient set for a no
-pub record Answer (c : Network) (all : Bool) (t : ℕ) : Type 0 where
+pub record MaxFlowAnswer (c : Network) (all : Bool) (t : ℕ) : Type 0 where
   pub largest : Largest c t
   pub feasible-all : all ≡ true → FeasibleAll c
   pub deficient : all ≡ false → DeficientSet c

@@ -14,13 +14,13 @@ use Rattle.flow_pairs.specs.Meaning.Pairs.{networkOf}
 use Rattle.flow_scratch.specs.Meaning.Places.{amountAt, flowOf}
 use Rattle.flow_augment.specs.declared.Labels.{Labels}
 use Rattle.flow_augment.specs.Steps.Links.{Link}
-use Rattle.flow_augment.specs.Meaning.Path.{trailOf, Sized}
+use Rattle.flow_augment.specs.Meaning.Path.{trailOf, InputsInRange}
 use Rattle.flow_search.specs.declared.Arc.{Arc}
 use Rattle.flow_search.specs.Steps.Listing.{Marked, few, fewer}
 use Rattle.flow_search.specs.Steps.Search.{Low, DoneTo, Searching, Scanning, search-start, saturated, scan-end, pair-reaches, pair-found, link-on, link-back}
 use Rattle.flow_search.specs.Steps.Labelling.{queueOf, Wide, labelled, labelled-wide, labelled-trail, labelled-last, labelled-queue, Seeded}
 use Rattle.flow_search.specs.Steps.Arcs.{NoArc, Residual, along, against, NextArc}
-use Rattle.flow_search.specs.Meaning.Searched.{Searched}
+use Rattle.flow_search.specs.Meaning.SearchAnswer.{SearchAnswer}
 
 -- HOW FAR IT IS: the zones before h in the queue are done, of the zone at h what leads to the first w zones, and no
 -- zone that is reached has import left
@@ -52,7 +52,7 @@ done-to netExports prices bytes s m u y h = by (decLt 0 (getD (m .label) y 0))
     by (no l) = let n = h (omega arith) in record { on = λ j p f g t. absurd (n .on j p f g t); back = λ j p f g t. absurd (n .back j p f g t) }
 
 -- ONE ARC ON, from the zone at h in the queue
-module _ (netExports prices : List ℤ) (bytes : List ℕ) (s : List ℤ) (z : Sized netExports prices bytes) (m : Labels) (h w : ℕ) (p : Progress netExports prices bytes s m h w) (here : h < m .count) where
+module _ (netExports prices : List ℤ) (bytes : List ℕ) (s : List ℤ) (z : InputsInRange netExports prices bytes) (m : Labels) (h w : ℕ) (p : Progress netExports prices bytes s m h w) (here : h < m .count) where
   abbrev c : Network
   c = networkOf netExports prices bytes
 
@@ -138,14 +138,14 @@ module _ (netExports prices : List ℤ) (bytes : List ℕ) (s : List ℤ) (z : S
 
       -- with import left it is the sink
       pub searched-sink : 0 < dn (positionAt netExports (a .zone)) - amountAt s (80 + a .zone)
-          → Searched netExports prices bytes s (record { label = m' .label; depth = m' .depth; via = m' .via; queue = m' .queue; count = m' .count; sink = a .zone })
+          → SearchAnswer netExports prices bytes s (record { label = m' .label; depth = m' .depth; via = m' .via; queue = m' .queue; count = m' .count; sink = a .zone })
       searched-sink e = record {
         found = λ g. pair-found c b (trailOf m) (queueOf m) (m .count) h u (a .zone) scanned (trailOf m') (queueOf m') (a .zone) (a .amount) (a .pair) refl mk new (n .some in-prices) l (n .arc in-prices .pair (n .some in-prices)) last same own (omega arith);
         none = λ g. absurd (omega arith);
       }
 
 -- AS IT ENDS: all that is reached is done
-pub searched-none : (netExports prices : List ℤ) (bytes : List ℕ) (s : List ℤ) (m : Labels) (h w : ℕ) → Sized netExports prices bytes → Progress netExports prices bytes s m h w → m .count ≤ h → Searched netExports prices bytes s m
+pub searched-none : (netExports prices : List ℤ) (bytes : List ℕ) (s : List ℤ) (m : Labels) (h w : ℕ) → InputsInRange netExports prices bytes → Progress netExports prices bytes s m h w → m .count ≤ h → SearchAnswer netExports prices bytes s m
 searched-none netExports prices bytes s m h w z p all = record {
   found = λ l. absurd (omega (arith, p .no-sink, z .zones));
   none = λ l ca. saturated (networkOf netExports prices bytes) (z .placed) (flowOf s) ca (trailOf m) (queueOf m) (m .count) h (p .search) all;

@@ -13,7 +13,7 @@ use Rattle.base_causes.specs.Promised.CauseLaws.{no-less}
 use Rattle.rules.specs.Meaning.Families.{noParent, named, parentIn, parentOf}
 use Rattle.family_list.specs.Meaning.Parents.{Exist}
 use Rattle.family_list.specs.Steps.Ancestors.{has-parent}
-use Rattle.family_list.specs.Steps.Walk.{held, put-set, Searched}
+use Rattle.family_list.specs.Steps.Walk.{held, put-set, SearchSoFar}
 
 -- A NUMBER AS AN ORDER
 named-some : (v j : ℕ) → named v ≡ some j → v ≡ j
@@ -32,15 +32,15 @@ unfolding parentOf
 parent-is f j k e = named-some (parentIn f j) k e
 
 -- the first n entries, of 512
-pub record Taken (f : List ℕ) (n : ℕ) (up : List ℕ) : Type 0 where
+pub record ParentsTaken (f : List ℕ) (n : ℕ) (up : List ℕ) : Type 0 where
   pub long : length up ≡ 512
   pub entries : (j : ℕ) → j < n → held up j ≡ parentIn f j
 
 -- a turn of the loop that takes them
-pub take-none : (f up : List ℕ) → length up ≡ 512 → Taken f 0 up
+pub take-none : (f up : List ℕ) → length up ≡ 512 → ParentsTaken f 0 up
 take-none f up l = record { long = l; entries = λ j h. absurd (no-less j h) }
 
-pub take-more : (f up : List ℕ) (n x : ℕ) → n < 512 → Taken f n up → x ≡ parentIn f n → Taken f (n + 1) (set up n x)
+pub take-more : (f up : List ℕ) (n x : ℕ) → n < 512 → ParentsTaken f n up → x ≡ parentIn f n → ParentsTaken f (n + 1) (set up n x)
 take-more f up n x h t e =
     let p = put-set up n x (omega (arith, t .long)) in
     record {
@@ -51,10 +51,10 @@ take-more f up n x h t e =
 -- THE SEARCH OVER THEM, under way at order i
 pub record Search (f : List ℕ) (n i first : ℕ) (up : List ℕ) : Type 0 where
   pub long : length up ≡ 512
-  pub found : Searched (parentOf f) n i first (held up)
+  pub found : SearchSoFar (parentOf f) n i first (held up)
 
 -- BEFORE THE FIRST WALK
-module _ (f : List ℕ) (n : ℕ) (few : n ≤ 512) (x : Exist n (parentOf f)) (up : List ℕ) (t : Taken f n up) where
+module _ (f : List ℕ) (n : ℕ) (few : n ≤ 512) (x : Exist n (parentOf f)) (up : List ℕ) (t : ParentsTaken f n up) where
   is-parent : (j : ℕ) → j < n → held up j < noParent → parentOf f j ≡ some (held up j)
   unfolding parentOf
   is-parent j h l = ap named (sym (t .entries j h)) ∙ named-order (held up j) l
@@ -62,7 +62,7 @@ module _ (f : List ℕ) (n : ℕ) (few : n ≤ 512) (x : Exist n (parentOf f)) (
   is-held : (j k : ℕ) → j < n → parentOf f j ≡ some k → held up j ≡ k
   is-held j k h e = t .entries j h ∙ parent-is f j k e
 
-  none-found : Searched (parentOf f) n 0 n (held up)
+  none-found : SearchSoFar (parentOf f) n 0 n (held up)
   none-found = record {
     walked = record {
       holds-parent = λ j h l. is-parent j h (omega arith);
