@@ -7,7 +7,7 @@ use mathlib.Core.Logic.{_↔_}
 use mathlib.Core.Bool.{Bool, true, false, true≢false, cond}
 use mathlib.Core.List.{List}
 use Prim.Native.Nat.{ℕ, zero, suc, _+_, _-_, _*_, _/_, _%_, _^_, _≤_, _<_, min, compare}
-use native.Mathlib.Nat.{mod-lt, div-add-mod', lt-of-mul-lt-mul-right, le-trans, le-of-eq, le-of-lt, lt-of-le-of-lt, mul-one, mul-le-mul-right}
+use native.Mathlib.Nat.{lt-of-mul-lt-mul-right, le-trans, le-of-eq, le-of-lt, lt-of-le-of-lt, mul-one, mul-le-mul-right}
 use native.Mathlib.Omega.{arith}
 use native.Mathlib.Decide.{decLt}
 use lib.Dec.{T, ltb, lit<}
@@ -26,6 +26,7 @@ use Rattle.base_integers.specs.Steps.Ranges.{is-true}
 use Rattle.base_integers.specs.Meaning.NaturalSums.{sumNat}
 use Rattle.rules.specs.Meaning.Layout.{u32At}
 use Rattle.dump_binary64.specs.Meaning.Value.{bitsAt, minus, units, product, cut, nearest}
+use Rattle.dump_binary64.specs.Steps.WholePart.{cut-parts}
 use Rattle.dump_binary64.specs.Steps.Cutting.{lt-or-eq, over-by, under-by, round-cut-le, round-cut-ge}
 
 -- THE 64 BITS of the n-th value
@@ -60,9 +61,6 @@ pub record NearestOf (b q v : ℕ) : Type 0 where
   pub over : 2 * v * den (rounded b q) ≤ 2 * num (rounded b q) + den (rounded b q)
   pub under : 2 * num (rounded b q) ≤ 2 * v * den (rounded b q) + den (rounded b q)
   pub away : (k : ℕ) → 2 * num (rounded b q) ≡ (2 * k + 1) * den (rounded b q) → v ≡ k + 1
-
-cut-parts : (n d : ℕ) → 0 < d → (n / d * d ≤ n) × (n < (n / d + 1) * d)
-cut-parts n d h = (omega (arith, div-add-mod' n d), omega (arith, div-add-mod' n d, mod-lt n h))
 
 nearest-parts : (n d : ℕ) → 0 < d → (2 * ((2 * n + d) / (2 * d)) * d ≤ 2 * n + d) × (2 * n < 2 * ((2 * n + d) / (2 * d)) * d + d)
 nearest-parts n d h =

@@ -101,15 +101,16 @@ sum-is (fin true m e) g f =
     same : (n k : ℕ) → n ≡ 0 → k - n * 1 ≡ n + k
     same n k z = omega arith
 
-parts : (n d : ℕ) → 0 < d → (n / d * d ≤ n) × (n < (n / d + 1) * d)
-parts n d h = (omega (arith, div-add-mod' n d), omega (arith, div-add-mod' n d, mod-lt n h))
+-- the whole part of a quotient, times the divisor, and one more of it
+pub cut-parts : (n d : ℕ) → 0 < d → (n / d * d ≤ n) × (n < (n / d + 1) * d)
+cut-parts n d h = (omega (arith, div-add-mod' n d), omega (arith, div-add-mod' n d, mod-lt n h))
 
 -- ROUNDED TO A WHOLE NUMBER: the cut or the next
 pub rounded-whole : (p : Float) → T (le zero64 p) → T (finite p) → cut p < 2 ^ 32 → NextTo (cut p) (sub binary64 (add binary64 p wholes) wholes)
 unfolding cut
 rounded-whole p g f h =
     let c = num p / den p in
-    let q = parts (num p) (den p) (den-pos p) in
+    let q = cut-parts (num p) (den p) (den-pos p) in
     let y = round binary64 false (num p + 2 ^ 52 * den p) (den p) in
     let lo = round binary64 false (2 ^ 52 + c) 1 in
     let hi = round binary64 false (2 ^ 52 + c + 1) 1 in
@@ -170,7 +171,7 @@ at-most (fin true m e) r w g f q v l =
         one d = omega arith
 at-most (fin false m e) r w g f q v l =
     le-of-values r (fin false m e) w 1 (m * up e) (down e) (pow-pos 0) (down-pos e) v (refl, refl)
-    (le-trans (mul-le-mul-right (down e) l) (le-trans (parts (m * up e) (down e) (down-pos e) .0) (le-of-eq (sym (mul-one (m * up e))))))
+    (le-trans (mul-le-mul-right (down e) l) (le-trans (cut-parts (m * up e) (down e) (down-pos e) .0) (le-of-eq (sym (mul-one (m * up e))))))
 
 pub above-it : (p r : Float) → T (le zero64 p) → Ranged p → cut p < 2 ^ 32 → (n : NextTo (cut p) r) → le r p ≡ false → n .whole ≡ cut p + 1
 above-it p r g k h n e =
