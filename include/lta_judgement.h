@@ -8,13 +8,13 @@
  * prices; lta_hour_intuitive_small and lta_intuitive_small give the same answers from less scratch. lta_dump_proposal turns a solver's
  * dump into a proposal for a case. lta_case_columned rearranges a case for the archive, and lta_case_restored gives it back.
  * lta_shortfalls says of an accepted hour by how much each order, branch and link may be out. lta_queue_post and lta_queue_serve keep the
- * queue of a desk that serves four areas.
+ * queue of a desk that serves four areas. lta_version says which library answers.
  *
  * Where a promise comes from. A word in brackets, as [outcome], is a clause of the entry's contract in crates/host, and
- * the archive is built only if every function in it is proved to meet its contract; lta_book_surplus has one clause, without
- * a name. The clauses cite definitions, and these say what a number, a rule or a field is. What is proved of the
- * definitions, and stands in no clause, is said with the crates that prove it. docs/GUARANTEE.md names the theorems, and
- * what all of it rests on.
+ * the archive is built only if every function in it is proved to meet its contract; lta_book_surplus and
+ * lta_version have one clause each, without a name. The clauses cite definitions, and these say what a number, a rule or a
+ * field is. What is proved of the definitions, and stands in no clause, is said with the crates that prove it.
+ * docs/GUARANTEE.md names the theorems, and what all of it rests on.
  *
  * What the caller owes, in every call:
  *   - A pointer and the length or count after it are one array: all of it may be read, and all of `report`, `out` or `scratch` may be
@@ -57,8 +57,11 @@ extern "C" {
 
 /* The version of this header and of what it declares. The first number rises where a program that was right may no longer be, the second
  * where something is added. LTA_VERSION_NUMBER is for comparing: 1.2.3 is 10203. */
-#define LTA_VERSION "4.2.0"
-#define LTA_VERSION_NUMBER 40200
+#define LTA_VERSION "4.3.0"
+#define LTA_VERSION_NUMBER 40300
+
+/* The version of the library that answers: LTA_VERSION_NUMBER of the header that belongs to it. Since 4.3.0. */
+uint32_t lta_version(void);
 
 #define LTA_GRAINS_PER_CENT 100000
 #define LTA_GRAINS_PER_EURO 10000000

@@ -89,3 +89,13 @@ pub fn queue_serve(queue: &mut [u8; QUEUE_BYTES]) -> ServedAnswer {
     let served = lta_sys::queue_serve(queue);
     ServedAnswer { number: served.number, index: served.index, area: served.area, hour: served.hour }
 }
+
+#[cfg(test)]
+mod tests {
+    #[test]
+    fn the_library_has_the_version_of_the_header() {
+        let header = include_str!("../../include/lta_judgement.h");
+        let defined = header.lines().find_map(|line| line.strip_prefix("#define LTA_VERSION_NUMBER "));
+        assert_eq!(defined, Some(lta_sys::version().to_string().as_str()));
+    }
+}

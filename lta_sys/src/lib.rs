@@ -57,6 +57,7 @@ type CarriedEntry<T> =
     unsafe extern "C" fn(*const T, usize, *const T, usize, *const u8, usize, *mut i64, usize) -> Carried;
 
 extern "C" {
+    fn lta_version() -> u32;
     fn lta_judge(
         case_bytes: *const u8,
         case_len: usize,
@@ -160,6 +161,11 @@ fn start_mut<T>(list: &mut [T], null: bool) -> *mut T {
 }
 
 // Each call below is safe: every pointer comes with the length of its own slice.
+
+/// LTA_VERSION_NUMBER of the header that belongs to the library.
+pub fn version() -> u32 {
+    unsafe { lta_version() }
+}
 
 /// Number + 256 * index.
 pub fn judge(case: &[u8], proposal: &[u8], report: &mut [u8], null: bool) -> u64 {

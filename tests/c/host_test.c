@@ -1,5 +1,5 @@
-/* What the header itself has, beside the archive's entries: the version, the readers of a report and the numbers in words; and that the
- * judgement may be called from several threads at once. */
+/* What the header itself has, next to the library's entries: the version, which is the library's, the readers of a report and
+ * the numbers in words; and that the judgement may be called from several threads at once. */
 #include "harness.h"
 #include "hours.h"
 #include "lta_judgement.h"
@@ -16,6 +16,8 @@ static void versions(void)
     check(sscanf(LTA_VERSION, "%u.%u.%u", &major, &minor, &patch) == 3);
     about("the version as a number is another than the text's");
     check(LTA_VERSION_NUMBER == 10000 * major + 100 * minor + patch);
+    about("the library is of version %" PRIu32, lta_version());
+    check(lta_version() == LTA_VERSION_NUMBER);
 }
 
 static void amount_reads(int64_t amount)

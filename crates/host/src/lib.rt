@@ -8,3 +8,4 @@ pub mod queue;
 pub mod sheet;
 pub mod shortfall_hours;
 pub mod text;
+pub mod version;
