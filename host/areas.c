@@ -1,25 +1,29 @@
-/* A host of the desk queue: `areas POSTS` reads what four areas post, and one loop serves the queue and has each hour judged. A line of
- * the file POSTS is
+/* A host of the desk queue: `areas POSTS` reads what four areas post, and one loop serves the queue and has each hour
+ * judged. A line of the file POSTS is
  *
  *     AREA HOUR CASE PROPOSAL      an area's solver has finished an hour: it is posted, with its two files
- *     (an empty line)              the desk has time for one hour
+ *     (a line without words)       the desk has time for one hour
  *
- * and at the end of the file the desk serves all that waits. For each hour judged a line is printed, area, hour, number, index and what the
- * number means; for each post that is refused, area, hour, `not posted`, number and what it means. The last line counts.
- * The status is 0 if every hour judged is accepted and every post taken, 1 if not, 2 if an hour could not be judged, a line not be read or
- * the answer not be printed.
+ * and at the end of the file the desk serves all that waits. For each hour judged a line is printed: area, hour, number,
+ * index and what the number means; for each post that is refused: area, hour, `not posted`, number and what it means. The
+ * last line counts. A line that is neither is named by its number, counted from 1, and those after it are read all the
+ * same. The status is 0 if every hour judged is accepted and every post taken, 1 if not, 2 if an hour could not be judged,
+ * a line not be read or the answer not be printed.
  *
- *     cc -Iinclude host/areas.c target/staticlib/libhost.a -o areas
+ *     cc areas.c $(pkg-config --cflags --libs lta_judgement) -o areas
  */
 #include "lta_judgement.h"
+#include "read_file.h"
 
 #include <errno.h>
 #include <inttypes.h>
+#include <stdbool.h>
 #include <stdio.h>
 #include <stdlib.h>
 #include <string.h>
 
 #define NAME_MOST 255
+#define LINE_MOST (2 * NAME_MOST + 40)
 
 /* The desk: its queue, and the files of each hour that waits in it. All of it zero is a desk at the beginning of a day. */
 struct desk {
@@ -30,100 +34,145 @@ struct desk {
     unsigned accepted, refused, not_judged, not_posted, not_read;
 };
 
-struct bytes {
-    uint8_t *start; /* null if they could not be had; else freed by the caller */
-    size_t length;
+struct post {
+    uint32_t area, hour;
+    struct files files;
 };
-
-static struct bytes file_bytes(const char *name)
-{
-    const struct bytes none = {NULL, 0};
-    struct bytes read = none;
-    size_t room = 0;
-    FILE *file = fopen(name, "rb");
-    if (file == NULL) {
-        fprintf(stderr, "areas: cannot open %s: %s\n", name, strerror(errno));
-        return none;
-    }
-    do {
-        room = room == 0 ? 16384 : 2 * room;
-        uint8_t *larger = realloc(read.start, room);
-        if (larger == NULL) {
-            fprintf(stderr, "areas: no memory for %s\n", name);
-            free(read.start);
-            fclose(file);
-            return none;
-        }
-        read.start = larger;
-        read.length += fread(read.start + read.length, 1, room - read.length, file);
-    } while (read.length == room);
-    if (ferror(file)) {
-        fprintf(stderr, "areas: cannot read %s: %s\n", name, strerror(errno));
-        free(read.start);
-        read = none;
-    }
-    fclose(file);
-    return read;
-}
 
 static void judge(struct desk *desk, uint32_t area, uint32_t hour)
 {
     const struct files *files = &desk->files[area][hour];
-    struct bytes case_bytes = file_bytes(files->hour), proposal = file_bytes(files->proposal);
-    if (case_bytes.start != NULL && proposal.start != NULL) {
-        uint8_t report[LTA_REPORT_ROOM];
-        uint64_t verdict = lta_judge(case_bytes.start, case_bytes.length, proposal.start, proposal.length, report, sizeof report);
-        uint32_t number = LTA_NUMBER(verdict);
-        printf("%" PRIu32 " %" PRIu32 " %" PRIu32 " %" PRIu32 " %s\n", area, hour, number, LTA_INDEX(verdict), lta_number_text(number));
-        desk->accepted += number == LTA_ACCEPTED;
-        desk->refused += number != LTA_ACCEPTED;
-    } else {
+    struct hour_files read;
+    uint8_t report[LTA_REPORT_ROOM];
+    if (!read_hour("areas", files->hour, files->proposal, &read)) {
         desk->not_judged++;
+        return;
     }
-    free(case_bytes.start);
-    free(proposal.start);
+    uint64_t verdict = lta_judge(read.case_bytes, read.case_length, read.proposal, read.proposal_length, report, sizeof report);
+    uint32_t number = LTA_NUMBER(verdict);
+    printf("%" PRIu32 " %" PRIu32 " %" PRIu32 " %" PRIu32 " %s\n", area, hour, number, LTA_INDEX(verdict), lta_number_text(number));
+    desk->accepted += number == LTA_ACCEPTED;
+    desk->refused += number != LTA_ACCEPTED;
 }
 
-/* Serves an hour and has it judged; 0 where nothing waits. */
-static int serve(struct desk *desk)
+/* Serves an hour and has it judged; false where nothing waits. */
+static bool serve(struct desk *desk)
 {
     struct lta_served next = lta_queue_serve(desk->queue);
     if (next.number == LTA_QUEUE_NOTHING)
-        return 0;
+        return false;
     judge(desk, next.area, next.hour);
-    return 1;
+    return true;
 }
 
-/* Posts an hour. Its files are kept only if it is taken: then none of that area and hour is waiting that they could be mistaken for. */
-static void post(struct desk *desk, uint32_t area, uint32_t hour, const struct files *files)
+/* Posts an hour. Its files are kept only if it is taken: then none of that area and hour is waiting that they could be
+ * mistaken for. */
+static void take_post(struct desk *desk, const struct post *post)
 {
-    uint32_t number = lta_queue_post(desk->queue, area, hour);
+    uint32_t number = lta_queue_post(desk->queue, post->area, post->hour);
     if (number == 0) {
-        desk->files[area][hour] = *files;
+        desk->files[post->area][post->hour] = post->files;
     } else {
-        printf("%" PRIu32 " %" PRIu32 " not posted %" PRIu32 " %s\n", area, hour, number, lta_number_text(number));
+        printf("%" PRIu32 " %" PRIu32 " not posted %" PRIu32 " %s\n", post->area, post->hour, number, lta_number_text(number));
         desk->not_posted++;
     }
 }
 
-static void take_line(struct desk *desk, const char *line)
+/* Whether a word is a whole number of 32 bits in digits alone: strtoul by itself takes a sign, and what it has no room
+ * for it cuts. Whether there is such an area or hour, the queue says. */
+static bool read_number(const char *word, uint32_t *number)
 {
-    struct files files;
-    uint32_t area = 0, hour = 0;
-    if (line[0] == '\n') {
+    char *end = NULL;
+    errno = 0;
+    unsigned long value = strtoul(word, &end, 10);
+    *number = (uint32_t)value;
+    return word[0] >= '0' && word[0] <= '9' && *end == '\0' && errno == 0 && value <= UINT32_MAX;
+}
+
+static bool read_name(const char *word, char name[NAME_MOST + 1])
+{
+    size_t length = strlen(word);
+    if (length > NAME_MOST)
+        return false;
+    memcpy(name, word, length + 1);
+    return true;
+}
+
+/* Reads four words as a post. What is wrong with them, or null. */
+static const char *read_post(char *const word[4], struct post *post)
+{
+    if (!read_number(word[0], &post->area))
+        return "AREA is no whole number of 32 bits";
+    if (!read_number(word[1], &post->hour))
+        return "HOUR is no whole number of 32 bits";
+    if (!read_name(word[2], post->files.hour) || !read_name(word[3], post->files.proposal))
+        return "a file's name is too long";
+    return NULL;
+}
+
+/* Cuts a line into its words, and gives how many there are; the first four are kept. */
+static size_t cut_words(char *line, char *word[4])
+{
+    size_t count = 0;
+    for (char *next = strtok(line, " \t\r"); next != NULL; next = strtok(NULL, " \t\r")) {
+        if (count < 4)
+            word[count] = next;
+        count++;
+    }
+    return count;
+}
+
+/* Takes a line. What is wrong with it, or null. */
+static const char *take_line(struct desk *desk, char *line)
+{
+    char *word[4];
+    struct post post;
+    size_t count = cut_words(line, word);
+    if (count == 0) {
         serve(desk);
-    } else if (sscanf(line, "%" SCNu32 " %" SCNu32 " %255s %255s", &area, &hour, files.hour, files.proposal) == 4) {
-        post(desk, area, hour, &files);
-    } else {
-        fprintf(stderr, "areas: no post: %s", line);
-        desk->not_read++;
+        return NULL;
+    }
+    const char *fault = count == 4 ? read_post(word, &post) : "it is not AREA HOUR CASE PROPOSAL";
+    if (fault == NULL)
+        take_post(desk, &post);
+    return fault;
+}
+
+enum line { LINE, BAD_LINE, NO_LINE };
+
+/* The next line without its newline. One that has no room, or has a zero byte, is read to its end and is bad. */
+static enum line next_line(FILE *posts, char line[LINE_MOST + 1])
+{
+    size_t length = 0;
+    bool good = true;
+    int c = getc(posts);
+    if (c == EOF)
+        return NO_LINE;
+    for (; c != EOF && c != '\n'; c = getc(posts)) {
+        good = good && length < LINE_MOST && c != '\0';
+        if (good)
+            line[length++] = (char)c;
+    }
+    line[length] = '\0';
+    return good ? LINE : BAD_LINE;
+}
+
+static void take_lines(struct desk *desk, FILE *posts)
+{
+    char line[LINE_MOST + 1];
+    unsigned long number = 1;
+    for (enum line next = next_line(posts, line); next != NO_LINE; next = next_line(posts, line), number++) {
+        const char *fault = next == BAD_LINE ? "it is too long, or has a zero byte" : take_line(desk, line);
+        if (fault != NULL) {
+            fprintf(stderr, "areas: line %lu is left out: %s\n", number, fault);
+            desk->not_read++;
+        }
     }
 }
 
 int main(int count, char **words)
 {
     static struct desk desk;
-    char line[2 * NAME_MOST + 40];
     if (count != 2) {
         fprintf(stderr, "usage: areas POSTS\n");
         return 2;
@@ -133,8 +182,7 @@ int main(int count, char **words)
         fprintf(stderr, "areas: cannot open %s: %s\n", words[1], strerror(errno));
         return 2;
     }
-    while (fgets(line, sizeof line, posts) != NULL)
-        take_line(&desk, line);
+    take_lines(&desk, posts);
     if (ferror(posts)) {
         fprintf(stderr, "areas: cannot read %s: %s\n", words[1], strerror(errno));
         desk.not_read++;

@@ -1,59 +1,23 @@
-/* A host of the judgement that judges a day: `day CASE PROPOSAL [CASE PROPOSAL ..]` has each pair of files judged and prints a line for
- * it: the case's name, number, index and what the number means, and for 0 and 26 gap, rent and owed in euros. The last line counts.
- * The status is 0 if every hour is accepted, 1 if one is refused, 2 if one could not be judged or the answer not be printed; an hour that
- * cannot be read is named, and those after it are judged all the same.
+/* A host of the judgement that judges a day: `day CASE PROPOSAL [CASE PROPOSAL ..]` has each pair of files judged and
+ * prints a line for it: the case's name, number, index and what the number means, and for 0 and 26 gap, rent and owed in
+ * euros. The last line counts. The status is 0 if every hour is accepted, 1 if one is refused, 2 if one could not be
+ * judged or the answer not be printed; an hour that cannot be read is named, and those after it are judged all the same.
  *
- *     cc -Iinclude host/day.c target/staticlib/libhost.a -o day
+ *     cc day.c $(pkg-config --cflags --libs lta_judgement) -o day
  */
 #include "lta_judgement.h"
+#include "read_file.h"
 
 #include <errno.h>
 #include <inttypes.h>
 #include <stdio.h>
-#include <stdlib.h>
 #include <string.h>
 
 enum status { ACCEPTED, REFUSED, NOT_JUDGED };
 
-struct bytes {
-    uint8_t *start; /* null if they could not be had; else freed by the caller */
-    size_t length;
-};
-
 struct tally {
     unsigned accepted, refused, not_judged;
 };
-
-static struct bytes file_bytes(const char *name)
-{
-    const struct bytes none = {NULL, 0};
-    struct bytes read = none;
-    size_t room = 0;
-    FILE *file = fopen(name, "rb");
-    if (file == NULL) {
-        fprintf(stderr, "day: cannot open %s: %s\n", name, strerror(errno));
-        return none;
-    }
-    do {
-        room = room == 0 ? 16384 : 2 * room;
-        uint8_t *larger = realloc(read.start, room);
-        if (larger == NULL) {
-            fprintf(stderr, "day: no memory for %s\n", name);
-            free(read.start);
-            fclose(file);
-            return none;
-        }
-        read.start = larger;
-        read.length += fread(read.start + read.length, 1, room - read.length, file);
-    } while (read.length == room);
-    if (ferror(file)) {
-        fprintf(stderr, "day: cannot read %s: %s\n", name, strerror(errno));
-        free(read.start);
-        read = none;
-    }
-    fclose(file);
-    return read;
-}
 
 /* An amount in euros, with the eight decimals that a microcent has. */
 static void print_euros(const char *name, int64_t microcents)
@@ -77,17 +41,13 @@ static void print_hour(const char *name, uint64_t verdict, const uint8_t *report
 
 static enum status judge_hour(const char *case_name, const char *proposal_name)
 {
-    struct bytes hour = file_bytes(case_name), proposal = file_bytes(proposal_name);
-    enum status status = NOT_JUDGED;
-    if (hour.start != NULL && proposal.start != NULL) {
-        uint8_t report[LTA_REPORT_ROOM];
-        uint64_t verdict = lta_judge(hour.start, hour.length, proposal.start, proposal.length, report, sizeof report);
-        print_hour(case_name, verdict, report);
-        status = LTA_NUMBER(verdict) == LTA_ACCEPTED ? ACCEPTED : REFUSED;
-    }
-    free(hour.start);
-    free(proposal.start);
-    return status;
+    struct hour_files hour;
+    uint8_t report[LTA_REPORT_ROOM];
+    if (!read_hour("day", case_name, proposal_name, &hour))
+        return NOT_JUDGED;
+    uint64_t verdict = lta_judge(hour.case_bytes, hour.case_length, hour.proposal, hour.proposal_length, report, sizeof report);
+    print_hour(case_name, verdict, report);
+    return LTA_NUMBER(verdict) == LTA_ACCEPTED ? ACCEPTED : REFUSED;
 }
 
 int main(int count, char **words)

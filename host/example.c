@@ -1,51 +1,19 @@
 /* A host of the judgement, complete: `example CASE PROPOSAL` reads two files, has them judged and prints the answer, and
- * `example CASE PROPOSAL FAMILIES` does so with a family list. The status is 0 if the hour is accepted, 1 if it is refused, 2 if it could not be judged or the
- * answer not be printed.
+ * `example CASE PROPOSAL FAMILIES` does so with a family list. The status is 0 if the hour is accepted, 1 if it is
+ * refused, 2 if it could not be judged or the answer not be printed.
  *
- *     cc -Iinclude host/example.c target/staticlib/libhost.a -o example
+ *     cc example.c $(pkg-config --cflags --libs lta_judgement) -o example
  */
 #include "lta_judgement.h"
+#include "read_file.h"
 
 #include <errno.h>
 #include <inttypes.h>
 #include <stdbool.h>
 #include <stdio.h>
-#include <stdlib.h>
 #include <string.h>
 
 enum status { ACCEPTED, REFUSED, NOT_JUDGED };
-
-/* The bytes of a file; null, with a message printed, if they cannot be had. They are freed by the caller. */
-static uint8_t *file_bytes(const char *name, size_t *length)
-{
-    FILE *file = fopen(name, "rb");
-    if (file == NULL) {
-        fprintf(stderr, "example: cannot open %s: %s\n", name, strerror(errno));
-        return NULL;
-    }
-    size_t room = 0, filled = 0;
-    uint8_t *bytes = NULL;
-    do {
-        room = room == 0 ? 4096 : 2 * room;
-        uint8_t *larger = realloc(bytes, room);
-        if (larger == NULL) {
-            fprintf(stderr, "example: no memory for %s\n", name);
-            free(bytes);
-            fclose(file);
-            return NULL;
-        }
-        bytes = larger;
-        filled += fread(bytes + filled, 1, room - filled, file);
-    } while (filled == room);
-    if (ferror(file)) {
-        fprintf(stderr, "example: cannot read %s: %s\n", name, strerror(errno));
-        free(bytes);
-        bytes = NULL;
-    }
-    fclose(file);
-    *length = filled;
-    return bytes;
-}
 
 static void print_report(const uint8_t *report)
 {
@@ -60,28 +28,25 @@ static void print_report(const uint8_t *report)
 
 int main(int count, char **words)
 {
+    struct hour_files hour;
+    uint8_t families[LTA_FAMILIES_ROOM + 1], report[LTA_REPORT_ROOM];
+    size_t families_length = 0;
+    uint64_t verdict = 0;
     if (count != 3 && count != 4) {
         fprintf(stderr, "usage: example CASE PROPOSAL [FAMILIES]\n");
         return NOT_JUDGED;
     }
-    /* An empty list is refused: without families it is the other entry that is called. */
     bool with_families = count == 4;
-    size_t case_length = 0, proposal_length = 0, families_length = 0;
-    uint8_t *case_bytes = file_bytes(words[1], &case_length);
-    uint8_t *proposal = case_bytes == NULL ? NULL : file_bytes(words[2], &proposal_length);
-    uint8_t *families = proposal == NULL || !with_families ? NULL : file_bytes(words[3], &families_length);
-    uint8_t report[LTA_REPORT_ROOM];
-    uint64_t verdict = 0;
-    bool judged = proposal != NULL && (families != NULL || !with_families);
-    if (judged && with_families)
-        verdict = lta_judge_families(case_bytes, case_length, proposal, proposal_length, families, families_length, report, sizeof report);
-    else if (judged)
-        verdict = lta_judge(case_bytes, case_length, proposal, proposal_length, report, sizeof report);
-    free(families);
-    free(proposal);
-    free(case_bytes);
-    if (!judged)
+    if (!read_hour("example", words[1], words[2], &hour) ||
+        (with_families && !read_file("example", words[3], families, sizeof families, &families_length)))
         return NOT_JUDGED;
+
+    /* An empty list is refused: without families it is the other entry that is called. */
+    if (with_families)
+        verdict = lta_judge_families(hour.case_bytes, hour.case_length, hour.proposal, hour.proposal_length,
+                                     families, families_length, report, sizeof report);
+    else
+        verdict = lta_judge(hour.case_bytes, hour.case_length, hour.proposal, hour.proposal_length, report, sizeof report);
 
     uint32_t number = LTA_NUMBER(verdict);
     printf("verdict %" PRIu32 " %" PRIu32 "\n", number, LTA_INDEX(verdict));
