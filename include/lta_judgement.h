@@ -1,4 +1,6 @@
-/* The judgement of one day-ahead hour, for C and C++. To be linked with target/staticlib/libhost.a.
+/* The judgement of one day-ahead hour, for C and C++. `pkg-config lta_judgement` has the flags to compile and link with.
+ *
+ * You need C99 or C++98, or a later version of either, on x86-64 Linux. The library is built for no other platform.
  *
  * An hour is a case (zones, branches, links and orders) and a proposal for its clearing (volumes, flows and prices). lta_judge answers
  * whether the proposal is accepted, or else the first cause for which it is refused. lta_judge_families answers the same where orders lean
@@ -10,11 +12,11 @@
  * lta_shortfalls says of an accepted hour by how much each order, branch and link may be out. lta_queue_post and lta_queue_serve keep the
  * queue of a desk that serves four areas. lta_version says which library answers.
  *
- * Where a promise comes from. A word in brackets, as [outcome], is a clause of the entry's contract in crates/host, and
- * the archive is built only if every function in it is proved to meet its contract; lta_book_surplus and
- * lta_version have one clause each, without a name. The clauses cite definitions, and these say what a number, a rule or a
- * field is. What is proved of the definitions, and stands in no clause, is said with the crates that prove it.
- * docs/GUARANTEE.md names the theorems, and what all of it rests on.
+ * Where a promise comes from. A word in brackets, as [outcome], is a clause of the entry's contract. The library is built
+ * only if every function in it is proved to meet its contract; lta_book_surplus and lta_version have one clause each,
+ * without a name. The clauses cite definitions, and these say what a number, a rule or a field is. What is in no clause
+ * and follows from the definitions is marked "proved of the definitions". The document GUARANTEE names the theorems, and
+ * what all of it rests on.
  *
  * What the caller owes, in every call:
  *   - A pointer and the length or count after it are one array: all of it may be read, and all of `report`, `out` or `scratch` may be
@@ -25,6 +27,9 @@
  *   - There is stack enough. The proofs are about a machine that cannot run out of it; by test, 16 KiB are enough.
  *   - In a call of lta_dump_proposal the floating-point environment is that with which a C program starts: rounding to the nearest, and
  *     subnormals neither taken nor written as zero. A program that is linked with -ffast-math starts with another. No other entry uses it.
+ *   - Floating-point traps are masked in a call of lta_dump_proposal, as they are when a C program starts. It may raise the
+ *     flags inexact and overflow, and the processor's flag for a subnormal operand, which C has no name for; it raises no
+ *     other flag and clears none. That is tested, and not proved.
  *
  * What holds then of every call, whatever the bytes are. It comes from the language, in which a contract is proved only of
  * code that ends and a function reaches nothing that it is not given, and from no clause:
@@ -51,8 +56,52 @@
 #include <stddef.h>
 #include <stdint.h>
 
+#ifdef __clang__
+#pragma clang diagnostic push
+#pragma clang diagnostic ignored "-Wgcc-compat" /* GCC has not all of its attributes */
+#endif
+
 #ifdef __cplusplus
+#define LTA_CAST(type, value) (static_cast<type>(value))
 extern "C" {
+#else
+#define LTA_CAST(type, value) ((type)(value))
+#endif
+
+/* CHECKED BY THE COMPILER. GCC and Clang warn where
+ *   - an answer is not used;
+ *   - an array is smaller than the length that is lent with it (GCC from 10 on);
+ *   - an array is null and its length is not 0 (GCC from 10 on, with -Wall);
+ *   - a queue or a report to be read is null (GCC with -Wall), or in C a queue is too small.
+ * LTA_NO_ATTRIBUTES, defined before the include, leaves the attributes out. */
+#if defined(__GNUC__) && !defined(LTA_NO_ATTRIBUTES)
+#define LTA_USE_ANSWER __attribute__((__warn_unused_result__))
+#define LTA_NOT_NULL(at) __attribute__((__nonnull__(at)))
+#else
+#define LTA_USE_ANSWER
+#define LTA_NOT_NULL(at)
+#endif
+
+/* Parameter `at`, counted from 1, is an array, and the next one says how many elements it has. */
+#if defined(LTA_NO_ATTRIBUTES)
+#define LTA_LENT(mode, at, array, count)
+#elif defined(__clang__)
+#define LTA_LENT(mode, at, array, count) \
+    __attribute__((__diagnose_if__(__builtin_object_size(array, 0) / sizeof *(array) < (count), \
+                                   #array " is smaller than " #count " says", "warning")))
+#elif defined(__GNUC__) && __GNUC__ >= 10
+#define LTA_LENT(mode, at, array, count) __attribute__((__access__(mode, at, at + 1)))
+#else
+#define LTA_LENT(mode, at, array, count)
+#endif
+#define LTA_READS(at, array, count) LTA_LENT(__read_only__, at, array, count)
+#define LTA_WRITES(at, array, count) LTA_LENT(__write_only__, at, array, count)
+
+/* An array parameter of at least so many elements. C++ has no such thing. */
+#ifdef __cplusplus
+#define LTA_AT_LEAST(count) count
+#else
+#define LTA_AT_LEAST(count) static count
 #endif
 
 /* The version of this header and of what it declares. The first number rises where a program that was right may no longer be, the second
@@ -61,6 +110,7 @@ extern "C" {
 #define LTA_VERSION_NUMBER 40300
 
 /* The version of the library that answers: LTA_VERSION_NUMBER of the header that belongs to it. Since 4.3.0. */
+LTA_USE_ANSWER
 uint32_t lta_version(void);
 
 #define LTA_GRAINS_PER_CENT 100000
@@ -69,8 +119,8 @@ uint32_t lta_version(void);
 #define LTA_MICROCENTS_PER_EURO 100000000
 
 /* THE VERDICT. Number and index of what lta_judge and lta_judge_families return. [number] [index] */
-#define LTA_NUMBER(verdict) ((uint32_t)((verdict) % 256))
-#define LTA_INDEX(verdict) ((uint32_t)((verdict) / 256))
+#define LTA_NUMBER(verdict) LTA_CAST(uint32_t, (verdict) % 256)
+#define LTA_INDEX(verdict) LTA_CAST(uint32_t, (verdict) / 256)
 
 /* The numbers. LTA_NO_ROOM is asked first of all; among the others the smallest number that has a cause wins, and then the smallest
  * index. But 28 is asked between 21 and 22, and 27 between 22 and 23: the order is 21, 28, 22, 27, 23. No number is returned for another
@@ -132,31 +182,31 @@ enum lta_number {
 #define LTA_REPORT_SIZE(zones) (48 + 8 * (zones)) /* bytes of a report */
 #define LTA_REPORT_ROOM 176         /* bytes that a report buffer must have, whatever the zones: a report of 16 */
 
-/* Readers of a report that lta_judge or lta_judge_families wrote. They are C in this header and no part of the archive: tested, and not
+/* Readers of a report that lta_judge or lta_judge_families wrote. They are C in this header and no part of the library: tested, and not
  * proved. */
 
 /* The signed number of 64 bits, little-endian, at an offset of the report. */
-static inline int64_t lta_report_amount(const uint8_t *report, size_t offset)
+LTA_NOT_NULL(1) static inline int64_t lta_report_amount(const uint8_t *report, size_t offset)
 {
     uint64_t bits = 0;
     size_t k;
     for (k = 8; k-- > 0;)
         bits = bits << 8 | report[offset + k];
-    return bits <= (uint64_t)INT64_MAX ? (int64_t)bits : -(int64_t)(UINT64_MAX - bits) - 1;
+    return bits <= LTA_CAST(uint64_t, INT64_MAX) ? LTA_CAST(int64_t, bits) : -LTA_CAST(int64_t, UINT64_MAX - bits) - 1;
 }
 
-static inline uint32_t lta_report_number(const uint8_t *report) { return report[LTA_REPORT_NUMBER]; }
-static inline uint32_t lta_report_zones(const uint8_t *report) { return report[LTA_REPORT_ZONES]; }
+LTA_NOT_NULL(1) static inline uint32_t lta_report_number(const uint8_t *report) { return report[LTA_REPORT_NUMBER]; }
+LTA_NOT_NULL(1) static inline uint32_t lta_report_zones(const uint8_t *report) { return report[LTA_REPORT_ZONES]; }
 
 /* microcents */
-static inline int64_t lta_report_welfare(const uint8_t *report) { return lta_report_amount(report, LTA_REPORT_WELFARE); }
-static inline int64_t lta_report_bound(const uint8_t *report) { return lta_report_amount(report, LTA_REPORT_BOUND); }
-static inline int64_t lta_report_gap(const uint8_t *report) { return lta_report_amount(report, LTA_REPORT_GAP); }
-static inline int64_t lta_report_rent(const uint8_t *report) { return lta_report_amount(report, LTA_REPORT_RENT); }
-static inline int64_t lta_report_owed(const uint8_t *report) { return lta_report_amount(report, LTA_REPORT_OWED); }
+LTA_NOT_NULL(1) static inline int64_t lta_report_welfare(const uint8_t *report) { return lta_report_amount(report, LTA_REPORT_WELFARE); }
+LTA_NOT_NULL(1) static inline int64_t lta_report_bound(const uint8_t *report) { return lta_report_amount(report, LTA_REPORT_BOUND); }
+LTA_NOT_NULL(1) static inline int64_t lta_report_gap(const uint8_t *report) { return lta_report_amount(report, LTA_REPORT_GAP); }
+LTA_NOT_NULL(1) static inline int64_t lta_report_rent(const uint8_t *report) { return lta_report_amount(report, LTA_REPORT_RENT); }
+LTA_NOT_NULL(1) static inline int64_t lta_report_owed(const uint8_t *report) { return lta_report_amount(report, LTA_REPORT_OWED); }
 
 /* grains; the zone is below lta_report_zones */
-static inline int64_t lta_report_price(const uint8_t *report, size_t zone)
+LTA_NOT_NULL(1) static inline int64_t lta_report_price(const uint8_t *report, size_t zone)
 {
     return lta_report_amount(report, LTA_REPORT_PRICE(zone));
 }
@@ -222,9 +272,11 @@ static inline int64_t lta_report_price(const uint8_t *report, size_t zone)
  *                      signed 32 bits, any value
  *   then               a volume per order, a flow per link, a shadow price per branch (0 to 1,000,000), 32 bits each
  */
+LTA_USE_ANSWER
 uint64_t lta_judge(const uint8_t *case_bytes, size_t case_len,
                    const uint8_t *proposal, size_t proposal_len,
-                   uint8_t *report, size_t report_len);
+                   uint8_t *report, size_t report_len)
+    LTA_READS(1, case_bytes, case_len) LTA_READS(3, proposal, proposal_len) LTA_WRITES(5, report, report_len);
 
 /* FAMILIES. An order may name another as its parent, which must be accepted in at least the same fraction. The family list is
  * LTA_FAMILIES_SIZE(orders) bytes, little-endian: mark LTF; version, 16 bits, 1; then for each order of the case, in file order, its
@@ -243,7 +295,7 @@ uint64_t lta_judge(const uint8_t *case_bytes, size_t case_len,
  *
  * The numbers are those of lta_judge and four more: 16, 17 and 18, asked of the list after 15, in this order and each of the whole list
  * before the next, and 28, asked after 21. Where the answer is none of the four, it and every byte of the report buffer are
- * lta_judge's of the same case and proposal; it is proved in crates/rules.
+ * lta_judge's of the same case and proposal; that is proved of the definitions.
  *
  * The bytes of the report buffer afterwards [report] [bytes], and what stands in a report [totals]: as with lta_judge.
  *
@@ -255,10 +307,13 @@ uint64_t lta_judge(const uint8_t *case_bytes, size_t case_len,
  * so that the best clearing with families may have less welfare than welfare + gap. An hour whose families cost more than the
  * tolerance is never accepted: where nothing before refuses it, 26 does.
  */
+LTA_USE_ANSWER
 uint64_t lta_judge_families(const uint8_t *case_bytes, size_t case_len,
                             const uint8_t *proposal, size_t proposal_len,
                             const uint8_t *families, size_t families_len,
-                            uint8_t *report, size_t report_len);
+                            uint8_t *report, size_t report_len)
+    LTA_READS(1, case_bytes, case_len) LTA_READS(3, proposal, proposal_len)
+    LTA_READS(5, families, families_len) LTA_WRITES(7, report, report_len);
 
 /* THE LENT ORDER BOOK. A row; its fields have the ranges of an order of a case. */
 #define LTA_BUYS 0
@@ -292,8 +347,10 @@ struct lta_surplus {
  * It stops at a refusal: for LTA_CASE_HEADER no row is read, for LTA_CASE_ORDER none past the row named. That is tested, and not proved.
  * All rows lent are to be readable none the less.
  */
+LTA_USE_ANSWER
 struct lta_surplus lta_book_surplus(const struct lta_order *orders, size_t order_count,
-                                    const int64_t *zone_prices, size_t price_count);
+                                    const int64_t *zone_prices, size_t price_count)
+    LTA_READS(1, orders, order_count) LTA_READS(3, zone_prices, price_count);
 
 /* WRITTEN INTO AN OUTPUT. What lta_desk_lines, lta_sheet_branches, lta_dump_proposal, lta_case_columned, lta_case_restored and
  * lta_shortfalls answer. */
@@ -324,7 +381,9 @@ enum lta_desk_number {
  *
  * The bytes of `out` afterwards [output]: the text, and all past it as they were. In a refusal every byte is as it was.
  */
-struct lta_written lta_desk_lines(const uint8_t *input, size_t input_len, uint8_t *out, size_t out_len);
+LTA_USE_ANSWER
+struct lta_written lta_desk_lines(const uint8_t *input, size_t input_len, uint8_t *out, size_t out_len)
+    LTA_READS(1, input, input_len) LTA_WRITES(3, out, out_len);
 
 /* THE MARGIN SHEET. The numbers of lta_sheet_branches, in the order in which they are asked, each of the whole sheet before the next.
  * 51 to 53 name the first such line; the index of the others is 0. No number is returned for another cause than its own. */
@@ -363,7 +422,9 @@ enum lta_sheet_number {
  * of the case are these numbers, and LTA_CASE_BRANCH has no cause [branches]. Where each number of an answered sheet stands, byte
  * by byte: [bytes]. Which sheet gives which number and line, both ways, in plain numbers: [causes].
  */
-struct lta_written lta_sheet_branches(const uint8_t *sheet, size_t sheet_len, size_t zones, uint8_t *out, size_t out_len);
+LTA_USE_ANSWER
+struct lta_written lta_sheet_branches(const uint8_t *sheet, size_t sheet_len, size_t zones, uint8_t *out, size_t out_len)
+    LTA_READS(1, sheet, sheet_len) LTA_WRITES(4, out, out_len);
 
 /* INTUITIVE HOURS, by annex 5.1 of Annex 16.18. The numbers by which lta_intuitive refuses, in the order in which they are asked, each of
  * the whole input before the next. 82 but for the sum, 83 and 84 name the first such zone or pair, counted from 0; the index of the others
@@ -414,53 +475,64 @@ struct lta_carried {
  *   [yes_or_no]  intuitive is 1 or 0, in a refusal too.
  * Of a refusal [refused]: intuitive and total are 0.
  *
- * What follows, proved in crates/flow_network and crates/flow_intuitive: a yes and a no exclude each other, and yes or no and the
- * total depend on the input alone. The total of a yes is the sum of all exports, that of a no is less. The sum of [yes_rent] is,
- * for the flows of [yes], the sum over counted pairs of flow * (price of the second zone - price of the first).
+ * What follows, proved of the definitions: a yes and a no exclude each other, and yes or no and the total depend on the
+ * input alone. The total of a yes is the sum of all exports, that of a no is less. The sum of [yes_rent] is, for the flows
+ * of [yes], the sum over counted pairs of flow * (price of the second zone - price of the first).
  *
  * The numbers of `scratch` afterwards [scratch]: the first LTA_INTUITIVE_SCRATCH are zero, and all past them as they were. In a refusal
  * every number is as it was.
  */
+LTA_USE_ANSWER
 struct lta_carried lta_intuitive(const int64_t *net_exports, size_t net_count,
                                  const int64_t *zone_prices, size_t price_count,
                                  const uint8_t *pairs, size_t pairs_len,
-                                 int64_t *scratch, size_t scratch_count);
+                                 int64_t *scratch, size_t scratch_count)
+    LTA_READS(1, net_exports, net_count) LTA_READS(3, zone_prices, price_count) LTA_READS(5, pairs, pairs_len)
+    LTA_WRITES(7, scratch, scratch_count);
 
 /* The same of an hour. It is judged first, as lta_judge does with room for the report. If it is not accepted, LTA_GAP_ABOVE_TOLERANCE
  * too, the answer has the judgement's number and index, with intuitive 0 and total 0, and every number of `scratch` is as it was. Else the
  * answer and the scratch are those of lta_intuitive for its net positions, turned to export positive, and its zone prices [outcome]
  * [yes] [no] [yes_or_no] [largest] [scratch] [refused]. At a yes the rent that lta_judge reports is at least 0 [yes_rent].
  *
- * What follows, proved in crates/flow_hour: of 81 to 85 only LTA_INTUITIVE_PAIR and LTA_INTUITIVE_NO_ROOM can occur.
+ * What follows, proved of the definitions: of 81 to 85 only LTA_INTUITIVE_PAIR and LTA_INTUITIVE_NO_ROOM can occur.
  *
  *   case_bytes, case_len       a case, as lta_judge takes it
  *   proposal, proposal_len     a proposal for it
  *   pairs, pairs_len           ordered pairs of the case's zones, as lta_intuitive takes them
  *   scratch, scratch_count     room to work in, at least LTA_INTUITIVE_SCRATCH numbers
  */
+LTA_USE_ANSWER
 struct lta_carried lta_hour_intuitive(const uint8_t *case_bytes, size_t case_len,
                                       const uint8_t *proposal, size_t proposal_len,
                                       const uint8_t *pairs, size_t pairs_len,
-                                      int64_t *scratch, size_t scratch_count);
+                                      int64_t *scratch, size_t scratch_count)
+    LTA_READS(1, case_bytes, case_len) LTA_READS(3, proposal, proposal_len) LTA_READS(5, pairs, pairs_len)
+    LTA_WRITES(7, scratch, scratch_count);
 
 /* The same two with a smaller scratch. Arguments, answers, numbers and their order are those of lta_intuitive and lta_hour_intuitive, but
  * that LTA_INTUITIVE_SMALL_SCRATCH stands for LTA_INTUITIVE_SCRATCH: LTA_INTUITIVE_NO_ROOM is given for a scratch under 96 numbers, and of
  * an answer the first 96 are zero, and all past them as they were [outcome] [yes] [yes_rent] [no] [yes_or_no] [largest]
  * [scratch] [refused].
  *
- * What follows, proved in crates/flow_intuitive and crates/flow_hour: on each input that both take, intuitive and total are
- * those of the wide entry; what the wide one takes the smaller takes too, and every refusal but LTA_INTUITIVE_NO_ROOM is the
- * same, number and index.
+ * What follows, proved of the definitions: on each input that both take, intuitive and total are those of the wide entry;
+ * what the wide one takes the smaller takes too, and every refusal but LTA_INTUITIVE_NO_ROOM is the same, number and index.
  */
+LTA_USE_ANSWER
 struct lta_carried lta_intuitive_small(const int64_t *net_exports, size_t net_count,
                                        const int64_t *zone_prices, size_t price_count,
                                        const uint8_t *pairs, size_t pairs_len,
-                                       int64_t *scratch, size_t scratch_count);
+                                       int64_t *scratch, size_t scratch_count)
+    LTA_READS(1, net_exports, net_count) LTA_READS(3, zone_prices, price_count) LTA_READS(5, pairs, pairs_len)
+    LTA_WRITES(7, scratch, scratch_count);
 
+LTA_USE_ANSWER
 struct lta_carried lta_hour_intuitive_small(const uint8_t *case_bytes, size_t case_len,
                                             const uint8_t *proposal, size_t proposal_len,
                                             const uint8_t *pairs, size_t pairs_len,
-                                            int64_t *scratch, size_t scratch_count);
+                                            int64_t *scratch, size_t scratch_count)
+    LTA_READS(1, case_bytes, case_len) LTA_READS(3, proposal, proposal_len) LTA_READS(5, pairs, pairs_len)
+    LTA_WRITES(7, scratch, scratch_count);
 
 /* THE SOLVER'S DUMP. The numbers of lta_dump_proposal, in the order in which they are asked, each of the whole dump before the next. 56
  * names the number by which the case is refused; 58 and 59 name the first such value, counted in values from 0, so that it stands 8 * index
@@ -512,9 +584,11 @@ enum lta_dump_number {
  *   [read_back]  lta_judge reads the proposal for this case: none of its numbers 9 to 14 has a cause. Each field read is its own value's
  *                number.
  */
+LTA_USE_ANSWER
 struct lta_written lta_dump_proposal(const uint8_t *case_bytes, size_t case_len,
                                      const uint8_t *dump, size_t dump_len,
-                                     uint8_t *out, size_t out_len);
+                                     uint8_t *out, size_t out_len)
+    LTA_READS(1, case_bytes, case_len) LTA_READS(3, dump, dump_len) LTA_WRITES(5, out, out_len);
 
 /* THE ARCHIVE. The numbers of lta_case_columned and lta_case_restored, in the order in which they are asked; their index is 0. No number is
  * returned for another cause than its own. */
@@ -545,9 +619,11 @@ enum lta_column_number {
  *   [columns]     The columned file is as said here.
  *   [back]        With room for it lta_case_restored takes it, and gives the case again, byte for byte.
  *   [not_judged]  lta_judge refuses it by LTA_CASE_MARK, whatever the proposal, if there is room for a report.
- * That no other file is as said here, and which case gives which number, both ways, is proved in crates/column_file.
+ * That no other file is as said here, and which case gives which number, both ways, is proved of the definitions.
  */
-struct lta_written lta_case_columned(const uint8_t *case_bytes, size_t case_len, uint8_t *out, size_t out_len);
+LTA_USE_ANSWER
+struct lta_written lta_case_columned(const uint8_t *case_bytes, size_t case_len, uint8_t *out, size_t out_len)
+    LTA_READS(1, case_bytes, case_len) LTA_WRITES(3, out, out_len);
 
 /* The way back: writes the case that a columned file was made of, and answers with number 0, index 0 [outcome] and the length in bytes,
  * columned_len [length]; or it refuses, with length 0.
@@ -561,7 +637,9 @@ struct lta_written lta_case_columned(const uint8_t *case_bytes, size_t case_len,
  * What holds of an answer [restored]: none of LTA_CASE_SHORT to LTA_CASE_ORDER has a cause in the case; the file is this case's columns as
  * said above, and lta_case_columned of the case, with room for it, gives the file again, byte for byte.
  */
-struct lta_written lta_case_restored(const uint8_t *columned, size_t columned_len, uint8_t *out, size_t out_len);
+LTA_USE_ANSWER
+struct lta_written lta_case_restored(const uint8_t *columned, size_t columned_len, uint8_t *out, size_t out_len)
+    LTA_READS(1, columned, columned_len) LTA_WRITES(3, out, out_len);
 
 /* SHORTFALLS of an accepted hour. The number by which lta_shortfalls refuses beside the judgement's own. */
 enum lta_shortfall_number {
@@ -600,11 +678,13 @@ enum lta_shortfall_number {
  * branch the second is 0; no shortfall is negative; all together are at most 100,000 times the gap that lta_judge reports, so that none is
  * more than the gap; at gap 0 each is 0.
  * What is left, 100,000 times the gap less all shortfalls, is (100,000 - share) * (larger - branch total) + share * (larger - link total),
- * larger being the larger of the two totals; without links it is 0. It is proved in crates/short_rules.
+ * larger being the larger of the two totals; without links it is 0. That is proved of the definitions.
  */
+LTA_USE_ANSWER
 struct lta_written lta_shortfalls(const uint8_t *case_bytes, size_t case_len,
                                   const uint8_t *proposal, size_t proposal_len,
-                                  int64_t *out, size_t out_count);
+                                  int64_t *out, size_t out_count)
+    LTA_READS(1, case_bytes, case_len) LTA_READS(3, proposal, proposal_len) LTA_WRITES(5, out, out_count);
 
 /* THE DESK QUEUE, of a desk that judges the hours of four areas, up to 25 a day, as their solvers finish. The numbers by which
  * lta_queue_post, 61 to 63, and lta_queue_serve, 64, refuse, in the order in which they are asked. No number is returned for another cause
@@ -638,7 +718,9 @@ enum lta_queue_number {
  * as they were. In a refusal every byte is as it was; that none is written then is tested, and not proved. [queue] says the
  * same of the queue that the bytes are.
  */
-uint32_t lta_queue_post(uint8_t *queue, uint32_t area, uint32_t hour);
+LTA_USE_ANSWER
+uint32_t lta_queue_post(uint8_t queue[LTA_AT_LEAST(LTA_QUEUE_SIZE)], uint32_t area, uint32_t hour)
+    LTA_NOT_NULL(1);
 
 /* The answer of a serve. */
 struct lta_served {
@@ -657,14 +739,58 @@ struct lta_served {
  * area after it, and all others are as they were. In a refusal every byte is as it was; that none is written then is tested,
  * and not proved. [queue] says the same of the queue that the bytes are.
  *
- * What holds of all calls on a queue together, from the empty one on and in whatever order, refused ones included. It is proved in
- * crates/queue_turns and crates/queue_bytes, of what [number], [answer] and [bytes] say of each call:
+ * What holds of all calls on a queue together, from the empty one on and in whatever order, refused ones included. It is proved
+ * of the definitions, from what [number], [answer] and [bytes] say of each call:
  *   - An area that has an hour waiting is served by one of the next four serves. An hour is served by one of the next hundred serves after
  *     its posting, whatever else is posted. Both hold from any other bytes too, and neither of a smaller number.
  *   - An area's hours are served in the order posted; none is lost, and none served that was not posted.
  *   - There is always room: at most 25 hours wait in an area. An hour that was served may be posted again at once.
  */
-struct lta_served lta_queue_serve(uint8_t *queue);
+LTA_USE_ANSWER
+struct lta_served lta_queue_serve(uint8_t queue[LTA_AT_LEAST(LTA_QUEUE_SIZE)])
+    LTA_NOT_NULL(1);
+
+/* THE LAYOUT of the structs, as the library has it. Where a compiler lays one out otherwise, as under #pragma pack, the
+ * header does not compile. */
+#if defined(__cplusplus) && __cplusplus >= 201103L
+#define LTA_ASSERT(name, condition) static_assert(condition, #name ": not as the library has it")
+#elif !defined(__cplusplus) && __STDC_VERSION__ >= 201112L
+#define LTA_ASSERT(name, condition) _Static_assert(condition, #name ": not as the library has it")
+#else
+#define LTA_ASSERT(name, condition) typedef char name[(condition) ? 1 : -1]
+#endif
+#define LTA_SIZE(type, bytes) LTA_ASSERT(type##_size, sizeof(struct type) == (bytes))
+#define LTA_OFFSET(type, field, offset) LTA_ASSERT(type##_##field, offsetof(struct type, field) == (offset))
+
+LTA_ASSERT(lta_lengths_have_64_bits, sizeof(size_t) == 8);
+
+LTA_OFFSET(lta_order, zone, 0);
+LTA_OFFSET(lta_order, side, 1);
+LTA_OFFSET(lta_order, quantity, 4);
+LTA_OFFSET(lta_order, price, 8);
+LTA_SIZE(lta_order, 12);
+
+LTA_OFFSET(lta_surplus, number, 0);
+LTA_OFFSET(lta_surplus, index, 4);
+LTA_OFFSET(lta_surplus, sum, 8);
+LTA_SIZE(lta_surplus, 16);
+
+LTA_OFFSET(lta_written, number, 0);
+LTA_OFFSET(lta_written, index, 8);
+LTA_OFFSET(lta_written, length, 16);
+LTA_SIZE(lta_written, 24);
+
+LTA_OFFSET(lta_carried, number, 0);
+LTA_OFFSET(lta_carried, index, 4);
+LTA_OFFSET(lta_carried, intuitive, 8);
+LTA_OFFSET(lta_carried, total, 16);
+LTA_SIZE(lta_carried, 24);
+
+LTA_OFFSET(lta_served, number, 0);
+LTA_OFFSET(lta_served, index, 4);
+LTA_OFFSET(lta_served, area, 8);
+LTA_OFFSET(lta_served, hour, 12);
+LTA_SIZE(lta_served, 16);
 
 /* What a number that an entry returns means, in a few words, and "unknown number" for any other. As the readers of a report it is C in this
  * header: tested, and not proved. */
@@ -729,6 +855,10 @@ static inline const char *lta_number_text(uint32_t number)
 
 #ifdef __cplusplus
 }
+#endif
+
+#ifdef __clang__
+#pragma clang diagnostic pop
 #endif
 
 #endif

@@ -1,7 +1,7 @@
 /* lta_dump_proposal through the archive: the sample dump, what becomes of each kind of value, each limit and the value past it, patterns
- * that are no finite value, each cause and their order, dumps and outputs of every length, null pointers, the largest hour. Calls are made
- * with every argument at both places between unreadable pages, case and dump unwritable, and every byte of the output is compared
- * afterwards; what is written is judged.
+ * that are no finite value, the floating-point flags, each cause and their order, dumps and outputs of every length, null
+ * pointers, the largest hour. Calls are made with every argument at both places between unreadable pages, case and dump
+ * unwritable, and every byte of the output is compared afterwards; what is written is judged.
  *
  *     dump_test CASE DUMP PROPOSAL     the three-zone hour, its dump, and the proposal that it gives
  */
@@ -12,6 +12,7 @@
 #include <inttypes.h>
 #include <stdio.h>
 #include <string.h>
+#include <xmmintrin.h>
 
 /* Room for every proposal, and bytes past it. */
 #define ROOM (LTA_PROPOSAL_ROOM + 40)
@@ -238,6 +239,41 @@ static void not_finite(void)
             is_refused(place, patterns[k], LTA_DUMP_NOT_FINITE);
 }
 
+/* The floating-point flags after a call with a value at a place, these flags being raised before it. */
+static unsigned flags_after(size_t place, uint64_t bits, unsigned before)
+{
+    struct hour h = one_of_each(1, 77);
+    struct file c = case_file(&h), d = dump_of(PLACES_OF_EACH, (double[PLACES_OF_EACH]){0});
+    uint8_t out[LTA_PROPOSAL_ROOM];
+    put(&d, 8 * place, 8, bits);
+    _mm_setcsr((_mm_getcsr() & ~(unsigned)_MM_EXCEPT_MASK) | before);
+    struct lta_written answer = lta_dump_proposal(c.bytes, c.length, d.bytes, d.length, out, sizeof out);
+    unsigned after = _mm_getcsr() & _MM_EXCEPT_MASK;
+    about("%016" PRIx64 " at %zu, number %" PRIu32 ": flags %#x before, %#x after", bits, place, answer.number, before, after);
+    return after;
+}
+
+/* Inexact, overflow and a subnormal operand are raised, each where it is due; no other flag is, and none is cleared. */
+static void flags(void)
+{
+    const unsigned may = _MM_EXCEPT_INEXACT | _MM_EXCEPT_OVERFLOW | _MM_EXCEPT_DENORM;
+    check(flags_after(SHARE_AT, bits_of(1), 0) == 0);
+    check(flags_after(SHARE_AT, bits_of(0.5), 0) == _MM_EXCEPT_INEXACT);
+    check(flags_after(FLOW_AT, bits_of(1e308), 0) == (_MM_EXCEPT_INEXACT | _MM_EXCEPT_OVERFLOW));
+    check(flags_after(FLOW_AT, 1, 0) == (_MM_EXCEPT_INEXACT | _MM_EXCEPT_DENORM));
+    check(flags_after(FLOW_AT, 0x7ff0000000000001, 0) == 0);
+    check(flags_after(SHARE_AT, bits_of(1), _MM_EXCEPT_MASK) == _MM_EXCEPT_MASK);
+    uint64_t bits = 1;
+    unsigned raised = 0;
+    for (unsigned round = 0; round < 20000; round++)
+        for (size_t place = 0; place < PLACES_OF_EACH; place++) {
+            bits = bits * 6364136223846793005 + 1442695040888963407;
+            raised |= flags_after(place, bits, 0) | flags_after(place, bits >> round % 64, 0);
+        }
+    about("flags %#x are raised in many calls", raised);
+    check(raised == may);
+}
+
 /* Which cause is asked first, of the whole dump, and which value is named. */
 static void causes(void)
 {
@@ -448,6 +484,7 @@ int main(int count, char **words)
     group("prices to the nearest cent", nearest);
     group("limits", limits);
     group("what is not finite", not_finite);
+    group("floating-point flags", flags);
     group("which cause and which value", causes);
     group("lengths", lengths);
     group("one array", one_array);
