@@ -41,6 +41,10 @@
  *   - It is reentrant: nothing is kept between calls but in the caller's queue, so every entry may be called from several threads at once,
  *     and on one queue by one thread at a time.
  *
+ * For other languages, share/mbirukaze/numbers.tsv has every number with its name, what its index counts and its words, and
+ * share/mbirukaze/report.tsv has the fields of a report. The first line of each names the columns; a tab stands between
+ * cells. They are tested, and not proved.
+ *
  * Measures:
  *   tenth      0.1 MW, for one hour 0.1 MWh     margins, capacities, contracted volumes, quantities, volumes, flows,
  *                                               net positions, what is carried
