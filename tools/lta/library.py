@@ -18,6 +18,7 @@ from .stderr_log import write_stderr
 
 ROOT = pathlib.Path(__file__).resolve().parent.parent.parent
 OWN = ROOT / "target" / "staticlib" / "libhost.a"
+LINK_STEP = ROOT / "tools" / "link_shared"
 SHARED = "liblta_judgement.so"
 LINKED_FROM = "linked-from"
 REPORTED = hour.REPORTED
@@ -193,15 +194,15 @@ def made_library():
 
 
 def hashes(library, shared):
-    """The hashes of a library and of the shared object linked from it, as sha256sum prints them."""
-    named = ((library, f"../staticlib/{OWN.name}"), (shared, SHARED))
+    """The hashes of a library, of the link step and of the shared object that it made, as sha256sum prints them."""
+    named = ((library, f"../staticlib/{OWN.name}"), (LINK_STEP, f"../../tools/{LINK_STEP.name}"), (shared, SHARED))
     return "".join(f"{hashlib.sha256(path.read_bytes()).hexdigest()}  {name}\n" for path, name in named)
 
 
 def link(library, folder):
     """Links a library's shared object in a folder."""
     linked = pathlib.Path(folder) / SHARED
-    run([str(ROOT / "tools" / "link_shared"), str(library), str(linked)], NOT_LINKED)
+    run([str(LINK_STEP), str(library), str(linked)], NOT_LINKED)
     return linked
 
 
