@@ -229,11 +229,9 @@ static bool ended_at(volatile uint8_t *at, bool write)
 bool unreadable(const volatile uint8_t *at) { return ended_at((volatile uint8_t *)(uintptr_t)at, false); }
 bool unwritable(volatile uint8_t *at) { return ended_at(at, true); }
 
-void on_stack(size_t size, void (*call)(void))
+void call_on(struct arena a, void (*call)(void))
 {
-    struct arena a = arena(size);
     ucontext_t here, there;
-    protect(a, PROT_READ | PROT_WRITE);
     if (getcontext(&there) != 0)
         give_up("getcontext");
     there.uc_stack.ss_sp = a.start;
@@ -242,4 +240,21 @@ void on_stack(size_t size, void (*call)(void))
     makecontext(&there, call, 0);
     if (swapcontext(&here, &there) != 0)
         give_up("swapcontext");
+}
+
+void on_stack(size_t size, void (*call)(void))
+{
+    struct arena a = arena(size);
+    protect(a, PROT_READ | PROT_WRITE);
+    call_on(a, call);
+}
+
+void paint(struct arena a, enum place place) { fill_all(a, place); }
+
+size_t touched(struct arena a, enum place place)
+{
+    size_t k = 0;
+    while (k < a.size && a.start[k] == fill(place, k))
+        k++;
+    return a.size - k;
 }

@@ -62,6 +62,13 @@ bool unwritable(volatile uint8_t *at);
 /* Calls a function on a stack of so many bytes between unreadable pages. */
 void on_stack(size_t size, void (*call)(void));
 
+/* A painted stack. `paint` gives the arena the fill of a place, `call_on` calls a function with the arena as its stack,
+ * and `touched` gives how many bytes lie from the top of the stack down to the deepest that was changed. A byte that is
+ * written as its fill was shows with the other fill. */
+void paint(struct arena a, enum place place);
+void call_on(struct arena a, void (*call)(void));
+size_t touched(struct arena a, enum place place);
+
 /* The stack that is enough for every entry, as the header says. */
 #define STACK_ENOUGH 16384
 

@@ -1,11 +1,10 @@
-/* What the header itself has, next to the library's entries: the version, which is the library's, the readers of a report and
- * the numbers in words; and that the judgement may be called from several threads at once. */
+/* What the header itself has, next to the library's entries: the version, which is the library's, the readers of a report
+ * and the numbers in words. */
 #include "harness.h"
 #include "hours.h"
 #include "lta_judgement.h"
 
 #include <inttypes.h>
-#include <pthread.h>
 #include <stdio.h>
 #include <string.h>
 
@@ -65,58 +64,10 @@ static void number_texts(void)
     check(count >= 52 && count < 100);
 }
 
-/* THREADS. Each has hours of its own, and must get of each call just what one caller alone gets. */
-enum { THREADS = 8, ROUNDS = 2000 };
-
-struct task {
-    struct file hour, proposal;
-    uint64_t verdict;
-    uint8_t report[LTA_REPORT_ROOM];
-    unsigned differing;
-};
-
-static void *many_times(void *given)
-{
-    struct task *task = given;
-    for (unsigned round = 0; round < ROUNDS; round++) {
-        uint8_t report[LTA_REPORT_ROOM] = {0};
-        uint64_t verdict = lta_judge(task->hour.bytes, task->hour.length, task->proposal.bytes, task->proposal.length, report, sizeof report);
-        task->differing += verdict != task->verdict || memcmp(report, task->report, sizeof report) != 0;
-    }
-    return NULL;
-}
-
-static void threads(void)
-{
-    static struct task tasks[THREADS];
-    pthread_t running[THREADS];
-    for (uint32_t k = 0; k < THREADS; k++) {
-        struct hour h = k % 2 == 0 ? three_zone_hour() : unused_link_hour();
-        h.system += (int32_t)k;
-        tasks[k].hour = case_file(&h);
-        tasks[k].proposal = proposal_file(&h);
-        tasks[k].verdict = lta_judge(tasks[k].hour.bytes, tasks[k].hour.length, tasks[k].proposal.bytes, tasks[k].proposal.length,
-                                     tasks[k].report, sizeof tasks[k].report);
-    }
-    about("the hours of two threads are judged alike");
-    check(memcmp(tasks[0].report, tasks[1].report, LTA_REPORT_ROOM) != 0 && memcmp(tasks[0].report, tasks[2].report, LTA_REPORT_ROOM) != 0);
-    bool started = true;
-    for (unsigned k = 0; k < THREADS; k++)
-        started = pthread_create(&running[k], NULL, many_times, &tasks[k]) == 0 && started;
-    about("a thread cannot be started");
-    check(started);
-    for (unsigned k = 0; started && k < THREADS; k++) {
-        pthread_join(running[k], NULL);
-        about("thread %u was answered otherwise %u times", k, tasks[k].differing);
-        check(tasks[k].differing == 0);
-    }
-}
-
 int main(void)
 {
     group("version", versions);
     group("readers", readers);
     group("numbers in words", number_texts);
-    group("threads", threads);
     return closing();
 }
