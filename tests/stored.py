@@ -3,6 +3,8 @@ crates/prog_records, and what is counted. It is imported first, since it puts to
 before.
 """
 
+from __future__ import annotations
+
 import pathlib
 import subprocess
 import sys
@@ -32,7 +34,7 @@ def lines_of_both_judges(program, records):
 
 def answers_of_both_judges(program, records):
     """What each judge says of each record: its line by name and judge, and under WRITTEN too what it wrote."""
-    answers = {}
+    answers: dict[tuple[str, ...], str] = {}
     for name, judge, words in lines_of_both_judges(program, records):
         if words.startswith(WRITTEN):
             answers[name, judge, WRITTEN] = words.removeprefix(WRITTEN)

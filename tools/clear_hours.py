@@ -26,7 +26,7 @@ import sys
 from fractions import Fraction
 
 try:
-    from scipy.optimize import linprog
+    from scipy.optimize import linprog  # type: ignore[import] # scipy has no types, and may be missing
 except ImportError:
     linprog = None
 

@@ -9,8 +9,11 @@ stored dumps of such hours, and the stored hours of 512 orders in one family.
 The two contracted ones are of case version 2 and have the greatest length of all. largest-loss-no-link has no link.
 """
 
+from __future__ import annotations
+
 import math
 import sys
+from typing import Callable
 
 ZONES, BRANCHES, LINKS, ORDERS = 16, 64, 64, 512
 ORDERS_PER_ZONE = ORDERS // ZONES
@@ -297,7 +300,7 @@ def largest_tail():
 
 FAMILIES = {"largest-chain": largest_chain, "largest-circle": largest_circle, "largest-tail": largest_tail}
 
-HOURS = {
+HOURS: dict[str, Callable[[], str]] = {
     "largest-varied": largest_varied,
     "largest-contracted": largest_contracted,
     "largest-welfare": largest_welfare,
@@ -309,7 +312,7 @@ HOURS = {
 
 
 def main(arguments):
-    makers = {**HOURS, **DUMPS, **FAMILIES}
+    makers: dict[str, Callable[[], str]] = {**HOURS, **DUMPS, **FAMILIES}
     if len(arguments) != 1 or arguments[0] not in makers:
         sys.stderr.write(__doc__)
         return 2

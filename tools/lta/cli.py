@@ -298,7 +298,7 @@ def run_page(options):
         raise Failure(f"{options.files[0]}: {len(sources):,} hours, and {most}")
     out = options.out or page_name(options.files, sources)
     refuse_if_there([out], options.force)
-    unread = []
+    unread: list[InputError] = []
     write(out, page.page(options.files, sources, unread.append).encode(), options.force)
     if out != "-":
         put(f"wrote {printable(out)}\n")

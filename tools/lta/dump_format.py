@@ -116,7 +116,7 @@ class Dump(hour.Hour):
     def __init__(self, folder):
         super().__init__(folder)
         self.opening = None
-        self.values = {kind: [] for kind, _, _ in KINDS}
+        self.values: dict[str, list] = {kind: [] for kind, _, _ in KINDS}
 
     def take(self, line, words):
         keyword, *rest = words
@@ -183,7 +183,8 @@ class Expected:
 
 def expected(text):
     found = hour.expectations(text, EXPECTATION, lambda name, _: ANSWER if name == "expect" else BECOMES)
-    number, index, length, judged = (None if word is None else int(word) for word in found["expect"])
+    number, index, length = map(int, found["expect"][:3])
+    judged = None if found["expect"][3] is None else int(found["expect"][3])
     if (judged is not None) != (number == 0) or ("becomes" in found and number):
         raise ValueError("judged stands where the number is 0, and nowhere else, and becomes nowhere else either")
     becomes = None
@@ -257,14 +258,15 @@ def readings(case, dump):
     """Every whole value of a dump that the case's header counts, in file order."""
     counts = hour.case_counts(case)
     orders = hour.whole_records("case", case, counts)[0]["order"]
-    named = [(kind, None) for kind in OPENING]
+    quantities: dict[int | None, int] = {index: row[2] for index, row in enumerate(orders)}
+    named: list[tuple[str, int | None]] = [(kind, None) for kind in OPENING]
     named += [(kind, index) for kind, name, _ in KINDS for index in range(counts.get(name, 0))]
     found = []
     for place, ((kind, index), (bits,)) in enumerate(zip(named, struct.iter_unpack("<Q", whole_values(dump)))):
-        if kind == "accepted" and index >= len(orders):
+        quantity = quantities.get(index) if kind == "accepted" else None
+        if kind == "accepted" and quantity is None:
             found.append(Reading(place, kind, index, bits, None))
         else:
-            quantity = orders[index][2] if kind == "accepted" else None
             found.append(Reading(place, kind, index, bits, *become(kind, bits, quantity)))
     return found
 

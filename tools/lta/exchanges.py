@@ -120,7 +120,7 @@ class Graph:
 
     def reached(self, left, flow):
         """The zones reached from those that have exports left, each with the zone before it."""
-        came = {zone: None for zone, export in enumerate(left) if export}
+        came: dict[int, int | None] = {zone: None for zone, export in enumerate(left) if export}
         waiting = deque(came)
         while waiting:
             zone = waiting.popleft()

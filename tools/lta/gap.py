@@ -85,7 +85,8 @@ def parts(case, proposal, judgement, sums):
     the library gives none, those found here.
     """
     if not judgement.accepted:
-        return Parts(judgement.gap, *own_parts(sums), False)
+        shortfalls, left = own_parts(sums)
+        return Parts(judgement.gap, shortfalls, left, False)
     answer = library.shortfalls(case, proposal)
     if not answer.answered:
         raise Disagreement(f"{answer.number} {answer.index} for the shortfalls", "0 0")

@@ -3,10 +3,13 @@ one reading of the formats that every tool here has. Wrong hours can be written 
 the text gives back their bytes.
 """
 
+from __future__ import annotations
+
 import os
 import re
 import struct
 from decimal import Decimal
+from typing import NoReturn
 
 TEXT_HELP = """\
 The text of an hour: one item per line; blank lines and what follows a # are passed over. Numbers are whole.
@@ -237,7 +240,7 @@ def hex_bytes(words):
     return bytes.fromhex(digits)
 
 
-def refuse_line(number, index, message):
+def refuse_line(number, index, message) -> NoReturn:
     """Refuses a sheet at a line, named as an editor counts it and as request S-1 does."""
     raise ValueError(f"line {index + 1} ({number} index {index}): {message}")
 
@@ -303,7 +306,7 @@ class Hour:
         self.header_lines = {}
         self.marks = dict(MARKS)
         self.counts = {}
-        self.records = {kind: [] for kind in FIELDS}
+        self.records: dict[str, list] = {kind: [] for kind in FIELDS}
         self.edits = []
 
     def layout(self):
@@ -393,6 +396,7 @@ class Hour:
         wanted = {"cut": 1, "byte": 2}.get(edit, len(words))
         if len(words) != wanted:
             raise ValueError(f"{edit} {file} takes {wanted} values, not {len(words)}")
+        values: tuple
         if edit == "cut":
             values = (number(words[0], "cut", "I"),)
         elif edit == "byte":
@@ -453,9 +457,10 @@ def built(text, folder="", taker=Hour):
     return hour.files()
 
 
-def build(text, folder=""):
+def build(text, folder="") -> tuple[bytes, bytes]:
     """The case and the proposal of a text, be there a family list or not."""
-    return built(text, folder)[:2]
+    case, proposal = built(text, folder)[:2]
+    return case, proposal
 
 
 def build_families(text, folder=""):
@@ -586,7 +591,8 @@ def notes_of(kind, rows, position, counts, case_rows):
 
 def whole_records(file, data, counts):
     """The records of a file up to the first that is not whole, its name if there is one, and where the walk ends."""
-    tables, missing, position = {}, None, header_layout(file).size
+    tables: dict[str, list] = {}
+    missing, position = None, header_layout(file).size
     for kind, name in RECORDS[file]:
         layout = record_layout(kind, counts)
         rows = tables[kind] = []
@@ -633,7 +639,8 @@ def show_file(file, data, counts, case_rows):
 
 def show(case, proposal=b"", families=None):
     """The text of a case, a proposal and, if there is one, a family list, whatever their bytes."""
-    counts, case_rows = {}, {}
+    counts: dict[str, int] = {}
+    case_rows: dict[str, list] = {}
     files = [("case", case), ("proposal", proposal)] + [("families", families)] * (families is not None)
     shown = [list(show_file(file, data, counts, case_rows)) for file, data in files]
     return UNITS + "".join("\n" + "\n".join(lines) + "\n" for lines in shown if lines)

@@ -98,7 +98,8 @@ class Input:
         families = None if self.families is None else read(self.families)
         if self.kind == JOINED:
             return HourFiles(*rules.cut(data[0]), data[0], families=families)
-        return HourFiles(*data, families=families)
+        case, proposal = data
+        return HourFiles(case, proposal, families=families)
 
 
 def text_hour(path, data):
@@ -149,7 +150,7 @@ LISTLESS = "a family list without its hour"
 
 def hours_of_files(paths):
     """The hours of a folder's files: by suffix, and of files with none of ours by their marks and common stems."""
-    others = {}
+    others: dict[str, dict] = {}
     for path in paths:
         stem, suffix = os.path.splitext(path)
         kind = SUFFIXES.get(suffix)

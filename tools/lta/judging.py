@@ -45,6 +45,8 @@ class Row:
 
     def due(self):
         """What was expected and is not so: the verdict, else the totals."""
+        if self.expected is None:
+            return ""
         verdict, totals = self.expected
         if self.judgement.verdict != verdict:
             return "{} {}".format(*verdict)

@@ -273,7 +273,7 @@ ENTRIES = {
     "lta_shortfalls": (WrittenStruct, _BYTES * 2 + _AMOUNTS),
 }
 
-_loaded = {}
+_loaded: dict = {}
 
 
 def entry(name="lta_judge"):
@@ -316,7 +316,8 @@ def judge(case, proposal, families=None, room=rules.REPORT_ROOM):
         return Judgement(number, index)
     data = report.raw
     amounts = [int.from_bytes(data[at : at + 8], "little", signed=True) for at in range(8, 48 + 8 * data[6], 8)]
-    return Judgement(number, index, *amounts[:5], tuple(amounts[5:]))
+    welfare, bound, gap, rent, owed, *prices = amounts
+    return Judgement(number, index, welfare, bound, gap, rent, owed, tuple(prices))
 
 
 def judge_joined(joined, families=None):

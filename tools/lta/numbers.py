@@ -1,7 +1,10 @@
 """The numbers that the entries return: numbers.txt, the one table of them, read."""
 
+from __future__ import annotations
+
 import pathlib
 import re
+from dataclasses import dataclass
 from typing import NamedTuple
 
 TABLE = pathlib.Path(__file__).resolve().parent / "numbers.txt"
@@ -10,7 +13,8 @@ HEADING = re.compile(r"\[(\w+)\] (.+)")
 ROW = re.compile(r" *(\d+)  +(\w+)  +(\S+(?: \S+)*)  +(\S+(?: \S+)*)")
 
 
-class Number(NamedTuple):
+@dataclass(frozen=True)
+class Number:
     """A row: the number, its name in the C header, what its index counts (empty where the index is 0), and its words."""
 
     number: int
@@ -34,7 +38,7 @@ def read(text):
             continue
         heading, row = HEADING.fullmatch(line), ROW.fullmatch(line)
         if heading:
-            rows = []
+            rows: list[Number] = []
             sections[heading[1]] = Section(heading[2].split(", "), rows)
         elif row and sections:
             rows.append(Number(int(row[1]), row[2], row[3].replace("-", ""), row[4]))

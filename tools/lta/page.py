@@ -265,7 +265,7 @@ def zone_row(sums, zone, largest):
 
 
 def zone_table(sums):
-    largest = max(map(abs, sums.net))
+    largest = max(abs(net) for net in sums.net)
     head = element("th", "zone", "left") + element("th", "price, €/MWh") + element("th", "export ← 0 → import", "meter")
     head += "".join(element("th", name) for name in ("net position, MW", "LTA part", "flow-based part"))
     return table(head, (zone_row(sums, zone, largest) for zone in range(sums.zones)))

@@ -2,6 +2,8 @@
 It is what the explanations and pages are computed by, beside the library. No verdict and no total is taken from here.
 """
 
+from __future__ import annotations
+
 from collections import namedtuple
 
 from . import hour
@@ -54,7 +56,7 @@ def header_good(case):
     return not any(name in LIMITS and outside(name, number) for name, number in counts.items())
 
 
-def cut(joined):
+def cut(joined) -> tuple[bytes, bytes]:
     """A joined file's case and proposal, cut at the length that the header demands if it is good and all is there."""
     if header_good(joined):
         length = hour.demanded_length("case", hour.case_counts(joined))
@@ -75,7 +77,7 @@ class Sums:
         self.branches = [Branch(row[0], row[1:], shadow) for row, (shadow,) in zip(rows["branch"], plan["shadow"])]
         self.version = counts["version"]
         # A row's last field is what is contracted; in version 1 that is the capacity.
-        self.links = [Link(*row[:3], row[-1], flow) for row, (flow,) in zip(rows["link"], plan["flow"])]
+        self.links = [Link(row[0], row[1], row[2], row[-1], flow) for row, (flow,) in zip(rows["link"], plan["flow"])]
         self.orders = [
             Order(zone, side == 0, quantity, price, volume)
             for (zone, side, quantity, price), (volume,) in zip(rows["order"], plan["volume"])
@@ -132,7 +134,7 @@ class Sums:
         """The gap taken apart: kind, place, and hundred-thousandths of a microcent. First are the shortfalls of request S-14
         in file order, then what each total is behind the larger one, weighed by its share.
         """
-        parts = []
+        parts: list[tuple[str, int | None, int]] = []
         for place, (order, surplus) in enumerate(zip(self.orders, self.surpluses)):
             signed = order.volume if order.buys else -order.volume
             earned = signed * (GRAINS_PER_CENT * order.price - self.prices[order.zone])

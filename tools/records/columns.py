@@ -14,7 +14,7 @@ LONGEST = 256  # bytes of a stored hour's case that is taken
 
 def stored_cases():
     """The cases of the stored hours by name, sorted, each once."""
-    cases = {}
+    cases: dict[str, bytes] = {}
     for name, words in stored_hours().items():
         case = bytes(hour.build(words, HOURS)[0])
         if len(case) <= LONGEST and case not in cases.values():

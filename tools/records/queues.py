@@ -4,6 +4,8 @@ call would leave; a line `# NAME` opens a run. queue/answers.txt has the lines t
 number, and behind a serve number, index, area and hour. The second judge and the library are held to it too.
 """
 
+from __future__ import annotations
+
 import pathlib
 import struct
 
@@ -16,13 +18,15 @@ EVENT = struct.Struct("<cII")
 def stored_runs():
     """The events and the answers of each run by its name."""
     events, answers = ((QUEUE / name).read_text().splitlines() for name in ("events.txt", "answers.txt"))
-    found = {}
-    for event, answer in zip(events, answers, strict=True):
+    if len(events) != len(answers):
+        raise ValueError(f"queue/events.txt has {len(events)} lines, and queue/answers.txt {len(answers)}")
+    found: dict[str, tuple[list[str], list[str]]] = {}
+    for event, answer in zip(events, answers):
         if event.startswith("# "):
-            run = found[event] = ([], [])
+            run_events, run_answers = found[event] = ([], [])
         else:
-            run[0].append(event)
-            run[1].append(answer)
+            run_events.append(event)
+            run_answers.append(answer)
     return found
 
 

@@ -33,7 +33,10 @@ def lines(zones, room, sheet):
     try:
         branches = hour.sheet_branches(sheet, zones)
     except ValueError as fault:
-        number, index = REFUSED.match(str(fault)).groups(default="0")
+        refused = REFUSED.match(str(fault))
+        if refused is None:
+            raise
+        number, index = refused.groups(default="0")
         return [f"{number} {index} 0"]
     length = 4 * (zones + 1) * len(branches)
     if room < length:
