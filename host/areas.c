@@ -188,8 +188,8 @@ int main(int count, char **words)
         desk.not_read++;
     }
     fclose(posts);
-    while (serve(&desk))
-        continue;
+    while (serve(&desk)) {
+    }
     printf("%u accepted, %u refused, %u not judged, %u not posted\n", desk.accepted, desk.refused, desk.not_judged, desk.not_posted);
     if (fflush(stdout) != 0) {
         fprintf(stderr, "areas: cannot print: %s\n", strerror(errno));

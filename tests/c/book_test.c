@@ -274,7 +274,7 @@ static void row_refused_unread(const char *name, int64_t price)
         b.row[row].quantity = 0;
         const struct lta_order *rows = lend(row_arena, AT_END, b.row, (row + 1) * sizeof *b.row);
         ok = is(lta_book_surplus(rows, ROWS_MOST, b.price, b.prices), LTA_CASE_ORDER, row, 0);
-        b.row[row].quantity = 1;
+        b.row[row].quantity = 1; /* cppcheck-suppress unreadVariable ; the next turn lends this row too */
     }
     check(ok);
 }

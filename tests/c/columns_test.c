@@ -96,7 +96,7 @@ static void samples(void)
     about("the sample's columned file is its columns");
     check(same_file(&columns, &k));
     /* its first column is the zones of its five orders, its second their sides */
-    size_t at = k.length - ORDER_SIZE * h.orders;
+    size_t at = k.length - (size_t)ORDER_SIZE * h.orders;
     about("the sample's zones and sides");
     for (size_t i = 0; i < h.orders; i++)
         check(columns.bytes[at + i] == h.order[i].zone && columns.bytes[at + h.orders + i] == h.order[i].side);
@@ -132,7 +132,7 @@ static void hours(void)
 static void causes(void)
 {
     struct hour h = contracted_hour();
-    struct file c = case_file(&h), k = columned_file(&h), other = c;
+    struct file c = case_file(&h), k = columned_file(&h), other;
     for (size_t at = 0; at < 3; at++) {
         other = k;
         other.bytes[at] ^= 1;

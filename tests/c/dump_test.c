@@ -178,11 +178,11 @@ static void nearest(void)
     /* below 45 thousandths, and rounded to the half */
     becomes(SHADOW_AT, 1, 0.045, 5);
     static const double halves[] = {0.125, 0.375, 0.625, 0.005};
-    static const int64_t cents[] = {13, 38, 63, 1};
+    static const int64_t rounded[] = {13, 38, 63, 1};
     for (size_t k = 0; k < 4; k++) {
-        becomes(SHADOW_AT, 1, halves[k], cents[k]);
-        becomes(SYSTEM_AT, 1, halves[k], cents[k]);
-        becomes(SYSTEM_AT, 1, -halves[k], -cents[k]);
+        becomes(SHADOW_AT, 1, halves[k], rounded[k]);
+        becomes(SYSTEM_AT, 1, halves[k], rounded[k]);
+        becomes(SYSTEM_AT, 1, -halves[k], -rounded[k]);
     }
     becomes(SYSTEM_AT, 1, -22.5, -2250);
     becomes(SYSTEM_AT, 1, -1e-300, 0);
@@ -281,13 +281,13 @@ static void causes(void)
     struct file c = case_file(&h), p = proposal_file(&h), none = {0}, d = read_file(sample_dump), other = d;
     about("60");
     refused_in(p.length - 1, &c, &d, LTA_DUMP_NO_ROOM, 0);
-    put(&other, 8 * 9, 8, bits_of(-1.0));
+    put(&other, 72, 8, bits_of(-1.0));
     about("59 at the last value and 60");
     refused_in(0, &c, &other, LTA_DUMP_RANGE, 9);
-    put(&other, 8 * 3, 8, bits_of(2.0));
+    put(&other, 24, 8, bits_of(2.0));
     about("59 twice");
     refused_in(0, &c, &other, LTA_DUMP_RANGE, 3);
-    put(&other, 8 * 8, 8, 0x7ff8000000000000);
+    put(&other, 64, 8, 0x7ff8000000000000);
     about("59 twice, 58 between them");
     refused_in(0, &c, &other, LTA_DUMP_NOT_FINITE, 8);
     put(&other, 0, 8, 0xfff0000000000000);
@@ -475,7 +475,7 @@ int main(int count, char **words)
     sample_dump = words[2];
     sample_proposal = words[3];
     case_arena = arena(CASE_ROOM);
-    dump_arena = arena(DUMP_ROOM);
+    dump_arena = arena((size_t)DUMP_ROOM);
     out_arena = arena(ROOM);
 
     group("numbers and sizes", layout);

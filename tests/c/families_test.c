@@ -328,17 +328,17 @@ static void rooms(void)
 {
     static const size_t lengths[] = {0, 1, 71, 72, LTA_REPORT_ROOM - 1, LTA_REPORT_ROOM, LTA_REPORT_ROOM + 1, 300};
     struct hour h = three_zone_hour();
-    struct file c = case_file(&h), p = proposal_file(&h), f = list_file(sample_parents, 5), none = {0};
+    struct file c = case_file(&h), p = proposal_file(&h), f = list_file(sample_parents, 5), empty = {0};
     struct file report = report_file(LTA_ACCEPTED, h.zones, three_zone_totals());
     for (size_t k = 0; k < COUNT(lengths); k++) {
         size_t room = lengths[k];
         bool enough = room >= LTA_REPORT_ROOM;
         about("the sample with a report buffer of %zu bytes", room);
-        judged(&c, &p, &f, room, enough ? LTA_ACCEPTED : LTA_NO_ROOM, 0, enough ? &report : &none);
+        judged(&c, &p, &f, room, enough ? LTA_ACCEPTED : LTA_NO_ROOM, 0, enough ? &report : &empty);
         about("an empty list with a report buffer of %zu bytes", room);
-        judged(&c, &p, &none, room, enough ? LTA_FAMILY_LIST : LTA_NO_ROOM, 0, &none);
+        judged(&c, &p, &empty, room, enough ? LTA_FAMILY_LIST : LTA_NO_ROOM, 0, &empty);
         about("empty files with a report buffer of %zu bytes", room);
-        judged(&none, &none, &none, room, enough ? LTA_CASE_SHORT : LTA_NO_ROOM, 0, &none);
+        judged(&empty, &empty, &empty, room, enough ? LTA_CASE_SHORT : LTA_NO_ROOM, 0, &empty);
     }
 }
 
@@ -377,9 +377,9 @@ static void without_a_list(void)
     struct file c = case_file(&h), p = proposal_file(&h), report = report_file(LTA_ACCEPTED, h.zones, three_zone_totals());
     uint8_t buffer[LTA_REPORT_ROOM] = {0};
     about("lta_judge after a refusal by 16, 17, 18 and 28");
-    const uint16_t lists[3][5] = {{5, NONE, NONE, NONE, NONE}, {0, NONE, NONE, NONE, NONE}, {1, NONE, NONE, NONE, NONE}};
+    const uint16_t refused_lists[3][5] = {{5, NONE, NONE, NONE, NONE}, {0, NONE, NONE, NONE, NONE}, {1, NONE, NONE, NONE, NONE}};
     for (size_t k = 0; k < 3; k++) {
-        struct file f = list_file(lists[k], 5);
+        struct file f = list_file(refused_lists[k], 5);
         check(lta_judge_families(c.bytes, c.length, p.bytes, p.length, f.bytes, f.length, buffer, sizeof buffer) != LTA_ACCEPTED);
         check(lta_judge(c.bytes, c.length, p.bytes, p.length, buffer, sizeof buffer) == LTA_ACCEPTED);
         check(memcmp(buffer, report.bytes, report.length) == 0);

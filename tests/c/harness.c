@@ -1,5 +1,5 @@
 /* See harness.h. The counts lie in memory that the children share with their parent. */
-#define _DEFAULT_SOURCE
+#define _DEFAULT_SOURCE /* NOLINT(bugprone-reserved-identifier): the C library asks for this name */
 #include "harness.h"
 
 #include <inttypes.h>
@@ -226,7 +226,7 @@ static bool ended_at(volatile uint8_t *at, bool write)
     return WIFSIGNALED(status) && WTERMSIG(status) == SIGSEGV;
 }
 
-bool unreadable(const volatile uint8_t *at) { return ended_at((volatile uint8_t *)(uintptr_t)at, false); }
+bool unreadable(const volatile uint8_t *at) { return ended_at((volatile uint8_t *)at, false); }
 bool unwritable(volatile uint8_t *at) { return ended_at(at, true); }
 
 void call_on(struct arena a, void (*call)(void))

@@ -89,10 +89,10 @@ static void add(struct exchange *e, uint8_t from, uint8_t to)
 /* As many different pairs as are asked for, from the first zone on. */
 static void add_pairs(struct exchange *e, size_t count)
 {
-    for (uint8_t from = 0; from < e->zones; from++)
-        for (uint8_t to = 0; to < e->zones; to++)
+    for (size_t from = 0; from < e->zones; from++)
+        for (size_t to = 0; to < e->zones; to++)
             if (from != to && e->bytes < 2 * count)
-                add(e, from, to);
+                add(e, (uint8_t)from, (uint8_t)to);
 }
 
 /* Zone 0 exports a tenth, which zone 1 imports, at these prices and along one pair. */
@@ -127,8 +127,8 @@ static void annex(void)
         e.price[z] = price[z] * LTA_GRAINS_PER_EURO;
     about("annex 5.1, the first price set");
     no(&e, 8000);
-    e.price[0] = 20 * LTA_GRAINS_PER_EURO;
-    e.price[1] = 10 * LTA_GRAINS_PER_EURO;
+    e.price[0] = 20 * (int64_t)LTA_GRAINS_PER_EURO;
+    e.price[1] = 10 * (int64_t)LTA_GRAINS_PER_EURO;
     about("annex 5.1, the second price set");
     yes(&e, 14000);
     for (size_t z = 0; z < 5; z++)
@@ -214,11 +214,11 @@ static void carried(void)
 static void zone_counts(void)
 {
     for (size_t zones = 0; zones <= ZONES_MOST + 2; zones++) {
-        for (size_t prices = 0; prices <= ZONES_MOST + 2; prices++) {
+        for (size_t count = 0; count <= ZONES_MOST + 2; count++) {
             struct exchange e = idle(zones);
-            e.prices = prices;
-            about("%zu net positions and %zu prices", zones, prices);
-            if (zones == prices && zones >= 1 && zones <= ZONES_MOST)
+            e.prices = count;
+            about("%zu net positions and %zu prices", zones, count);
+            if (zones == count && zones >= 1 && zones <= ZONES_MOST)
                 yes(&e, 0);
             else
                 refused(&e, LTA_INTUITIVE_ZONES, 0);
@@ -453,7 +453,7 @@ static void hours(void)
         uint8_t pair[2 * LTA_INTUITIVE_PAIRS];
         size_t bytes = links_of(&h, pair);
         about("the largest hour of version %d, sold across", version);
-        hour_is(&h, bytes, pair, ROOM, (struct lta_carried){0, 0, 1, 256 * 100000});
+        hour_is(&h, bytes, pair, ROOM, (struct lta_carried){0, 0, 1, 25600000});
     }
     h = contracted_hour();
     about("P1 of version 2 with a pair to each buyer");
@@ -494,11 +494,11 @@ static void refused_hours(void)
     h.link[0].capacity = 100001;
     about("a capacity above its limit, by its offset");
     hour_is(&h, 2, (uint8_t[]){0, 1}, ROOM, (struct lta_carried){LTA_CASE_LINK, 48, 0, 0});
-    struct file empty = {0}, c = case_file(&h);
+    struct file empty = {0};
     about("no case");
     asked_hour(&empty, &empty, 0, NULL, ROOM, (struct lta_carried){LTA_CASE_SHORT, 0, 0, 0});
     h = three_zone_hour();
-    c = case_file(&h);
+    struct file c = case_file(&h);
     about("no proposal");
     asked_hour(&c, &empty, 0, NULL, ROOM, (struct lta_carried){LTA_PROPOSAL_SHORT, 0, 0, 0});
     h = one_zone_hour();
@@ -577,7 +577,7 @@ static void small_stack(void)
     call.proposal = proposal_file(&h);
     about("the largest hour on a stack of %d bytes", STACK_ENOUGH);
     on_stack(STACK_ENOUGH, call_hour);
-    check(is(call.answer, 0, 0, 1, 256 * 100000));
+    check(is(call.answer, 0, 0, 1, 25600000));
 }
 
 static void with_scratch(const char *name, void (*tests)(void))
@@ -592,7 +592,7 @@ int main(void)
     net_arena = arena(sizeof((struct exchange *)0)->net);
     price_arena = arena(sizeof((struct exchange *)0)->price);
     pair_arena = arena(PAIR_BYTES_MOST);
-    scratch_arena = arena(8 * (LTA_INTUITIVE_SCRATCH + PAST));
+    scratch_arena = arena((size_t)8 * (LTA_INTUITIVE_SCRATCH + PAST));
     case_arena = arena(sizeof((struct file *)0)->bytes);
     proposal_arena = arena(sizeof((struct file *)0)->bytes);
 

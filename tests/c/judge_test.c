@@ -63,7 +63,7 @@ static void memory(void)
     about("an empty array's first byte can be read");
     check(unreadable(lend(case_arena, AT_START, two, 0)) && unreadable(lend(case_arena, AT_END, two, 0)));
     about("bytes that are not to be written can be");
-    check(unwritable((uint8_t *)(uintptr_t)lend(case_arena, AT_START, two, 2)));
+    check(unwritable((uint8_t *)lend(case_arena, AT_START, two, 2)));
     about("lent room cannot be used");
     uint8_t *room = lend_room(report_arena, AT_END, 2);
     check(!unreadable(room + 1) && !unwritable(room) && unwritable(room + 2));
@@ -518,7 +518,7 @@ static void wide_tolerances(void)
     refused(&h, LTA_WIDE_TOLERANCE, 0);
     h = unused_spread(10000, 27961, 3541, 101);
     about("the widest tolerance, and a gap a microcent above it");
-    struct totals t = {.bound = widest + 1, .gap = widest + 1, .owed = widest + 1, .price = {3541 * 101}};
+    struct totals t = {.bound = widest + 1, .gap = widest + 1, .owed = widest + 1, .price = {3541 * (int64_t)101}};
     reported(&h, LTA_GAP_ABOVE_TOLERANCE, t);
     h.tolerance = 9999;
     about("a tolerance of 9,999 cents");
@@ -816,8 +816,8 @@ static void largest_contracted(void)
     reported(&h, LTA_GAP_ABOVE_TOLERANCE, t);
     h.shadow[63] = 100000;
     h.branch[63].ram = 0;
-    t.bound = 1152000000000000000 + 4 * 100000 * cents(1);
-    t.gap = 4 * 100000 * cents(1);
+    t.bound = 1152000000000000000 + 400000 * cents(1);
+    t.gap = 400000 * cents(1);
     about("the link total of all their capacity is the larger one in the bound");
     reported(&h, LTA_GAP_ABOVE_TOLERANCE, t);
 }

@@ -47,7 +47,7 @@ static uint8_t *written(enum place place, const struct queue *q)
 
 static uint8_t *unwritten(enum place place, const struct queue *q)
 {
-    return (uint8_t *)(uintptr_t)lend(queue_arena, place, q->bytes, sizeof q->bytes);
+    return (uint8_t *)lend(queue_arena, place, q->bytes, sizeof q->bytes);
 }
 
 static bool left(enum place place, const struct queue *after)
@@ -78,11 +78,14 @@ static bool serve_leaves(const struct queue *q, uint32_t number, uint32_t area, 
     return ok;
 }
 
+/* Where an area's cells begin. */
+static size_t cells_of(uint32_t area) { return (size_t)LTA_QUEUE_HOURS * area; }
+
 /* What waits in an area, zeros behind it. */
 static size_t waiting(const struct queue *q, uint32_t area)
 {
     size_t count = 0;
-    while (count < LTA_QUEUE_HOURS && q->bytes[LTA_QUEUE_HOURS * area + count] != 0)
+    while (count < LTA_QUEUE_HOURS && q->bytes[cells_of(area) + count] != 0)
         count++;
     return count;
 }
@@ -91,7 +94,7 @@ static size_t waiting(const struct queue *q, uint32_t area)
 static void posted(struct queue *q, uint32_t area, uint32_t hour)
 {
     struct queue after = *q;
-    after.bytes[LTA_QUEUE_HOURS * area + waiting(q, area)] = (uint8_t)(hour + 1);
+    after.bytes[cells_of(area) + waiting(q, area)] = (uint8_t)(hour + 1);
     check(post_leaves(q, area, hour, 0, &after));
     *q = after;
 }
@@ -104,7 +107,7 @@ static void refused(const struct queue *q, uint32_t area, uint32_t hour, uint32_
 static void served(struct queue *q, uint32_t area, uint32_t hour)
 {
     struct queue after = *q;
-    uint8_t *cells = after.bytes + LTA_QUEUE_HOURS * area;
+    uint8_t *cells = after.bytes + cells_of(area);
     memmove(cells, cells + 1, LTA_QUEUE_HOURS - 1);
     cells[LTA_QUEUE_HOURS - 1] = 0;
     after.bytes[LTA_QUEUE_TURN] = (uint8_t)((area + 1) % LTA_QUEUE_AREAS);
@@ -217,7 +220,7 @@ static void longest(void)
 /* Bytes that no call left. */
 static void any_bytes(void)
 {
-    struct queue q = empty, after = empty;
+    struct queue q, after;
     memset(q.bytes, 255, sizeof q.bytes);
     about("bytes of all bits are an empty queue");
     nothing_served(&q);

@@ -124,7 +124,7 @@ static void layout(void)
 static void three_zones(void)
 {
     struct hour h = three_zone_hour();
-    struct file c = case_file(&h), branches = {.length = LTA_SHEET_SIZE(3, 2)}, given = read_file(sample);
+    struct file c = case_file(&h), branches = {.length = LTA_SHEET_SIZE((size_t)3, 2)}, given = read_file(sample);
     memcpy(branches.bytes, c.bytes + 14, branches.length);
     struct sheet s = {.length = given.length};
     memcpy(s.text, given.bytes, given.length);
@@ -161,10 +161,10 @@ static void lines(void)
     for (size_t k = 0; k < LINES_MOST; k++)
         add_line(&s, ZONES_MOST, 0, "0");
     about("64 lines of 16 zones");
-    written(&s, ZONES_MOST, LINES_MOST * (1 + ZONES_MOST), zeros);
+    written(&s, ZONES_MOST, (size_t)LINES_MOST * (1 + ZONES_MOST), zeros);
     s.length--;
     about("64 lines, the last without its newline");
-    written(&s, ZONES_MOST, LINES_MOST * (1 + ZONES_MOST), zeros);
+    written(&s, ZONES_MOST, (size_t)LINES_MOST * (1 + ZONES_MOST), zeros);
     add(&s, "\n");
     add_line(&s, ZONES_MOST, 0, "0");
     about("65 lines");

@@ -324,7 +324,7 @@ static void nulls(void)
     struct file c = case_file(&h), p = proposal_file(&h), bare_case = case_file(&bare), bare_proposal = proposal_file(&bare);
     for (unsigned k = 0; k < PLACES; k++) {
         const uint8_t *case_bytes = lend(case_arena, k, c.bytes, c.length), *proposal = lend(proposal_arena, k, p.bytes, p.length);
-        int64_t *out = (int64_t *)(void *)lend_room(out_arena, k, 8 * ROOM);
+        int64_t *out = (int64_t *)(void *)lend_room(out_arena, k, (size_t)8 * ROOM);
         about("null for all");
         check(is_written(lta_shortfalls(NULL, 0, NULL, 0, NULL, 0), LTA_CASE_SHORT, 0, 0));
         about("null for the case");
@@ -334,7 +334,7 @@ static void nulls(void)
         about("null for the output");
         check(is_written(lta_shortfalls(case_bytes, c.length, proposal, p.length, NULL, 0), LTA_SHORTFALL_NO_ROOM, 0, 0));
         about("null, and something was written");
-        check(holds(out_arena, k, 8 * ROOM, NULL, 0));
+        check(holds(out_arena, k, (size_t)8 * ROOM, NULL, 0));
         case_bytes = lend(case_arena, k, bare_case.bytes, bare_case.length);
         proposal = lend(proposal_arena, k, bare_proposal.bytes, bare_proposal.length);
         about("null for the output of an hour of no rows");
@@ -396,7 +396,7 @@ int main(void)
 {
     case_arena = arena(sizeof((struct file *)0)->bytes);
     proposal_arena = arena(sizeof((struct file *)0)->bytes);
-    out_arena = arena(8 * ROOM);
+    out_arena = arena((size_t)8 * ROOM);
 
     group("numbers and sizes", layout);
     group("gap zero", gap_zero);
