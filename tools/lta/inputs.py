@@ -184,16 +184,18 @@ def regular(path):
 
 def hours_of_folder(folder):
     """The hours of a folder and of those in it, in the order of their names."""
-
-    found = []
-
-    def unread(fault):
-        found.append(Input(fault.filename, UNREAD, (why_not(fault),)))
-
-    for place, folders, names in os.walk(folder, onerror=unread):
-        folders[:] = [name for name in folders if not name.startswith(".")]
-        paths = [os.path.join(place, name) for name in names if not name.startswith(".")]
-        found += hours_of_files(sorted(path for path in paths if regular(path)))
+    found, waiting = [], [folder]
+    # Not os.walk: before Python 3.12 it calls itself for each level, and a deep folder ends it.
+    while waiting:
+        place = waiting.pop()
+        try:
+            with os.scandir(place) as entries:
+                seen = [entry for entry in entries if not entry.name.startswith(".")]
+            waiting += [entry.path for entry in seen if entry.is_dir(follow_symlinks=False)]
+        except OSError as fault:
+            found.append(Input(place, UNREAD, (why_not(fault),)))
+            continue
+        found += hours_of_files(sorted(entry.path for entry in seen if regular(entry.path)))
     if not found:
         why = "no hour in it: no .case and .proposal, .txt, .bin or .joined file, nor one that begins with LTC"
         return [Input(folder, UNREAD, (why,))]
