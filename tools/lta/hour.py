@@ -126,9 +126,10 @@ HEX_PAIRS = re.compile(r"([0-9a-fA-F]{2})*")
 MARK = re.compile(r"[!-~]{3}|[0-9a-fA-F]{6}")
 OFFSET = re.compile(r"[0-9]+|0[xX][0-9a-fA-F]+")
 EXPECTATION = re.compile(r"#\s*(expect-apart|expect-without|expect|totals)\b(.*)")
-VERDICT = re.compile(r" ([0-9]+) ([0-9]+)")
+# As many digits as a number, an index and a total of 64 bits have: longer ones are no answer, and slow to print.
+VERDICT = re.compile(r" ([0-9]{1,3}) ([0-9]{1,20})")
 TOTALS = ("welfare", "bound", "gap", "rent", "owed")
-EUROS = re.compile("".join(rf" {name} (-?[0-9]+(?:\.[0-9]{{1,8}})?)" for name in TOTALS))
+EUROS = re.compile("".join(rf" {name} (-?[0-9]{{1,12}}(?:\.[0-9]{{1,8}})?)" for name in TOTALS))
 MICROCENT_DECIMALS = 8
 REPORTED = (0, 26)
 HEX_BYTES_PER_LINE = 32
