@@ -176,7 +176,7 @@ def write(path, data, force):
     except FileExistsError:
         raise Failure(f"{path}: it is there, and is written over only with --force") from None
     except (OSError, ValueError) as fault:
-        raise Failure(f"{path}: it cannot be written: {why_not(fault)}") from None
+        raise Failure(f"{path or repr('')}: it cannot be written: {why_not(fault)}") from None
 
 
 # Commands.
@@ -296,7 +296,7 @@ def run_page(options):
     if len(sources) > page.MOST_HOURS:
         most = f"a page takes at most {page.MOST_HOURS:,}; lta judge takes any number"
         raise Failure(f"{options.files[0]}: {len(sources):,} hours, and {most}")
-    out = options.out or page_name(options.files, sources)
+    out = page_name(options.files, sources) if options.out is None else options.out
     refuse_if_there([out], options.force)
     unread: list[InputError] = []
     write(out, page.page(options.files, sources, unread.append).encode(), options.force)
