@@ -761,6 +761,7 @@ struct lta_served lta_queue_serve(uint8_t queue[LTA_AT_LEAST(LTA_QUEUE_SIZE)])
 #elif !defined(__cplusplus) && __STDC_VERSION__ >= 201112L
 #define LTA_ASSERT(name, condition) _Static_assert(condition, #name ": not as the library has it")
 #else
+/* NOLINTNEXTLINE(bugprone-macro-parentheses): it declares the name */
 #define LTA_ASSERT(name, condition) typedef char name[(condition) ? 1 : -1]
 #endif
 #define LTA_SIZE(type, bytes) LTA_ASSERT(type##_size, sizeof(struct type) == (bytes))

@@ -5,6 +5,8 @@ antt shuts every definition: a declaration sees the clauses of another only wher
 of a declaration in scope counts as citing it, so this finds more than there is and never less.
 """
 
+from __future__ import annotations
+
 import functools
 import re
 
@@ -41,7 +43,9 @@ def words_of(line):
 
 
 def declarations_of(file, text):
-    found, open_at, modules = [], None, []
+    found: list[Declaration] = []
+    modules: list[tuple[int, set]] = []
+    open_at = None
     for line in text.splitlines():
         indent, (modifiers, words) = len(line) - len(line.lstrip()), words_of(line)
         if not words or words[0].startswith("--") or words[0] in ("use", "mod"):
@@ -64,7 +68,10 @@ class Specs:
     """The declarations of all files of a crate's specs/."""
 
     def __init__(self, folder):
-        self.crate, self.files, self.uses, self.by_name = folder.name, {}, {}, {}
+        self.crate = folder.name
+        self.files: dict[str, list] = {}
+        self.uses: dict[str, list] = {}
+        self.by_name: dict[str, list] = {}
         for path in sorted(folder.glob("specs/**/*.antt")):
             file, text = path.relative_to(folder).as_posix(), path.read_text()
             self.files[file] = declarations_of(file, text)

@@ -26,7 +26,7 @@ def table(name):
 
 def fields(report):
     """The fields of a report by name; one that is there for each zone is a list."""
-    found = {}
+    found: dict = {}
     for row in table("report"):
         at, size = int(row["offset"]), int(row["bytes"])
         count = int(row["count"]) if row["count"].isdigit() else found[row["count"]]

@@ -253,10 +253,23 @@ static unsigned flags_after(size_t place, uint64_t bits, unsigned before)
     return after;
 }
 
+/* Whether a quotient that is not exact raises a flag, as every processor does and valgrind does not. */
+static bool raises_flags(void)
+{
+    volatile double three = 3;
+    _mm_setcsr(_mm_getcsr() & ~(unsigned)_MM_EXCEPT_MASK);
+    three = 1 / three;
+    return (_mm_getcsr() & _MM_EXCEPT_INEXACT) != 0;
+}
+
 /* Inexact, overflow and a subnormal operand are raised, each where it is due; no other flag is, and none is cleared. */
 static void flags(void)
 {
     const unsigned may = _MM_EXCEPT_INEXACT | _MM_EXCEPT_OVERFLOW | _MM_EXCEPT_DENORM;
+    if (!raises_flags()) {
+        puts("floating-point flags left out: none is raised here, as under valgrind");
+        return;
+    }
     check(flags_after(SHARE_AT, bits_of(1), 0) == 0);
     check(flags_after(SHARE_AT, bits_of(0.5), 0) == _MM_EXCEPT_INEXACT);
     check(flags_after(FLOW_AT, bits_of(1e308), 0) == (_MM_EXCEPT_INEXACT | _MM_EXCEPT_OVERFLOW));

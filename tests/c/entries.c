@@ -104,6 +104,12 @@ static void queue_serve(const struct input *in, struct answer *a)
     a->word[3] = s.hour;
 }
 
+static void version(const struct input *in, struct answer *a)
+{
+    (void)in;
+    a->word[0] = lta_version();
+}
+
 const struct entry every_entry[ENTRIES] = {
     {"lta_judge", judge},
     {"lta_judge_families", judge_families},
@@ -120,6 +126,7 @@ const struct entry every_entry[ENTRIES] = {
     {"lta_shortfalls", shortfalls},
     {"lta_queue_post", queue_post},
     {"lta_queue_serve", queue_serve},
+    {"lta_version", version},
 };
 
 static void ask_over_zeros(void (*entry)(const struct input *, struct answer *), const struct input *in, struct answer *a)

@@ -33,7 +33,7 @@ struct entry {
     void (*ask)(const struct input *in, struct answer *a);
 };
 
-#define ENTRIES 15
+#define ENTRIES 16
 extern const struct entry every_entry[ENTRIES];
 
 /* Reads the records that tools/build_records.py wrote, and gives how many of them are inputs here. */

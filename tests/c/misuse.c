@@ -1,6 +1,10 @@
 /* Calls that a compiler must warn of, one for each value of MISUSE. Any other value has the same calls made well. */
 #include "lta_judgement.h"
 
+#ifndef MISUSE
+#define MISUSE 0
+#endif
+
 #define SHORT_REPORT 1     /* 100 bytes, lent as 176 */
 #define SHORT_SCRATCH 2    /* that of the small entries, lent to a wide one */
 #define SHORT_PAIRS 3      /* a byte less than is read */

@@ -20,7 +20,7 @@ static size_t inputs;
 static void call_entry(void) { call.entry->ask(&call.in, &call.answer); }
 
 /* An entry that takes more than this ends at the page below it, or writes past it. */
-#define STACK_MOST (64 * STACK_ENOUGH)
+#define STACK_MOST ((size_t)64 * STACK_ENOUGH)
 
 static void depths(void)
 {
@@ -35,7 +35,7 @@ static void depths(void)
             make_input(number, &call.in);
             for (size_t k = 0; k < ENTRIES; k++) {
                 call.entry = &every_entry[k];
-                about("%s over input %zu on a stack of %d bytes", call.entry->name, number, STACK_MOST);
+                about("%s over input %zu on a stack of %zu bytes", call.entry->name, number, STACK_MOST);
                 call_on(stack[k], call_entry);
             }
         }
