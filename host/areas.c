@@ -4,11 +4,11 @@
  *     AREA HOUR CASE PROPOSAL      an area's solver has finished an hour: it is posted, with its two files
  *     (a line without words)       the desk has time for one hour
  *
- * and at the end of the file the desk serves all that waits. For each hour judged a line is printed: area, hour, number,
- * index and what the number means; for each post that is refused: area, hour, `not posted`, number and what it means. The
- * last line counts. A line that is neither is named by its number, counted from 1, and those after it are read all the
- * same. The status is 0 if every hour judged is accepted and every post taken, 1 if not, 2 if an hour could not be judged,
- * a line not be read or the answer not be printed.
+ * and at the end of the file the desk serves all that waits. For each hour judged a line is printed: area, hour,
+ * number, index and what the number means; for each post that is refused: area, hour, `not posted`, number and what it
+ * means. The last line counts. A line that is neither is named by its number, counted from 1, and those after it are
+ * read all the same. The status is 0 if every hour judged is accepted and every post taken, 1 if not, 2 if an hour
+ * could not be judged, a line not be read or the answer not be printed.
  *
  *     cc areas.c $(pkg-config --cflags --libs lta_judgement) -o areas
  */
@@ -25,7 +25,7 @@
 #define NAME_MOST 255
 #define LINE_MOST (2 * NAME_MOST + 40)
 
-/* The desk: its queue, and the files of each hour that waits in it. All of it zero is a desk at the beginning of a day. */
+/* The desk: its queue, and the files of each hour that waits in it. All of it is zero at the beginning of a day. */
 struct desk {
     uint8_t queue[LTA_QUEUE_SIZE];
     struct files {

@@ -1,7 +1,7 @@
 /* A host of the judgement that judges a day: `day CASE PROPOSAL [CASE PROPOSAL ..]` has each pair of files judged and
- * prints a line for it: the case's name, number, index and what the number means, and for 0 and 26 gap, rent and owed in
- * euros. The last line counts. The status is 0 if every hour is accepted, 1 if one is refused, 2 if one could not be
- * judged or the answer not be printed; an hour that cannot be read is named, and those after it are judged all the same.
+ * prints a line for it: the case's name, number, index and what the number means, and for 0 and 26 gap, rent and owed
+ * in euros. The last line counts. The status is 0 if every hour is accepted, 1 if one is refused, 2 if one could not be
+ * judged or the answer not be printed; an hour that cannot be read is named, and those after it are judged.
  *
  *     cc day.c $(pkg-config --cflags --libs lta_judgement) -o day
  */

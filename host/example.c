@@ -1,5 +1,5 @@
-/* A host of the judgement, complete: `example CASE PROPOSAL` reads two files, has them judged and prints the answer, and
- * `example CASE PROPOSAL FAMILIES` does so with a family list. The status is 0 if the hour is accepted, 1 if it is
+/* A host of the judgement, complete: `example CASE PROPOSAL` reads two files, has them judged and prints the answer,
+ * and `example CASE PROPOSAL FAMILIES` does so with a family list. The status is 0 if the hour is accepted, 1 if it is
  * refused, 2 if it could not be judged or the answer not be printed.
  *
  *     cc example.c $(pkg-config --cflags --libs lta_judgement) -o example

@@ -1,7 +1,7 @@
 /* What the example hosts share: the files of an hour, read into memory of a fixed size.
  *
- * Of each file one byte more than the longest legal one has is read, and no more. A file that is longer is refused for its
- * length by that byte, as it would be whole.
+ * At most one byte more than the longest legal file has is read of each. A longer file is refused for its length by
+ * that byte, as it would be whole.
  */
 #ifndef READ_FILE_H
 #define READ_FILE_H

@@ -1,4 +1,4 @@
-/* The judgement of one day-ahead hour, for C and C++. `pkg-config lta_judgement` has the flags to compile and link with.
+/* The judgement of one day-ahead hour, for C and C++. `pkg-config lta_judgement` has the flags to compile and link.
  *
  * You need C99 or C++98, or a later version of either, on x86-64 Linux. The library is built for no other platform.
  *
@@ -12,11 +12,11 @@
  * lta_shortfalls says of an accepted hour by how much each order, branch and link may be out. lta_queue_post and lta_queue_serve keep the
  * queue of a desk that serves four areas. lta_version says which library answers.
  *
- * Where a promise comes from. A word in brackets, as [outcome], is a clause of the entry's contract. The library is built
- * only if every function in it is proved to meet its contract; lta_book_surplus and lta_version have one clause each,
- * without a name. The clauses cite definitions, and these say what a number, a rule or a field is. What is in no clause
- * and follows from the definitions is marked "proved of the definitions". The document GUARANTEE names the theorems, and
- * what all of it rests on.
+ * Where a promise comes from. A word in brackets, as [outcome], is a clause of the entry's contract. The library is
+ * built only if every function in it is proved to meet its contract; lta_book_surplus and lta_version have one clause
+ * each, without a name. The clauses cite definitions, and these say what a number, a rule or a field is. What is in no
+ * clause and follows from the definitions is marked "proved of the definitions". The document GUARANTEE names the
+ * theorems, and what all of it rests on.
  *
  * What the caller owes, in every call:
  *   - A pointer and the length or count after it are one array: all of it may be read, and all of `report`, `out` or `scratch` may be
@@ -27,9 +27,9 @@
  *   - There is stack enough. The proofs are about a machine that cannot run out of it; by test, 16 KiB are enough.
  *   - In a call of lta_dump_proposal the floating-point environment is that with which a C program starts: rounding to the nearest, and
  *     subnormals neither taken nor written as zero. A program that is linked with -ffast-math starts with another. No other entry uses it.
- *   - Floating-point traps are masked in a call of lta_dump_proposal, as they are when a C program starts. It may raise the
- *     flags inexact and overflow, and the processor's flag for a subnormal operand, which C has no name for; it raises no
- *     other flag and clears none. That is tested, and not proved.
+ *   - Floating-point traps are masked in a call of lta_dump_proposal, as they are when a C program starts. It may
+ *     raise the flags inexact and overflow, and the processor's flag for a subnormal operand, which C has no name for;
+ *     it raises no other flag and clears none. That is tested, and not proved.
  *
  * What holds then of every call, whatever the bytes are. It comes from the language, in which a contract is proved only of
  * code that ends and a function reaches nothing that it is not given, and from no clause:
@@ -41,9 +41,9 @@
  *   - It is reentrant: nothing is kept between calls but in the caller's queue, so every entry may be called from several threads at once,
  *     and on one queue by one thread at a time.
  *
- * For other languages, share/mbirukaze/numbers.tsv has every number with its name, what its index counts and its words, and
- * share/mbirukaze/report.tsv has the fields of a report. The first line of each names the columns; a tab stands between
- * cells. They are tested, and not proved.
+ * For other languages, share/mbirukaze/numbers.tsv has every number with its name, what its index counts and its words,
+ * and share/mbirukaze/report.tsv has the fields of a report. The first line of each names the columns; a tab stands
+ * between cells. They are tested, and not proved.
  *
  * Measures:
  *   tenth      0.1 MW, for one hour 0.1 MWh     margins, capacities, contracted volumes, quantities, volumes, flows,
@@ -186,8 +186,8 @@ enum lta_number {
 #define LTA_REPORT_SIZE(zones) (48 + 8 * (zones)) /* bytes of a report */
 #define LTA_REPORT_ROOM 176         /* bytes that a report buffer must have, whatever the zones: a report of 16 */
 
-/* Readers of a report that lta_judge or lta_judge_families wrote. They are C in this header and no part of the library: tested, and not
- * proved. */
+/* Readers of a report that lta_judge or lta_judge_families wrote. They are C in this header and no part of the library:
+ * tested, and not proved. */
 
 /* The signed number of 64 bits, little-endian, at an offset of the report. */
 LTA_NOT_NULL(1) static inline int64_t lta_report_amount(const uint8_t *report, size_t offset)
@@ -480,8 +480,8 @@ struct lta_carried {
  * Of a refusal [refused]: intuitive and total are 0.
  *
  * What follows, proved of the definitions: a yes and a no exclude each other, and yes or no and the total depend on the
- * input alone. The total of a yes is the sum of all exports, that of a no is less. The sum of [yes_rent] is, for the flows
- * of [yes], the sum over counted pairs of flow * (price of the second zone - price of the first).
+ * input alone. The total of a yes is the sum of all exports, that of a no is less. The sum of [yes_rent] is, for the
+ * flows of [yes], the sum over counted pairs of flow * (price of the second zone - price of the first).
  *
  * The numbers of `scratch` afterwards [scratch]: the first LTA_INTUITIVE_SCRATCH are zero, and all past them as they were. In a refusal
  * every number is as it was.
@@ -519,8 +519,9 @@ struct lta_carried lta_hour_intuitive(const uint8_t *case_bytes, size_t case_len
  * an answer the first 96 are zero, and all past them as they were [outcome] [yes] [yes_rent] [no] [yes_or_no] [largest]
  * [scratch] [refused].
  *
- * What follows, proved of the definitions: on each input that both take, intuitive and total are those of the wide entry;
- * what the wide one takes the smaller takes too, and every refusal but LTA_INTUITIVE_NO_ROOM is the same, number and index.
+ * What follows, proved of the definitions: on each input that both take, intuitive and total are those of the wide
+ * entry; what the wide one takes the smaller takes too, and every refusal but LTA_INTUITIVE_NO_ROOM is the same, number
+ * and index.
  */
 LTA_USE_ANSWER
 struct lta_carried lta_intuitive_small(const int64_t *net_exports, size_t net_count,
@@ -743,8 +744,8 @@ struct lta_served {
  * area after it, and all others are as they were. In a refusal every byte is as it was; that none is written then is tested,
  * and not proved. [queue] says the same of the queue that the bytes are.
  *
- * What holds of all calls on a queue together, from the empty one on and in whatever order, refused ones included. It is proved
- * of the definitions, from what [number], [answer] and [bytes] say of each call:
+ * What holds of all calls on a queue together, from the empty one on and in whatever order, refused ones included. It
+ * is proved of the definitions, from what [number], [answer] and [bytes] say of each call:
  *   - An area that has an hour waiting is served by one of the next four serves. An hour is served by one of the next hundred serves after
  *     its posting, whatever else is posted. Both hold from any other bytes too, and neither of a smaller number.
  *   - An area's hours are served in the order posted; none is lost, and none served that was not posted.
@@ -754,8 +755,8 @@ LTA_USE_ANSWER
 struct lta_served lta_queue_serve(uint8_t queue[LTA_AT_LEAST(LTA_QUEUE_SIZE)])
     LTA_NOT_NULL(1);
 
-/* THE LAYOUT of the structs, as the library has it. Where a compiler lays one out otherwise, as under #pragma pack, the
- * header does not compile. */
+/* THE LAYOUT of the structs, as the library has it. Where a compiler lays one out otherwise, as under #pragma pack,
+ * the header does not compile. */
 #if defined(__cplusplus) && __cplusplus >= 201103L
 #define LTA_ASSERT(name, condition) static_assert(condition, #name ": not as the library has it")
 #elif !defined(__cplusplus) && __STDC_VERSION__ >= 201112L

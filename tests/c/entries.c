@@ -215,7 +215,7 @@ static struct shape shape_of(const struct file *f)
     struct shape s = {0};
     if (f->length >= 14) {
         s.link_size = f->bytes[3] == 2 ? 10 : 6;
-        s.links = 14 + f->bytes[6] * 4 * (f->bytes[5] + (size_t)1);
+        s.links = 14 + (size_t)4 * f->bytes[6] * (f->bytes[5] + (size_t)1);
         s.link_count = f->bytes[7];
         s.orders = s.links + s.link_count * s.link_size;
         s.order_count = number_at(f->bytes + 8, 2);

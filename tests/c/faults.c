@@ -21,13 +21,12 @@ static void fault(void)
         exit(2);
     if (!is("unset"))
         bytes[7] = 1;
-    uint8_t read = bytes[is("past") ? 8 : 7];
+    uint8_t read = bytes[is("past") ? 8 : 7]; /* NOLINT(clang-analyzer-core.uninitialized.Assign): that is the fault */
     about("a byte that was set is another");
     check(read == 1 || is("unset") || is("past"));
-    if (is("lost"))
-        bytes = NULL;
-    free((void *)(uintptr_t)bytes);
-}
+    if (!is("lost"))
+        free((void *)bytes);
+} /* NOLINT(clang-analyzer-unix.Malloc): that is the fault */
 
 int main(int count, char **words)
 {

@@ -1,5 +1,5 @@
-/* What the header itself has, next to the library's entries: the version, which is the library's, the readers of a report
- * and the numbers in words. */
+/* What the header itself has, next to the library's entries: the version, which is the library's, the readers of a
+ * report and the numbers in words. */
 #include "harness.h"
 #include "hours.h"
 #include "lta_judgement.h"
