@@ -111,22 +111,22 @@ static void version(const struct input *in, struct answer *a)
 }
 
 const struct entry every_entry[ENTRIES] = {
-    {"lta_judge", judge},
-    {"lta_judge_families", judge_families},
-    {"lta_book_surplus", book_surplus},
-    {"lta_desk_lines", desk_lines},
-    {"lta_sheet_branches", sheet_branches},
-    {"lta_intuitive", intuitive},
-    {"lta_hour_intuitive", hour_intuitive},
-    {"lta_intuitive_small", intuitive_small},
-    {"lta_hour_intuitive_small", hour_intuitive_small},
-    {"lta_dump_proposal", dump_proposal},
-    {"lta_case_columned", case_columned},
-    {"lta_case_restored", case_restored},
-    {"lta_shortfalls", shortfalls},
-    {"lta_queue_post", queue_post},
-    {"lta_queue_serve", queue_serve},
-    {"lta_version", version},
+    {"lta_judge", judge, false},
+    {"lta_judge_families", judge_families, false},
+    {"lta_book_surplus", book_surplus, false},
+    {"lta_desk_lines", desk_lines, false},
+    {"lta_sheet_branches", sheet_branches, false},
+    {"lta_intuitive", intuitive, false},
+    {"lta_hour_intuitive", hour_intuitive, false},
+    {"lta_intuitive_small", intuitive_small, false},
+    {"lta_hour_intuitive_small", hour_intuitive_small, false},
+    {"lta_dump_proposal", dump_proposal, false},
+    {"lta_case_columned", case_columned, false},
+    {"lta_case_restored", case_restored, false},
+    {"lta_shortfalls", shortfalls, false},
+    {"lta_queue_post", queue_post, false},
+    {"lta_queue_serve", queue_serve, false},
+    {"lta_version", version, true},
 };
 
 static void ask_over_zeros(void (*entry)(const struct input *, struct answer *), const struct input *in, struct answer *a)

@@ -5,6 +5,7 @@
 #include "hours.h"
 #include "lta_judgement.h"
 
+#include <stdbool.h>
 #include <stddef.h>
 #include <stdint.h>
 
@@ -31,6 +32,7 @@ struct answer {
 struct entry {
     const char *name;
     void (*ask)(const struct input *in, struct answer *a);
+    bool constant; /* it takes no argument */
 };
 
 #define ENTRIES 16

@@ -65,15 +65,15 @@ static void ask_alone(void)
     }
 }
 
-/* An entry that gives the same to every input would not be tested. */
+/* An entry that gives the same to every input would not be tested, but for one that takes none. */
 static void several_answers(void)
 {
     for (size_t e = 0; e < ENTRIES; e++) {
         size_t changes = 0;
         for (size_t number = 1; number < inputs; number++)
             changes += alone[number][e] != alone[number - 1][e];
-        about("%s answers %zu inputs otherwise than the one before, and should 20", every_entry[e].name, changes);
-        check(changes >= 20);
+        about("%s answers %zu inputs otherwise than the one before", every_entry[e].name, changes);
+        check(every_entry[e].constant ? changes == 0 : changes >= 20);
     }
 }
 
