@@ -15,9 +15,12 @@ pub type Field = (usize, bool);
 /// Where a cause of the verdict table holds, its index: the smallest, if it holds at several.
 pub type Cause<J> = fn(&J, &Hour) -> Option<usize>;
 
+/// A row for each number, with its cause.
+pub type Table<J> = [(u32, Cause<J>); 27];
+
 /// The verdict table: each number with its cause, in the order in which they are asked. The first that holds is the
 /// verdict; where none does, the hour is accepted.
-pub fn verdict_table<J: Judgement>() -> [(u32, Cause<J>); 27] {
+pub fn verdict_table<J: Judgement>() -> Table<J> {
     [
         (30, J::report_buffer_is_short),
         (1, J::case_is_short),
@@ -174,7 +177,7 @@ pub trait Judgement: Sized {
 
     // The causes of the verdict table, in the order in which they are asked.
 
-    fn table(&self) -> [(u32, Cause<Self>); 27] {
+    fn table(&self) -> Table<Self> {
         verdict_table()
     }
 

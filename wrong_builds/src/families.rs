@@ -1,9 +1,9 @@
 //! Wrong judgements with a family list, S-11's and S-12's.
 
-use crate::judgement::{asked_after, asked_before, Table};
+use crate::judgement::{asked_after, asked_before};
 use second_judge::families::{Parents, LIST_HEADER};
 use second_judge::files::{u16_at, Hour};
-use second_judge::judgement::holds;
+use second_judge::judgement::{holds, verdict_table, Table};
 use second_judge::{Judgement, Papers, Verdict};
 
 /// A build's entry with a family list.
@@ -77,7 +77,7 @@ impl Judgement for LongerTaken {
 pub struct ListBeforeProposal;
 impl Judgement for ListBeforeProposal {
     fn table(&self) -> Table<Self> {
-        let mut table = second_judge::judgement::verdict_table::<Self>();
+        let mut table = verdict_table::<Self>();
         let place = |number| table.iter().position(|row| row.0 == number).expect("in the table");
         let (proposal, list) = (place(9), place(18));
         table[proposal..=list].rotate_right(3);

@@ -1,7 +1,7 @@
 //! Wrong judgements: the paper's six builds that pass stored hours and its three shams, then those of the requests.
 
 use second_judge::files::{u32_at, Case, Hour};
-use second_judge::judgement::{holds, verdict_table, Cause, Field, PerZone};
+use second_judge::judgement::{holds, verdict_table, Cause, Field, PerZone, Table};
 use second_judge::limits::*;
 use second_judge::{Judgement, Papers, Verdict};
 
@@ -60,8 +60,6 @@ pub static BUILDS: [(Judge, &str); 41] = [
 ];
 
 /// The verdict table with a row moved before or after another.
-pub type Table<J> = [(u32, Cause<J>); 27];
-
 pub fn asked_before<J: Judgement>(number: u32, other: u32) -> Table<J> {
     moved(number, other, 0)
 }
