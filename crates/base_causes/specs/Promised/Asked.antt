@@ -1,9 +1,10 @@
 -- A table as a list of numbers with the kinds of their indices, and the order of such a list: the words of `table-order`.
-use mathlib.Core.Path.{_≡_}
+-- Assumes nothing.
+use mathlib.Core.Path.{_≡_, sym, ap, subst}
 use mathlib.Core.Bool.{Bool, true, false, _&&_, _||_}
 use mathlib.Core.List.{List, [], _∷_}
 use Prim.Native.Nat.{ℕ}
-use lib.Dec.{eqb, ltb}
+use lib.Dec.{T, eqb, ltb}
 use Rattle.base_causes.specs.Meaning.Causes.{Cause}
 
 -- THE ORDER OF A TABLE, as a list beside it: each row's number, and what its index is: none named (0), a given offset, the place, or the offset of the
@@ -33,6 +34,43 @@ Asks [] [] = Unit {0}
 Asks [] (a ∷ rest) = ⊥
 Asks (r ∷ rs) [] = ⊥
 Asks (r ∷ rs) (a ∷ rest) = (r .number ≡ a .number) × (Indexed (a .index) (r .index) × Asks rs rest)
+
+-- To prove it: give each row the number and the index that the list has for it. If that changes no row, which `refl`
+-- shows by computing, the rows are these. So a new row adds nothing to the proof.
+abbrev indexBy : Index → (ℕ → ℕ) → ℕ → ℕ
+indexBy unnamed f k = 0
+indexBy (at-offset n) f k = n
+indexBy the-place f k = k
+indexBy a-field f k = f k
+
+abbrev relabelled : List Asked → List Cause → List Cause
+relabelled [] rs = []
+relabelled (a ∷ rest) [] = record { number = a .number; places = 0; fails = λ k. false; index = λ k. 0 } ∷ []
+relabelled (a ∷ rest) (r ∷ rs) = record { number = a .number; places = r .places; fails = r .fails; index = indexBy (a .index) (r .index) } ∷ relabelled rest rs
+
+abbrev isEmpty : List Cause → Bool
+isEmpty [] = true
+isEmpty (r ∷ rs) = false
+
+abbrev first : Cause → List Cause → Cause
+first r [] = r
+first r (q ∷ qs) = q
+
+abbrev rest : List Cause → List Cause
+rest [] = []
+rest (r ∷ rs) = rs
+
+indexed : (i : Index) (f : ℕ → ℕ) → ((k : ℕ) → indexBy i f k ≡ f k) → Indexed i f
+indexed unnamed f h = λ k. sym (h k)
+indexed (at-offset n) f h = λ k. sym (h k)
+indexed the-place f h = λ k. sym (h k)
+indexed a-field f h = tt
+
+pub asks : (rs : List Cause) (order : List Asked) → relabelled order rs ≡ rs → Asks rs order
+asks [] [] e = tt
+asks [] (a ∷ order) e = absurd (subst (λ (b : Bool). T b) (ap isEmpty (sym e)) tt)
+asks (r ∷ rs) [] e = absurd (subst (λ (b : Bool). T b) (ap isEmpty e) tt)
+asks (r ∷ rs) (a ∷ order) e = (sym (ap (λ (l : List Cause). (first r l) .number) e), (indexed (a .index) (r .index) (λ k. ap (λ (l : List Cause). (first r l) .index k) e), asks rs order (ap rest e)))
 
 -- numbers ascend, and of one number the offsets do
 abbrev pub offsetsAscend : Index → Index → Bool

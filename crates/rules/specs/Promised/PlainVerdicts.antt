@@ -17,7 +17,7 @@ use Rattle.rules.specs.Meaning.Hour.{Case, Plan, Prices, caseOf, planOf,
 use Rattle.rules.specs.Meaning.Clearing.{Clearing}
 use Rattle.base_causes.specs.Meaning.Causes.{Cause, verdict, refusal, answer}
 use Rattle.base_causes.specs.Promised.CauseLaws.{Comes, past, none-left, none-both, none-each, row-passes, row-passed, row-by-number, row-answers, number-passes, causeNumbered, lacks, before, hasCause, rowOf, isCause}
-use Rattle.rules.specs.Meaning.Verdict.{_over_, smallBuffer, roomCauses, caseCauses, proposalCauses, wideTolerance, excessVolume, unbalanced, shareWithoutLink, overusedLink, overloadedBranch, priceOutside, wideGap, clearingCauses, table, outcome, familyOutcome, caseRefusal, proposalRefusal}
+use Rattle.rules.specs.Meaning.Verdict.{_over_, smallBuffer, roomCauses, caseCauses, proposalCauses, wideTolerance, wideGap, clearingCauses, table, outcome, familyOutcome, caseRefusal, proposalRefusal}
 use Rattle.rules.specs.Meaning.Report.{reports}
 use Rattle.rules.specs.Steps.Passed.{sound}
 use Rattle.rules.specs.Promised.PlainFacts.{CaseFacts, ProposalFacts, case-facts, facts-readable, proposal-facts, facts-pass}
@@ -90,7 +90,7 @@ pub record ClearedFacts (s t : List ℕ) : Type 0 where
   pub price-in : (z : ℕ) → z < zonesIn s → (negℤ (pos 5000000000) ≤ℤ zonePrice (caseOf s) (pricesOf s t) z) × (zonePrice (caseOf s) (pricesOf s t) z ≤ℤ pos 40000000000)
 
 abbrev clearedCauses : Case → Plan → Prices → List Cause
-clearedCauses c p d = excessVolume c p ∷ unbalanced c p ∷ shareWithoutLink c p ∷ overusedLink c p ∷ overloadedBranch c p ∷ priceOutside c d ∷ []
+clearedCauses c p d = before 26 (clearingCauses none c p d)
 
 within-nltb : (m n : ℕ) → n ≤ m → T (not (ltb m n))
 within-nltb m n h = not-T (ltb m n) (λ t. never (ltb→lt m n t))
@@ -114,7 +114,7 @@ no-share links share f = by (eqb links 0) refl
 
 module _ (s t : List ℕ) (room : ℕ) where
   cleared-passes : ClearedFacts s t → refusal (clearedCauses (caseOf s) (planOf s t) (pricesOf s t)) ≡ none
-  unfolding caseOf planOf noLink
+  unfolding clearingCauses before caseOf planOf noLink
   cleared-passes f =
       let k = f .is-clearing in
       let rows : Comes (clearedCauses (caseOf s) (planOf s t) (pricesOf s t)) none =
@@ -173,7 +173,7 @@ module _ (s t : List ℕ) (room : ℕ) where
       (w .0, (w .1, ltZ-no ((row-passed 0 (table none s t room (caseOf s) (planOf s t) (pricesOf s t)) e 26 0 tt) .pass 0 (omega arith))))
 
   pub is-0 : ReadFacts s t room → ClearedFacts s t → gap (caseOf s) (planOf s t) (pricesOf s t) ≤ℤ (pos 1000000 *ℤ pos (toleranceIn s)) → outcome s t room ≡ verdict 0 0
-  unfolding outcome table roomCauses caseCauses proposalCauses clearingCauses refusal caseOf
+  unfolding outcome table roomCauses caseCauses proposalCauses clearingCauses before refusal caseOf
   is-0 r f h = ap answer (none-both (readCauses s t room) (clearedCauses (caseOf s) (planOf s t) (pricesOf s t) ++ (wideGap (caseOf s) (planOf s t) (pricesOf s t) ∷ [])) (read-passes s t room r)
       (none-both (clearedCauses (caseOf s) (planOf s t) (pricesOf s t)) (wideGap (caseOf s) (planOf s t) (pricesOf s t) ∷ []) (cleared-passes f)
       (row-passes (wideGap (caseOf s) (planOf s t) (pricesOf s t)) [] (record { pass = λ k l. within-nltZ (pos 1000000 *ℤ pos (toleranceIn s)) (gap (caseOf s) (planOf s t) (pricesOf s t)) h }))))
