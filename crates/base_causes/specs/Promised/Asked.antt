@@ -1,11 +1,16 @@
 -- A table as a list of numbers with the kinds of their indices, and the order of such a list: the words of `table-order`.
 -- Assumes nothing.
-use mathlib.Core.Path.{_≡_, sym, ap, subst}
+use mathlib.Core.Path.{_≡_, refl, sym, ap, subst}
 use mathlib.Core.Bool.{Bool, true, false, _&&_, _||_}
 use mathlib.Core.List.{List, [], _∷_}
-use Prim.Native.Nat.{ℕ}
+use mathlib.Core.Option.{Option, none, some, Option·none-ne-some, Option·some-injective}
+use Prim.Native.Nat.{ℕ, _+_, _<_, _≤_}
+use native.Mathlib.Omega.{arith}
 use lib.Dec.{T, eqb, ltb}
-use Rattle.base_causes.specs.Meaning.Causes.{Cause}
+use Rattle.base_integers.specs.Steps.Ranges.{and-left, and-right}
+use Rattle.base_causes.specs.declared.Outcome.{Outcome}
+use Rattle.base_causes.specs.Meaning.Causes.{Cause, verdict, firstBelow, causeElse, refusal}
+use Rattle.base_causes.specs.Promised.CauseLaws.{first-is}
 
 -- THE ORDER OF A TABLE, as a list beside it: each row's number, and what its index is: none named (0), a given offset, the place, or the offset of the
 -- first field at fault, of which `RefusedField` says which it is (S-2)
@@ -89,3 +94,39 @@ unfoldable pub ascending : List Asked → Bool
 ascending [] = true
 ascending (a ∷ []) = true
 ascending (a ∷ (b ∷ bs)) = precedes a b && ascending (b ∷ bs)
+
+-- Where every index is 0 or the place, the index of a refusal is below the number of all places together.
+abbrev pub namesPlace : Index → Bool
+namesPlace unnamed = true
+namesPlace the-place = true
+namesPlace (at-offset n) = false
+namesPlace a-field = false
+
+unfoldable pub namePlaces : List Asked → Bool
+namePlaces [] = true
+namePlaces (a ∷ rest) = namesPlace (a .index) && namePlaces rest
+
+abbrev pub placesOf : List Cause → ℕ
+placesOf [] = 0
+placesOf (r ∷ rs) = r .places + placesOf rs
+
+at-most-place : (i : Index) (f : ℕ → ℕ) → T (namesPlace i) → Indexed i f → (k : ℕ) → f k ≤ k
+at-most-place unnamed f t h k = omega (arith, h k)
+at-most-place the-place f t h k = omega (arith, h k)
+at-most-place (at-offset n) f t h k = absurd t
+at-most-place a-field f t h k = absurd t
+
+pub index-below : (rs : List Cause) (order : List Asked) → Asks rs order → T (namePlaces order) → (o : Outcome) → refusal rs ≡ some o → o .index < placesOf rs
+unfolding refusal namePlaces
+index-below [] order w t o e = absurd (Option·none-ne-some o e)
+index-below (r ∷ rs) [] w t o e = absurd w
+index-below (r ∷ rs) (a ∷ order) w t o e = by (firstBelow (r .places) (r .fails)) refl (index-below rs order (w .1 .1) (and-right (namesPlace (a .index)) (namePlaces order) t) o) e
+  where
+    by : (x : Option ℕ) → firstBelow (r .places) (r .fails) ≡ x → (refusal rs ≡ some o → o .index < placesOf rs) → causeElse r x (refusal rs) ≡ some o → o .index < r .places + placesOf rs
+    by (some k) q ih e = omega (
+      arith,
+      ap (λ (y : Outcome). y .index) (Option·some-injective (verdict (r .number) (r .index k)) o e),
+      at-most-place (a .index) (r .index) (and-left (namesPlace (a .index)) (namePlaces order) t) (w .1 .0) k,
+      (first-is (r .places) (r .fails) k q) .place-in,
+    )
+    by none q ih e = omega (arith, ih e)

@@ -1,5 +1,5 @@
 -- All that the desk prints for any input has the room that its text is given. Assumes nothing.
-use mathlib.Core.Path.{_≡_, refl, sym, subst}
+use mathlib.Core.Path.{_≡_, refl, sym, subst, _∙_}
 use mathlib.Core.Bool.{Bool, true, false, cond}
 use mathlib.Core.List.{List, [], _∷_, _++_}
 use mathlib.Core.Option.{Option, none, some, Option·none-ne-some, Option·some-injective}
@@ -16,9 +16,11 @@ use Rattle.rules.specs.Meaning.Layout.{branchesIn, linksIn, branchSize, caseLen
 use Rattle.rules.specs.Meaning.Hour.{caseOf, planOf, pricesOf, zonePrice}
 use Rattle.base_causes.specs.declared.Outcome.{Outcome}
 use Rattle.base_causes.specs.Meaning.Causes.{Cause, verdict, firstBelow, firstField, causeElse, refusal, answer}
-use Rattle.base_causes.specs.Promised.CauseLaws.{first-is, field-below, else-refusal}
+use Rattle.base_causes.specs.Promised.CauseLaws.{first-is, field-below, else-refusal, refusal-append, numbersBelow, number-below}
+use Rattle.base_causes.specs.Promised.Asked.{asks, namePlaces, index-below}
+use Rattle.rules.specs.Promised.Causes.{asked, from}
 use Rattle.rules.specs.Promised.RefusedField.{Part, Adjacent, field-inside, branchPart, linkPart, orderPart, shadowPart, branches-adjacent, links-adjacent, orders-adjacent, shadows-adjacent}
-use Rattle.rules.specs.Meaning.Verdict.{headerRefusal, caseCauses, proposalCauses, clearingCauses, outcome}
+use Rattle.rules.specs.Meaning.Verdict.{headerRefusal, caseBodyCauses, proposalCauses, clearingCauses, judgementCauses, outcome}
 use Rattle.rules.specs.Meaning.Report.{Totals, totalsOf, reports}
 use Rattle.rules.specs.Steps.Passed.{sound, case-sound}
 use Rattle.rules.specs.Promised.Fits.{fits}
@@ -50,12 +52,9 @@ short-refusal (r ∷ rs) h o e = by (firstBelow (r .places) (r .fails)) refl (sh
     by (some k) q ih e = subst (λ (y : Outcome). Short y) (Option·some-injective (verdict (r .number) (r .index k)) o e) (h .0 k ((first-is (r .places) (r .fails) k q) .place-in))
     by none q ih e = ih e
 
--- a row tested once has a fixed index, a row tested at places has the place, and a row tested at fields an offset
+-- a row tested once has a fixed index, and a row tested at fields an offset
 fixed : (n i : ℕ) → T (ltb n 1000) → T (ltb i 100000) → (k : ℕ) → k < 1 → Short (verdict n i)
 fixed n i h l k m = record { number-in = ltb→lt n 1000 h; index-in = ltb→lt i 100000 l }
-
-placed : (n places : ℕ) → T (ltb n 1000) → places ≤ 512 → (k : ℕ) → k < places → Short (verdict n k)
-placed n places h l k m = record { number-in = ltb→lt n 1000 h; index-in = omega arith }
 
 at-offset : (n places : ℕ) (offset : ℕ → ℕ) → T (ltb n 1000) → ((k : ℕ) → k < places → offset k < 100000) → (k : ℕ) → k < places → Short (verdict n (offset k))
 at-offset n places offset h l k m = record { number-in = ltb→lt n 1000 h; index-in = l k m }
@@ -77,64 +76,43 @@ header-short : (s : List ℕ) → ShortRows (headerCauses s)
 unfolding ShortRows
 header-short s = (fixed 1 0 tt tt, (fixed 2 0 tt tt, (fixed 3 0 tt tt, (fixed 4 5 tt tt, (fixed 4 6 tt tt, (fixed 4 7 tt tt, (fixed 4 8 tt tt, (fixed 4 10 tt tt, tt))))))))
 
-later-short : (s t : List ℕ) → CountsInRange (countsOf s) → ShortRows (laterCauses s t)
-unfolding caseOf caseCauses proposalCauses clearingCauses ShortRows
-later-short s t n =
-    let zones : (caseOf s) .zones ≤ 512 = omega (arith, n .zones-in) in
-    let branches : (caseOf s) .branches ≤ 512 = omega (arith, n .branches-in) in
-    let links : (caseOf s) .links ≤ 512 = omega (arith, n .links-in) in
-    let orders : (caseOf s) .orders ≤ 512 = n .orders-in in (
-      fixed 5 0 tt tt,
-      (
-        at-offset 6 _ _ tt (in-file (branchPart s) (branches-adjacent s) (case-bytes s n)),
-        (
-          at-offset 7 _ _ tt (in-file (linkPart s) (links-adjacent s) (case-bytes s n)),
-          (
-            at-offset 8 _ _ tt (in-file (orderPart s) (orders-adjacent s) (case-bytes s n)),
-            (
-              fixed 9 0 tt tt,
-              (
-                fixed 10 0 tt tt,
-                (
-                  fixed 11 0 tt tt,
-                  (
-                    fixed 12 0 tt tt,
-                    (
-                      fixed 13 0 tt tt,
-                      (
-                        at-offset 14 _ _ tt (in-file (shadowPart s t) (shadows-adjacent s t) (proposal-bytes s n)),
-                        (
-                          fixed 15 0 tt tt,
-                          (
-                            placed 21 _ tt orders,
-                            (
-                              fixed 22 0 tt tt,
-                              (
-                                fixed 27 0 tt tt,
-                                (
-                                  placed 23 _ tt links,
-                                  (
-                                    placed 24 _ tt branches,
-                                    (
-                                      placed 25 _ tt zones,
-                                      (fixed 26 0 tt tt, tt),
-                                    ),
-                                  ),
-                                ),
-                              ),
-                            ),
-                          ),
-                        ),
-                      ),
-                    ),
-                  ),
-                ),
-              ),
-            ),
-          ),
-        ),
-      ),
-    )
+body-short : (s : List ℕ) → CountsInRange (countsOf s) → ShortRows (caseBodyCauses s (caseOf s))
+unfolding caseOf ShortRows
+body-short s n = (
+  fixed 5 0 tt tt,
+  (
+    at-offset 6 _ _ tt (in-file (branchPart s) (branches-adjacent s) (case-bytes s n)),
+    (
+      at-offset 7 _ _ tt (in-file (linkPart s) (links-adjacent s) (case-bytes s n)),
+      (at-offset 8 _ _ tt (in-file (orderPart s) (orders-adjacent s) (case-bytes s n)), tt),
+    ),
+  ),
+)
+
+proposal-short : (s t : List ℕ) → CountsInRange (countsOf s) → ShortRows (proposalCauses s t (caseOf s) (planOf s t) (pricesOf s t))
+unfolding caseOf proposalCauses ShortRows
+proposal-short s t n = (fixed 9 0 tt tt, (fixed 10 0 tt tt, (fixed 11 0 tt tt, (fixed 12 0 tt tt, (fixed 13 0 tt tt, (at-offset 14 _ _ tt (in-file (shadowPart s t) (shadows-adjacent s t) (proposal-bytes s n)), tt))))))
+
+-- From 15 on every index is 0 or the place, and all places together are few. No row is named, so that a new one needs
+-- no line here.
+judgement-short : (s t : List ℕ) → CountsInRange (countsOf s) → (o : Outcome) → refusal (judgementCauses none (caseOf s) (planOf s t) (pricesOf s t)) ≡ some o → Short o
+unfolding caseOf clearingCauses asked from namePlaces numbersBelow
+judgement-short s t n o e =
+    let rows : List Cause = judgementCauses none (caseOf s) (planOf s t) (pricesOf s t) in
+    record {
+      number-in = subst (λ (x : Option Outcome). (answer x) .number < 1000) e (number-below 1000 rows (omega arith) tt);
+      index-in = omega (arith, index-below rows (from 15 asked) (asks rows (from 15 asked) refl) tt o e, n .zones-in, n .branches-in, n .links-in, n .orders-in);
+    }
+
+short-both : (qs rs : List Cause) → ((o : Outcome) → refusal qs ≡ some o → Short o) → ((o : Outcome) → refusal rs ≡ some o → Short o) → (o : Outcome) → refusal (qs ++ rs) ≡ some o → Short o
+short-both qs rs f g o e = by (refusal qs) refl (sym (refusal-append qs rs) ∙ e)
+  where
+    by : (x : Option Outcome) → refusal qs ≡ x → else-refusal x (refusal rs) ≡ some o → Short o
+    by (some y) q e = f o (q ∙ e)
+    by none q e = g o e
+
+later-short : (s t : List ℕ) → CountsInRange (countsOf s) → (o : Outcome) → refusal (laterCauses s t) ≡ some o → Short o
+later-short s t n = short-both _ _ (short-refusal _ (body-short s n)) (short-both _ _ (short-refusal _ (proposal-short s t n)) (judgement-short s t n))
 
 short-answer : (x : Option Outcome) → ((o : Outcome) → x ≡ some o → Short o) → Short (answer x)
 short-answer (some o) h = h o refl
@@ -146,7 +124,7 @@ short s t = rw (outcome-by-header s t) (by (headerRefusal s) refl)
   where
     by : (x : Option Outcome) → headerRefusal s ≡ x → Short (answer (else-refusal x (refusal (laterCauses s t))))
     by (some o) e = short-refusal (headerCauses s) (header-short s) o e
-    by none e = short-answer (refusal (laterCauses s t)) (short-refusal (laterCauses s t) (later-short s t (counted s e)))
+    by none e = short-answer (refusal (laterCauses s t)) (later-short s t (counted s e))
 
 -- THE LINES
 verdict-room : (o : Outcome) → Short o → length (verdictLine o) ≤ 18
