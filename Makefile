@@ -14,16 +14,9 @@ VERSION := $(shell sed -n 's/^#define LTA_VERSION "\(.*\)"/\1/p' include/lta_jud
 MAJOR := $(firstword $(subst ., ,$(VERSION)))
 NAME = lta_judgement
 
-all: target/shared/lib$(NAME).so
-
-# Whether it is proved and up to date, rt knows.
-target/staticlib/libhost.a: FORCE
-	rt staticlib host
-
-# Linked anew each time, so that what is installed comes from this library and from no other.
-target/shared/lib$(NAME).so: target/staticlib/libhost.a FORCE
-	mkdir -p target/shared
-	tools/link_shared target/staticlib/libhost.a $@
+# What is to be built anew, tools/built.py decides, by content.
+all:
+	@python3 tools/built.py make library shared
 
 install: all
 	install -d '$(DESTDIR)$(INCLUDEDIR)' '$(DESTDIR)$(LIBDIR)/pkgconfig'
@@ -37,5 +30,4 @@ install: all
 check:
 	tests/run
 
-FORCE:
-.PHONY: all install check FORCE
+.PHONY: all install check

@@ -16,6 +16,7 @@
     answer.number, answer.index, answer.file      the other file's bytes; None where answer.number is not 0
     answer = lta.shortfalls(case, proposal)       an accepted hour's
     answer.orders, answer.branches, answer.links  hundred-thousandths of a microcent each; None where answer.number is not 0
+    lta.identity()                                version, library_sha256, and library_belongs: whether it is our own
 
 Verdicts, totals, prices, shortfalls, a yes or no, proposals and columned files come from the library alone. Explanations
 are computed beside it, are not proved, and say so; one that disagrees with the library is not given.
@@ -34,6 +35,7 @@ from .library import (
     case_columned,
     case_restored,
     dump_proposal,
+    identity,
     intuitive,
     judge,
     judge_joined,
@@ -60,6 +62,7 @@ __all__ = [
     "dump_proposal",
     "explain",
     "field_at",
+    "identity",
     "intuitive",
     "judge",
     "judge_joined",

@@ -17,6 +17,7 @@ from .inputs import (
     TEXT,
     InputError,
     gather,
+    hashed,
     is_list,
     kind_of,
     one_hour,
@@ -42,6 +43,7 @@ Judges, explains, shows, builds and draws hours of the day-ahead coupling.
   lta field CASE [PROPOSAL] [FAMILIES] OFFSET
   lta build TEXT [--case FILE] [--proposal FILE] [--joined FILE] [--families FILE] [--dump FILE] [--force]
   lta help [text]
+  lta --version
 
 A FILE is one of these:
   X.case with a proposal        X.proposal if that is named, else the next FILE, else the X.proposal beside it
@@ -55,7 +57,8 @@ behind two others or behind a proposal or a joined file, is a family list. An ho
 they are named: by their file, by their folder, or in the text.
 
 judge prints a table: file, verdict, index, welfare, gap, rent and owed in euros. --csv and --json are for machines and
-have every decimal. Without a FILE it reads a joined hour from standard input.
+have every decimal, the version, the library's SHA-256 and that of each file read; so have those of shortfalls and
+intuitive, and pages. Without a FILE judge reads a joined hour from standard input.
 explain says the verdict in words: the field, its offset in decimal and hex, its value and its limit; and of an hour
 whose files are in order its zones, branches, links and families, and the gap's parts: of an accepted hour the library's
 shortfalls, largest first, and what is left.
@@ -77,10 +80,13 @@ Building that text gives back the same bytes, however broken.
 field says which field of the last file named stands at OFFSET, a number or hex digits after 0x.
 build writes the files asked for, - being standard output; without one it says the sizes.
 Nothing that is there is written over without --force.
+--version prints the version, the library's SHA-256, the kit that proved it, and the commit.
 
-Verdicts, totals, prices, shortfalls, yes or no, proposals and columned files come from the proved library alone; on first
-use, and after a change in crates/, it is proved and built, which takes some minutes. Explanations, zones cut off, what is
-left of a gap and pages are computed beside it and say so.
+Verdicts, totals, prices, shortfalls, yes or no, proposals and columned files come from the proved library alone. In the
+repository it is proved and built on first use, and after a change in crates/, which takes some minutes. Explanations,
+zones cut off, what is left of a gap and pages are computed beside it and say so. LTA_ARCHIVE_DIR may name the folder of
+another library, liblta_judgement.so or, in the repository, libhost.a; a line on standard error, a field of every answer
+for machines, and every page then say that it does not belong to this command.
 
 Status: 0 every hour is accepted, or as its text expects; 1 not so; 2 something could not be read, judged or written,
 and a line says what. intuitive: 0 yes; 1 no, and where the library refuses the hour or a pair, which is then said; 2.
@@ -210,7 +216,7 @@ def run_shortfalls(options):
 
     source = one_hour(options.files, options.way)
     read_hour = source.read()
-    result = shortfalls_cli.ask(source.name, read_hour.case, read_hour.proposal)
+    result = shortfalls_cli.ask(source.name, read_hour.case, read_hour.proposal, read_hour.inputs)
     forms = {"json": shortfalls_cli.as_json, "csv": shortfalls_cli.as_csv, None: shortfalls_cli.as_text}
     put(forms[options.form](result))
     return 0 if result.answer.answered else 1
@@ -222,15 +228,17 @@ def run_intuitive(options):
     source = one_hour(options.files, options.way)
     if options.pairs == "-" and "-" in options.files:
         raise Failure("-: standard input is named for the hour and for the pairs")
-    given = None
+    given, pairs_read = None, ()
     if options.pairs is not None:
-        name = "standard input" if options.pairs == "-" else options.pairs
-        given = exchanges.read_pairs(name, read(options.pairs))
+        data = read(options.pairs)
+        pairs_read = (hashed(options.pairs, data),)
+        given = exchanges.read_pairs(pairs_read[0].file, data)
     read_hour = source.read()
     if read_hour.families is not None:
         raise InputError(source.families or source.name, "intuitive takes no family list")
     pairs = exchanges.links(read_hour.case) if given is None else given
-    result = exchanges.ask(source.name, read_hour.case, read_hour.proposal, pairs)
+    inputs = (*read_hour.inputs, *pairs_read)
+    result = exchanges.ask(source.name, read_hour.case, read_hour.proposal, pairs, inputs)
     put(exchanges.as_json(result) if options.json else exchanges.as_text(result))
     return 0 if result.answer.intuitive else 1
 
@@ -396,6 +404,11 @@ def run_build(options):
     return 0
 
 
+def run_version(options):
+    put(library.version_text())
+    return 0
+
+
 def run_help(options):
     from . import dump_format
 
@@ -447,6 +460,7 @@ def parser():
     for name in BUILT:
         build.add_argument(f"--{name}")
     build.add_argument("--force", action="store_true")
+    command("version", run_version)
     command("help", run_help).add_argument("topic", nargs="?", choices=("text",))
     return top
 
@@ -464,6 +478,8 @@ def main(arguments):
     try:
         if arguments and arguments[0] in ("--help", "-h"):
             arguments = ["help", *arguments[1:]]
+        elif arguments and arguments[0] == "--version":
+            arguments = ["version", *arguments[1:]]
         elif any(
             word in ("--help", "-h") for word in arguments[: arguments.index("--") if "--" in arguments else None]
         ):

@@ -9,7 +9,7 @@ import json
 from collections import deque
 from dataclasses import dataclass
 
-from . import amounts, explain_text, hour, library, numbers, rules
+from . import amounts, explain_text, hour, library, numbers, provenance, rules
 from .causes import Disagreement, explain
 from .inputs import InputError, printable, why_not
 
@@ -164,18 +164,19 @@ class IntuitiveResult:
     sums: rules.Sums | None = None
     graph: Graph | None = None
     cut_off: tuple = ()
+    inputs: tuple = ()
 
 
-def ask(name, case, proposal, pairs):
+def ask(name, case, proposal, pairs, inputs=()):
     """Has the library answer, and finds the rest."""
     answer = library.intuitive(case, proposal, pairs.zones)
     if answer.number in numbers.VERDICTS and not answer.answered:
-        return IntuitiveResult(name, pairs, answer, refused_hour(case, proposal, answer))
+        return IntuitiveResult(name, pairs, answer, refused_hour(case, proposal, answer), inputs=inputs)
     sums = rules.Sums(case, proposal)
     if not answer.answered:
-        return IntuitiveResult(name, pairs, answer, refused_pair(pairs, answer, sums.zones))
+        return IntuitiveResult(name, pairs, answer, refused_pair(pairs, answer, sums.zones), inputs=inputs)
     graph = Graph([-net for net in sums.net], sums.prices, pairs.zones)
-    return IntuitiveResult(name, pairs, answer, "", sums, graph, tuple(cross_checked(graph, answer)))
+    return IntuitiveResult(name, pairs, answer, "", sums, graph, tuple(cross_checked(graph, answer)), inputs)
 
 
 def refused_hour(case, proposal, answer):
@@ -270,5 +271,6 @@ def as_json(result):
         "cut_off": list(result.cut_off) if graph else None,
         "pairs": [list(pair) for pair in result.pairs.zones],
         "counted": [list(pair) for pair in graph.counted] if graph else None,
+        **provenance.fields(result.inputs),
     }
     return json.dumps(made, indent=1) + "\n"

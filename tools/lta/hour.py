@@ -303,6 +303,7 @@ class Hour:
     def __init__(self, folder):
         self.folder = folder
         self.sheet = None
+        self.files_read = {}  # by path
         self.headers = {}
         self.header_lines = {}
         self.marks = dict(MARKS)
@@ -366,8 +367,9 @@ class Hour:
             raise ValueError(f"sheet beside {'another sheet' if self.sheet is not None else 'branch lines'}")
         self.sheet = words[0]
         try:
-            sheet = read_bytes(os.path.join(self.folder, self.sheet))
-            self.records["branch"] = sheet_branches(sheet, self.layout()["zones"])
+            path = os.path.join(self.folder, self.sheet)
+            self.files_read[path] = read_bytes(path)
+            self.records["branch"] = sheet_branches(self.files_read[path], self.layout()["zones"])
         except OSError as fault:
             raise ValueError(f"{short(self.sheet)}: {fault.strerror}") from None
         except ValueError as fault:
@@ -443,10 +445,8 @@ class Hour:
         return tuple(bytes(data) for data in out.values())
 
 
-def built(text, folder="", taker=Hour):
-    """The files of a text: the case, the proposal and the family list if it has one, or what else its taker gives. The
-    files that it names count from the folder.
-    """
+def taken(text, folder="", taker=Hour):
+    """A text as its taker has it. The files that it names count from the folder."""
     hour = taker(folder)
     for line, content in enumerate(text.split("\n"), 1):
         words = content.split("#", 1)[0].split()
@@ -455,7 +455,12 @@ def built(text, folder="", taker=Hour):
                 hour.take(line, words)
             except ValueError as fault:
                 raise TextError(line, str(fault)) from None
-    return hour.files()
+    return hour
+
+
+def built(text, folder="", taker=Hour):
+    """The files of a text: the case, the proposal and the family list if it has one, or what else its taker gives."""
+    return taken(text, folder, taker).files()
 
 
 def build(text, folder="") -> tuple[bytes, bytes]:
@@ -466,7 +471,12 @@ def build(text, folder="") -> tuple[bytes, bytes]:
 
 def build_families(text, folder=""):
     """The case, the proposal and the family list of a text; None where it has no list."""
-    case, proposal, *families = built(text, folder)
+    return with_families(built(text, folder))
+
+
+def with_families(files):
+    """The files of a text as three, the last None where it has no family list."""
+    case, proposal, *families = files
     return case, proposal, families[0] if families else None
 
 

@@ -2,6 +2,7 @@
 
 from __future__ import annotations
 
+import hashlib
 import os
 import stat
 import sys
@@ -68,9 +69,21 @@ def mark_of(path):
 
 
 @dataclass(frozen=True)
+class Hashed:
+    """A file that was read, by its name, and the SHA-256 of its bytes."""
+
+    file: str
+    sha256: str
+
+
+def hashed(path, data):
+    return Hashed("standard input" if path == "-" else path, hashlib.sha256(data).hexdigest())
+
+
+@dataclass(frozen=True)
 class HourFiles:
-    """An hour's two files, if it came joined or as text its joined bytes and what the text expects, and its family list
-    if it has one.
+    """An hour's two files, if it came joined or as text its joined bytes and what the text expects, its family list if it
+    has one, and the files that were read for it.
     """
 
     case: bytes
@@ -78,6 +91,7 @@ class HourFiles:
     joined: bytes | None = None
     expected: tuple | None = None
     families: bytes | None = None
+    inputs: tuple = ()
 
 
 @dataclass(frozen=True)
@@ -95,11 +109,14 @@ class Input:
         data = list(map(read, self.paths))
         if self.kind == TEXT:
             return text_hour(self.paths[0], data[0])
-        families = None if self.families is None else read(self.families)
+        inputs, families = list(map(hashed, self.paths, data)), None
+        if self.families is not None:
+            families = read(self.families)
+            inputs.append(hashed(self.families, families))
         if self.kind == JOINED:
-            return HourFiles(*rules.cut(data[0]), data[0], families=families)
+            return HourFiles(*rules.cut(data[0]), data[0], families=families, inputs=tuple(inputs))
         case, proposal = data
-        return HourFiles(case, proposal, families=families)
+        return HourFiles(case, proposal, families=families, inputs=tuple(inputs))
 
 
 def text_hour(path, data):
@@ -108,13 +125,15 @@ def text_hour(path, data):
         text = data.decode()
         if dump_format.is_text(text):
             raise ValueError("the text of a solver's dump, of which lta dump makes a proposal")
-        case, proposal, families = hour.build_families(text, os.path.dirname(path))
+        taken = hour.taken(text, os.path.dirname(path))
+        case, proposal, families = hour.with_families(taken.files())
         lines = (hour.EXPECTATION.match(line) for line in text.split("\n"))
         other = "expect-apart" if families is None else "expect-without"
         expected = hour.expected(text, other) if any(lines) else None
     except ValueError as fault:
         raise InputError(path, why_not(fault)) from None
-    return HourFiles(case, proposal, case + proposal, expected, families)
+    inputs = [hashed(path, data), *(hashed(*read_file) for read_file in taken.files_read.items())]
+    return HourFiles(case, proposal, case + proposal, expected, families, tuple(inputs))
 
 
 def lonely(path, why):

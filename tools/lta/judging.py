@@ -9,7 +9,7 @@ import sys
 import time
 from dataclasses import dataclass
 
-from . import amounts, hour, library
+from . import amounts, hour, library, provenance
 from .inputs import InputError, printable
 from .stderr_log import write_stderr
 
@@ -25,6 +25,7 @@ class Row:
     judgement: library.Judgement
     expected: tuple | None = None
     way: str = ""
+    inputs: tuple = ()
 
     @property
     def name(self):
@@ -64,16 +65,20 @@ def rows_of(name, read):
     """The rows of an hour. A joined file and its two parts can be answered otherwise; then a text has two, apart last. A
     text with families is held to what it expects of all three files.
     """
+
+    def row(judgement, expected=None, way=""):
+        return Row(name, judgement, expected, way, read.inputs)
+
     if read.expected is None:
-        return [Row(name, library.judge(read.case, read.proposal, read.families))]
+        return [row(library.judge(read.case, read.proposal, read.families))]
     if read.families is not None:
         due, _, totals = read.expected
-        return [Row(name, library.judge(read.case, read.proposal, read.families), (due, totals))]
+        return [row(library.judge(read.case, read.proposal, read.families), (due, totals))]
     due, apart_due, totals = read.expected
     joined, apart = library.judge_joined(read.joined), library.judge(read.case, read.proposal)
     if due == apart_due and joined == apart:
-        return [Row(name, joined, (due, totals))]
-    return [Row(name, joined, (due, totals), "joined"), Row(name, apart, (apart_due, totals), "apart")]
+        return [row(joined, (due, totals))]
+    return [row(joined, (due, totals), "joined"), row(apart, (apart_due, totals), "apart")]
 
 
 def judged(source):
@@ -177,7 +182,7 @@ def record(row):
         due = totals if verdict[0] in hour.REPORTED else {}
         made["expected"] = {"number": verdict[0], "index": verdict[1], **fixed_totals(due)}
     made["as_expected"] = row.as_expected
-    return made
+    return {**made, **provenance.fields(row.inputs)}
 
 
 def as_json(rows):
@@ -188,13 +193,16 @@ def as_csv(rows):
     out = io.StringIO()
     writer = csv.writer(out, lineterminator="\n")
     dues = [f"expected_{name}" for name in hour.TOTALS]
-    writer.writerow(["file", "number", "index", "text", *hour.TOTALS, "prices", "expected", "as_expected", *dues])
+    columns = ["file", "number", "index", "text", *hour.TOTALS, "prices", "expected", "as_expected", *dues]
+    columns += provenance.COLUMNS
+    writer.writerow(columns)
     for row in rows:
         made = record(row)
         due, as_expected = made["expected"], made["as_expected"]
         made["prices"] = " ".join(made["prices"])
         made["expected"] = "{number} {index}".format(**due) if due else ""
-        made["as_expected"] = "" if as_expected is None else "yes" if as_expected else "no"
+        made["as_expected"] = "" if as_expected is None else provenance.yes_or_no(as_expected)
         made.update({f"expected_{name}": due[name] if due else None for name in hour.TOTALS})
-        writer.writerow("" if value is None else value for value in made.values())
+        made.update(provenance.cells(row.inputs))
+        writer.writerow("" if made[name] is None else made[name] for name in columns)
     return out.getvalue()

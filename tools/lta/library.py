@@ -1,4 +1,4 @@
-"""The proved library, called from Python: the shared object that is linked from it, and what its entries answer.
+"""The proved library, called from Python: which shared object is loaded, and what its entries answer.
 The one place from which a verdict, a total or a yes comes.
 """
 
@@ -6,21 +6,15 @@ from __future__ import annotations
 
 import contextlib
 import ctypes
-import hashlib
+import functools
 import os
 import pathlib
-import subprocess
 import tempfile
 from dataclasses import dataclass
 
-from . import hour, numbers, rules
+from . import hour, numbers, origin, rules
 from .stderr_log import write_stderr
 
-ROOT = pathlib.Path(__file__).resolve().parent.parent.parent
-OWN = ROOT / "target" / "staticlib" / "libhost.a"
-LINK_STEP = ROOT / "tools" / "link_shared"
-SHARED = "liblta_judgement.so"
-LINKED_FROM = "linked-from"
 REPORTED = hour.REPORTED
 
 
@@ -137,110 +131,71 @@ class Shortfalls:
         return numbers.text(self.number, "answered")
 
 
-# Building.
+# Which library.
 
-NOT_LINKED = "the shared object cannot be linked"
-
-
-def one_line(text):
-    """The last line of what a command printed that says something."""
-    lines = [line.strip() for line in text.splitlines() if line.strip()]
-    return lines[-1] if lines else "it said nothing"
+ARCHIVE, SHARED = "libhost.a", "liblta_judgement.so"
 
 
-def run(command, what):
-    try:
-        done = subprocess.run(
-            command, cwd=ROOT, stdin=subprocess.DEVNULL, capture_output=True, text=True, errors="replace"
-        )
-    except OSError as fault:
-        raise BuildError(f"{what}: {command[0]}: {fault.strerror}") from None
-    if done.returncode:
-        raise BuildError(f"{what}: {' '.join(command[:2])}: {one_line(done.stderr or done.stdout)}")
+@dataclass(frozen=True)
+class Loaded:
+    """The shared object that answers: its hash, and whether it is the one that belongs to this command."""
+
+    sha256: str
+    belongs: bool
 
 
-def sources():
-    """The files that the library is proved and built from."""
-    yield ROOT / "crates.txt"
-    for folder, _, names in os.walk(ROOT / "crates"):
-        for name in names:
-            yield os.path.join(folder, name)
+def say(line):
+    write_stderr(f"lta: {line}\n")
 
 
-def newer(path, than):
-    """Whether a file was changed after another was; one that is gone meanwhile was not."""
-    try:
-        return os.stat(path).st_mtime_ns > than
-    except OSError:
-        return False
-
-
-def made_library():
-    """The library, proved and built where it is missing or older than a source."""
-    given = os.environ.get("LTA_ARCHIVE_DIR")
-    library = pathlib.Path(given) / OWN.name if given else OWN
-    if given:
-        if not library.is_file():
-            raise BuildError(f"{library}: there is no library; rt staticlib host writes it")
-        return library
-    if not library.is_file() or any(newer(source, library.stat().st_mtime_ns) for source in sources()):
-        write_stderr("lta: proving and building, some minutes the first time\n")
-        run(["rt", "staticlib", "host"], "the library cannot be built")
-        if not library.is_file():
-            raise BuildError(f"the library cannot be built: rt staticlib host left no {library}")
-        # Where a change does not reach it, it is not written anew.
-        library.touch()
-    return library
-
-
-def hashes(library, shared):
-    """The hashes of a library, of the link step and of the shared object that it made, as sha256sum prints them."""
-    named = ((library, f"../staticlib/{OWN.name}"), (LINK_STEP, f"../../tools/{LINK_STEP.name}"), (shared, SHARED))
-    return "".join(f"{hashlib.sha256(path.read_bytes()).hexdigest()}  {name}\n" for path, name in named)
-
-
-def link(library, folder):
-    """Links a library's shared object in a folder."""
-    linked = pathlib.Path(folder) / SHARED
-    run([str(LINK_STEP), str(library), str(linked)], NOT_LINKED)
-    return linked
-
-
-def kept_shared(shared):
-    """Our own library's shared object, linked where the one that is there is not known, by hash, to be linked from it.
-    It is put in place whole.
+def of_repository(given, ends):
+    """The shared object of the repository: its own, or that of a library from elsewhere, which is linked anew and does
+    not stay, so that no later call is answered by it.
     """
-    linked_from = shared.with_name(LINKED_FROM)
-    with contextlib.suppress(OSError, ValueError):
-        if linked_from.read_text() == hashes(OWN, shared):
-            return
-    shared.parent.mkdir(parents=True, exist_ok=True)
-    with tempfile.TemporaryDirectory(dir=shared.parent) as folder:
-        linked = link(OWN, folder)
-        hash_file = linked.with_name(LINKED_FROM)
-        hash_file.write_text(hashes(OWN, linked))
-        os.replace(linked, shared)
-        os.replace(hash_file, linked_from)
+    import built
+
+    try:
+        if not given:
+            return built.have_shared(say), True
+        archive, shared = pathlib.Path(given) / ARCHIVE, pathlib.Path(given) / SHARED
+        current = built.is_library_current()
+        if current and archive.is_file() and origin.sha256_of(archive) == origin.sha256_of(built.LIBRARY.path):
+            return built.have_shared(say), True
+        if archive.is_file():
+            return built.link(archive, ends.enter_context(tempfile.TemporaryDirectory())), False
+        if shared.is_file():
+            return shared, current and origin.sha256_of(shared) == origin.sha256_of(built.have_shared(say))
+        raise BuildError(f"{archive}: there is no library; make writes target/staticlib/{ARCHIVE}")
+    except built.BuildError as fault:
+        raise BuildError(str(fault)) from None
 
 
-@contextlib.contextmanager
-def made_shared():
-    """The path of the library's shared object. That of a library from elsewhere is linked anew and does not stay, so
-    that no later call is answered by it.
-    """
-    library, shared = made_library(), ROOT / "target" / "shared" / SHARED
+def of_release(given):
+    """The shared object of a release: its own, or one from elsewhere."""
+    shared = pathlib.Path(given) / SHARED if given else origin.release_library()
+    if not shared.is_file():
+        raise BuildError(f"{shared}: there is no library")
+    return shared, origin.sha256_of(shared) == origin.release()["files"].get(origin.release()["library"])
+
+
+def load():
+    """Loads the shared object. One that does not belong to this command is named on standard error."""
+    given, shared = os.environ.get("LTA_ARCHIVE_DIR"), None
     with contextlib.ExitStack() as ends:
         try:
-            if OWN.is_file() and os.path.samefile(library, OWN):
-                kept_shared(shared)
-            else:
-                shared = link(library, ends.enter_context(tempfile.TemporaryDirectory()))
+            shared, belongs = of_repository(given, ends) if origin.IN_REPOSITORY else of_release(given)
+            loaded, library = Loaded(origin.sha256_of(shared), belongs), ctypes.CDLL(str(shared))
+        except origin.OriginError as fault:
+            raise BuildError(str(fault)) from None
         except OSError as fault:
-            raise BuildError(f"{NOT_LINKED}: {fault.filename or shared}: {fault.strerror}") from None
-        yield shared
+            raise BuildError(f"{shared or fault.filename}: it cannot be loaded: {fault.strerror or fault}") from None
+    if not belongs:
+        say(f"{given or shared}: this library does not belong to this command, and nothing is proved of its answers")
+    return library, loaded
 
 
 # Calling.
+
 
 class CarriedStruct(ctypes.Structure):
     """struct lta_carried."""
@@ -273,24 +228,35 @@ ENTRIES = {
     "lta_shortfalls": (WrittenStruct, _BYTES * 2 + _AMOUNTS),
 }
 
-_loaded: dict = {}
+
+@functools.lru_cache(maxsize=None)
+def library_loaded():
+    """The library and what it is. It is loaded once."""
+    return load()
 
 
+@functools.lru_cache(maxsize=None)
 def entry(name="lta_judge"):
-    """An entry of the library. The shared object is loaded once."""
-    if name not in _loaded:
-        library = _loaded.get("")
-        try:
-            if library is None:
-                with made_shared() as shared:
-                    library = ctypes.CDLL(str(shared))
-            found = getattr(library, name)
-        except (OSError, AttributeError) as fault:
-            path = shared if library is None else library._name
-            raise BuildError(f"{path}: it cannot be loaded: {one_line(str(fault))}") from None
-        found.restype, found.argtypes = ENTRIES[name]
-        _loaded.update({"": library, name: found})
-    return _loaded[name]
+    """An entry of the library."""
+    library, _ = library_loaded()
+    try:
+        found = getattr(library, name)
+    except AttributeError as fault:
+        raise BuildError(f"{library._name}: it cannot be loaded: {fault}") from None
+    found.restype, found.argtypes = ENTRIES[name]
+    return found
+
+
+def identity():
+    """Which build answers, for machines: the version, the library's hash, and whether it belongs to this command."""
+    _, loaded = library_loaded()
+    return {"version": origin.version(), "library_sha256": loaded.sha256, "library_belongs": loaded.belongs}
+
+
+def version_text():
+    """What lta --version prints."""
+    _, loaded = library_loaded()
+    return origin.version_text("lta", "library", loaded.sha256, loaded.belongs)
 
 
 def bytes_of(data):

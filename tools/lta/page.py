@@ -10,7 +10,7 @@ import os
 import pathlib
 from dataclasses import dataclass
 
-from . import amounts, drawing, explain_text, gap, hour, judging, rules
+from . import amounts, drawing, explain_text, gap, hour, judging, library, rules
 from .causes import Disagreement, Explanation, explain
 from .drawing import element
 from .inputs import JOINED, UNREAD, InputError, printable
@@ -19,10 +19,11 @@ MOST_HOURS = 1000
 MOST_NAMED = 12  # hours of a page up to which each order of a curve has a name of its own
 MOST_PARTS = 20  # of a gap, or of what a field is held to
 STYLE = pathlib.Path(__file__).with_name("page.css")
-NOT_PROVED = (
-    "Verdict, totals, zone prices and the shortfalls of an accepted hour are the proved library's. All else here is computed "
-    "beside it and is not proved."
-)
+# Whose the answers are, by whether the library belongs to the command.
+WHOSE = {
+    True: "the proved library's",
+    False: "those of a library that does not belong to this command, of which nothing is proved",
+}
 POLICY = "default-src 'none'; style-src 'unsafe-inline'"
 
 # What is said under a heading.
@@ -66,6 +67,7 @@ class Drawn:
     joined: bool = False
     families: bytes | None = None
     parts: gap.Parts | None = None
+    inputs: tuple = ()
 
     @property
     def judgement(self):
@@ -107,7 +109,7 @@ def drawn_hour(source, folder=None):
             parts = gap.parts(*files, judgement, rules.Sums(*files))
     except Disagreement as disagreement:
         found, fault = None, str(disagreement)
-    return Drawn(name, *files, rows, found, fault, source.kind == JOINED, read.families, parts)
+    return Drawn(name, *files, rows, found, fault, source.kind == JOINED, read.families, parts, read.inputs)
 
 
 def text(words):
@@ -407,6 +409,30 @@ def gap_note(parts):
     return "" if parts.from_library else "The library gives no shortfalls of a refusal: these are found beside it."
 
 
+# Which build, and which files.
+
+
+def inputs_card(one):
+    """The files that were read for an hour, with their hashes."""
+    rows = (element("p", text(f"{read.file}: SHA-256 {read.sha256}")) for read in one.inputs)
+    return element("div", "".join(rows), "card") if one.inputs else ""
+
+
+def foreign_words():
+    """Above all, where the library is not the one that belongs to the command."""
+    words = "✗ The library does not belong to this command: nothing is proved of its answers."
+    return "" if library.identity()["library_belongs"] else element("p", words, "bad-text")
+
+
+def footer():
+    """Whose the answers are, and which build answered."""
+    identity = library.identity()
+    answers = "Verdict, totals, zone prices and the shortfalls of an accepted hour"
+    words = f"{answers} are {WHOSE[identity['library_belongs']]}. All else here is computed beside it and is not proved."
+    build = f"lta {identity['version']}; library SHA-256 {identity['library_sha256']}"
+    return element("footer", element("p", words) + element("p", text(build)))
+
+
 # Pages.
 
 
@@ -414,14 +440,17 @@ def hour_body(one, level, named):
     """All of an hour that stands under its verdict."""
     sums, reported = one.sums, one.judgement.number in hour.REPORTED
     body = "" if one.judgement.accepted else part(level, "Where it is", where(one))
+    read = part(level, "Inputs", inputs_card(one))
     if sums is None:
-        return body
+        return body + read
     if reported:
         body += part(level, "Gap, rent and owed", totals(one.judgement, sums), totals_note(one.judgement))
     body += part(level, "Zones", zone_table(sums)) + part(level, "Order curves", zone_cards(sums, named))
     body += part(level, "Branches", branch_cards(sums)) + part(level, "Links", link_cards(sums))
     body += part(level, "Families", family_table(one, sums))
-    return body + (part(level, "The gap's parts", gap_table(sums, one.parts), gap_note(one.parts)) if reported else "")
+    if reported:
+        body += part(level, "The gap's parts", gap_table(sums, one.parts), gap_note(one.parts))
+    return body + read
 
 
 def hour_row(one, place, money, expecting):
@@ -479,7 +508,7 @@ def whole(title, body):
     head = '<meta charset="utf-8">\n<meta name="viewport" content="width=device-width, initial-scale=1">\n'
     head += f'<meta http-equiv="Content-Security-Policy" content="{POLICY}">\n{element("title", text(title))}\n'
     head += element("style", "\n" + STYLE.read_text(encoding="utf-8"))
-    main = element("main", "\n" + body + element("footer", NOT_PROVED) + "\n")
+    main = element("main", "\n" + foreign_words() + body + footer() + "\n")
     made = element("head", f"\n{head}\n") + "\n" + element("body", f"\n{drawing.hatchings()}{main}\n")
     return "<!DOCTYPE html>\n" + element("html", f"\n{made}\n", lang="en") + "\n"
 

@@ -9,7 +9,7 @@ import io
 import json
 from dataclasses import dataclass
 
-from . import amounts, explain_text, gap, library, rules
+from . import amounts, explain_text, gap, library, provenance, rules
 from .causes import Disagreement, explain
 
 NOT_PROVED = "Shortfalls and gap are the library's. All else is computed beside it and is not proved."
@@ -24,18 +24,19 @@ class ShortfallsResult:
     cause: str = ""
     sums: rules.Sums | None = None
     parts: gap.Parts | None = None
+    inputs: tuple = ()
 
 
-def ask(name, case, proposal):
+def ask(name, case, proposal, inputs=()):
     """Has the library answer, and finds the rest."""
     judgement, answer = library.judge(case, proposal), library.shortfalls(case, proposal)
     found = explain(case, proposal, judgement)
     if (answer.number, answer.index) != (found.number, found.index):
         raise Disagreement(f"{answer.number} {answer.index}", f"{found.number} {found.index}")
     if not answer.answered:
-        return ShortfallsResult(name, answer, found.words)
+        return ShortfallsResult(name, answer, found.words, inputs=inputs)
     sums = rules.Sums(case, proposal)
-    return ShortfallsResult(name, answer, "", sums, gap.cross_checked(answer, judgement, sums))
+    return ShortfallsResult(name, answer, "", sums, gap.cross_checked(answer, judgement, sums), inputs)
 
 
 def first_line(result):
@@ -76,6 +77,7 @@ def as_json(result):
         "gap": None if found is None else amounts.fixed(found.gap, 8),
         "left": None if found is None else amounts.fixed(found.lead, gap.DECIMALS),
         "shortfalls": None if found is None else [record(part) for part in found.shortfalls],
+        **provenance.fields(result.inputs),
     }
     return json.dumps(made, indent=1) + "\n"
 
@@ -84,7 +86,8 @@ def as_csv(result):
     """A row for each shortfall, in file order; of a refusal none."""
     out = io.StringIO()
     writer = csv.writer(out, lineterminator="\n")
-    writer.writerow(["file", "kind", "index", "microcents", "hundred_thousandths", "euros"])
+    writer.writerow(["file", "kind", "index", "microcents", "hundred_thousandths", "euros", *provenance.COLUMNS])
+    last_cells = provenance.cells(result.inputs).values()
     for part in result.parts.shortfalls if result.parts else ():
-        writer.writerow([result.name, *record(part).values()])
+        writer.writerow([result.name, *record(part).values(), *last_cells])
     return out.getvalue()
