@@ -71,10 +71,10 @@ def hash_of(files, words=()):
 @functools.lru_cache(maxsize=None)
 def sources_hash():
     """The hash of what the library and the program are proved and built of, as it stood when it was first asked."""
-    found = [KIT, ROOT / "crates.txt"]
+    found = [str(KIT), str(ROOT / "crates.txt")]
     for folder, _, names in os.walk(ROOT / "crates"):
         found += [os.path.join(folder, name) for name in names]
-    return hash_of(sorted(found, key=os.fspath))
+    return hash_of(sorted(found))
 
 
 def record_of(path):

@@ -228,10 +228,10 @@ def run_intuitive(options):
     source = one_hour(options.files, options.way)
     if options.pairs == "-" and "-" in options.files:
         raise Failure("-: standard input is named for the hour and for the pairs")
-    given, pairs_read = None, ()
+    given, pairs_read = None, []
     if options.pairs is not None:
         data = read(options.pairs)
-        pairs_read = (hashed(options.pairs, data),)
+        pairs_read = [hashed(options.pairs, data)]
         given = exchanges.read_pairs(pairs_read[0].file, data)
     read_hour = source.read()
     if read_hour.families is not None:
