@@ -1,33 +1,38 @@
 # For those who type make. Each target only calls what the README names.
 #
-#   make                       the static library and the shared object, in target/
-#   make install PREFIX=..     header, both libraries and a pkg-config file; DESTDIR is put before all paths
+#   make                       the static library, the shared object and the program desk, in target/
+#   make install PREFIX=..     all that a release has; DESTDIR is put before all paths
+#   make uninstall PREFIX=..   removes it again
+#   make dist                  a tarball, a Debian package and their SHA-256 sums, in target/dist
 #   make check                 tests/run
+#
+# What is to be built anew, tools/built.py decides, by content. From a built tree install and dist need no rt.
 
 PREFIX ?= /usr/local
 DESTDIR ?=
 # The pkg-config file is read elsewhere: a relative prefix counts from here.
 override PREFIX := $(if $(filter /%,$(firstword $(PREFIX))),$(PREFIX),$(CURDIR)/$(PREFIX))
-INCLUDEDIR = $(PREFIX)/include
-LIBDIR = $(PREFIX)/lib
-VERSION := $(shell sed -n 's/^#define LTA_VERSION "\(.*\)"/\1/p' include/lta_judgement.h)
-MAJOR := $(firstword $(subst ., ,$(VERSION)))
-NAME = lta_judgement
+export PYTHONPYCACHEPREFIX := $(CURDIR)/target/python
+# Why there can be no release of this tree. FORCE=1 makes one that is marked.
+REFUSAL = $(shell python3 tools/release.py refusal $(FORCED))
+FORCED = $(if $(filter 1,$(FORCE)),--force)
 
-# What is to be built anew, tools/built.py decides, by content.
 all:
-	@python3 tools/built.py make library shared
+	@python3 tools/built.py make library shared desk
 
 install: all
-	install -d '$(DESTDIR)$(INCLUDEDIR)' '$(DESTDIR)$(LIBDIR)/pkgconfig'
-	install -m 644 include/$(NAME).h '$(DESTDIR)$(INCLUDEDIR)'
-	install -m 644 target/staticlib/libhost.a '$(DESTDIR)$(LIBDIR)/lib$(NAME).a'
-	install -m 755 target/shared/lib$(NAME).so '$(DESTDIR)$(LIBDIR)/lib$(NAME).so.$(VERSION)'
-	ln -sf lib$(NAME).so.$(VERSION) '$(DESTDIR)$(LIBDIR)/lib$(NAME).so.$(MAJOR)'
-	ln -sf lib$(NAME).so.$(MAJOR) '$(DESTDIR)$(LIBDIR)/lib$(NAME).so'
-	sed -e 's|@PREFIX@|$(PREFIX)|' -e 's|@VERSION@|$(VERSION)|' host/$(NAME).pc.in > '$(DESTDIR)$(LIBDIR)/pkgconfig/$(NAME).pc'
+	@python3 tools/release.py install '$(PREFIX)' '$(DESTDIR)'
+
+uninstall:
+	@python3 tools/release.py uninstall '$(PREFIX)' '$(DESTDIR)'
+
+# The refusal comes before anything is built.
+dist:
+	$(if $(REFUSAL),$(error $(REFUSAL)))
+	@$(MAKE) --no-print-directory all
+	@python3 tools/release.py dist $(FORCED)
 
 check:
 	tests/run
 
-.PHONY: all install check
+.PHONY: all install uninstall dist check

@@ -1,4 +1,4 @@
-"""The command lta, which the launcher of that name runs. It says so in one line where Python is too old for the package."""
+"""The command lta, as its launcher runs it. Where Python is too old for the package, one line says so."""
 
 import sys
 
