@@ -1,0 +1,442 @@
+"""What tests/fuzz_tools gives to lta: stored files with damage, folders with odd entries, and command lines over them.
+Everything follows from one random.Random, so that a seed repeats it. A file has at most some MB. There are no pipes and
+no devices, which could wait or never end.
+"""
+
+from __future__ import annotations
+
+import argparse
+import contextlib
+import functools
+import os
+import pathlib
+import re
+from dataclasses import dataclass
+
+from lta import cli, columns, dump_format, hour
+
+ROOT = pathlib.Path(__file__).resolve().parent.parent
+
+# Stored files.
+
+HOURS, FAMILIES, DUMPS = (sorted((ROOT / name).glob("*.txt")) for name in ("hours", "families", "dumps"))
+ACCEPTED = [path for path in HOURS + FAMILIES if "\n# expect 0 0\n" in path.read_text(encoding="utf-8")]
+SHEETS = sorted((ROOT / "sheets").glob("*.csv"))
+OTHERS = sorted((ROOT / "samples").iterdir()) + sorted((ROOT / "queue").iterdir()) + [ROOT / "sheets" / "runs.txt"]
+
+
+@functools.lru_cache(maxsize=None)
+def stored_hour(path):
+    """The files that a stored text gives, by kind, the text among them."""
+    text = path.read_text(encoding="utf-8")
+    if dump_format.is_text(text):
+        case, dump = dump_format.build(text, path.parent)
+        return {"text": text.encode(), "case": case, "dump": dump, "columned": columned(case)}
+    case, proposal, families = hour.build_families(text, path.parent)
+    made = {"text": text.encode(), "case": case, "proposal": proposal, "joined": case + proposal}
+    made["columned"] = columned(case)
+    if families is not None:
+        made["families"] = families
+    return made
+
+
+def columned(case):
+    return columns.MARK + case[3:] if columns.order_part(case) is None else columns.columned(case)
+
+
+# Damage.
+
+# Words that stand for a number and are none, or one that no field takes: by kind.
+ODD_NUMBERS = (
+    ("0", "-0", "-1", "65535", "65536", "4294967295", "4294967296", "-2147483649"),
+    ("9" * 25, "-" + "9" * 400, "9" * 5000, "9" * 20_000),
+    ("1.5", ".5", "1.", "1e9", "1e400", "-1e-400", "1e99999", "1." + "3" * 5000),
+    ("0x10", "0x1p5000", "0x1.8p-1", "1_0", "+1", "nan", "inf", "-inf", "bits:7ff8000000000001", "", "none"),
+    ("٣", "７", "²", "½", "−1"),
+)
+# Characters that some readers take for the end of a line, a blank, or nothing.
+ODD_CHARACTERS = ["\0", "\r", "\x0b", "\x0c", "\x1c", "\x85", "\xa0", "\u2028", "\ufeff", "\U0010ffff", "\x1b[31m"]
+LINES = [
+    *("cut case {}", "cut proposal {}", "cut dump {}", "append case {:x}", "append families", "append dump 00ff"),
+    *("byte case {} 255", "byte proposal {} 0", "byte families {} 1", "counts zones {}", "counts orders {} links {}"),
+    *("mark XYZ", "mark 004c54", "link 0 1 {}", "order 0 buy {} {}", "volume {}", "flow {}", "shadow {}", "parent {}"),
+    *("families version {}", "dump share {} system {}", "accepted {}", "sheet s.csv", "sheet .", "sheet none"),
+    *("# expect {} {}", "# expect-apart {} {}", "# expect-without {} {}", "junk {}"),
+    "# totals welfare {} bound {} gap 0 rent 0 owed 0",
+]
+NUMBER = re.compile(rb"-?\d+(?:\.\d+)?")
+OPENING = re.compile(rb"case|proposal|families|dump|# expect|# totals|# becomes|# shortfall")
+LONG_LINES = (100, 10_000, 500_000, 3_000_000)
+
+
+def odd_number(numbers):
+    # One of a MB is rare, since it makes a turn slow.
+    return numbers.choice(numbers.choice(ODD_NUMBERS)) if numbers.random() < 0.99 else "9" * 1_100_000
+
+
+def near_number(numbers, word):
+    """A number like another: one more or less, ten times as much, or its sign changed."""
+    digits = word.replace(b".", b"")
+    if len(digits) > 20:
+        return b"1"
+    value = int(digits)
+    return str(numbers.choice((value + 1, value - 1, 10 * value, -value, value // 2))).encode()
+
+
+def with_number(numbers, lines, _):
+    at = numbers.randrange(len(lines))
+    if numbers.random() < 0.5:
+        # The first lines have the counts and what is expected.
+        at = numbers.choice([n for n, line in enumerate(lines) if OPENING.match(line)] or [at])
+    found = list(NUMBER.finditer(lines[at]))
+    if found:
+        start, end = numbers.choice(found).span()
+        near = near_number(numbers, lines[at][start:end])
+        word = odd_number(numbers).encode() if numbers.random() < 0.5 else near
+        lines[at] = lines[at][:start] + word + lines[at][end:]
+
+
+def with_word(numbers, lines, others):
+    at = numbers.randrange(len(lines))
+    words, other = lines[at].split(b" "), numbers.choice(others).split(b" ")
+    words[numbers.randrange(len(words))] = numbers.choice(other)
+    lines[at] = b" ".join(words)
+
+
+def with_sheet(numbers, lines, _):
+    """The branches from the sheet that lies in the folder, for as many zones as it may have."""
+    opening = b"case version %d zones %d tolerance 0" % (numbers.choice((1, 2)), numbers.choice((0, 1, 1, 2, 3, 16)))
+    lines[:] = [line for line in lines if not line.startswith((b"branch", b"case"))]
+    lines[:0] = [opening, b"sheet s.csv"]
+
+
+def with_line(numbers, lines, others):
+    line = numbers.choice(LINES).format(numbers.randrange(300), numbers.choice((0, 1, 255, 70_000)))
+    lines.insert(numbers.randrange(len(lines) + 1), numbers.choice((line.encode(), numbers.choice(others))))
+
+
+def dropped(numbers, lines, _):
+    at = numbers.randrange(len(lines))
+    del lines[at : at + numbers.choice((1, 1, 1, 5, 1000))]
+
+
+def doubled(numbers, lines, _):
+    at = numbers.randrange(len(lines))
+    lines[at:at] = lines[at : at + numbers.choice((1, 1, 3, 300))]
+
+
+def swapped(numbers, lines, _):
+    first, second = numbers.randrange(len(lines)), numbers.randrange(len(lines))
+    lines[first], lines[second] = lines[second], lines[first]
+
+
+def with_character(numbers, lines, _):
+    at = numbers.randrange(len(lines))
+    place = numbers.randrange(len(lines[at]) + 1)
+    lines[at] = lines[at][:place] + numbers.choice(ODD_CHARACTERS).encode() + lines[at][place:]
+
+
+def with_long_line(numbers, lines, _):
+    word = numbers.choice((b"# ", b"", b"branch ", b"append case ", b"order 0 buy "))
+    piece = numbers.choice((b"0", b"9", b" 1", b"ab", b"#", b"\xe2\x82\xac"))
+    # The longest are rare, since they make a turn slow.
+    size = numbers.choices(LONG_LINES, (50, 40, 9, 1))[0]
+    lines.insert(numbers.randrange(len(lines) + 1), word + piece * (size // len(piece)))
+
+
+LINE_DAMAGE = [with_number] * 5 + [with_line] * 3
+LINE_DAMAGE += [with_sheet, with_word, dropped, doubled, swapped, with_character, with_long_line]
+
+
+def damaged_text(numbers, text, other):
+    """A text with lines, words and numbers changed, and perhaps other ends of lines or other bytes."""
+    lines, others = text.split(b"\n"), other.split(b"\n")
+    for _ in range(numbers.choice((1, 1, 1, 2, 4))):
+        numbers.choice(LINE_DAMAGE)(numbers, lines, others)
+        lines = lines or [b""]
+    text = b"\n".join(lines)
+    way = numbers.randrange(20)
+    if way == 0:
+        return text.replace(b"\n", b"\r\n")
+    if way == 1:
+        return b"\xef\xbb\xbf" + text
+    if way == 2:
+        return text + other
+    if way == 3:
+        return text.decode(errors="replace").encode("utf-16")
+    return damaged_bytes(numbers, text, other) if way < 6 else text
+
+
+def damaged_bytes(numbers, data, other):
+    """A file with bytes changed, cut, doubled, put in, or followed by another."""
+    made = bytearray(data)
+    for _ in range(numbers.choice((1, 1, 2, 5))):
+        way, at = numbers.randrange(10), numbers.randrange(len(made) + 1)
+        if way < 5 and made:
+            # The header has the counts, on which all else hangs.
+            place = numbers.randrange(min(len(made), 16 if way < 2 else len(made)))
+            made[place] = numbers.choice((0, 1, 2, 127, 128, 255, made[place] ^ 1, numbers.randrange(256)))
+        elif way == 5:
+            del made[at:]
+        elif way == 6:
+            del made[at : at + numbers.randrange(1, 20)]
+        elif way == 7:
+            made[at:at] = numbers.randbytes(numbers.randrange(1, 20))
+        elif way == 8:
+            made += numbers.choice((bytes(made), other, b"\0", b"\n"))
+        elif numbers.randrange(5) == 0:
+            made = bytearray(numbers.randbytes(numbers.randrange(300)))
+    return bytes(made)
+
+
+def damaged(numbers, kind, data, other):
+    """A file of a kind, often as it is stored: else a command would seldom come past its first file."""
+    if numbers.random() < (0.4 if kind == "text" else 0.66):
+        return data
+    damage = damaged_text if kind in ("text", "pairs", "sheet") else damaged_bytes
+    return damage(numbers, data, other)
+
+
+# Folders.
+
+SUFFIXES = {
+    "text": (".txt",),
+    "case": (".case",),
+    "proposal": (".proposal",),
+    "families": (".families",),
+    "joined": (".bin", ".joined"),
+    "dump": (".dump",),
+    "columned": (".ltk", ""),
+    "sheet": (".csv",),
+    "pairs": (".pairs", ""),
+}
+STEMS = [
+    *("a", "b", "hour", "p1", "name with spaces", "new\nline", "tab\tbell\a", "\udcff\udcfe", "ünï-€", "-dash"),
+    *("--force", ".hidden", "n" * 200, "#", "quote'\"", "<&>", "\x1b[31m", "a.b", "x.case", "CON", "%s{}", "\u2028"),
+]
+PLACES = ["", "", "", "", "sub", "sub/deeper", "with space", "\udcff"]
+# Levels of a deep folder: more than the interpreter's stack has.
+DEPTH = 1200
+
+
+class Folder:
+    """A folder for a command, both by chance: the hours in it, each a file by kind, and the odd entries. Names count
+    from the folder. One that is to stay has no entry that is hard to remove: what is unreadable or deep is only named.
+    """
+
+    def __init__(self, numbers, top, stays=False):
+        self.numbers, self.top, self.stays = numbers, top, stays
+        self.command = numbers.choice(list(parsers()))
+        self.hours: list[dict[str, str]] = []
+        self.odd: list[str] = []
+        self.unreadable: list[str] = []
+        self.deep = False
+        os.makedirs(top)
+        for _ in range(numbers.choice((1, 1, 1, 2, 3))):
+            self.add_hour()
+        sheet = numbers.choice(SHEETS).read_bytes()
+        self.put("s.csv", damaged(numbers, "sheet", sheet, sheet))
+        if numbers.random() < 0.4:
+            for _ in range(numbers.randrange(1, 5)):
+                self.add_odd()
+        for name in self.unreadable if not stays else ():
+            os.chmod(self.path(name), 0)
+
+    def path(self, name):
+        return os.path.join(self.top, name)
+
+    def put(self, name, data):
+        """Writes a file, unless its name is taken."""
+        path = self.path(name)
+        os.makedirs(os.path.dirname(path), exist_ok=True)
+        if not os.path.lexists(path):
+            with open(path, "wb") as file:
+                file.write(data)
+        return name
+
+    def new_name(self, kinds):
+        place, stem = self.numbers.choice(PLACES), self.numbers.choice(STEMS)
+        return os.path.join(place, stem + self.numbers.choice(kinds))
+
+    def add_hour(self):
+        """The files of a stored hour, some with damage, under one name with the endings of their kinds, mostly."""
+        numbers = self.numbers
+        kinds = (HOURS, HOURS, ACCEPTED, ACCEPTED, FAMILIES, DUMPS) if self.command != "dump" else (DUMPS,)
+        source = stored_hour(numbers.choice(numbers.choice(kinds)))
+        other = stored_hour(numbers.choice(HOURS))
+        place, stem = numbers.choice(PLACES), numbers.choice(STEMS)
+        files = dict(source)
+        files["sheet"] = numbers.choice(SHEETS).read_bytes()
+        zones = [numbers.choice((0, 0, 1, 1, 2, 3, 200)) for _ in range(2 * numbers.choice((1, 2, 4, 40)))]
+        files["pairs"] = b"".join(b"%d %d\n" % pair for pair in zip(zones[::2], zones[1::2]))
+        if numbers.random() < 0.1:
+            files["text"] = numbers.choice(OTHERS).read_bytes()
+        made = {}
+        for kind, data in files.items():
+            suffix = numbers.choice(SUFFIXES[kind] if numbers.random() < 0.9 else ("", ".txt", ".case", ".other"))
+            damaged_data = damaged(numbers, kind, data, other.get(kind, other["case"]))
+            made[kind] = self.put(os.path.join(place, stem + suffix), damaged_data)
+        self.hours.append(made)
+
+    def add_odd(self):
+        """An entry that is no file of an hour, or one that cannot be read."""
+        numbers = self.numbers
+        name = self.new_name((".case", ".proposal", ".txt", ".bin", ".families", "", ".png", "~"))
+        path = self.path(name)
+        os.makedirs(os.path.dirname(path), exist_ok=True)
+        if os.path.lexists(path):
+            return
+        way = numbers.randrange(9)
+        if way < 4:
+            up = os.pardir if os.path.dirname(name) else os.curdir
+            os.symlink(("none", os.path.basename(name), os.curdir, up)[way], path)
+        elif way == 4:
+            os.symlink(self.path(numbers.choice(list(self.hours[0].values()))), path)
+        elif way == 5:
+            os.mkdir(path)
+        elif way == 6 and not self.deep and numbers.random() < 0.03:
+            self.deep = True
+            for depth in range(1, DEPTH + 1 if not self.stays else 2):
+                os.mkdir(self.path("d/" * depth))
+            name = "d"
+        elif way == 7:
+            os.mkdir(path)
+            self.unreadable.append(name)
+        else:
+            self.put(name, numbers.choice((b"", b"\n", b"LTC", b"LTP", b"LTF", b"LTK", b"\xff\xd8\xff", bytes(100))))
+            if numbers.random() < 0.5:
+                self.unreadable.append(name)
+        self.odd.append(name)
+
+    def remove(self):
+        """Removes the folder. What cannot be entered is made so that it can, and a deep one is removed from its end."""
+        for name in self.unreadable:
+            with contextlib.suppress(FileNotFoundError):
+                os.chmod(self.path(name), 0o700)
+        for depth in range(DEPTH, 0, -1) if self.deep else ():
+            os.rmdir(self.path("d/" * depth))
+        for place, folders, names in os.walk(self.top, topdown=False):
+            for name in names:
+                os.unlink(os.path.join(place, name))
+            for name in folders:
+                path = os.path.join(place, name)
+                remove = os.unlink if os.path.islink(path) else os.rmdir
+                remove(path)
+        os.rmdir(self.top)
+
+
+# Command lines.
+
+# The options whose value is a file that is written, by the name that the parser has for them.
+OUTPUTS = ("out", *cli.BUILT)
+# How often an option is given; of those of build one is enough.
+LIKELY = {"out": 0.6, "force": 0.3, "case": 0.3}
+UNKNOWN = ("--nope", "-x", "--json=1", "--js", "--forc", "-o", "--pairs", "--case", "--", "-", "", "-h", "--help", "-9")
+
+
+@functools.lru_cache(maxsize=None)
+def parsers():
+    """The parser of each command, by its name, from lta's own: a new command is tried too."""
+    (found,) = (action for action in cli.parser()._actions if isinstance(action, argparse._SubParsersAction))
+    return found.choices
+
+
+@dataclass(frozen=True)
+class Line:
+    """A command line: its words, the files that it names to be written, and what stands on standard input."""
+
+    words: list
+    outputs: list
+    stdin: bytes | None
+
+    @property
+    def command(self):
+        return self.words[0] if self.words else ""
+
+
+def hour_words(numbers, made):
+    """An hour as a command line names it."""
+    ways = [("case", "proposal"), ("case", "proposal", "families"), ("joined",), ("joined", "families")] * 4
+    ways += [("text",)] * 8 + [("case",), ("proposal", "case"), ("case", "dump"), ("case", "families")]
+    ways = [way for way in ways if all(kind in made for kind in way)]
+    return [made[kind] for kind in numbers.choice(ways)]
+
+
+def words_of(numbers, command, folder):
+    """The files that a command is given, most of the time such as it asks for."""
+    made = numbers.choice(folder.hours)
+    if command == "judge":
+        count = numbers.choice((0, 1, 1, 2, 3))
+        words = [word for _ in range(count) for word in hour_words(numbers, numbers.choice(folder.hours))]
+        return words if numbers.random() < 0.7 else [numbers.choice((".", "sub", os.pardir + "/fuzzed"))]
+    if command == "dump":
+        return [made["case"], made["dump"]] if "dump" in made and numbers.random() < 0.6 else [made["text"]]
+    if command in ("column", "restore"):
+        return [made["case" if command == "column" else "columned"]]
+    if command == "build":
+        return [made["text"]]
+    if command == "help":
+        return numbers.choice(([], ["text"]))
+    if command == "field":
+        offset = numbers.choice((str(numbers.randrange(60)), hex(numbers.randrange(60)), odd_number(numbers)))
+        return [*hour_words(numbers, made), offset]
+    return hour_words(numbers, made)
+
+
+def any_file(numbers, folder):
+    return numbers.choice(list(numbers.choice(folder.hours).values()))
+
+
+def any_word(numbers, folder):
+    """A word of any kind: a file, an odd entry, a folder, or none of them."""
+    odd = numbers.choice(folder.odd or ["."])
+    return numbers.choice((any_file(numbers, folder), odd, ".", "none.case", "-", "", "sub"))
+
+
+def output_name(numbers, folder):
+    """A file to be written: a new one, most of the time."""
+    others = ("none/out", "new\nout", "-", any_file(numbers, folder), any_word(numbers, folder))
+    return numbers.choice(("out", "out", "out", "out.html", "sub/out", *others))
+
+
+def options_of(numbers, parser, folder):
+    """Some of a command's options, each as one or two words, and the outputs that they name."""
+    groups, outputs = [], []
+    for action in parser._actions:
+        if not action.option_strings or numbers.random() > LIKELY.get(action.dest, 0.15):
+            continue
+        name = numbers.choice(action.option_strings)
+        if action.nargs == 0:
+            groups.append([name])
+            continue
+        value = output_name(numbers, folder) if action.dest in OUTPUTS else any_word(numbers, folder)
+        if action.dest == "pairs" and numbers.random() < 0.7:
+            value = folder.hours[0]["pairs"]
+        if action.dest in OUTPUTS:
+            outputs.append(value)
+        groups.append([f"{name}={value}"] if name.startswith("--") and numbers.random() < 0.3 else [name, value])
+    return groups, outputs
+
+
+def command_line(numbers, folder):
+    """A command over a folder's files."""
+    command = folder.command
+    words = [[word] for word in words_of(numbers, command, folder)]
+    groups, outputs = options_of(numbers, parsers()[command], folder)
+    if numbers.random() < 0.2:
+        words += [[any_word(numbers, folder)] for _ in range(numbers.randrange(3))]
+        numbers.shuffle(words)
+    if numbers.random() < 0.06:
+        groups.append([numbers.choice(UNKNOWN)])
+    for group in groups:
+        words.insert(numbers.randrange(len(words) + 1), group)
+    first = [command] if numbers.random() < 0.98 else numbers.choice(([], ["nonsense"], ["--help"], ["-h"], [""]))
+    return Line(first + [word for group in words for word in group], outputs, standard_input(numbers))
+
+
+def standard_input(numbers):
+    """What a command reads where it is given -, or None where standard input is closed."""
+    if numbers.random() < 0.05:
+        return None
+    source = stored_hour(numbers.choice(HOURS))
+    return damaged(numbers, "joined", source["joined"], source["case"])
