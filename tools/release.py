@@ -227,6 +227,8 @@ def documents(version, glibc):
         yield f"share/doc/mbirukaze/{pathlib.PurePath(path).name}", of_tree(path)
     for path in folder_files("host", "*.c", "*.h"):
         yield f"share/doc/mbirukaze/examples/{path.name}", of_tree(path)
+    for path in folder_files("host", "*.tsv"):
+        yield f"share/mbirukaze/{path.name}", of_tree(path)
     for path in folder_files("samples", "*"):
         yield f"share/mbirukaze/samples/{path.name}", of_tree(path)
 
