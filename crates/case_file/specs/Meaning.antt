@@ -1,2 +1,3 @@
 -- THE MEANING of the answers to a case
 pub mod Answer
+pub mod Files

@@ -1,2 +1,3 @@
 -- STEPS of the proofs
 pub mod Answer
+pub mod Files

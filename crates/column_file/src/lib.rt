@@ -12,6 +12,7 @@ use base_output::Written;
 use base_output::refused;
 use bytes_read::Mark;
 use case_file::CaseAnswer;
+use case_file::Files;
 use case_file::read_case;
 use case_header::HeaderField;
 use case_header::take_header;
@@ -71,7 +72,7 @@ fn put_file(source: &[u8], out: &mut [u8], letter: u8, start: usize, rows: usize
 pub fn columned(case: &[u8], out: &mut [u8]) -> Written
     ensures { λ r. ⌜ CaseColumned (now («case» .entry)) (now (out .entry)) r (now (out .exit)) ⌝ }
 {
-    let CaseAnswer::Readable(k) = read_case(case) else {
+    let CaseAnswer::Readable(k) = read_case(Files::Apart, case) else {
         return refused(71, 0);
     };
     if out.len() < case.len() {
@@ -117,7 +118,7 @@ fn restore(file: &[u8], case: &mut [u8]) -> RestoreAnswer
     }
     let start = file.len() - ORDER * orders;
     put_file(file, case, CASE_LETTER, start, orders, ORDER);
-    let CaseAnswer::Readable(_) = read_case(case) else {
+    let CaseAnswer::Readable(_) = read_case(Files::Apart, case) else {
         return not_restored();
     };
     RestoreAnswer::Restored

@@ -22,6 +22,7 @@ use bytes_read::LongField;
 use bytes_write::put_low32;
 use bytes_write::put_word;
 use case_file::CaseAnswer;
+use case_file::Files;
 use case_file::read_case;
 use case_header::Counts;
 use dump_binary64::is_finite;
@@ -257,7 +258,7 @@ fn convert(case: &[u8], k: Counts, dump: &[u8], out: &mut [u8]) -> Written
 pub fn dump_proposal(case: &[u8], dump: &[u8], out: &mut [u8]) -> Written
     ensures { λ r. ⌜ DumpAnswered (now («case» .entry)) (now (dump .entry)) (now (out .entry)) r (now (out .exit)) ⌝ }
 {
-    match read_case(case) {
+    match read_case(Files::Apart, case) {
         CaseAnswer::Refused(refusal) => refused(56, refusal.number as usize),
         CaseAnswer::Readable(k) => convert(case, k, dump, out),
     }

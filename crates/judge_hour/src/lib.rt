@@ -9,9 +9,10 @@ ghost use Rattle.judge_stages.specs.Meaning.Found.{listOf};
 ghost use Rattle.judge_hour.specs.Steps.Judged.{Reportable, Judged, concluded};
 ghost use Rattle.judge_hour.specs.Meaning.HourJudged.{HourJudged, FamilyHourJudged};
 use base_causes::Outcome;
+use case_file::Files;
 use judge_stages::FamilyList;
 use judge_stages::Found;
-use judge_stages::find_with_families;
+use judge_stages::find_in;
 use report_file::write_report;
 
 fn byte_of(zones: usize) -> u8
@@ -73,7 +74,10 @@ fn judge_with_families(
             index: 0,
         };
     }
-    conclude(find_with_families(case, proposal, families, list), report)
+    conclude(
+        find_in(Files::Apart, case, proposal, families, list),
+        report,
+    )
 }
 
 // THE JUDGEMENT of a case and a proposal. `host` spells out what follows for a caller.

@@ -1,6 +1,7 @@
-// THE DRIVER: what the verdict table from row 1 to row 26 finds in an hour. `find_with_families`, at the end, asks three stages in the table's order: `read`
-// (1 to 18), `clear` (21, 28, 22, 27, 23) and `value` (24 to 26). The verdict of a stage is 0 where its rows pass, and a stage may rest on what those before
-// it passed.
+// THE DRIVER: what the verdict table from row 1 to row 26 finds in an hour. `find_in`, at the end, reads the case (1 to
+// 8) and cuts it from its proposal if the two are joined. `find_after` then asks three stages in the table's order:
+// `read` (9 to 18), `clear` (21, 28, 22, 27, 23) and `value` (24 to 26). The verdict of a stage is 0 where its rows
+// pass, and a stage may rest on what those before it passed.
 ghost use mathlib.Core.Path.{_≡_};
 ghost use mathlib.Core.Bool.{true, not, cond, _&&_};
 ghost use mathlib.Core.Option.{none, some};
@@ -16,12 +17,15 @@ ghost use Rattle.rules.specs.Meaning.Hour as rules;
 ghost use Rattle.base_causes.specs.Meaning.Place.{placeOf};
 ghost use Rattle.base_causes.specs.Meaning.Causes.{verdict, failing, refusal, answer};
 ghost use Rattle.rules.specs.Meaning.Verdict.{excessVolume};
+ghost use Rattle.case_header.specs.Meaning.CaseReadable.{CaseReadable};
+ghost use Rattle.case_file.specs.declared.Files.the-variants.{Joined};
+ghost use Rattle.case_file.specs.Steps.Files.{proposalStart};
 ghost use Rattle.family_list.specs.Meaning.Answer.{FamiliesReadable};
 ghost use Rattle.judge_clearing.specs.Meaning.TenthsHold.{tenthsAt};
 ghost use Rattle.judge_clearing.specs.Meaning.Read.{HourReadFrom};
 ghost use Rattle.judge_clearing.specs.Meaning.InRange.{VolumesInRange};
 ghost use Rattle.judge_stages.specs.declared.FamilyList.the-variants.{Given};
-ghost use Rattle.judge_stages.specs.Meaning.Found.{Finds, HourCleared, hourCauses, listOf};
+ghost use Rattle.judge_stages.specs.Meaning.Found.{Finds, FindsIn, HourCleared, hourCauses, listOf};
 ghost use Rattle.judge_stages.specs.Steps.Found.{readCauses, clearCauses, orderCauses, linkAnswer, valueCauses, unreadAs, unclearedAs, refusedAs};
 ghost use Rattle.judge_stages.specs.Steps.Listed.{Admitted, listedAnswer, fractionPlace};
 use base_causes::Outcome;
@@ -34,6 +38,7 @@ use base_measures::Share;
 use base_measures::Tenths;
 use case_branches::ptdf_table;
 use case_file::CaseAnswer;
+use case_file::Files;
 use case_file::read_case;
 use case_header::Counts;
 use family_fractions::first_over_parent;
@@ -57,7 +62,7 @@ pub enum FamilyList {
     Absent,
 }
 
-// What `read` answers: the verdict of rows 1 to 18 and, where they pass, what was read.
+// What `read` answers: the verdict of rows 9 to 18 and, where they pass, what was read.
 struct Reading {
     verdict: Outcome,
     hour: HourRead,
@@ -184,21 +189,18 @@ fn not_read(verdict: Outcome) -> Reading
     }
 }
 
-// ROWS 1 TO 18: the case, the proposal, and what is asked of them and the family list alone.
-fn read(case: &[u8], proposal: &[u8], families: &[u8], list: FamilyList) -> Reading
+// ROWS 9 TO 18, of a readable case: the proposal, and what is asked of both and the family list alone.
+fn read(case: &[u8], counts: Counts, proposal: &[u8], families: &[u8], list: FamilyList) -> Reading
+    requires { ⌜ CaseReadable (now «case») counts ⌝ }
     ensures verdict { λ r. ⌜ r .verdict ≡ answer (refusal (readCauses (listOf list (now (families .entry))) (now («case» .entry)) (now (proposal .entry)))) ⌝ }
     ensures hour { λ r. ⌜ (r .verdict .number ≡ 0 → HourReadFrom (now («case» .entry)) (now (proposal .entry)) (r .hour)) ⌝ }
     ensures families { λ r. ⌜ (r .verdict .number ≡ 0 → list ≡ Given → FamiliesReadable (now (families .entry)) (r .hour .counts .orders)) ⌝ }
 {
-    // Reborrow: handed on as it came, the slice is reloaded by 16 bytes right after it was stored by 8 and 8, for which the processor waits.
-    match read_case(&case[..]) {
-        CaseAnswer::Refused(refusal) => not_read(refusal),
-        CaseAnswer::Readable(counts) => match read_proposal(case, counts, proposal) {
-            ProposalAnswer::Refused(refusal) => not_read(refusal),
-            ProposalAnswer::Sound(opening) => Reading {
-                verdict: admit(counts, families, list),
-                hour: HourRead { counts, opening },
-            },
+    match read_proposal(case, counts, proposal) {
+        ProposalAnswer::Refused(refusal) => not_read(refusal),
+        ProposalAnswer::Sound(opening) => Reading {
+            verdict: admit(counts, families, list),
+            hour: HourRead { counts, opening },
         },
     }
 }
@@ -364,13 +366,20 @@ fn value(case: &[u8], proposal: &[u8], hour: HourRead, cleared: Cleared) -> Foun
     }
 }
 
-// The hour, from its first byte: the table's rows top to bottom, stage by stage.
-pub fn find_with_families(case: &[u8], proposal: &[u8], families: &[u8], list: FamilyList) -> Found
+// The hour of a readable case: the table's rows from 9 on top to bottom, stage by stage.
+fn find_after(
+    case: &[u8],
+    counts: Counts,
+    proposal: &[u8],
+    families: &[u8],
+    list: FamilyList,
+) -> Found
+    requires { ⌜ CaseReadable (now «case») counts ⌝ }
     ensures { λ r. ⌜ Finds (hourCauses (listOf list (now (families .entry))) (now («case» .entry)) (now (proposal .entry))) (now («case» .entry))
         (now (proposal .entry)) r ⌝ }
 {
-    // 1 to 8, the case; 9 to 14, the proposal; 15, the tolerance; 16 to 18, the family list where there is one (S-11).
-    let reading = read(case, proposal, families, list);
+    // 9 to 14, the proposal; 15, the tolerance; 16 to 18, the family list where there is one (S-11).
+    let reading = read(case, counts, proposal, families, list);
     let unread = reading.verdict;
     if unread.number != 0 {
         return refused_by(unread);
@@ -386,9 +395,43 @@ pub fn find_with_families(case: &[u8], proposal: &[u8], families: &[u8], list: F
     value(case, proposal, hour, cleared)
 }
 
-// The same without a family list.
+// Where the proposal begins: behind the case if they are joined.
+fn proposal_start(files: Files, end: usize) -> usize
+    ensures { λ r. ⌜ r ≡ proposalStart files end ⌝ }
+{
+    match files {
+        Files::Apart => 0,
+        Files::Joined => end,
+    }
+}
+
+// THE HOUR, from its first byte. If case and proposal are joined, the input is lent as both, and its header, which says
+// where to cut, is read once.
+pub fn find_in(
+    files: Files,
+    case: &[u8],
+    proposal: &[u8],
+    families: &[u8],
+    list: FamilyList,
+) -> Found
+    requires { ⌜ (files ≡ Joined → now proposal ≡ now «case») ⌝ }
+    ensures { λ r. ⌜ FindsIn files (listOf list (now (families .entry))) (now («case» .entry)) (now (proposal .entry)) r ⌝ }
+{
+    // 1 to 8, the case. Reborrow: handed on as it came, the slice is reloaded by 16 bytes right after it was stored by
+    // 8 and 8, for which the processor waits.
+    match read_case(files, &case[..]) {
+        CaseAnswer::Refused(refusal) => refused_by(refusal),
+        CaseAnswer::Readable(counts) => {
+            let end = counts.demanded();
+            let start = proposal_start(files, end);
+            find_after(&case[..end], counts, &proposal[start..], families, list)
+        }
+    }
+}
+
+// The same of two files, without a family list.
 pub fn find(case: &[u8], proposal: &[u8]) -> Found
     ensures { λ r. ⌜ Finds (hourCauses none (now («case» .entry)) (now (proposal .entry))) (now («case» .entry)) (now (proposal .entry)) r ⌝ }
 {
-    find_with_families(case, proposal, &case[..0], FamilyList::Absent)
+    find_in(Files::Apart, case, proposal, &case[..0], FamilyList::Absent)
 }

@@ -1,5 +1,5 @@
-// The lines of text that the desk prints for one input: it is cut into case and proposal, judged, and the lines are
-// put into a lent buffer, from the totals and prices that the driver finds.
+// The lines of text that the desk prints for one input: the driver cuts it into case and proposal and judges it, and
+// the lines are put into a lent buffer, from the totals and prices that it finds.
 ghost use mathlib.Core.Path.{_≡_};
 ghost use mathlib.Core.List.{_++_};
 ghost use Prim.Native.Nat.{_+_, _≤_};
@@ -8,8 +8,7 @@ ghost use Rattle.text_decimal.specs.Meaning.Ascii.{ascii};
 ghost use Rattle.text_decimal.specs.Meaning.Text.{countText};
 ghost use Rattle.text_decimal.specs.Meaning.Put.{Put};
 ghost use Rattle.rules.specs.Meaning.Verdict.{_under_};
-ghost use Rattle.rules.specs.Meaning.Cut.{caseEnd};
-ghost use Rattle.rules.specs.Meaning.Lines.{verdictLine, totalLine, totalLines, priceLine, priceLines, hourLines, hourText};
+ghost use Rattle.rules.specs.Meaning.Lines.{verdictLine, totalLine, totalLines, priceLine, priceLines, hourLines, deskText};
 ghost use Rattle.report_file.specs.Meaning.Written.{totalsIn, priceIn};
 ghost use Rattle.text_lines.specs.Meaning.Printed.{deskRoom, DeskPrinted};
 use base_causes::Outcome;
@@ -17,9 +16,9 @@ use base_measures::Grains;
 use base_measures::Microcents;
 use base_output::Written;
 use base_output::refused;
-use case_header::HeaderAnswer;
-use case_header::read_header;
-use judge_stages::find;
+use case_file::Files;
+use judge_stages::FamilyList;
+use judge_stages::find_in;
 use report_file::Totals;
 use text_decimal::put_count;
 use text_decimal::put_money;
@@ -111,12 +110,13 @@ fn put_hour(out: &mut [u8], at: usize, zones: usize, totals: Totals, prices: [Gr
     put_prices(out, first_price, zones, prices)
 }
 
-// All lines for a case and a proposal.
-fn put_lines(case: &[u8], proposal: &[u8], out: &mut [u8]) -> usize
+// All lines for an input.
+fn put_lines(input: &[u8], out: &mut [u8]) -> usize
     requires { ⌜ deskRoom ≤ length (now out) ⌝ }
-    ensures { λ r. ⌜ Put (now (out .entry)) 0 (hourText (now («case» .entry)) (now (proposal .entry))) (now (out .exit)) r ⌝ }
+    ensures { λ r. ⌜ Put (now (out .entry)) 0 (deskText (now (input .entry))) (now (out .exit)) r ⌝ }
 {
-    let found = find(case, proposal);
+    // The input lent as case and as proposal: the driver cuts it, by the header that it reads once.
+    let found = find_in(Files::Joined, input, input, &input[..0], FamilyList::Absent);
     let verdict = found.verdict;
     let at = put_verdict(out, 0, verdict);
     if found.valued {
@@ -125,21 +125,6 @@ fn put_lines(case: &[u8], proposal: &[u8], out: &mut [u8]) -> usize
         return put_hour(out, at, found.hour.counts.zones, totals, prices);
     }
     at
-}
-
-// Where the case ends and the proposal begins. The driver reads the header again: handed on by value it would be copied
-// by sixteen bytes that were written by eight, for which the processor waits longer than the reading takes.
-fn cut(input: &[u8]) -> usize
-    ensures { λ r. ⌜ r ≡ caseEnd (now (input .entry)) ⌝ }
-{
-    let HeaderAnswer::Good(counts, _) = read_header(input) else {
-        return input.len();
-    };
-    let end = counts.demanded();
-    if input.len() < end {
-        return input.len();
-    }
-    end
 }
 
 // The room that the lines of every input have.
@@ -160,8 +145,7 @@ pub fn lines(input: &[u8], out: &mut [u8]) -> Written
     if too_short(out.len()) {
         return refused(31, 0);
     }
-    let end = cut(input);
-    let length = put_lines(&input[..end], &input[end..], out);
+    let length = put_lines(input, out);
     Written {
         number: 0,
         index: 0,

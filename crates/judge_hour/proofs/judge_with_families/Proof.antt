@@ -45,8 +45,8 @@ unfolding table roomCauses
 past-room c = let a = c .before .before .before .before .before in field-passes 30 0 (hourCauses (list a) (file a) (plan a)) (le-ltb (length (buffer a)) 176 (c .if1 .left))
 
 -- THE HOUR
-find-with-families-requires : tie.Need-find-with-families-requires
-find-with-families-requires c κs = search needs
+find-in-requires : tie.Need-find-in-requires
+find-in-requires c κs = λ e. cc
 
 conclude-requires : tie.Need-conclude-requires
 conclude-requires c κs = search needs
@@ -59,7 +59,7 @@ returns-2 c =
     let q = c .before .before in
     let f = q .before .before in
     let a = c .before .before .before .before .before .before .before .before .before .before in
-    same-rows (past-room (f .before)) (judged (hourCauses (list a) (file a) (plan a)) (file a) (plan a) (buffer a) (f .find-with-families .result) (f .find-with-families .ensures) (q .conclude .ensures .0) (q .conclude .ensures .1))
+    same-rows (past-room (f .before)) (judged (hourCauses (list a) (file a) (plan a)) (file a) (plan a) (buffer a) (f .find-in .result) (f .find-in .ensures) (q .conclude .ensures .0) (q .conclude .ensures .1))
 
 pub judge-with-families-spec : {M : Type 1} → statement M
-judge-with-families-spec = tie.close (tie.spec returns find-with-families-requires conclude-requires same-length returns-2)
+judge-with-families-spec = tie.close (tie.spec returns find-in-requires conclude-requires same-length returns-2)

@@ -1,4 +1,4 @@
--- `judge_stages::read` meets its contract: rows 1 to 8, 9 to 14, and 15 to 18. Assumes nothing.
+-- `judge_stages::read` meets its contract: the case passes rows 1 to 8; rows 9 to 14, and 15 to 18. Assumes nothing.
 use mathlib.Core.Path.{_≡_, sym, ap, _∙_}
 use mathlib.Core.List.{List, _++_}
 use mathlib.Core.Option.{Option, none, some}
@@ -10,9 +10,6 @@ use Rattle.rules.specs.Meaning.Verdict.{caseCauses, caseRefusal, proposalCauses
 use Rattle.base_causes.specs.declared.Outcome.{Outcome}
 use Rattle.base_causes.specs.Meaning.Causes.{Cause, refusal, answer}
 use Rattle.base_causes.specs.Promised.CauseLaws.{not-refused}
-use Rattle.case_header.specs.Meaning.CaseReadable.{CaseReadable}
-use Rattle.case_file.specs.Steps.Answer.{opened-of}
-use Rattle.case_file.specs.Steps.Answer as case-answer
 use Rattle.proposal_file.specs.Meaning.ProposalValid.{ProposalValid}
 use Rattle.proposal_file.specs.Steps.ProposalValid.{opening-is, proposed-of}
 use Rattle.proposal_file.specs.Steps.ProposalValid as proposal-answer
@@ -57,9 +54,17 @@ module _ (s t f : List ℕ) (list : FamilyList) {o : Outcome} (q : refusal (read
       × ((r .verdict .number ≡ 0 → HourReadFrom s t (r .hour)) × (r .verdict .number ≡ 0 → list ≡ Given → FamiliesReadable f (r .hour .counts .orders)))
   refused e = let v = ap (λ (f : Reading). f .verdict) e in (v ∙ sym (ap answer q), (never v, never v))
 
--- 1 TO 8
-read-case-requires : tie.Need-read-case-requires
-read-case-requires c κs = search needs
+-- past the case
+past-case : (a : tie.Start) → refusal (readCauses (list a) (file a) (plan a)) ≡ refusal (of-proposal a ++ of-lists a)
+unfolding caseRefusal
+past-case a = first-passes (of-case a) (of-proposal a ++ of-lists a) (a .pre .readable .none-holds)
+
+-- 9 TO 14
+abbrev start : tie.After-read-proposal → tie.Start
+start c = c .before .before .before .before
+
+read-proposal-requires : tie.Need-read-proposal-requires
+read-proposal-requires c κs = search needs
 
 enum-known-refusal : tie.Need-enum-known-refusal
 enum-known-refusal c = search needs
@@ -68,76 +73,39 @@ not-read-requires : tie.Need-not-read-requires
 not-read-requires c κs = search needs
 
 returns : tie.Need-returns
-unfolding caseRefusal
+unfolding proposalRefusal
 returns c =
     let o = c .before .before in
     let p = o .before .before in
-    let a = p .before .before .before .before in
-    refused (file a) (plan a) (now (a .args .families)) (a .args .list) (first-refuses (of-case a) (of-proposal a ++ of-lists a) _ (case-answer.refused-of (file a) (sym (p .read-case .ensures) ∙ o .refusal .given .1))) (c .not-read .ensures)
-
-enum-known-counts : tie.Need-enum-known-counts
-enum-known-counts c = search needs
-
-abbrev case-entry : tie.After-counts → tie.Start
-case-entry c = c .before .before .before .before .before .before
-
-opened : (c : tie.After-counts) → CaseReadable (file (case-entry c)) (c .counts .given .0 .0)
-opened c = opened-of (file (case-entry c)) (sym (c .before .before .read-case .ensures) ∙ c .counts .given .1)
-
-past-case : (c : tie.After-counts) → let a = case-entry c in refusal (readCauses (list a) (file a) (plan a)) ≡ refusal (of-proposal a ++ of-lists a)
-unfolding caseRefusal
-past-case c = let a = case-entry c in first-passes (of-case a) (of-proposal a ++ of-lists a) ((opened c) .readable .none-holds)
-
--- 9 TO 14
-read-proposal-requires : tie.Need-read-proposal-requires
-read-proposal-requires c κs = opened (c .before)
-
-enum-known-refusal-2 : tie.Need-enum-known-refusal-2
-enum-known-refusal-2 c = search needs
-
-abbrev case-of : tie.After-read-proposal → tie.After-counts
-case-of c = c .before .before
-
-not-read-requires-2 : tie.Need-not-read-requires-2
-not-read-requires-2 c κs = search needs
-
-returns-2 : tie.Need-returns-2
-unfolding proposalRefusal
-returns-2 c =
-    let o = c .before .before in
-    let p = o .before .before in
-    let a = case-entry (case-of p) in
+    let a = start p in
     refused (file a) (plan a) (now (a .args .families)) (a .args .list)
-    (past-case (case-of p) ∙ first-refuses (of-proposal a) (of-lists a) _ (proposal-answer.refused-of (file a) (plan a) (sym (p .read-proposal .ensures) ∙ o .refusal2 .given .1)))
-    (c .not-read2 .ensures)
+    (past-case a ∙ first-refuses (of-proposal a) (of-lists a) _ (proposal-answer.refused-of (file a) (plan a) (sym (p .read-proposal .ensures) ∙ o .refusal .given .1)))
+    (c .not-read .ensures)
 
 enum-known-opening : tie.Need-enum-known-opening
 enum-known-opening c = search needs
 
 -- 15 TO 18
-abbrev read : tie.After-opening → tie.After-read-proposal
-read o = o .before .before
+abbrev entry : tie.After-opening → tie.Start
+entry o = start (o .before .before)
 
-abbrev proposal-entry : tie.After-opening → tie.Start
-proposal-entry o = case-entry (case-of (read o))
+sound : (o : tie.After-opening) → proposalAnswer (file (entry o)) (plan (entry o)) ≡ proposal.Sound (o .opening .given .0 .0)
+sound o = sym (o .before .before .read-proposal .ensures) ∙ o .opening .given .1
 
-sound : (o : tie.After-opening) → proposalAnswer (file (proposal-entry o)) (plan (proposal-entry o)) ≡ proposal.Sound (o .opening .given .0 .0)
-sound o = sym (read o .read-proposal .ensures) ∙ o .opening .given .1
-
-proposed : (o : tie.After-opening) → ProposalValid (file (proposal-entry o)) (case-of (read o) .counts .given .0 .0) (plan (proposal-entry o))
-proposed o = proposed-of (plan (proposal-entry o)) (opened (case-of (read o))) (sound o)
+proposed : (o : tie.After-opening) → ProposalValid (file (entry o)) (entry o .args .counts) (plan (entry o))
+proposed o = proposed-of (plan (entry o)) (entry o .pre) (sound o)
 
 admit-requires : tie.Need-admit-requires
 admit-requires c κs = few-orders (proposed (c .before))
 
-returns-3 : tie.Need-returns-3
+returns-2 : tie.Need-returns-2
 unfolding proposalRefusal
-returns-3 c =
+returns-2 c =
     let o = c .before .before in
-    let a = proposal-entry o in
+    let a = entry o in
     let w = proposed o in
     let h = counted w in (
-      c .admit .ensures .verdict-is (caseOf (file a)) h ∙ sym (ap answer (past-case (case-of (read o)) ∙ first-passes (of-proposal a) (of-lists a) (w .passed))),
+      c .admit .ensures .verdict-is (caseOf (file a)) h ∙ sym (ap answer (past-case a ∙ first-passes (of-proposal a) (of-lists a) (w .passed))),
       (λ z. record { proposed = w; opening-is = opening-is (file a) (plan a) (sound o) }, c .admit .ensures .known (caseOf (file a)) h),
     )
 
@@ -145,15 +113,10 @@ pub read-spec : {M : Type 1} → statement M
 read-spec =
     tie.close
     (tie.spec
-    read-case-requires
+    read-proposal-requires
     enum-known-refusal
     not-read-requires
-    enum-known-counts
-    read-proposal-requires
-    enum-known-refusal-2
-    not-read-requires-2
     enum-known-opening
     admit-requires
     returns
-    returns-2
-    returns-3)
+    returns-2)

@@ -8,6 +8,8 @@ use Rattle.rules.specs.Meaning.Hour.{Case, Plan, caseOf, planOf, pricesOf, net,
 use Rattle.rules.specs.Meaning.Report.{totalsOf, reports}
 use Rattle.rules.specs.Meaning.Verdict.{caseCauses, proposalCauses, judgementCauses}
 use Rattle.base_causes.specs.Meaning.Causes.{Cause, verdict, refusal, answer}
+use Rattle.case_file.specs.declared.Files.{Files}
+use Rattle.case_file.specs.Meaning.Files.{caseIn, proposalIn}
 use Rattle.judge_clearing.specs.Meaning.TenthsHold.{TenthsHold}
 use Rattle.judge_clearing.specs.Meaning.Read.{HourReadFrom}
 use Rattle.judge_clearing.specs.Meaning.InRange.{VolumesInRange, FlowsInRange}
@@ -45,3 +47,7 @@ pub record Finds (rows : List Cause) (s t : List ℕ) (r : Found) : Type 0 where
   pub cleared-is : r .valued ≡ true → HourCleared (caseOf s) (planOf s t) (r .cleared)
   pub prices-are : r .valued ≡ true → PricesHold (caseOf s) (pricesOf s t) (r .prices)
   pub totals-are : r .valued ≡ true → totalsIn (r .totals) ≡ totalsOf (caseOf s) (planOf s t) (pricesOf s t)
+
+-- of what is lent: the case and the proposal as two files, or the desk's input lent as both
+abbrev pub FindsIn : Files → Option (List ℕ) → List ℕ → List ℕ → Found → Type 0
+FindsIn files fs s t r = Finds (hourCauses fs (caseIn files s) (proposalIn files t)) (caseIn files s) (proposalIn files t) r

@@ -24,8 +24,8 @@ use Rattle.judge_stages.specs.declared.Cleared.{Cleared}
 use Rattle.judge_stages.specs.declared.Found.{Found}
 use Rattle.judge_stages.specs.Meaning.Found.{hourCauses, Finds}
 
--- THE STAGES of it, in its order: 1 to 18, `read`; 21 and 28, of the orders, with 22, 27 and 23, of the links, `clear`;
--- all that stands behind 23, `value`
+-- THE STAGES of it, in its order: 1 to 18, `read_case` and `read`; 21 and 28, of the orders, with 22, 27 and 23, of the
+-- links, `clear`; all that stands behind 23, `value`
 abbrev pub admittedCauses : Option (List ℕ) → Case → List Cause
 admittedCauses fs c = wideTolerance c ∷ familyCauses fs c
 

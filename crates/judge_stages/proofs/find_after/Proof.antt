@@ -1,4 +1,4 @@
--- `judge_stages::find_with_families` meets its contract: the stages in the table's order, past each that passes to the one that refuses. Assumes nothing.
+-- `judge_stages::find_after` meets its contract: the case is readable, and the stages in the table's order, past each that passes to the one that refuses. Assumes nothing.
 use mathlib.Core.Path.{_≡_, ap}
 use mathlib.Core.List.{List, _++_}
 use mathlib.Core.Option.{Option}
@@ -12,8 +12,8 @@ use Rattle.judge_clearing.specs.Meaning.Read.{HourReadFrom}
 use Rattle.judge_stages.specs.declared.Found.{Found}
 use Rattle.judge_stages.specs.Meaning.Found.{Finds, listOf, hourCauses}
 use Rattle.judge_stages.specs.Steps.Found.{readCauses, clearCauses, valueCauses, stages, same-rows, read-silent, clear-silent, stage-refuses, stage-passes}
-use Rattle.judge_stages.proofs.find_with_families.Statement.{statement}
-use Rattle.judge_stages.proofs.find_with_families.Tie as tie
+use Rattle.judge_stages.proofs.find_after.Statement.{statement}
+use Rattle.judge_stages.proofs.find_after.Tie as tie
 
 -- the files and the list, and the rows from each stage on
 abbrev file : tie.Start → List ℕ
@@ -40,7 +40,7 @@ from-21 a = clearCauses (list a) (hour a) (plan a) ++ from-24 a
 abbrev Found-by : tie.Start → List Cause → Found → Type 0
 Found-by a rows r = Finds rows (file a) (text a) r
 
--- 1 TO 18
+-- 9 TO 18
 abbrev start : tie.After-read → tie.Start
 start c = c .before .before .before .before
 
@@ -108,8 +108,8 @@ returns-3 c =
     let a = entry e in
     past-read e (stage-passes (from-24 a) (clear-silent (list a) (hour a) (plan a)) (clearing x .clear .ensures .0) (cleared x) (c .value .ensures))
 
-pub find-with-families-spec : {M : Type 1} → statement M
-find-with-families-spec =
+pub find-after-spec : {M : Type 1} → statement M
+find-after-spec =
     tie.close
     (tie.spec
     read-requires
