@@ -8,6 +8,7 @@ pub mod library;
 pub mod makers;
 pub mod numbers;
 pub mod progress;
+pub mod records;
 pub mod rng;
 pub mod run;
 pub mod stored_lines;

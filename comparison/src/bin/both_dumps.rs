@@ -5,6 +5,7 @@
 //! name, the judge, `written` and the output's bytes that were changed, from its first on.
 
 use comparison::library;
+use comparison::records::dump_line;
 use comparison::stored_lines::{bytes, hex, of_each, written};
 use second_judge::limits::LEAST_BUFFER;
 use second_judge::{OutputAnswer, Verdict};
@@ -34,10 +35,6 @@ fn second_says(case: &[u8], dump: &[u8], room: usize) -> Vec<String> {
 
 fn said_of(room: usize, convert: impl Fn(&mut [u8]) -> OutputAnswer, judge: impl Fn(&[u8]) -> Verdict) -> Vec<String> {
     let (answer, out, count) = written(room, [0, 0xFF], convert);
-    let OutputAnswer { number, index, length } = answer;
-    let judged = match number {
-        0 => format!(" judged {}", judge(&out[..length as usize]).number),
-        _ => String::new(),
-    };
-    vec![format!("{number} {index} {length}{judged}"), format!("written {}", hex(&out[..count]))]
+    let judged = (answer.number == 0).then(|| judge(&out[..answer.length as usize]).number);
+    vec![dump_line(answer, judged), format!("written {}", hex(&out[..count]))]
 }

@@ -4,7 +4,8 @@
 //! of it is printed, a line for each judge: the name, the judge and the line that crates/prog_records prints.
 
 use comparison::library;
-use comparison::stored_lines::{bytes, hex, of_each};
+use comparison::records::families_line;
+use comparison::stored_lines::{bytes, of_each};
 use second_judge::limits::LEAST_BUFFER;
 use second_judge::Verdict;
 
@@ -32,11 +33,10 @@ fn second_says(case: &[u8], proposal: &[u8], list: &[u8]) -> Vec<String> {
 /// A report that is written with the list is the one without it.
 fn said_of(with: impl Fn(&mut [u8]) -> Verdict, without: impl Fn(&mut [u8]) -> Verdict) -> Vec<String> {
     let (mut report, mut free_report) = ([0; LEAST_BUFFER], [0; LEAST_BUFFER]);
-    let Verdict { number, index } = with(&mut report);
-    let free = without(&mut free_report);
+    let (verdict, free) = (with(&mut report), without(&mut free_report));
     let other = match report == free_report || report == [0; LEAST_BUFFER] {
         true => "",
         false => ", with another report",
     };
-    vec![format!("{number} {index} {} without {} {}{other}", hex(&report), free.number, free.index)]
+    vec![families_line(verdict, &report, free) + other]
 }

@@ -6,6 +6,7 @@
 //! changed, from its first on.
 
 use comparison::library;
+use comparison::records::{numbers_words, shortfall_line};
 use comparison::stored_lines::{bytes, of_each, written};
 use second_judge::OutputAnswer;
 
@@ -19,13 +20,8 @@ fn main() -> std::io::Result<()> {
     })
 }
 
-fn joined(numbers: &[i64]) -> String {
-    numbers.iter().map(|number| format!(" {number}")).collect()
-}
-
 fn said_of(room: usize, entry: impl Fn(&mut [i64]) -> OutputAnswer) -> Vec<String> {
     let (answer, out, count) = written(room, [0, -1], entry);
-    let OutputAnswer { number, index, length } = answer;
-    let numbers = joined(&out[..(length as usize).min(room)]);
-    vec![format!("{number} {index} {length}{numbers}"), format!("written{}", joined(&out[..count]))]
+    let numbers = &out[..(answer.length as usize).min(room)];
+    vec![shortfall_line(answer, numbers), format!("written{}", numbers_words(&out[..count]))]
 }
