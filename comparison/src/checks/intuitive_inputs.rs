@@ -4,7 +4,7 @@
 use super::intuitive::{Asked, Exchanges};
 use crate::makers::exchanges::*;
 use crate::makers::hours::{good, pairs, random as random_hour, Shape};
-use crate::makers::planted::{Cause, Planted, CAUSES};
+use crate::makers::planted::{zones_for, Planted, CAUSES};
 use crate::rng::Rng;
 use paper_hours::{stored, three_zone_hour, Hour};
 
@@ -75,11 +75,6 @@ pub fn small_ones(all: &mut Exchanges) {
 
 /// Each cause alone, each two of them, and several.
 pub fn refused(all: &mut Exchanges, rng: &mut Rng) {
-    // Zones that leave room for 65 pairs, where these are asked for.
-    let zones_for = |rng: &mut Rng, causes: &[Cause]| match causes.contains(&Cause::PastThe64th) {
-        true => 9 + rng.below(8),
-        false => some_zones(rng).max(2),
-    };
     for (cause, name) in CAUSES {
         all.run.begin(&format!("one cause: {name}"));
         for _ in 0..250 {

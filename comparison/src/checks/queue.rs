@@ -2,7 +2,7 @@
 //! answers, what waits, and every byte.
 
 use crate::library;
-use crate::makers::queues::{any_bytes, Event, Habit};
+use crate::makers::queues::{any_bytes, Event, Events};
 use crate::numbers::{COUNTED, QUEUE};
 use crate::rng::Rng;
 use crate::run::Run;
@@ -287,26 +287,11 @@ fn made(all: &mut Queues, rng: &mut Rng) {
 
 fn random_run(all: &mut Queues, rng: &mut Rng, bytes: [u8; QUEUE_BYTES]) {
     let mut one = all.start(bytes);
-    let mut habit = Habit::any(rng);
-    let mut left = 0;
-    let mut serving = false;
-    let mut last = None;
+    let mut events = Events::any(rng);
     for _ in 0..EVENTS {
-        if rng.one_in(100) {
-            habit = Habit::any(rng);
-        }
-        if left == 0 {
-            left = 1 + rng.below(habit.burst);
-            serving = rng.below(100) < habit.serves;
-        }
-        left -= 1;
-        let event = match last.take() {
-            Some((area, hour)) if habit.reposts && rng.one_in(2) => Event::Post(area, hour),
-            _ if serving => Event::Serve,
-            _ => habit.post(rng),
-        };
+        let event = events.draw(rng);
         if let Answer::Served(served) = all.feed(&mut one, event) {
-            last = (served.number == 0).then_some((served.area, served.hour));
+            events.served = (served.number == 0).then_some((served.area, served.hour));
         }
     }
 }

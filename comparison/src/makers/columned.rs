@@ -29,6 +29,11 @@ pub fn moved(hour: &Hour, case: &[u8]) -> Vec<u8> {
 
 pub fn some_hour(rng: &mut Rng) -> Hour {
     let shape = Shape::mostly_small(rng, 8);
+    hour_of(rng, shape)
+}
+
+/// The same of a given shape.
+pub fn hour_of(rng: &mut Rng, shape: Shape) -> Hour {
     match rng.below(4) {
         0 => random(rng, shape),
         1 => at_limits(rng, shape),

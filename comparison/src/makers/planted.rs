@@ -42,6 +42,14 @@ pub const CAUSES: [(Cause, &str); 15] = [
     (Cause::TwoLengths, "lists of two lengths"),
 ];
 
+/// Zones that leave room for 65 pairs, if these are asked for.
+pub fn zones_for(rng: &mut Rng, causes: &[Cause]) -> usize {
+    match causes.contains(&Cause::PastThe64th) {
+        true => 9 + rng.below(8),
+        false => some_zones(rng).max(2),
+    }
+}
+
 /// An input, with what is wrong with it.
 pub struct Planted {
     pub net: Vec<i64>,

@@ -42,8 +42,40 @@ impl Habit {
             0 => Event::Post(4 + rng.below(3) as u32, hour),
             1 => Event::Post(area, 25 + rng.below(3) as u32),
             2 => Event::Post(4 + rng.below(3) as u32, 25 + rng.below(3) as u32),
-            3 => Event::Post(far(rng) + area, hour),
-            _ => Event::Post(area, far(rng) + hour),
+            3 => Event::Post(far(rng).wrapping_add(area), hour),
+            _ => Event::Post(area, far(rng).wrapping_add(hour)),
+        }
+    }
+}
+
+/// The events of a run, drawn one after the other by some habit.
+pub struct Events {
+    habit: Habit,
+    serving: bool,
+    /// Events until a burst is over.
+    left: usize,
+    /// The area and hour that the last event served: it may be posted again.
+    pub served: Option<(u32, u32)>,
+}
+
+impl Events {
+    pub fn any(rng: &mut Rng) -> Events {
+        Events { habit: Habit::any(rng), serving: false, left: 0, served: None }
+    }
+
+    pub fn draw(&mut self, rng: &mut Rng) -> Event {
+        if rng.one_in(100) {
+            self.habit = Habit::any(rng);
+        }
+        if self.left == 0 {
+            self.left = 1 + rng.below(self.habit.burst);
+            self.serving = rng.below(100) < self.habit.serves;
+        }
+        self.left -= 1;
+        match self.served.take() {
+            Some((area, hour)) if self.habit.reposts && rng.one_in(2) => Event::Post(area, hour),
+            _ if self.serving => Event::Serve,
+            _ => self.habit.post(rng),
         }
     }
 }

@@ -9,6 +9,11 @@ use paper_hours::Hour;
 /// A readable case and a proposal of the right length for it, often with some of its fields changed.
 pub fn files(rng: &mut Rng) -> (Hour, Vec<u8>, Vec<u8>) {
     let shape = Shape::any(rng);
+    files_of(rng, shape)
+}
+
+/// The same of a given shape.
+pub fn files_of(rng: &mut Rng, shape: Shape) -> (Hour, Vec<u8>, Vec<u8>) {
     let hour = match rng.below(8) {
         0 => at_limits(rng, shape),
         1 | 2 => random(rng, shape),
