@@ -38,16 +38,19 @@ def lines_of(kind, printed):
     return lines[start : ends[0] if ends else len(lines)]
 
 
+def runs():
+    """Some records and what the program must print for them, in turn: the heading of a kind, then each run of it."""
+    for kind, module in KINDS.items():
+        opening = f"{heading(kind)}\n"
+        yield records.text(opening).data, opening.encode()
+        for run, lines in module.runs():
+            yield b"".join(record.data for record in run), "".join(f"{line}\n" for line in lines).encode()
+
+
 def run_files():
     """Standard input and output of the program, by file name."""
-    given, due = bytearray(), []
-    for kind, module in KINDS.items():
-        given += records.text(f"{heading(kind)}\n").data
-        due.append(heading(kind))
-        for run, lines in module.runs():
-            given += b"".join(record.data for record in run)
-            due += lines
-    return {"stdin": bytes(given), "stdout": "".join(f"{line}\n" for line in due).encode()}
+    given, due = zip(*runs())
+    return {"stdin": b"".join(given), "stdout": b"".join(due)}
 
 
 def differences(made, folder):
