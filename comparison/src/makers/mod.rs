@@ -12,4 +12,5 @@ pub mod near;
 pub mod planted;
 pub mod queues;
 pub mod rearranged;
+pub mod records;
 pub mod sheets;
