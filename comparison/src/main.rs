@@ -14,22 +14,25 @@ use std::path::PathBuf;
 use std::process::ExitCode;
 use wrong_builds::judgement::BUILDS;
 
-const USAGE: &str = "usage: comparison [--seed S] [--inputs N] [--seconds N] [--files FOLDER]
+const USAGE: &str = "usage: comparison [--seed S] [--inputs N] [--seconds N] [--rounds N] [--files FOLDER]
 
   --seed S        the first seed, 1
   --inputs N      made inputs for the judgement, 260000
   --seconds N     a long run: further rounds, each with the next seed, until so many seconds are over
+  --rounds N      ends a long run after so many rounds, if the time is not over before
   --files FOLDER  where the first difference is written, target/comparison, for lta explain";
 
 struct Options {
     seed: u64,
     inputs: u64,
     seconds: Option<u64>,
+    rounds: u64,
     files: PathBuf,
 }
 
 fn options() -> Option<Options> {
-    let mut options = Options { seed: 1, inputs: 260_000, seconds: None, files: PathBuf::from("target/comparison") };
+    let files = PathBuf::from("target/comparison");
+    let mut options = Options { seed: 1, inputs: 260_000, seconds: None, rounds: u64::MAX, files };
     let mut arguments = std::env::args_os().skip(1);
     while let Some(name) = arguments.next() {
         let value = arguments.next()?;
@@ -38,6 +41,7 @@ fn options() -> Option<Options> {
             "--seed" => options.seed = number()?,
             "--inputs" => options.inputs = number()?,
             "--seconds" => options.seconds = Some(number()?),
+            "--rounds" => options.rounds = number()?,
             "--files" => options.files = value.into(),
             _ => return None,
         }
@@ -46,7 +50,7 @@ fn options() -> Option<Options> {
 }
 
 fn main() -> ExitCode {
-    let Some(Options { seed, inputs, seconds, files }) = options() else {
+    let Some(Options { seed, inputs, seconds, rounds, files }) = options() else {
         eprintln!("{USAGE}");
         return ExitCode::from(2);
     };
@@ -70,7 +74,7 @@ fn main() -> ExitCode {
             print_checks(&run.checks);
         }
         checks.append(&mut run.checks);
-        let over = seconds.is_none() || !whole || run.progress.time_is_over();
+        let over = seconds.is_none() || !whole || run.progress.time_is_over() || run.progress.round() >= rounds;
         progress = std::mem::replace(&mut run.progress, Progress::new(None));
         difference_folder = run.into_difference_folder();
         if over {
@@ -79,9 +83,11 @@ fn main() -> ExitCode {
         progress = progress.next_round();
     }
     print_entries(&entries);
-    let rounds = progress.round();
-    let rounds = if rounds > 1 { format!(", {rounds} rounds") } else { String::new() };
-    println!("{:.1} s{rounds}", progress.elapsed().as_secs_f64());
+    let done = match progress.round() {
+        1 => String::new(),
+        rounds => format!(", {rounds} rounds"),
+    };
+    println!("{:.1} s{done}", progress.elapsed().as_secs_f64());
     println!("{} passed, {faults} failed", checks.len() - faults);
     match faults {
         0 => ExitCode::SUCCESS,
