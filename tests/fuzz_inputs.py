@@ -341,17 +341,30 @@ def parsers():
     return found.choices
 
 
+def output_options(command):
+    """The options of a command that name a file to be written; of no command there are none."""
+    actions = parsers()[command]._actions if command in parsers() else ()
+    return {name for action in actions if action.dest in OUTPUTS for name in action.option_strings}
+
+
 @dataclass(frozen=True)
 class Line:
-    """A command line: its words, the files that it names to be written, and what stands on standard input."""
+    """A command line: its words, and what stands on standard input."""
 
     words: list
-    outputs: list
     stdin: bytes | None
 
     @property
     def command(self):
         return self.words[0] if self.words else ""
+
+    @property
+    def outputs(self):
+        """The files that it names to be written."""
+        options = output_options(self.command)
+        found = [after for word, after in zip(self.words, self.words[1:]) if word in options]
+        parts = [word.partition("=") for word in self.words]
+        return found + [value for name, equals, value in parts if equals and name in options]
 
 
 def hour_words(numbers, made):
@@ -400,8 +413,8 @@ def output_name(numbers, folder):
 
 
 def options_of(numbers, parser, folder):
-    """Some of a command's options, each as one or two words, and the outputs that they name."""
-    groups, outputs = [], []
+    """Some of a command's options, each as one or two words."""
+    groups = []
     for action in parser._actions:
         if not action.option_strings or numbers.random() > LIKELY.get(action.dest, 0.15):
             continue
@@ -412,17 +425,15 @@ def options_of(numbers, parser, folder):
         value = output_name(numbers, folder) if action.dest in OUTPUTS else any_word(numbers, folder)
         if action.dest == "pairs" and numbers.random() < 0.7:
             value = folder.hours[0]["pairs"]
-        if action.dest in OUTPUTS:
-            outputs.append(value)
         groups.append([f"{name}={value}"] if name.startswith("--") and numbers.random() < 0.3 else [name, value])
-    return groups, outputs
+    return groups
 
 
 def command_line(numbers, folder):
     """A command over a folder's files."""
     command = folder.command
     words = [[word] for word in words_of(numbers, command, folder)]
-    groups, outputs = options_of(numbers, parsers()[command], folder)
+    groups = options_of(numbers, parsers()[command], folder)
     if numbers.random() < 0.2:
         words += [[any_word(numbers, folder)] for _ in range(numbers.randrange(3))]
         numbers.shuffle(words)
@@ -431,7 +442,7 @@ def command_line(numbers, folder):
     for group in groups:
         words.insert(numbers.randrange(len(words) + 1), group)
     first = [command] if numbers.random() < 0.98 else numbers.choice(([], ["nonsense"], ["--help"], ["-h"], [""]))
-    return Line(first + [word for group in words for word in group], outputs, standard_input(numbers))
+    return Line(first + [word for group in words for word in group], standard_input(numbers))
 
 
 def standard_input(numbers):
