@@ -67,9 +67,11 @@ def kit():
 
 
 def git(*words):
-    """What git says of the repository, and None where it does not know it."""
+    """What git says of the repository, and None where it does not know it. It is asked for another user too, and writes
+    nothing: make install may be root's.
+    """
     try:
-        asked = ["git", "-C", str(REPOSITORY), *words]
+        asked = ["git", "-C", str(REPOSITORY), "-c", f"safe.directory={REPOSITORY}", "--no-optional-locks", *words]
         done = subprocess.run(asked, stdin=subprocess.DEVNULL, capture_output=True, text=True, errors="replace")
     except OSError:
         return None
@@ -84,7 +86,7 @@ def is_checkout():
 
 def is_dirty():
     """Whether something here is not committed."""
-    return git("status", "--porcelain") != ""
+    return git("status", "--porcelain", "--untracked-files=normal") != ""
 
 
 def commit():
