@@ -45,6 +45,7 @@ PROGRAM = f"{PACKAGE_FOLDER}/desk"
 RELEASE_FILE = "share/mbirukaze/RELEASE.json"
 INSTALLED_FILE = "share/mbirukaze/installed.json"
 EXECUTABLE, PLAIN, FOLDER = 0o755, 0o644, 0o755
+LATEST = 2**33 - 1  # seconds that a tar can hold
 
 CONTROL = """\
 Package: mbirukaze
@@ -110,8 +111,8 @@ def seconds():
     if not given and origin.is_checkout():
         given = origin.git("log", "-1", "--format=%ct")
     if given:
-        if not re.fullmatch(r"[0-9]{1,11}", given):
-            raise ReleaseError(f"SOURCE_DATE_EPOCH: {given!r} is no number of seconds")
+        if not re.fullmatch(r"[0-9]{1,10}", given) or int(given) > LATEST:
+            raise ReleaseError(f"SOURCE_DATE_EPOCH: {given!r} is no number of seconds up to {LATEST}")
         return int(given)
     day = dict(listed_versions()).get(origin.version(), "2000-01-01")
     return int(datetime.datetime.fromisoformat(f"{day}T00:00:00+00:00").timestamp())
@@ -296,12 +297,18 @@ def tar_bytes(tree, top, time):
     return out.getvalue()
 
 
+def missing_folders(folder):
+    """A folder and those above it that are not there, inner ones first."""
+    while not folder.exists():
+        yield folder
+        folder = folder.parent
+
+
 def write_tree(tree, folder, time=None):
     """Writes a tree into a folder, each file whole; with the given modes, whatever the umask is."""
     for name in folders_of(tree):
-        path = folder / name
-        if not path.is_dir():
-            path.mkdir(parents=True)
+        for path in reversed(list(missing_folders(folder / name))):
+            path.mkdir()
             path.chmod(FOLDER)
     for name, file in tree.items():
         path = folder / name
@@ -330,8 +337,6 @@ def write_package(tree, version, glibc, path, time):
     files["DEBIAN/triggers"] = File(b"activate-noawait ldconfig\n")
     with tempfile.TemporaryDirectory() as folder:
         staged = pathlib.Path(folder) / "package"
-        staged.mkdir()
-        staged.chmod(FOLDER)
         write_tree(files, staged, time)
         # One thread: the compressed bytes are others with more.
         environment = {**os.environ, "SOURCE_DATE_EPOCH": str(time), "DPKG_DEB_THREADS_MAX": "1", "LC_ALL": "C.UTF-8"}
@@ -373,13 +378,6 @@ def dist(force):
 def place(prefix, destination):
     """The folder that stands for the prefix."""
     return pathlib.Path(f"{destination}{prefix}")
-
-
-def missing_folders(folder):
-    """A folder and those above it that are not there, inner ones first."""
-    while not folder.exists():
-        yield folder
-        folder = folder.parent
 
 
 def install(prefix, destination):
