@@ -207,9 +207,11 @@ SUFFIXES = {
     "joined": (".bin", ".joined"),
     "dump": (".dump",),
     "columned": (".ltk", ""),
-    "sheet": (".csv",),
     "pairs": (".pairs", ""),
 }
+# The kinds of files that a command asks for, where it does not take an hour in any form.
+ASKED = {"column": ("case",), "restore": ("columned",), "build": ("text",), "help": ()}
+HOUR = ("text", "case", "proposal", "families", "joined", "dump")
 STEMS = [
     *("a", "b", "hour", "p1", "name with spaces", "new\nline", "tab\tbell\a", "\udcff\udcfe", "ünï-€", "-dash"),
     *("--force", ".hidden", "n" * 200, "#", "quote'\"", "<&>", "\x1b[31m", "a.b", "x.case", "CON", "%s{}", "\u2028"),
@@ -217,6 +219,12 @@ STEMS = [
 PLACES = ["", "", "", "", "sub", "sub/deeper", "with space", "\udcff"]
 # Levels of a deep folder: more than the interpreter's stack has.
 DEPTH = 1200
+
+
+def pairs(numbers):
+    """Pairs of zones, of which an hour may have the first."""
+    zones = [numbers.choice((0, 0, 1, 1, 2, 3, 200)) for _ in range(2 * numbers.choice((1, 2, 4, 40)))]
+    return b"".join(b"%d %d\n" % pair for pair in zip(zones[::2], zones[1::2]))
 
 
 class Folder:
@@ -261,15 +269,16 @@ class Folder:
     def add_hour(self):
         """The files of a stored hour, some with damage, under one name with the endings of their kinds, mostly."""
         numbers = self.numbers
-        kinds = (HOURS, HOURS, ACCEPTED, ACCEPTED, FAMILIES, DUMPS) if self.command != "dump" else (DUMPS,)
-        source = stored_hour(numbers.choice(numbers.choice(kinds)))
+        stored = (HOURS, HOURS, ACCEPTED, ACCEPTED, FAMILIES, DUMPS) if self.command != "dump" else (DUMPS,)
+        source = stored_hour(numbers.choice(numbers.choice(stored)))
         other = stored_hour(numbers.choice(HOURS))
         place, stem = numbers.choice(PLACES), numbers.choice(STEMS)
-        files = dict(source)
-        files["sheet"] = numbers.choice(SHEETS).read_bytes()
-        zones = [numbers.choice((0, 0, 1, 1, 2, 3, 200)) for _ in range(2 * numbers.choice((1, 2, 4, 40)))]
-        files["pairs"] = b"".join(b"%d %d\n" % pair for pair in zip(zones[::2], zones[1::2]))
-        if numbers.random() < 0.1:
+        # A file more of any kind, which the command does not ask for.
+        kinds = {*ASKED.get(self.command, HOUR), numbers.choice(sorted(source))}
+        files = {kind: data for kind, data in source.items() if kind in kinds}
+        if self.command == "intuitive":
+            files["pairs"] = pairs(numbers)
+        if "text" in files and numbers.random() < 0.1:
             files["text"] = numbers.choice(OTHERS).read_bytes()
         made = {}
         for kind, data in files.items():
@@ -424,7 +433,7 @@ def options_of(numbers, parser, folder):
             continue
         value = output_name(numbers, folder) if action.dest in OUTPUTS else any_word(numbers, folder)
         if action.dest == "pairs" and numbers.random() < 0.7:
-            value = folder.hours[0]["pairs"]
+            value = folder.hours[0].get("pairs", "none")
         groups.append([f"{name}={value}"] if name.startswith("--") and numbers.random() < 0.3 else [name, value])
     return groups
 
