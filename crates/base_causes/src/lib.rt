@@ -1,10 +1,11 @@
-// A table of causes in code: what it answers, where a search of a cause's places ends, the test of a count, and two tests in one. Its meaning stands in specs/.
+// A table of causes in code: its answer, the result of a search over a cause's places, the test of a count, and two
+// tests in one. Its meaning stands in specs/.
 ghost use mathlib.Core.Path.{_≡_};
 ghost use mathlib.Core.Bool.{_||_};
 ghost use lib.IntN.{pos};
 ghost use Rattle.base_integers.specs.Meaning.Ranges.{range, outside};
 
-// What a table answers: the number of the first cause that holds, and the index that goes with it; or 0 and 0.
+// What a table answers: the number of the first cause that holds, and its index; or 0 and 0.
 pub struct Outcome {
     pub number: u32,
     pub index: u32,
@@ -26,7 +27,7 @@ pub fn count_outside(least: usize, greatest: usize, count: usize) -> bool
     greatest < count
 }
 
-// Either of two tests. Both are made, so that a loop over it ends by its count alone.
+// Either of two tests. Not short-circuit: keeps a loop over it free of data-dependent exits.
 pub fn either(a: bool, b: bool) -> bool
     ensures { λ r. ⌜ r ≡ a || b ⌝ }
 {

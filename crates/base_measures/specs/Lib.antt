@@ -1,4 +1,3 @@
--- The rooms: `Meaning` is to be read and believed, what is `Promised` holds of it and is proved, as is all else
+-- Read and believe `Meaning`. All else is proved.
 pub mod Meaning
-pub mod Promised
 pub mod Steps

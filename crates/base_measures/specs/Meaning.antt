@@ -1,4 +1,2 @@
--- THE MEANING: document 01's limits, what a constructor answers, and money to hundred-thousandths of a microcent
-pub mod Limits
+-- THE MEANING: what a constructor answers
 pub mod Held
-pub mod Exact

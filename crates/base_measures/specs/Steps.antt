@@ -1,3 +1,2 @@
--- WHAT A CONSTRUCTOR ANSWERS, by the limits, and a load at a price
+-- WHAT A CONSTRUCTOR ANSWERS, by the limits
 pub mod Held
-pub mod Cost

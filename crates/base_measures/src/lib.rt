@@ -1,7 +1,8 @@
-// Tenths, cents, grains and microcents: four measures that no sum mixes, each with its limits and the constructors that refuse outside them.
-// A number of a file comes in as a `Raw`, what is written or printed leaves as `Bits`, and nothing makes a `Raw` or a measure of `Bits`.
+// Tenths, cents, grains and microcents: four measures that no sum mixes, each with its limits and the constructors
+// that refuse outside them. A number of a file enters as a `Raw`; a number to write or print leaves as `Bits`.
+// Nothing turns `Bits` into a `Raw` or a measure.
 ghost use mathlib.Core.Path.{_≡_};
-ghost use Prim.Native.Nat.{_<_};
+ghost use Prim.Native.Nat.{_+_, _/_, _<_, _^_};
 ghost use lib.IntN.{ℤ, pos, _+ℤ_, _-ℤ_, _*ℤ_};
 ghost use lib.Signed.{ltZ};
 ghost use mir.Syntax.{w64};
@@ -9,17 +10,17 @@ ghost use mir.Val.{SFits, ofZ};
 ghost use Rattle.base_integers.specs.Meaning.Ranges.{range, Within};
 ghost use Rattle.base_integers.specs.Meaning.Ranges as ranges;
 ghost use Rattle.base_integers.specs.Meaning.Order as order;
-ghost use Rattle.base_measures.specs.Meaning.Limits as limits;
-ghost use Rattle.base_measures.specs.Meaning.Exact.{exactly, Costs};
+ghost use Rattle.base_limits.specs.Meaning.Limits as limits;
+ghost use Rattle.base_limits.specs.Meaning.Exact.{exactly, Costs};
 ghost use Rattle.base_measures.specs.Meaning.Held.{tenthsIn, centsIn, grainsIn, microcentsIn, ptdfIn, shareIn};
 
-// A number as a file or a caller gives it, of no measure yet.
+// A number from a file or a caller, of no measure yet.
 pub struct Raw(i64);
 
-// What leaves a measure, to be written or printed: its number in two's complement. No constructor takes them.
+// A number that leaves its measure, to be written or printed, in two's complement. No constructor takes it.
 pub struct Bits(pub u64);
 
-// Volume: tenths of a megawatt, which for one hour are tenths of a MWh. The host is given it as it stands.
+// Volume: tenths of a megawatt, which for one hour are tenths of a MWh. The host gets it in this form.
 #[repr(C)]
 pub struct Tenths(i64);
 
@@ -29,14 +30,14 @@ pub struct Cents(i64);
 // Zone price: 100,000 grains are one cent per MWh.
 pub struct Grains(i64);
 
-// Money: one tenth times one grain is one microcent. The host is given it as it stands.
+// Money: one tenth times one grain is one microcent. The host gets it in this form.
 #[repr(C)]
 pub struct Microcents(i64);
 
-// So many hundred-thousandths are one, and so many grains one cent per MWh.
+// Hundred-thousandths in one, and grains in one cent per MWh.
 const PARTS_IN_ONE: i64 = 100000;
 
-// The same of an amount that is never below zero.
+// The same for an amount that is never below zero.
 const WHOLE_TENTH: u64 = 100000;
 
 // A PTDF, in hundred-thousandths.
@@ -48,7 +49,8 @@ pub struct Share(i64);
 // A volume times hundred-thousandths: what rules 4 and 5 compare.
 pub struct Load(i64);
 
-// Money to hundred-thousandths of a microcent, never below zero (S-14). As one number they pass 64 bits: whole microcents, and parts of one below 100,000.
+// Money to hundred-thousandths of a microcent, never below zero (S-14). One number would exceed 64 bits, so there
+// are two: whole microcents, and parts of one below 100,000.
 pub struct ExactMicrocents {
     whole: u64,
     parts: u64,
@@ -192,7 +194,7 @@ impl Tenths {
         Self::held(Self::CAPACITY_LEAST, Self::CAPACITY_GREATEST, x)
     }
 
-    // A number that was held to its limits before.
+    // The caller has tested the number by its limits.
     pub fn of_margin(x: Raw) -> Tenths
         requires { ⌜ Within limits.margin (x .0) ⌝ }
         ensures { λ r. ⌜ r ≡ record { 0 = x .0 } ⌝ }
@@ -214,7 +216,8 @@ impl Tenths {
         Self::of(x)
     }
 
-    // A volume that document 01 limits by its 32 bits alone: an accepted volume, a flow, a contracted volume. Its type is its range.
+    // A volume that document 01 limits only by its 32 bits: an accepted volume, a flow, a contracted volume. Its
+    // type is its range.
     pub fn volume(x: u32) -> Tenths
         ensures { λ r. ⌜ r .0 ≡ pos x ⌝ }
     {
@@ -254,7 +257,7 @@ impl Tenths {
         other.0 < self.0
     }
 
-    // Whether this is a greater part of its whole than another volume is of its own. Wholes are positive.
+    // Whether this is a larger fraction of its whole than another volume is of its own. Wholes are positive.
     pub fn greater_part(self, whole: Tenths, other: Tenths, other_whole: Tenths) -> bool
         requires { ⌜ SFits w64 (other .0 *ℤ whole .0) ⌝ }
         requires { ⌜ SFits w64 (self .0 *ℤ «other_whole» .0) ⌝ }
@@ -269,7 +272,7 @@ impl Tenths {
         self.raw().bits()
     }
 
-    // A volume in hundred-thousandths of a tenth, to be compared with a share of another.
+    // A volume in hundred-thousandths of a tenth, to compare with a share of another.
     pub fn scaled_by_one(self) -> Load
         requires { ⌜ SFits w64 (self .0 *ℤ pos limits.partsInOne) ⌝ }
         ensures { λ r. ⌜ r .0 ≡ self .0 *ℤ pos limits.partsInOne ⌝ }
@@ -338,7 +341,7 @@ impl Cents {
         Self::held(Self::SYSTEM_PRICE_LEAST, Self::SYSTEM_PRICE_GREATEST, x)
     }
 
-    // A number that was held to its limits before.
+    // The caller has tested the number by its limits.
     pub fn of_order_price(x: Raw) -> Cents
         requires { ⌜ Within limits.orderPrice (x .0) ⌝ }
         ensures { λ r. ⌜ r ≡ record { 0 = x .0 } ⌝ }
@@ -381,7 +384,7 @@ impl Grains {
         Raw(self.0)
     }
 
-    // A price that was computed, as a zone price.
+    // A computed price as a zone price.
     pub fn zone_price(self) -> GrainsAnswer
         ensures { λ r. ⌜ r ≡ grainsIn limits.zonePrice (self .0) ⌝ }
     {
@@ -471,7 +474,7 @@ impl Microcents {
         Self::of_cents(cents).held(Self::TOLERANCE_LEAST, Self::TOLERANCE_GREATEST)
     }
 
-    // A tolerance that was read, as that of an hour that may be accepted (S-12).
+    // A tolerance as that of an hour that may be accepted (S-12).
     pub fn accepted_tolerance(self) -> MicrocentsAnswer
         ensures { λ r. ⌜ r ≡ microcentsIn limits.acceptedToleranceMoney (self .0) ⌝ }
     {
@@ -504,7 +507,7 @@ impl Microcents {
         self
     }
 
-    // Itself where above zero, else zero.
+    // The number where above zero, else zero.
     pub fn positive(self) -> Microcents
         ensures { λ r. ⌜ r .0 ≡ order.positive (self .0) ⌝ }
     {
@@ -550,7 +553,7 @@ impl Ptdf {
         PtdfAnswer::Held(Self::of(x))
     }
 
-    // An entry of the PTDF table, which was held to its limits before.
+    // An entry of the PTDF table; the caller has tested it by its limits.
     pub fn of_entry(x: i32) -> Ptdf
         requires { ⌜ Within limits.ptdf x ⌝ }
         ensures { λ r. ⌜ r .0 ≡ x ⌝ }
@@ -558,7 +561,7 @@ impl Ptdf {
         Ptdf(x as i64)
     }
 
-    // What a volume lays on a branch.
+    // The load of a volume on a branch.
     pub fn load(self, volume: Tenths) -> Load
         requires { ⌜ SFits w64 (self .0 *ℤ volume .0) ⌝ }
         ensures { λ r. ⌜ r .0 ≡ self .0 *ℤ volume .0 ⌝ }
@@ -603,7 +606,6 @@ impl Share {
         ShareAnswer::Held(Self::of(x))
     }
 
-    // The flow-based share.
     pub fn flow_based(self) -> Share
         requires { ⌜ SFits w64 (pos limits.partsInOne -ℤ self .0) ⌝ }
         ensures { λ r. ⌜ r .0 ≡ pos limits.partsInOne -ℤ self .0 ⌝ }
@@ -611,7 +613,7 @@ impl Share {
         Share(Self::WHOLE.0 - self.0)
     }
 
-    // Above zero: the LTA domain is leaned on.
+    // Above zero: the clearing uses the LTA domain.
     pub fn is_above_zero(self) -> bool
         ensures { λ r. ⌜ r ≡ ltZ (pos 0) (self .0) ⌝ }
     {
@@ -650,7 +652,7 @@ impl Load {
         other.0 < self.0
     }
 
-    // What a load costs at a price (S-14): its whole tenths, and what is left of it, each at the price.
+    // What a load costs at a price (S-14): its whole tenths and its rest, each at the price.
     pub fn cost(self, price: Grains) -> ExactMicrocents
         requires { ⌜ Costs (self .0) (price .0) ⌝ }
         ensures { λ r. ⌜ pos (exactly (r .whole) (r .parts)) ≡ self .0 *ℤ price .0 ⌝ }
@@ -658,16 +660,23 @@ impl Load {
     {
         let load = self.0 as u64;
         let at = price.0 as u64;
-        let tenths = load / WHOLE_TENTH;
-        let below = load % WHOLE_TENTH * at;
-        ExactMicrocents {
-            whole: tenths * at + below / WHOLE_TENTH,
-            parts: below % WHOLE_TENTH,
-        }
+        ExactMicrocents::carried(load / WHOLE_TENTH * at, load % WHOLE_TENTH * at)
     }
 }
 
 impl ExactMicrocents {
+    // Carries whole microcents over: `parts` may be 100,000 or more.
+    fn carried(whole: u64, parts: u64) -> ExactMicrocents
+        requires { ⌜ whole + parts / limits.partsInOne < 2 ^ 64 ⌝ }
+        ensures { λ r. ⌜ exactly (r .whole) (r .parts) ≡ exactly whole parts ⌝ }
+        ensures { λ r. ⌜ r .parts < limits.partsInOne ⌝ }
+    {
+        ExactMicrocents {
+            whole: whole + parts / WHOLE_TENTH,
+            parts: parts % WHOLE_TENTH,
+        }
+    }
+
     // The whole microcents.
     pub fn whole(self) -> Bits
         ensures { λ r. ⌜ r .0 ≡ self .whole ⌝ }
@@ -675,7 +684,7 @@ impl ExactMicrocents {
         Bits(self.whole)
     }
 
-    // The hundred-thousandths of a microcent past them.
+    // The hundred-thousandths of a microcent besides.
     pub fn parts(self) -> Bits
         ensures { λ r. ⌜ r .0 ≡ self .parts ⌝ }
     {

@@ -1,2 +1,2 @@
--- THE PROOFS' MEANS: nobody need believe or read these
+-- THE STEPS of the proofs: no reader needs to believe or read them
 pub mod JoinedRows

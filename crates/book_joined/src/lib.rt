@@ -1,1 +1,1 @@
-// Two order books joined (request S-9): one followed by the other, and its answer. It stands in specs/; there is no code.
+// Two order books joined (request S-9), one after the other, and the answer, in specs/. There is no code.

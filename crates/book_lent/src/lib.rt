@@ -1,4 +1,5 @@
-// The order book that the host lends, row after row: one function over a slice of rows, whose loop calls what `book_surplus` proves of a row.
+// The order book that the host lends: one function over a slice of rows, whose loop calls what `book_surplus`
+// proves for a row.
 ghost use mathlib.Core.Path.{_≡_};
 ghost use Rattle.book_surplus.specs.Meaning.Lent.{lentAnswer};
 use book_surplus::OrderRow;

@@ -1,8 +1,9 @@
-// One order: a lent row held to its limits, and the surplus at a zone price (rule 8), which the case file and the lent book share.
+// One order: a lent row within its limits, and its surplus at a zone price (rule 8). The case file and the lent
+// book share it.
 ghost use mathlib.Core.Path.{_≡_};
 ghost use lib.IntN.{pos};
 ghost use Rattle.base_integers.specs.Meaning.Ranges.{Within};
-ghost use Rattle.base_measures.specs.Meaning.Limits as limits;
+ghost use Rattle.base_limits.specs.Meaning.Limits as limits;
 ghost use Rattle.rules.specs.Meaning.Hour as rules;
 ghost use Rattle.book_order.specs.Meaning.Answer.{admitted};
 ghost use Rattle.book_order.specs.Meaning.Admitted.{surplusAt};
@@ -50,7 +51,7 @@ pub fn admit(zones: usize, zone: usize, side: u8, quantity: u32, price: Raw) -> 
     })
 }
 
-// How far an order's price lies on the good side of its zone's, in grains.
+// How far an order's price is on the good side of its zone's, in grains.
 pub fn unit_gain(buys: bool, price: Grains, at: Grains) -> Grains
     requires { ⌜ Within limits.zonePrice (price .0) ⌝ }
     requires { ⌜ Within limits.zonePrice (at .0) ⌝ }

@@ -1,3 +1,4 @@
--- WHAT HOLDS OF IT: a readable case's own orders, lent, are given the judgement's surplus; and a book's answer in plain numbers
+-- WHAT HOLDS OF IT: the orders of a readable case, lent as a book, get the judgement's surplus; and a book's answer
+-- in plain numbers
 pub mod Judged
 pub mod PlainLent

@@ -1,4 +1,4 @@
--- THE PROOFS' MEANS: the state by which the answer is reached, row by row
+-- STEPS of the proofs: the state that leads to the answer, row by row
 pub mod BookState
 pub mod StateLaws
 pub mod Closing

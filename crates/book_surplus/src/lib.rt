@@ -1,5 +1,5 @@
-// An order book lent in memory, with its zone prices in grains. The rows go one by one into the book's state, which in the end gives the sum of rule 8 or a
-// refusal.
+// An order book lent in memory, with its zone prices in grains. The rows go one by one into the book's state, which
+// at the end gives the sum of rule 8 or a refusal.
 ghost use mathlib.Core.Path.{_≡_};
 ghost use Prim.Native.Nat.{_+_, _<_};
 ghost use lib.ListN.{length};
@@ -7,7 +7,7 @@ ghost use lib.IntN.{_+ℤ_};
 ghost use mir.Syntax.{w64};
 ghost use mir.Val.{SFits};
 ghost use Rattle.base_integers.specs.Meaning.Ranges as ranges;
-ghost use Rattle.base_measures.specs.Meaning.Limits as limits;
+ghost use Rattle.base_limits.specs.Meaning.Limits as limits;
 ghost use Rattle.base_measures.specs.Meaning.Held.{grainsIn};
 ghost use Rattle.book_order.specs.Meaning.Answer.{admitted};
 ghost use Rattle.base_causes.specs.Meaning.Place.{placeOf};
@@ -42,7 +42,8 @@ pub struct Surplus {
     pub sum: Microcents,
 }
 
-// What stands after some rows: the refusal so far, or the number 0; how many rows were taken; and their sum. The number 25 stands until a row is refused.
+// The state after some rows: the refusal so far, or the number 0; how many rows were taken; and their sum. The
+// number 25 stands until a row is refused.
 pub struct BookState {
     number: u32,
     index: u32,
@@ -72,7 +73,7 @@ impl BookState {
         self.number == 25
     }
 
-    // Whether the row at `i` of `count` is to be read.
+    // Whether to read row `i` of `count`.
     pub fn asks_row(self, i: usize, count: usize) -> bool
         ensures { λ r. ⌜ r ≡ asksRow self i count ⌝ }
     {
@@ -82,7 +83,7 @@ impl BookState {
         false
     }
 
-    // Refused at the row that follows those taken.
+    // Refused at the row after those taken.
     fn refuse_row(self) -> BookState
         ensures { λ r. ⌜ r ≡ refusedRow self ⌝ }
     {
@@ -119,7 +120,7 @@ pub const ROWS_LEAST: usize = 0;
 
 pub const ROWS_GREATEST: usize = layout::ORDERS;
 
-// The price of a zone, held to its limits.
+// The price of a zone, within its limits.
 fn zone_price(prices: &[i64], zone: usize) -> GrainsAnswer
     requires { ⌜ zone < length (now prices) ⌝ }
     ensures { λ r. ⌜ r ≡ grainsIn limits.zonePrice (priceAt (now (prices .entry)) zone) ⌝ }
@@ -191,7 +192,7 @@ fn admit_row(zones: usize, row: OrderRow) -> OrderAnswer
     )
 }
 
-// Rule 8 of one order, or nothing where its zone's price is out of range: the book is refused then.
+// Rule 8 for one order, or zero where its zone's price is out of range; the book is refused then.
 fn order_surplus(order: Order, prices: &[i64]) -> Microcents
     requires { ⌜ OrderIn (length (now prices)) order ⌝ }
     ensures { λ r. ⌜ r .0 ≡ counted order (now (prices .entry)) ⌝ }

@@ -1,4 +1,5 @@
-// The fields of a file: a cursor by value that gives a field and itself advanced, and a field's number where it is known to be there.
+// The fields of a file: a cursor by value that gives a field and the cursor after it, and a field's number where
+// its bytes are known to be there.
 ghost use mathlib.Core.Path.{_≡_};
 ghost use mathlib.Core.Bool.{not, _&&_};
 ghost use Prim.Native.Nat.{_+_, _<_, _≤_};
@@ -126,7 +127,7 @@ fn signed(v: u32) -> i32
     (v as i64 - 4294967296) as i32
 }
 
-// 32 signed bits as they are, and as a number of no measure yet.
+// 32 signed bits, and the same as a number of no measure yet.
 pub fn i32_at(s: &[u8], at: usize) -> i32
     requires { ⌜ at + 4 ≤ length (now s) ⌝ }
     ensures { λ r. ⌜ r ≡ i32At (now (s .entry)) at ⌝ }
@@ -141,7 +142,7 @@ pub fn raw_i32_at(s: &[u8], at: usize) -> Raw
     Raw::signed(i32_at(s, at))
 }
 
-// Whether a field of so many bytes stands there.
+// Whether a field of this width is there.
 fn field_fits(s: &[u8], at: usize, width: usize) -> bool
     ensures { λ r. ⌜ r ≡ fieldFits (now (s .entry)) at width ⌝ }
 {
@@ -159,7 +160,7 @@ impl Cursor {
         Cursor { at }
     }
 
-    // The walk ends here: the refusal names the field that stands here (S-2).
+    // The walk ends here: the refusal names the field at the cursor (S-2).
     pub fn refuse(self, number: u32) -> Walked
         requires { ⌜ self .at < 4294967296 ⌝ }
         ensures { λ r. ⌜ r ≡ refusedAt number (self .at) ⌝ }
@@ -170,7 +171,7 @@ impl Cursor {
         })
     }
 
-    // The same in a part of a file, of which the first byte stands at `start`.
+    // The same in a part of a file that begins at `start`.
     pub fn refuse_in(self, start: usize, number: u32) -> Walked
         requires { ⌜ start + self .at < 4294967296 ⌝ }
         ensures { λ r. ⌜ r ≡ refusedAt number (start + self .at) ⌝ }
@@ -181,7 +182,7 @@ impl Cursor {
         })
     }
 
-    // The same place in the file, of a part of which the first byte stands at `start`.
+    // A place in a part that begins at `start`, as a place in the file.
     pub fn in_file(self, start: usize) -> Cursor
         requires { ⌜ start + self .at < 4294967296 ⌝ }
         ensures { λ r. ⌜ r ≡ cursor (start + self .at) ⌝ }

@@ -1,2 +1,2 @@
--- PROOFS' MEANS: the halves of 64 bits
+-- STEPS: the halves of 64 bits
 pub mod Steps

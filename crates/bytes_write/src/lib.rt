@@ -33,7 +33,7 @@ pub fn put_signed32(out: &mut [u8], at: usize, x: Raw)
     put_word(out, at, (b.0 % layout::WORD_VALUES) as u32);
 }
 
-// The low 32 bits of a measure's, which are all of a field's number.
+// The low 32 bits of a measure; a field's number has no others.
 pub fn put_low32(out: &mut [u8], at: usize, x: Bits)
     requires { ⌜ at + 4 ≤ length (now out) ⌝ }
     ensures { λ _. ⌜ now (out .exit) ≡ sets (now (out .entry)) at (bytesOf 4 (x .0)) ⌝ }
@@ -41,7 +41,7 @@ pub fn put_low32(out: &mut [u8], at: usize, x: Bits)
     put_word(out, at, (x.0 % layout::WORD_VALUES) as u32);
 }
 
-// Signed 64 bits, which are a measure's: the low half, and then the high one.
+// The signed 64 bits of a measure: the low half, then the high one.
 pub fn put_signed64(out: &mut [u8], at: usize, x: Bits)
     requires { ⌜ at + 8 ≤ length (now out) ⌝ }
     ensures { λ _. ⌜ now (out .exit) ≡ sets (now (out .entry)) at (bytesOf 8 (x .0)) ⌝ }

@@ -1,3 +1,3 @@
--- THE MEANING, to be read beside request S-10
+-- THE MEANING. Read it next to request S-10
 pub mod Columns
 pub mod Answer

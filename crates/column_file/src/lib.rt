@@ -30,7 +30,7 @@ const COLUMNED: Mark = Mark(MARK_FIRST, MARK_SECOND, COLUMNED_LETTER);
 // The longest readable case.
 const LONGEST: usize = LONGEST_CASE;
 
-// Every step-th byte from a place on, so many of them, one after the other.
+// `count` bytes, each `step` after the one before, from a place on.
 fn put_every(source: &[u8], from: usize, step: usize, out: &mut [u8], at: usize, count: usize)
     requires { ⌜ ((j : ℕ) → j < count → from + j * step < length (now source)) ⌝ }
     requires { ⌜ at + count ≤ length (now out) ⌝ }
@@ -53,7 +53,7 @@ fn put_orders(source: &[u8], out: &mut [u8], start: usize, rows: usize, columns:
     }
 }
 
-// The whole file in the other arrangement; what stands past it is left as it was.
+// The whole file in the other arrangement; all past it is unchanged.
 fn put_file(source: &[u8], out: &mut [u8], letter: u8, start: usize, rows: usize, columns: usize)
     requires { ⌜ 3 ≤ start ⌝ }
     requires { ⌜ start + rows * columns ≡ length (now source) ⌝ }
@@ -99,8 +99,9 @@ fn not_restored() -> RestoreAnswer
     RestoreAnswer::Refused(refused(71, 0))
 }
 
-// The case of a columned file, into room of its length, where the mark is LTK and the case is readable. The orders end the file, so that its length
-// tells where they start: where the header demands another length, no readable case results either way.
+// The case of a columned file, into room of its length, where the mark is LTK and the case is readable. The orders
+// end the file, so its length tells where they start. Where the header demands another length, no readable case
+// results either way.
 fn restore(file: &[u8], case: &mut [u8]) -> RestoreAnswer
     requires { ⌜ length (now «case») ≡ length (now file) ⌝ }
     ensures { λ r. ⌜ r ≡ restoreBy (notRestored (now (file .entry))) ⌝ }
@@ -131,7 +132,7 @@ pub fn blank() -> [u8; LONGEST]
     [0u8; LONGEST]
 }
 
-// The case of a columned file. It is made in a local array first, since a refusal leaves the output as it was.
+// The case of a columned file. It is made in a local array first, since a refusal must leave the output unchanged.
 pub fn restored(file: &[u8], out: &mut [u8]) -> Written
     ensures { λ r. ⌜ CaseRestored (now (file .entry)) (now (out .entry)) r (now (out .exit)) ⌝ }
 {

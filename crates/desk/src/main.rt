@@ -1,4 +1,5 @@
-// The desk program: reads standard input to its end, the case and at once the proposal, and prints the lines for it.
+// The desk program: reads standard input to its end, a case directly followed by its proposal, and prints the lines
+// for it.
 ghost use Prim.Native.Nat.{_≤_};
 ghost use lib.ListN.{length};
 use libc::STDIN_FILENO;
@@ -10,7 +11,7 @@ struct Input {
     whole: bool,
 }
 
-// Reads once, and answers as read does. A full buffer's input is read on and dropped.
+// Reads once and returns what `read` returns. With a full buffer it reads on and drops the bytes.
 fn read_some(buffer: &mut [u8], kept: usize) -> isize
     requires { ⌜ kept ≤ length (now buffer) ⌝ }
 {
@@ -21,9 +22,9 @@ fn read_some(buffer: &mut [u8], kept: usize) -> isize
     libc::read(STDIN_FILENO, &mut dropped)
 }
 
-// Keeps the start of the input and reads on to its end. The buffer has more bytes than any legal hour, so what is dropped past it changes no line:
-// law `start-enough` in the specs of desk_lines. A proved loop has to end, and nothing says that an input does: the turns count down from a number
-// that no run uses up.
+// Keeps the start of the input and reads on to its end. The buffer has more bytes than any legal hour, so the bytes
+// dropped past it change no line (law `start-enough` in the specs of text_lines). A proved loop must end, but an
+// input need not: the turns count down from a number that no run uses up.
 fn read_all(buffer: &mut [u8]) -> Input
     ensures { λ r. ⌜ r .kept ≤ length (now (buffer .exit)) ⌝ }
 {

@@ -1,4 +1,4 @@
--- THE PROOFS' MEANS
+-- THE STEPS of the proofs
 pub mod Cutting
 pub mod Half
 pub mod Whole

@@ -17,18 +17,18 @@ pub enum WholeAnswer {
     Outside,
 }
 
-// What the exponent's field begins with where it is all ones.
+// The exponent field when all its bits are ones.
 const NOT_FINITE: u64 = 0x7ff0_0000_0000_0000;
 
 const SIGN: u64 = 0x8000_0000_0000_0000;
 
-// Up to here every whole number and a half is a value of its own.
+// Up to here binary64 holds every whole number and a half exactly.
 const HALVES_END: f64 = 2251799813685248.0;
 
 // From here on every value is a whole number.
 const WHOLES: f64 = 4503599627370496.0;
 
-// The greatest number of 32 bits, and the value past it.
+// The greatest number of 32 bits, and the value after it.
 const GREATEST: u32 = 4294967295;
 
 const WORD_MOST: f64 = 4294967295.0;
@@ -49,9 +49,9 @@ pub fn value(bits: u64) -> f64
     f64::from_bits(bits)
 }
 
-// The whole part of a value below the greatest number of 32 bits. The sum rounds the value to a whole number, which is
-// the whole part or one more, and the difference and the cast are exact: some five instructions, where the library's
-// truncation takes the value's digits apart.
+// The whole part of a value below the greatest number of 32 bits. The sum rounds the value to a whole number, which
+// is the whole part or one more; the difference and the cast are exact. This takes some five instructions, where
+// the library's truncation takes the value's digits apart.
 fn whole_part(p: f64) -> u32
     requires { ⌜ T (Ieee.le zero64 p) ⌝ }
     requires { ⌜ Ranged p ⌝ }

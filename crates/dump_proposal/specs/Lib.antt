@@ -1,4 +1,4 @@
--- The rooms: `Meaning` is to be read and believed; `Promised` is what is proved of it for its reader; all else is proved
+-- Read and believe `Meaning`. `Promised` has the theorems about it for its reader. All else is proved too.
 pub mod Meaning
 pub mod Promised
 pub mod Steps

@@ -1,2 +1,2 @@
--- THE MEANING, to be read beside request S-5
+-- THE MEANING. Read it next to request S-5
 pub mod Dump

@@ -1,4 +1,4 @@
--- WHAT IS PROVED OF THE MEANING, for its reader
+-- THE THEOREMS ON THE MEANING, for its reader
 pub mod Causes
 pub mod PlainCauses
 pub mod ReadBack

@@ -1,5 +1,5 @@
-// A proposal from a solver's dump (S-5): the dump is held to rows 56 to 60, and each of its values becomes the field
-// of the proposal that stands in its place.
+// A proposal from a solver's dump (S-5): rows 56 to 60 are asked of the dump, and each of its values becomes the
+// field of the proposal at its place.
 ghost use mathlib.Core.Path.{_≡_};
 ghost use mathlib.Core.Bool.{true, not};
 ghost use mathlib.Core.List.{_++_};
@@ -43,8 +43,8 @@ const FIELDS_AT: usize = layout::PROPOSAL_SHARE_AT;
 
 const REST_AT: usize = layout::PROPOSAL_HEADER;
 
-// The entries of the table of converted fields: as many as the largest case has orders, links and branches, and few
-// for a small case, since clearing the large table takes longer than converting a small dump.
+// The entries of the table of converted fields: enough for the largest case's orders, links and branches. A small
+// case gets a small table, since clearing the large one takes longer than converting a small dump.
 const TABLE: usize = layout::ORDERS + layout::LINKS + layout::BRANCHES;
 
 const SMALL_TABLE: usize = 64;
@@ -52,7 +52,7 @@ const SMALL_TABLE: usize = 64;
 // 2 ^ 32.
 const WORD_END: u64 = layout::WORD_VALUES;
 
-// The opening as it is taken, with the cursor past it; or that the dump is too short for it.
+// The opening, with the cursor past it; or that the dump is too short for it.
 enum OpeningField {
     Taken(DumpOpening, Cursor),
     Short,
@@ -72,7 +72,7 @@ fn rest_of(k: Counts) -> usize
     k.orders + k.links + k.branches
 }
 
-// Row 58. The length is right, so that no value is missing.
+// Row 58. The length is right, so no value is missing.
 fn first_not_finite(dump: &[u8], count: usize) -> Place
     requires { ⌜ 8 * count ≤ length (now dump) ⌝ }
     ensures { λ r. ⌜ placeOf r ≡ firstBelow count (λ n. not (finite (bitsAt (now (dump .entry)) n))) ⌝ }
@@ -112,15 +112,16 @@ fn opening(dump: &[u8]) -> OpeningField
     )
 }
 
-// The 32 bits that stand in a field.
+// The 32 bits of a field.
 fn low32(x: Bits) -> u32
     ensures { λ r. ⌜ bytesOf 4 r ≡ bytesOf 4 (x .0) ⌝ }
 {
     (x.0 % WORD_END) as u32
 }
 
-// Row 59, after the opening: each value's field into the table, up to the first that has none. A value is taken over
-// its own eight bytes: their length is known, so that the compiler drops the test for a missing field from the loop.
+// Row 59, after the opening: each value's field into the table, up to the first without one. Each value is taken
+// over a slice of eight bytes: the length is known, so the compiler drops the test for a missing field from the
+// loop.
 fn convert_rest(case: &[u8], k: Counts, dump: &[u8], start: Cursor, table: &mut [u32]) -> Place
     requires { ⌜ FiniteDump (now «case») k (now dump) ⌝ }
     requires { ⌜ start .at ≡ 16 ⌝ }
@@ -166,7 +167,7 @@ fn write_opening(out: &mut [u8], opening: OpeningNumbers)
     put_low32(out, FIELDS_AT + 4, system);
 }
 
-// The fields after the opening's, as the table has them.
+// The fields after the opening's, from the table.
 fn write_rest(table: &[u32], rest: usize, out: &mut [u8])
     requires { ⌜ rest ≤ length (now table) ⌝ }
     requires { ⌜ 13 + 4 * rest ≤ length (now out) ⌝ }
@@ -177,8 +178,8 @@ fn write_rest(table: &[u32], rest: usize, out: &mut [u8])
     }
 }
 
-// Rows 59 and 60, for a dump whose opening has its fields, and the proposal: the other values are converted into the
-// table, and nothing is written before all of them are.
+// Rows 59 and 60, for a dump whose opening has its fields, and the proposal: the other values are converted into
+// the table, and nothing is written before all of them are.
 fn convert_by(
     case: &[u8],
     k: Counts,
@@ -254,7 +255,7 @@ fn convert(case: &[u8], k: Counts, dump: &[u8], out: &mut [u8]) -> Written
     convert_finite(case, k, dump, out)
 }
 
-// The proposal for a case, from a dump, as `host` exports it.
+// The proposal for a case, from a dump; `host` exports it.
 pub fn dump_proposal(case: &[u8], dump: &[u8], out: &mut [u8]) -> Written
     ensures { λ r. ⌜ DumpAnswered (now («case» .entry)) (now (dump .entry)) (now (out .entry)) r (now (out .exit)) ⌝ }
 {

@@ -1,4 +1,4 @@
--- The rooms: `Meaning` is to be read and believed; all else is proved
+-- Read and believe `Meaning`. All else is proved.
 pub mod Meaning
 pub mod Promised
 pub mod Steps

@@ -1,4 +1,4 @@
--- THE MEANING, to be read beside request S-5
+-- THE MEANING. Read it next to request S-5
 pub mod Field
 pub mod Answer
 pub mod Fields

@@ -1,4 +1,4 @@
--- THE PROOFS' MEANS
+-- THE STEPS of the proofs
 pub mod Fields
 pub mod Agree
 pub mod Taken

@@ -1,5 +1,5 @@
-// What each value of a solver's dump becomes (S-5): the field of the proposal that stands in its place, or that it
-// has none.
+// What each value of a solver's dump becomes (S-5): the field of the proposal at its place, or that it does not
+// fit.
 ghost use mathlib.Core.Path.{_≡_};
 ghost use mathlib.Core.Bool.{true};
 ghost use Prim.Native.Nat.{_+_, _≤_, _<_};
@@ -23,7 +23,7 @@ use dump_binary64::nearest_up_to;
 use dump_binary64::part_of;
 use dump_binary64::value;
 
-// The number of a field as it is written, or that the value leaves its field.
+// The number of a field as it is written, or that the value does not fit its field.
 pub enum FieldAnswer {
     Held(Bits),
     Outside,
@@ -95,7 +95,7 @@ fn shadow_price(x: f64) -> FieldAnswer
     FieldAnswer::Outside
 }
 
-// Every 32 signed bits are a system price.
+// Any 32 signed bits are a system price.
 fn system_price(x: f64) -> FieldAnswer
     requires { ⌜ T (float.finite x) ⌝ }
     ensures { λ r. ⌜ r ≡ systemField x ⌝ }
@@ -123,7 +123,7 @@ pub fn opening_fields(o: DumpOpening) -> OpeningFields
     OpeningFields { share, system }
 }
 
-// The field of the i-th value after the opening: the orders' shares, then the links' flows, then the branches' shadow
+// The field of value i after the opening: the orders' shares, then the links' flows, then the branches' shadow
 // prices.
 pub fn field_of(case: &[u8], k: Counts, i: usize, bits: u64) -> FieldAnswer
     requires { ⌜ CaseReadable (now «case») k ⌝ }

@@ -39,7 +39,8 @@ fn exceeds_parent(case: &[u8], k: Counts, proposal: &[u8], families: &[u8], i: u
     volume.greater_part(quantity, parent_volume, parent_quantity)
 }
 
-// The first child whose fraction exceeds its parent's, of a proposal that row 21 passes and a family list that rows 16 and 17 pass.
+// The first child whose fraction exceeds its parent's, for a proposal that passes row 21 and a family list that
+// passes rows 16 and 17.
 pub fn first_over_parent(case: &[u8], k: Counts, proposal: &[u8], families: &[u8]) -> Place
     requires { ⌜ ProposalValid (now «case») k (now proposal) ⌝ }
     requires { ⌜ VolumesInRange (caseOf (now «case»)) (planOf (now «case») (now proposal)) ⌝ }

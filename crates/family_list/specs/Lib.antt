@@ -1,4 +1,5 @@
--- The rooms: `Meaning` is to be read and believed; `Promised` is what is proved, for their reader, of it and of the definitions in `rules`; all else is proved
+-- Read and believe `Meaning`. `Promised` has the theorems for its reader, about it and about the definitions in
+-- `rules`. All else is proved too.
 pub mod Meaning
 pub mod Promised
 pub mod Steps

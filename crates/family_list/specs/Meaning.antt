@@ -1,3 +1,3 @@
--- THE MEANING, to be read beside request S-11: what reading a list answers; all else of it stands in `Families` of `rules`
+-- THE MEANING. Read it next to request S-11: what reading a list answers; `Families` of `rules` has all else
 pub mod Parents
 pub mod Answer

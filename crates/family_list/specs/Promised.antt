@@ -1,4 +1,4 @@
--- WHAT IS PROVED OF A FAMILY LIST'S ROWS, for their reader
+-- THE THEOREMS ON THE ROWS OF A FAMILY LIST, for their reader
 pub mod Circle
 pub mod FamilyList
 pub mod PlainCircles

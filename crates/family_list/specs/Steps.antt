@@ -1,4 +1,4 @@
--- THE PROOFS' MEANS
+-- THE STEPS of the proofs
 pub mod Pigeonhole
 pub mod Ancestors
 pub mod Round

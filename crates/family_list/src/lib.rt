@@ -1,4 +1,5 @@
-// The family list (S-11), which travels beside a case and names a parent for each order: rows 16 to 18 of the verdict table.
+// The family list (S-11), which comes with a case and names a parent for each order: rows 16 to 18 of the verdict
+// table.
 ghost use mathlib.Core.Path.{_≡_};
 ghost use mathlib.Core.Option.{none};
 ghost use Prim.Native.Nat.{_+_, _<_, _≤_};
@@ -31,7 +32,7 @@ const MARK: Mark = Mark(
 
 const VERSION: u32 = 1;
 
-// What stands for no parent.
+// No parent.
 const NONE: u32 = 65535;
 
 pub const NO_PARENT: usize = NONE as usize;
@@ -47,7 +48,8 @@ const WRONG_LIST: Outcome = Outcome {
     index: 0,
 };
 
-// ROW 16: the header, field by field, and the length of what follows it. A field that cannot be taken ends the walk: the list is too short.
+// ROW 16: the header, field by field, and the length of the rest. A field that cannot be taken ends the walk: the
+// list is too short.
 fn walk_header(families: &[u8], orders: usize) -> Walked
     requires { ⌜ orders ≤ 512 ⌝ }
     ensures { λ r. ⌜ r ≡ headerBy (wrongList (now (families .entry)) orders) ⌝ }
@@ -70,7 +72,7 @@ fn walk_header(families: &[u8], orders: usize) -> Walked
     Walked::Past(at_parents)
 }
 
-// The number that order i gives for its parent, of a list that row 16 passes.
+// The number that order i gives for its parent, in a list that passes row 16.
 fn number_at(families: &[u8], orders: usize, i: usize) -> u32
     requires { ⌜ ListLengthValid (now families) orders ⌝ }
     requires { ⌜ i < orders ⌝ }
@@ -88,7 +90,7 @@ pub fn parent_at(families: &[u8], orders: usize, i: usize) -> usize
     number_at(families, orders, i) as usize
 }
 
-// ROW 17, of one order by the number that it gives.
+// ROW 17 for one order, by its number.
 fn is_absent(orders: u32, parent: u32) -> bool
     ensures { λ r. ⌜ r ≡ missing orders (named parent) ⌝ }
 {
@@ -98,8 +100,9 @@ fn is_absent(orders: u32, parent: u32) -> bool
     orders <= parent
 }
 
-// ROW 17: the parents, each over its own two bytes, whose length is known, and their numbers into the array. A parent that does not exist ends the walk
-// with the order that names it. Row 16 passed, so that none is missing.
+// ROW 17: copies the parents' numbers into the array. Each is read over a slice of two bytes, so its length is
+// known. A parent that does not exist ends the walk with the order that names it. Row 16 passed, so none is
+// missing.
 fn walk_parents(
     families: &[u8],
     orders: usize,
@@ -146,10 +149,10 @@ fn walk_list(families: &[u8], orders: usize, up: &mut [u32; layout::ORDERS]) -> 
     walk_parents(families, orders, parents, up)
 }
 
-// ROW 18. An order that a walk has been at holds no longer its parent but the walk's number, above that of every order.
+// ROW 18. `up[i]` is the parent of order i until walk w visits i, then 512 + w, which is above every order.
 const WALKS: usize = layout::ORDERS;
 
-// Walk i: up from order i, over orders that no walk has been at, to the first that one has been at or that has no parent.
+// Walk i: up from order i, over orders that no walk has visited, to the first visited one or one without a parent.
 fn walk_up(up: &mut [u32; layout::ORDERS], orders: usize, i: usize) -> usize
     requires { ⌜ orders ≤ 512 ⌝ }
     requires { ⌜ i < orders ⌝ }
@@ -176,8 +179,8 @@ fn smaller(a: usize, b: usize) -> usize
     a
 }
 
-// The least order of the circle that walk i came upon at the order tip, once around. Where it came back to order i, this is the least: walks have been at every
-// order before it.
+// The least order on the circle that walk i reached at the order tip, found by going around once. If the walk came
+// back to order i itself, that is the least: earlier walks have visited every order before it.
 fn least_on_circle(families: &[u8], orders: usize, i: usize, tip: usize) -> usize
     requires { ⌜ FamiliesReadable (now families) orders ⌝ }
     requires { ⌜ tip < orders ⌝ }
@@ -189,7 +192,7 @@ fn least_on_circle(families: &[u8], orders: usize, i: usize, tip: usize) -> usiz
     }
     let mut least = tip;
     let mut at = parent_at(families, orders, tip);
-    // Counted for the proof that the way around ends.
+    // For the proof: the way around ends.
     let mut steps: usize = 1;
     while at != tip {
         least = smaller(least, at);
@@ -199,7 +202,8 @@ fn least_on_circle(families: &[u8], orders: usize, i: usize, tip: usize) -> usiz
     least
 }
 
-// Order i in its turn, with a walk up from it where none has been at it: the first order that leads back to itself, of those that the walks have been at.
+// Order i in its turn, with a walk up from it unless a walk has visited it: the first order that leads back to
+// itself among all visited so far.
 fn first_after(
     families: &[u8],
     orders: usize,
@@ -223,7 +227,7 @@ fn first_after(
     smaller(first, least_on_circle(families, orders, i, tip))
 }
 
-// The first order that leads back to itself. One that leads into a circle does so only where it lies on it.
+// The first order that leads back to itself. An order that leads into a circle counts only if it is on it.
 fn first_on_circle(families: &[u8], orders: usize, up: &mut [u32; layout::ORDERS]) -> Place
     requires { ⌜ FamiliesReadable (now families) orders ⌝ }
     requires { ⌜ ParentsTaken (now families) orders (now up) ⌝ }
@@ -241,7 +245,7 @@ fn first_on_circle(families: &[u8], orders: usize, up: &mut [u32; layout::ORDERS
     Place::Nowhere
 }
 
-// ROW 18 of a family list that rows 16 and 17 pass.
+// ROW 18 for a family list that passes rows 16 and 17.
 fn hold_circles(families: &[u8], orders: usize, up: &mut [u32; layout::ORDERS]) -> FamilyAnswer
     requires { ⌜ FamiliesReadable (now families) orders ⌝ }
     requires { ⌜ ParentsTaken (now families) orders (now up) ⌝ }
@@ -256,7 +260,7 @@ fn hold_circles(families: &[u8], orders: usize, up: &mut [u32; layout::ORDERS]) 
     FamilyAnswer::Sound
 }
 
-// ROWS 16 TO 18 of a family list, beside a case of so many orders.
+// ROWS 16 TO 18 of a family list, for a case with this many orders.
 pub fn read_families(families: &[u8], orders: usize) -> FamilyAnswer
     requires { ⌜ orders ≤ 512 ⌝ }
     ensures { λ r. ⌜ r ≡ familyAnswer (now (families .entry)) orders ⌝ }

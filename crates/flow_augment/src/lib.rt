@@ -1,4 +1,5 @@
-// An augmenting path (request S-3): d more is brought to a zone with import left, back along the pairs that a search kept, to a zone with export left.
+// An augmenting path (request S-3): brings d more to a zone with import left, back along the pairs that a search
+// recorded, from a zone with export left.
 ghost use mathlib.Core.Path.{_≡_};
 ghost use Prim.Native.Nat.{_+_, _*_, _≤_, _<_};
 ghost use lib.ListN.{length};
@@ -12,7 +13,7 @@ use flow_scratch::IMPORT_USED;
 use flow_scratch::amount;
 use flow_scratch::store;
 
-// What a search knows of the sixteen zones, and of the zones in the order in which it reached them.
+// What a search knows of the sixteen zones, and the order in which it reached them.
 pub struct Labels {
     // How much more can be brought to the zone; 0: it is not reached.
     pub label: [u64; 16],
@@ -27,7 +28,8 @@ pub struct Labels {
     pub sink: usize,
 }
 
-// Zone z lacks d: pair k makes up for it, and its other zone lacks d. Flow back along a used pair is less of it.
+// Zone z lacks d: pair k supplies it, and its other zone lacks d instead. Flow back along a used pair reduces its
+// flow.
 fn shift(pairs: &[u8], s: &mut [i64], k: usize, z: usize, d: u64) -> usize
     requires { ⌜ (2 * k + 1 < length (now pairs)) × (k < 64) ⌝ }
     requires { ⌜ 96 ≤ length (now s) ⌝ }

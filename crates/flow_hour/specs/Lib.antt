@@ -1,4 +1,4 @@
--- The rooms: `Meaning` is to be read and believed, `Promised` holds of it; `Steps` are the proofs' means
+-- Read and believe `Meaning`. `Promised` has the theorems about it; `Steps` are those of the proofs.
 pub mod Meaning
 pub mod Promised
 pub mod Steps

@@ -1,2 +1,2 @@
--- An hour's own question
+-- The question for an hour
 pub mod Hour

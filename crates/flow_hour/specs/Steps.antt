@@ -1,3 +1,3 @@
--- The lists that are lent, and from what was found to the contract
+-- The lent lists, and the way from what was found to the contract
 pub mod Lent
 pub mod Kept

@@ -1,4 +1,5 @@
-// Whether an hour is intuitive (requests S-3 and S-13): it is judged, and where it is accepted its net positions, turned, and its zone prices are asked.
+// Whether an hour is intuitive (requests S-3 and S-13): the hour is judged and, if it is accepted, the question is
+// asked of its zone prices and its net positions with their sign turned.
 ghost use mathlib.Core.Path.{_≡_};
 ghost use Prim.Native.Nat.{_≤_};
 ghost use lib.IntN.{pos, _-ℤ_};
@@ -20,7 +21,7 @@ use flow_intuitive::SMALL_SCRATCH;
 use flow_intuitive::intuitive_of;
 use judge_stages::find;
 
-// The number that 64 bits stand for in two's complement, as a list of numbers has it that is lent.
+// The number of 64 bits in two's complement, for a lent list of numbers.
 fn lent(x: Bits) -> i64
     ensures { λ r. ⌜ r ≡ toZ w64 (x .0) ⌝ }
 {
@@ -30,7 +31,7 @@ fn lent(x: Bits) -> i64
     -((18446744073709551615 - x.0) as i64) - 1
 }
 
-// The net positions of the zones with export positive: ours are import positive.
+// The zones' net positions with export positive; ours are import positive.
 fn turned(nets: [Tenths; layout::ZONES], zones: usize) -> [i64; layout::ZONES]
     requires { ⌜ zones ≤ 16 ⌝ }
     requires { ⌜ FitsTo (λ z. pos 0 -ℤ tenthsAt nets z) zones ⌝ }
@@ -44,7 +45,7 @@ fn turned(nets: [Tenths; layout::ZONES], zones: usize) -> [i64; layout::ZONES]
     exports
 }
 
-// The zones' prices.
+// The zones' prices as a list of numbers.
 fn listed(prices: [Grains; layout::ZONES], zones: usize) -> [i64; layout::ZONES]
     requires { ⌜ zones ≤ 16 ⌝ }
     requires { ⌜ FitsTo (λ z. grainsAt prices z) zones ⌝ }
@@ -69,7 +70,8 @@ fn refused(verdict: Outcome) -> Carried
     }
 }
 
-// With n numbers of scratch: the judgement's refusal, or the answer for the accepted hour's exports, its prices and these pairs.
+// With n numbers of scratch: the judgement's refusal, or the answer for the accepted hour's exports, its prices and
+// these pairs.
 fn hour_intuitive_in(
     case: &[u8],
     proposal: &[u8],
@@ -93,7 +95,8 @@ fn hour_intuitive_in(
     intuitive_of(&exports[..zones], &list[..zones], pairs, scratch, n)
 }
 
-// The judgement's number and index where the hour is not accepted; else the answer for its exports, its prices and these pairs.
+// The judgement's number and index where the hour is not accepted; else the answer for its exports, its prices and
+// these pairs.
 pub fn hour_intuitive(case: &[u8], proposal: &[u8], pairs: &[u8], scratch: &mut [i64]) -> Carried
     ensures { λ r. ⌜ HourAnswer (now («case» .entry)) (now (proposal .entry)) (now (pairs .entry)) scratchRoom (now (scratch .entry)) r
         (now (scratch .exit)) ⌝ }
@@ -101,7 +104,7 @@ pub fn hour_intuitive(case: &[u8], proposal: &[u8], pairs: &[u8], scratch: &mut 
     hour_intuitive_in(case, proposal, pairs, scratch, SCRATCH)
 }
 
-// The same from 96 numbers of scratch (S-13).
+// The same with 96 numbers of scratch (S-13).
 pub fn hour_intuitive_small(
     case: &[u8],
     proposal: &[u8],

@@ -1,5 +1,5 @@
--- WHAT HOLDS of it: the order of its causes, that the answer is a function of the input, with either scratch, and both in
--- plain numbers
+-- WHAT HOLDS of it: the order of its causes; the answer is a function of the input, with either scratch; and both
+-- in plain numbers
 pub mod Causes
 pub mod OneAnswer
 pub mod BothSizes

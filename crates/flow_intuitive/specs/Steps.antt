@@ -1,3 +1,3 @@
--- THE PROOFS' MEANS
+-- THE STEPS of the proofs
 pub mod Sizes
 pub mod Answers

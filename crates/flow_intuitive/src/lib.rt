@@ -1,4 +1,5 @@
-// Intuitive hours (requests S-3 and S-13): whether an hour's exchanges can all go from lower or equal price to higher, and the largest total that can.
+// Intuitive hours (requests S-3 and S-13): whether an hour's exchanges can all go from a lower or equal price to a
+// higher one, and the largest total that can.
 ghost use mathlib.Core.Path.{_≡_};
 ghost use Prim.Native.Nat.{_≤_, _<_};
 ghost use lib.ListN.{length};
@@ -20,7 +21,8 @@ use flow_pairs::first_bad_pair;
 use flow_positions::first_position_outside;
 use flow_positions::is_unbalanced;
 
-// The number and index of the refusal, with 0 and 0; or 0 and 0, 1 for a yes and 0 for a no, and the largest total in tenths.
+// The number and index of the refusal, with 0 and 0; or 0 and 0, 1 for a yes and 0 for a no, and the largest total
+// in tenths.
 #[repr(C)]
 pub struct Carried {
     pub number: u32,
@@ -29,7 +31,7 @@ pub struct Carried {
     pub total: Tenths,
 }
 
-// So many numbers of scratch are lent, and so many in S-13.
+// The numbers of scratch that are lent, and those in S-13.
 pub const SCRATCH: usize = 324;
 
 pub const SMALL_SCRATCH: usize = 96;
@@ -44,7 +46,7 @@ fn outcome(number: u32, index: usize) -> Outcome
     }
 }
 
-// 84 and 85 with their index, or 0, for a scratch of `room` numbers of which n are asked for.
+// 84 and 85 with their index, or 0, for a scratch of `room` numbers of which n are needed.
 fn examine_rest(pairs: &[u8], zones: usize, n: usize, room: usize) -> Outcome
     requires { ⌜ zones ≤ 16 ⌝ }
     ensures { λ r. ⌜ r ≡ answer (refusal (restCauses zones (now (pairs .entry)) n room)) ⌝ }
@@ -97,7 +99,7 @@ fn volume(total: u64) -> Tenths
     Tenths::volume(total as u32)
 }
 
-// The refusal that was found, or the answer. A flow takes 96 of the n numbers of scratch.
+// The refusal, or the answer. A flow takes 96 of the n numbers of scratch.
 fn answered(
     net_exports: &[i64],
     prices: &[i64],
@@ -145,7 +147,7 @@ pub fn intuitive_in(
     answered(net_exports, prices, pairs, scratch, n, o)
 }
 
-// The same of lists that 81 to 83 pass, as those of an accepted hour do.
+// The same for lists that pass 81 to 83, as those of an accepted hour do.
 pub fn intuitive_of(
     net_exports: &[i64],
     prices: &[i64],
@@ -170,7 +172,7 @@ pub fn intuitive(net_exports: &[i64], prices: &[i64], pairs: &[u8], scratch: &mu
     intuitive_in(net_exports, prices, pairs, scratch, SCRATCH)
 }
 
-// The same from 96 numbers of scratch (S-13).
+// The same with 96 numbers of scratch (S-13).
 pub fn intuitive_small(
     net_exports: &[i64],
     prices: &[i64],

@@ -1,3 +1,3 @@
--- Augmenting paths until none is left, and the answer that this gives
+-- Augmenting paths until none is left, and the answer then
 pub mod Meaning
 pub mod Steps

@@ -22,13 +22,13 @@ use flow_scratch::import_left;
 use flow_search::min;
 use flow_search::search;
 
-// Whether every export is carried to imports, and the largest total that is, in tenths.
+// Whether every export is carried to imports, and the largest total that is carried, in tenths.
 pub struct MaxFlow {
     pub all: bool,
     pub total: u64,
 }
 
-// Augments as long as a zone with import left is reached. The flow is empty at first.
+// Augments as long as the search reaches a zone with import left. The flow is empty at first.
 fn fill(net_exports: &[i64], prices: &[i64], pairs: &[u8], s: &mut [i64]) -> u64
     requires { ⌜ InputsInRange (now «net_exports») (now prices) (now pairs) ⌝ }
     requires { ⌜ 96 ≤ length (now s) ⌝ }
@@ -63,7 +63,7 @@ fn all_exports(net_exports: &[i64]) -> u64
     sum
 }
 
-// With a scratch of at least n numbers, whose first n are zero afterwards. A flow takes 96.
+// With a scratch of at least n numbers, the first n of which are zero afterwards. A flow takes 96.
 pub fn max_flow(
     net_exports: &[i64],
     prices: &[i64],

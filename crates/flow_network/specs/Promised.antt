@@ -1,4 +1,4 @@
--- What is proved of it for him.
+-- The theorems about it.
 pub mod Duality
 pub mod Worth
 pub mod PlainFlows

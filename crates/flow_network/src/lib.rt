@@ -1,1 +1,1 @@
-// Flows along ordered pairs of zones: what they are and what holds of them. It stands in specs/; there is no code.
+// Flows along ordered pairs of zones, and the theorems about them, in specs/. There is no code.

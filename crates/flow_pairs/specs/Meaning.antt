@@ -1,3 +1,3 @@
--- THE MEANING, to be read beside request S-3
+-- THE MEANING. Read it next to request S-3
 pub mod Pairs
 pub mod Table

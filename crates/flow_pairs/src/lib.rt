@@ -1,4 +1,5 @@
-// Ordered pairs of zones lent as bytes (request S-3): the first zone and the second of each, and the first pair that row 84 refuses.
+// Ordered pairs of zones lent as bytes (request S-3): the first zone and the second of each, and the first pair
+// that row 84 refuses.
 ghost use mathlib.Core.Path.{_≡_};
 ghost use Prim.Native.Nat.{_+_, _*_, _≤_, _<_};
 ghost use lib.ListN.{length, getD};
@@ -10,10 +11,10 @@ ghost use Rattle.flow_pairs.specs.Steps.Tests.{PairValid};
 ghost use Rattle.flow_pairs.specs.Meaning.Pairs.{pairCount, firstZone, secondZone, badPair};
 use base_causes::Place;
 
-// No zone's number: what stands for the second zone of a last byte alone.
+// No zone's number: the second zone of a last byte alone.
 const NO_ZONE: usize = layout::ZONES;
 
-// So many pairs are taken.
+// The most pairs that are taken.
 const PAIRS_GREATEST: usize = layout::LINKS;
 
 pub fn pair_count(pairs: &[u8]) -> usize
@@ -53,7 +54,7 @@ fn second_zone(pairs: &[u8], k: usize) -> usize
     zone_or_none(pairs, 2 * k + 1)
 }
 
-// Whether row 84 refuses pair k, by the zones seen after each zone in the pairs before it.
+// Whether row 84 refuses pair k. `seen` has for each zone the second zones of the earlier pairs that begin there.
 fn bad_pair(pairs: &[u8], zones: usize, seen: &[u16; layout::ZONES], k: usize) -> bool
     requires { ⌜ zones ≤ 16 ⌝ }
     requires { ⌜ Seen (firstZone (now pairs)) (secondZone (now pairs)) k (now seen) ⌝ }
@@ -76,7 +77,7 @@ fn bad_pair(pairs: &[u8], zones: usize, seen: &[u16; layout::ZONES], k: usize) -
     base_zone_set::has(seen[first], second)
 }
 
-// Pair k is seen too.
+// Adds pair k to `seen`.
 fn see_pair(pairs: &[u8], seen: &mut [u16; layout::ZONES], k: usize)
     requires { ⌜ PairValid 16 (now pairs) k ⌝ }
     requires { ⌜ Seen (firstZone (now pairs)) (secondZone (now pairs)) k (now seen) ⌝ }
@@ -105,7 +106,8 @@ pub fn first_bad_pair(pairs: &[u8], zones: usize) -> Place
     Place::Nowhere
 }
 
-// For two zones, at 16 times the first and the second, the pair that leads from the first to the second; 64 where there is none.
+// For two zones, at 16 times the first plus the second, the pair that leads from the first to the second; 64 where
+// there is none.
 pub const TABLE: usize = layout::ZONES * layout::ZONES;
 
 pub fn pair_table(pairs: &[u8]) -> [u8; TABLE]

@@ -1,3 +1,3 @@
--- The rooms: `Meaning` is to be read and believed, what is `Promised` holds of it and is proved
+-- Read and believe `Meaning`. `Promised` has the theorems about it.
 pub mod Meaning
 pub mod Promised

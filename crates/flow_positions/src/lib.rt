@@ -1,10 +1,10 @@
-// Net positions lent by the host (request S-3): held to their limits, and their sum. Export is positive.
+// Net positions lent by the host (request S-3), tested by their limits, and their sum. Export is positive.
 ghost use mathlib.Core.Path.{_≡_};
 ghost use mathlib.Core.Bool.{false};
 ghost use Prim.Native.Nat.{ℕ, _≤_, _<_};
 ghost use lib.ListN.{length};
 ghost use Rattle.base_integers.specs.Meaning.Sums.{sumTo};
-ghost use Rattle.base_measures.specs.Meaning.Limits as limits;
+ghost use Rattle.base_limits.specs.Meaning.Limits as limits;
 ghost use Rattle.base_measures.specs.Meaning.Held.{tenthsIn};
 ghost use Rattle.base_causes.specs.Meaning.Causes.{firstBelow};
 ghost use Rattle.base_causes.specs.Meaning.Place.{placeOf};
@@ -14,7 +14,7 @@ use base_measures::Raw;
 use base_measures::Tenths;
 use base_measures::TenthsAnswer;
 
-// The position of a zone, held to its limits.
+// The position of a zone, within its limits.
 fn position(net_exports: &[i64], zone: usize) -> TenthsAnswer
     requires { ⌜ zone < length (now «net_exports») ⌝ }
     ensures { λ r. ⌜ r ≡ tenthsIn limits.netPosition (positionAt (now («net_exports» .entry)) zone) ⌝ }

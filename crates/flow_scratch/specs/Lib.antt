@@ -1,3 +1,3 @@
--- The 96 numbers of a flow in a lent scratch, and the numbers above and below zero as the machine has them
+-- The 96 numbers of a flow in a lent scratch, and the positive and negative parts of a number in the machine
 pub mod Meaning
 pub mod Steps

@@ -1,3 +1,3 @@
--- THE MEANING, to be read beside request S-13
+-- THE MEANING. Read it next to request S-13
 pub mod Places
 pub mod Cleared

@@ -1,5 +1,5 @@
-// A flow in a lent scratch (requests S-3 and S-13): 96 amounts, one per pair for what flows along it, one per zone for export used, one per zone for
-// import used. They are tenths, and bare numbers here since a lent list holds no measure.
+// A flow in a lent scratch (requests S-3 and S-13): 96 amounts, one per pair for its flow, one per zone for export
+// used, one per zone for import used. They are tenths, and bare numbers here, since a lent list holds no measure.
 ghost use mathlib.Core.Path.{_≡_};
 ghost use Prim.Native.Nat.{_+_, _-_, _≤_, _<_};
 ghost use lib.ListN.{length, getD, set};
@@ -9,21 +9,21 @@ ghost use Rattle.base_integers.specs.Meaning.Difference.{up, dn};
 ghost use Rattle.flow_scratch.specs.Meaning.Places.{amountAt};
 ghost use Rattle.flow_scratch.specs.Meaning.Cleared.{Cleared};
 
-// So many amounts, and where the zones' own begin.
+// The number of amounts, and where those of the zones begin.
 pub const AMOUNTS: usize = 96;
 
 pub const EXPORT_USED: usize = 64;
 
 pub const IMPORT_USED: usize = 80;
 
-// The part of a number above zero.
+// The positive part of a number.
 fn positive(x: i64) -> u64
     ensures { λ r. ⌜ r ≡ up x ⌝ }
 {
     if x < 0 { 0 } else { x as u64 }
 }
 
-// The part of a number below zero.
+// The negative part of a number, without its sign.
 fn negative(x: i64) -> u64
     requires { ⌜ dn x ≤ 51200000 ⌝ }
     ensures { λ r. ⌜ r ≡ dn x ⌝ }
@@ -63,7 +63,7 @@ pub fn counts(prices: &[i64], a: usize, b: usize) -> bool
     prices[a] <= prices[b]
 }
 
-// What is left of a zone's export.
+// The export that a zone has left.
 pub fn export_left(net_exports: &[i64], s: &[i64], z: usize) -> u64
     requires { ⌜ z < length (now «net_exports») ⌝ }
     requires { ⌜ length (now «net_exports») ≤ 16 ⌝ }
@@ -75,7 +75,7 @@ pub fn export_left(net_exports: &[i64], s: &[i64], z: usize) -> u64
     if used < all { all - used } else { 0 }
 }
 
-// What is left of a zone's import.
+// The import that a zone has left.
 pub fn import_left(net_exports: &[i64], s: &[i64], z: usize) -> u64
     requires { ⌜ z < length (now «net_exports») ⌝ }
     requires { ⌜ length (now «net_exports») ≤ 16 ⌝ }
@@ -88,7 +88,7 @@ pub fn import_left(net_exports: &[i64], s: &[i64], z: usize) -> u64
     if used < all { all - used } else { 0 }
 }
 
-// The first n numbers become zero.
+// Sets the first n numbers to zero.
 pub fn clear(s: &mut [i64], n: usize)
     requires { ⌜ n ≤ length (now s) ⌝ }
     ensures { λ _. ⌜ Cleared n (now (s .entry)) (now (s .exit)) ⌝ }

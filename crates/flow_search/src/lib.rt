@@ -1,5 +1,5 @@
-// The search for an augmenting path (request S-3): breadth first from the zones with export left, along counted pairs and back along pairs that carry
-// something, until a zone with import left is reached.
+// The search for an augmenting path (request S-3): breadth first from the zones with export left, along counted
+// pairs and back along pairs that carry something, until it reaches a zone with import left.
 ghost use mathlib.Core.Path.{_≡_};
 ghost use Prim.Native.Nat.{_≤_, _<_};
 ghost use lib.ListN.{length, getD};
@@ -24,14 +24,15 @@ pub fn min(a: u64, b: u64) -> u64
     if a < b { a } else { b }
 }
 
-// An arc of the residual network: the zone that it leads to, its pair, and how much it brings. Amount 0: none leads there.
+// An arc of the residual network: the zone that it leads to, its pair, and how much it brings. Amount 0 means no
+// arc.
 pub struct Arc {
     pub zone: usize,
     pub pair: usize,
     pub amount: u64,
 }
 
-// The zones with export left are reached first.
+// Reaches the zones with export left.
 fn seed_zones(net_exports: &[i64], s: &[i64]) -> Labels
     requires { ⌜ (length (now «net_exports») ≤ 16) × (96 ≤ length (now s)) ⌝ }
     ensures { λ r. ⌜ Seeded (now («net_exports» .entry)) (now (s .entry)) r (length (now («net_exports» .entry))) ⌝ }
@@ -124,7 +125,7 @@ fn try_arc(
     }
 }
 
-// The first arc from zone u to a zone at w or behind it; one to the number of zones where there is none.
+// The first arc from zone u to a zone from w on; its zone is the number of zones where there is none.
 fn next_arc(
     prices: &[i64],
     pairs: &[u8],
@@ -160,8 +161,8 @@ fn wide(x: u8) -> usize
     x as usize
 }
 
-// Reaches zone after zone, from each in the order of the queue, until one has import left: the sink. Labels are stored
-// in place: returned by a function of their own they would be copied for every zone.
+// Reaches zone after zone, going on from each in the order of the queue, until one has import left: the sink. The
+// labels are stored in place, because a function that returned them would copy them for every zone.
 pub fn search(
     net_exports: &[i64],
     prices: &[i64],

@@ -1,4 +1,4 @@
-// A case for the archive, its order part column by column, and the way back, as the host calls them (request S-10).
+// A case for the archive, with its orders column by column, and the way back (request S-10).
 ghost use mathlib.Core.Path.{_≡_};
 ghost use lib.ListN.{length, take};
 ghost use Rattle.base_causes.specs.Meaning.Causes.{verdict};
@@ -7,8 +7,9 @@ use base_output::Written;
 use column_file::columned;
 use column_file::restored;
 
-// The columned file at the start of `out`, and how many bytes it is; or a refusal, 71 and then 72, with length 0 and `out` as it was. An answer's bytes are
-// those of the case in columns, the way back gives the case again, and the judgement refuses them by 2.
+// Writes the columned file at the start of `out` and returns its length; or refuses by 71, then 72, with length 0
+// and `out` unchanged. An answer's bytes are the case in columns. `lta_case_restored` gives the case again, and the
+// judgement refuses the file by 2.
 #[no_mangle]
 pub extern "C" fn lta_case_columned(case: &[u8], out: &mut [u8]) -> Written
     ensures outcome { λ r. ⌜ verdict (r .number) (r .index) ≡ columnedOutcome (now («case» .entry)) (length (now (out .entry))) ⌝ }
@@ -21,8 +22,8 @@ pub extern "C" fn lta_case_columned(case: &[u8], out: &mut [u8]) -> Written
     columned(case, out)
 }
 
-// The case at the start of `out`, and how many bytes it is; or a refusal in the same way. An answer's bytes are a readable case, and columning it gives the
-// file again.
+// Writes the case at the start of `out` and returns its length; or refuses in the same way. An answer's bytes are a
+// readable case, and columning it gives the file again.
 #[no_mangle]
 pub extern "C" fn lta_case_restored(file: &[u8], out: &mut [u8]) -> Written
     ensures outcome { λ r. ⌜ verdict (r .number) (r .index) ≡ restoredOutcome (now (file .entry)) (length (now (out .entry))) ⌝ }

@@ -1,4 +1,4 @@
-// The order book lent by the host: its rows beside a list of zone prices in grains.
+// The order book lent by the host: its rows, and a list of zone prices in grains.
 ghost use mathlib.Core.Path.{_≡_};
 ghost use Rattle.book_surplus.specs.Meaning.Lent.{lentAnswer};
 ghost use Rattle.book_surplus.specs.Promised.PlainLent.{PlainAnswer};
@@ -6,8 +6,8 @@ use book_lent::book_surplus;
 use book_surplus::OrderRow;
 use book_surplus::Surplus;
 
-// The sum of rule 8 in microcents, or a refusal: 4 index 5, 4 index 8, 8 with the row, 25 with the zone, in that order, with sum 0. `PlainAnswer` says
-// in plain numbers which book is answered how.
+// The sum of rule 8 in microcents, or a refusal with sum 0: 4 index 5, 4 index 8, 8 with the row, 25 with the zone,
+// asked in that order. `PlainAnswer` says in plain numbers which book gets which answer.
 #[no_mangle]
 pub extern "C" fn lta_book_surplus(orders: &[OrderRow], zone_prices: &[i64]) -> Surplus
     ensures { λ r. ⌜ (r ≡ lentAnswer (now (orders .entry)) (now («zone_prices» .entry))) × PlainAnswer (now (orders .entry)) (now («zone_prices» .entry)) r ⌝ }

@@ -1,4 +1,4 @@
-// A solver's dump as the host has it turned into a proposal for a case (request S-5).
+// A solver's dump as a proposal for a case (request S-5).
 ghost use mathlib.Core.Path.{_≡_};
 ghost use lib.ListN.{length, take};
 ghost use Rattle.base_causes.specs.Meaning.Causes.{verdict};
@@ -7,10 +7,10 @@ ghost use Rattle.dump_proposal.specs.Promised.PlainBytes.{WrittenProposal};
 use base_output::Written;
 use dump_proposal::dump_proposal;
 
-// The proposal at the start of `out`, and how many bytes it is; or a refusal, 56 to 60 in that order, with length 0
-// and `out` as it was. An answer's bytes have the right length for the case and pass rows 9 to 14; each field holds
-// its own value's number, and each volume is at most its quantity and within one tenth of the exact product. [bytes]
-// gives every byte of `out`, and what each number is by the eight bytes of its value.
+// Writes the proposal at the start of `out` and returns its length; or refuses by 56 to 60, asked in that order,
+// with length 0 and `out` unchanged. An answer's bytes have the right length for the case and pass rows 9 to 14.
+// Each field holds the number of its own value; each volume is at most its quantity and within one tenth of the
+// exact product. [bytes] gives every byte of `out`, each number computed from the eight bytes of its value.
 #[no_mangle]
 pub extern "C" fn lta_dump_proposal(case: &[u8], dump: &[u8], out: &mut [u8]) -> Written
     ensures outcome { λ r. ⌜ verdict (r .number) (r .index) ≡ dumpOutcome (now («case» .entry)) (now (dump .entry)) (length (now (out .entry))) ⌝ }

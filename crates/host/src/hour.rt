@@ -1,4 +1,4 @@
-// The judgement as the host calls it: byte slices, and a number returned; without a family list and with one (S-11).
+// The judgement as the host calls it, without a family list and with one (S-11): byte slices in, a number out.
 ghost use mathlib.Core.Path.{_≡_};
 ghost use Prim.Native.Nat.{_+_, _*_, _/_, _%_};
 ghost use lib.ListN.{length};
@@ -18,10 +18,10 @@ fn packed(number: u32, index: u32) -> u64
     number as u64 + 256 * index as u64
 }
 
-// THE ENTRY: number + 256 * index of the verdict table, and every byte of the buffer afterwards, in plain numbers too
-// (`bytes`). Of an hour that is answered with 0 demand 3 holds of the numbers in the report's bytes, by document 01's
-// rules and in the Annex's terms. S-6: coverage is promised of an hour with a link; of an hour without one accuracy
-// compares with clearings of LTA share 0 alone (`Clearing`).
+// THE ENTRY: number + 256 * index of the verdict table, and every byte of the buffer afterwards, in plain numbers
+// too (`bytes`). For an hour answered 0, demand 3 holds in the numbers of the report's bytes, by document 01's
+// rules and in the Annex's terms. S-6: coverage is promised for an hour with a link; for an hour without one,
+// accuracy compares only with clearings of LTA share 0 (`Clearing`).
 #[no_mangle]
 pub extern "C" fn lta_judge(case: &[u8], proposal: &[u8], report: &mut [u8]) -> u64
     ensures outcome { λ r. ⌜ r ≡ packed (outcome (now («case» .entry)) (now (proposal .entry)) (length (now (report .entry)))) ⌝ }
@@ -42,9 +42,9 @@ pub extern "C" fn lta_judge(case: &[u8], proposal: &[u8], report: &mut [u8]) -> 
     packed(v.number, v.index)
 }
 
-// THE ENTRY WITH A FAMILY LIST (S-11): the same with rows 16 to 18 and 28; an empty list is 16. An accepted hour keeps
-// what one without a list keeps, the accuracy rule comparing with clearings free of families. Besides, each child is
-// accepted in at most the fraction of its parent.
+// THE ENTRY WITH A FAMILY LIST (S-11): the same with rows 16 to 18 and 28; an empty list is 16. An accepted hour
+// keeps what an hour without a list keeps; its accuracy rule compares with clearings free of families. Also, each
+// child is accepted in at most the fraction of its parent.
 #[no_mangle]
 pub extern "C" fn lta_judge_families(
     case: &[u8],

@@ -1,4 +1,4 @@
-// Whether an hour's exchanges can all go from lower or equal price to higher (requests S-3 and S-13).
+// Whether all exchanges of an hour can go from a lower or equal price to a higher one (requests S-3 and S-13).
 ghost use mathlib.Core.Path.{_≡_};
 ghost use Prim.Native.Nat.{_<_};
 ghost use lib.ListN.{length};
@@ -16,11 +16,12 @@ use flow_intuitive::Carried;
 use flow_intuitive::intuitive;
 use flow_intuitive::intuitive_small;
 
-// Net positions with export positive, zone prices in grains, and ordered pairs of zones, two bytes to a pair; a pair counts when its first price is at most its
-// second. A yes (1) has flows along counted pairs that carry every export to imports; a no (0) has a set of zones that no counted pair leaves and whose
-// exports exceed its imports; the total is the largest that any flows carry. The scratch's first 324 numbers are zero after an answer. A refusal, 81 to 85
-// in that order, has 0 and 0, and leaves the scratch as it was. In a yes, what the zones import is worth at least zero at
-// their prices.
+// Net positions with export positive, zone prices in grains, and ordered pairs of zones, two bytes to a pair. A
+// pair counts if its first price is at most its second. A yes (1) has flows along counted pairs that carry every
+// export to imports. A no (0) has a set of zones that no counted pair leaves and whose exports exceed its imports.
+// The total is the largest that any flows carry. After an answer the scratch's first 324 numbers are zero. A
+// refusal, 81 to 85 asked in that order, has 0 and 0 and leaves the scratch unchanged. In a yes, what the zones
+// import is worth at least zero at their prices.
 #[no_mangle]
 pub extern "C" fn lta_intuitive(
     net_exports: &[i64],
@@ -45,9 +46,10 @@ pub extern "C" fn lta_intuitive(
     intuitive(net_exports, zone_prices, pairs, scratch)
 }
 
-// The same question of an hour. It is judged first, and answered with the judgement's number and index where it is not accepted; else the answer is for its net
-// positions, turned since ours are import positive, and its zone prices. 81, 82 and 83 cannot occur. In a yes, the rent
-// that `lta_judge` reports is at least zero.
+// The same question for an hour. The hour is judged first; if it is not accepted, the answer is the judgement's
+// number and index. Else the answer is for its zone prices and its net positions, with their sign turned, since
+// document 01 counts import positive. 81, 82 and 83 cannot occur. In a yes, the rent that `lta_judge` reports is at
+// least zero.
 #[no_mangle]
 pub extern "C" fn lta_hour_intuitive(
     case: &[u8],
@@ -69,8 +71,9 @@ pub extern "C" fn lta_hour_intuitive(
     hour_intuitive(case, proposal, pairs, scratch)
 }
 
-// The same from a smaller scratch (S-13), of 96 numbers: one per pair, one per zone for export used, one per zone for import used. 85 is given for fewer, and the
-// first 96 are zero after an answer. Yes or no and the total are those of `lta_intuitive` on each input that both take.
+// The same with a smaller scratch of 96 numbers (S-13): one per pair, one per zone for export used, one per zone
+// for import used. Fewer are refused by 85; after an answer the first 96 are zero. The yes or no and the total are
+// those of `lta_intuitive` on each input that both take.
 #[no_mangle]
 pub extern "C" fn lta_intuitive_small(
     net_exports: &[i64],
@@ -95,7 +98,7 @@ pub extern "C" fn lta_intuitive_small(
     intuitive_small(net_exports, zone_prices, pairs, scratch)
 }
 
-// The same question of an hour from 96 numbers.
+// The same question for an hour, with 96 numbers.
 #[no_mangle]
 pub extern "C" fn lta_hour_intuitive_small(
     case: &[u8],

@@ -1,4 +1,5 @@
-// The entries that the coupling host, a C program, calls, and only they. include/lta_judgement.h says in words what the contracts say here.
+// The entries that the coupling host, a C program, calls, and nothing else. include/lta_judgement.h says in words
+// what the contracts say here.
 pub mod archive;
 pub mod book;
 pub mod dump;

@@ -1,4 +1,4 @@
-// The desk queue, which the host holds as 101 bytes (request S-8).
+// The desk queue, in 101 bytes that the host holds (request S-8).
 ghost use mathlib.Core.Path.{_≡_};
 ghost use Rattle.queue_turns.specs.Meaning.Queue.{postNumber, afterPost, serveAnswer, afterServe};
 ghost use Rattle.queue_bytes.specs.Meaning.Bytes.{queueOf, bytesAfterPost, bytesAfterServe};
@@ -7,7 +7,8 @@ use queue_bytes::Served;
 use queue_bytes::post;
 use queue_bytes::serve;
 
-// An hour of an area waits behind those that the area has waiting: 0; or it is refused, 61 to 63 in that order, and every byte is as it was.
+// Puts an hour behind those that its area has waiting: 0. Or refuses by 61 to 63, asked in that order, with every
+// byte unchanged.
 #[no_mangle]
 pub extern "C" fn lta_queue_post(queue: &mut [u8; 101], area: u32, hour: u32) -> u32
     ensures number { λ r. ⌜ r ≡ postNumber area hour (queueOf (now (queue .entry))) ⌝ }
@@ -17,7 +18,8 @@ pub extern "C" fn lta_queue_post(queue: &mut [u8; 101], area: u32, hour: u32) ->
     post(queue, area, hour)
 }
 
-// The next area in turn that has an hour waiting, and its earliest posted, which waits no more; or 64 where none waits, and every byte is as it was.
+// Takes the earliest posted hour of the next area in turn that has one waiting. Or answers 64 where none waits,
+// with every byte unchanged.
 #[no_mangle]
 pub extern "C" fn lta_queue_serve(queue: &mut [u8; 101]) -> Served
     ensures answer { λ r. ⌜ r ≡ given (serveAnswer (queueOf (now (queue .entry)))) ⌝ }

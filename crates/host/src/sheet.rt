@@ -1,4 +1,4 @@
-// A published margin sheet as the host has it turned into the branch part of a case (request S-1).
+// A published margin sheet as the branch part of a case (request S-1).
 ghost use mathlib.Core.Path.{_≡_};
 ghost use mathlib.Core.List.{List, _++_};
 ghost use Prim.Native.Nat.{ℕ};
@@ -10,9 +10,11 @@ ghost use Rattle.sheet_lines.specs.Promised.PlainCauses.{AnswersTo};
 use base_output::Written;
 use sheet_branches::sheet_branches;
 
-// The branches at the start of `out`, and how many bytes they are; or a refusal, 50 to 55 in that order, with length 0 and `out` as it was. An answer's bytes,
-// behind any header of these zones and that many branches and before whatever follows, hold the sheet's margins and, turned, its PTDFs, and row 6 passes.
-// `causes` has in plain numbers which sheet gives which answer, both ways; `bytes` has where each number of an answered sheet stands.
+// Writes the branches at the start of `out` and returns their length; or refuses by 50 to 55, asked in that order,
+// with length 0 and `out` unchanged. Put an answer's bytes after any header with these zones and that many
+// branches, and before anything: they hold the sheet's margins and its PTDFs with their sign turned, and row 6
+// passes. `causes` says in plain numbers which sheet gives which answer, both ways; `bytes` says where each number
+// of an answered sheet stands.
 #[no_mangle]
 pub extern "C" fn lta_sheet_branches(sheet: &[u8], zones: usize, out: &mut [u8]) -> Written
     ensures outcome { λ r. ⌜ verdict (r .number) (r .index) ≡ sheetOutcome zones (now (sheet .entry)) (length (now (out .entry))) ⌝ }

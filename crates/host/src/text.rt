@@ -8,8 +8,9 @@ ghost use Rattle.text_lines.specs.Promised.PlainText.{PlainText};
 use base_output::Written;
 use text_lines::lines;
 
-// The lines for a case and at once its proposal, at the start of `out`, and how many bytes they are; or the refusal by 31, where `out` has less than the
-// desk's room, with length 0 and `out` as it was. The verdict on the hour is the text's first line and not this number.
+// Writes the lines for a case directly followed by its proposal at the start of `out` and returns their length; or
+// refuses by 31 if `out` has less than the desk's room, with length 0 and `out` unchanged. The verdict on the hour
+// is in the text's first line, not in this number.
 #[no_mangle]
 pub extern "C" fn lta_desk_lines(input: &[u8], out: &mut [u8]) -> Written
     ensures outcome { λ r. ⌜ verdict (r .number) (r .index) ≡ deskOutcome (length (now (out .entry))) ⌝ }

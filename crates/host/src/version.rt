@@ -1,7 +1,7 @@
-// Which version of the library this is, so that a host can ask what it has loaded.
+// The version of the library, so that a host can ask what it has loaded.
 ghost use mathlib.Core.Path.{_≡_};
 
-// 10000 * major + 100 * minor + patch of the header that belongs to the library.
+// 10000 * major + 100 * minor + patch of the library's own header.
 const VERSION: u32 = 40300;
 
 // LTA_VERSION_NUMBER of that header.

@@ -1,4 +1,5 @@
-// Orders and links of a proposal in one pass each: volumes with net positions and welfare (verdict 21, rules 1 and 7), the balance (22), and the link rule with the flow-based parts (23, rules 2 and 4).
+// Orders and links of a proposal, in one pass each: volumes with net positions and welfare (verdict 21, rules 1 and
+// 7), the balance (22), and the link rule with the flow-based parts (23, rules 2 and 4).
 ghost use mathlib.Core.Path.{_≡_};
 ghost use mathlib.Core.Option.{none};
 ghost use Prim.Native.Nat.{_+_, _≤_};
@@ -25,14 +26,14 @@ use proposal_file::ProposalOpening;
 use proposal_file::flow_at;
 use proposal_file::volume_at;
 
-// What was read of an hour, in one value: the counts of its case and the opening of its proposal. The files go with it as slices, since a struct does not
-// hold a slice.
+// What was read of an hour, in one value: the counts of its case and the opening of its proposal. A struct holds no
+// slice, so the files are passed next to it.
 pub struct HourRead {
     pub counts: Counts,
     pub opening: ProposalOpening,
 }
 
-// What an order adds to its zone's net position: a buy its volume, a sell its volume taken off.
+// What an order adds to its zone's net position: a buy its volume, a sell minus its volume.
 fn signed_volume(buys: bool, volume: Tenths) -> Tenths
     requires { ⌜ SFits w64 (rules.signed buys (volume .0)) ⌝ }
     ensures { λ r. ⌜ r .0 ≡ rules.signed buys (volume .0) ⌝ }
@@ -43,7 +44,8 @@ fn signed_volume(buys: bool, volume: Tenths) -> Tenths
     Tenths::ZERO.minus(volume)
 }
 
-// What one pass over the orders yields: the first volume above its order's quantity; where none is, the net position of each zone and the welfare.
+// One pass over the orders: the first volume above its order's quantity; where there is none, the net position of
+// each zone and the welfare.
 pub struct OrderSums {
     pub excess: Place,
     pub nets: [Tenths; layout::ZONES],
@@ -103,8 +105,8 @@ pub fn net_sum(nets: [Tenths; layout::ZONES], zones: usize) -> Tenths
     sum
 }
 
-// What one pass over the links yields: the first whose flow, times 100,000, is above the LTA share times its capacity; where none is, the flow-based part of
-// each zone, its net position less its LTA part.
+// One pass over the links: the first whose flow, times 100,000, is above the LTA share times its capacity; where
+// there is none, the flow-based part of each zone, its net position less its LTA part.
 pub struct Exchange {
     pub overused: Place,
     pub parts: [Tenths; layout::ZONES],

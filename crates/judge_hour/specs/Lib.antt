@@ -1,3 +1,3 @@
--- What the judgement answers, what a stage answers, and from the table to the entries' clauses
+-- What the judgement answers, what a stage answers, and the way from the table to the entries' clauses
 pub mod Meaning
 pub mod Steps

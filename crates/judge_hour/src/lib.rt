@@ -1,4 +1,4 @@
-// The judgement: 30 first, then what is found in the hour; the report is written for 0 and 26 alone.
+// The judgement: 30 first, then what the driver finds in the hour. Only 0 and 26 write the report.
 ghost use mathlib.Core.Path.{_≡_};
 ghost use Prim.Native.Nat.{_<_, _≤_};
 ghost use lib.ListN.{length};
@@ -22,7 +22,7 @@ fn byte_of(zones: usize) -> u8
     zones as u8
 }
 
-// The verdict as the report has it.
+// The verdict's number as a byte of the report.
 fn number_of(verdict: Outcome) -> u8
     requires { ⌜ verdict .number < 256 ⌝ }
     ensures { λ r. ⌜ r ≡ verdict .number ⌝ }
@@ -30,7 +30,7 @@ fn number_of(verdict: Outcome) -> u8
     verdict.number as u8
 }
 
-// The verdict, with the report of an hour that is valued.
+// The verdict; it writes the report of an hour that is valued.
 fn conclude(found: Found, report: &mut [u8]) -> Outcome
     requires { ⌜ Reportable found ⌝ }
     requires { ⌜ reportRoom ≤ length (now report) ⌝ }
@@ -53,10 +53,9 @@ fn conclude(found: Found, report: &mut [u8]) -> Outcome
     verdict
 }
 
-// The room that a report buffer must have.
 pub const REPORT_ROOM: usize = layout::REPORT_ROOM;
 
-// With the family list, or without one.
+// With a family list, or without one.
 fn judge_with_families(
     case: &[u8],
     proposal: &[u8],
@@ -87,7 +86,8 @@ pub fn judge(case: &[u8], proposal: &[u8], report: &mut [u8]) -> Outcome
     judge_with_families(case, proposal, &case[..0], FamilyList::Absent, report)
 }
 
-// THE JUDGEMENT WITH A FAMILY LIST (S-11): rows 16 to 18 and 28 are asked too. The list only refuses: an hour that it does not refuse is judged as without it.
+// THE JUDGEMENT WITH A FAMILY LIST (S-11): rows 16 to 18 and 28 are asked too. The list only refuses: if it does
+// not refuse the hour, the answer is the one without it.
 pub fn judge_families(case: &[u8], proposal: &[u8], families: &[u8], report: &mut [u8]) -> Outcome
     ensures { λ r. ⌜ FamilyHourJudged (now («case» .entry)) (now (proposal .entry)) (now (families .entry)) (now (report .entry)) r (now (report .exit)) ⌝ }
 {

@@ -21,14 +21,15 @@ use case_branches::margin_at;
 use judge_clearing::HourRead;
 use proposal_file::shadow_at;
 
-// What one pass over the branches yields: the first that is overloaded; where none is, the price of each zone and the branch total.
+// One pass over the branches: the first overloaded one; where there is none, the price of each zone and the branch
+// total.
 pub struct Network {
     pub overloaded: Place,
     pub prices: [Grains; layout::ZONES],
     pub total: Microcents,
 }
 
-// Rules 5, 6 and 9 over the branches, and verdict 24: the first branch loaded above its margin, scaled by the flow-based share.
+// Rules 5, 6 and 9, and verdict 24: the first branch loaded above its margin times the flow-based share.
 pub fn branch_sums(
     case: &[u8],
     proposal: &[u8],

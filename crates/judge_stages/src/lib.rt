@@ -1,7 +1,7 @@
-// THE DRIVER: what the verdict table from row 1 to row 26 finds in an hour. `find_in`, at the end, reads the case (1 to
+// THE DRIVER: what rows 1 to 26 of the verdict table find in an hour. `find_in`, at the end, reads the case (1 to
 // 8) and cuts it from its proposal if the two are joined. `find_after` then asks three stages in the table's order:
 // `read` (9 to 18), `clear` (21, 28, 22, 27, 23) and `value` (24 to 26). The verdict of a stage is 0 where its rows
-// pass, and a stage may rest on what those before it passed.
+// pass. A stage may use what the stages before it established.
 ghost use mathlib.Core.Path.{_≡_};
 ghost use mathlib.Core.Bool.{true, not, cond, _&&_};
 ghost use mathlib.Core.Option.{none, some};
@@ -56,7 +56,8 @@ use proposal_file::ProposalOpening;
 use proposal_file::read_proposal;
 use report_file::Totals;
 
-// Whether there is a family list (S-11). An enum holds no slice, so the list goes next to this mark, and where it is absent the slice next to it is empty.
+// Whether there is a family list (S-11). An enum holds no slice, so the list is passed next to this mark; without a
+// list that slice is empty.
 pub enum FamilyList {
     Given,
     Absent,
@@ -68,7 +69,8 @@ struct Reading {
     hour: HourRead,
 }
 
-// What `clear` answers: the verdict of rows 21, 28, 22, 27 and 23 and, where they pass, net positions, flow-based parts and welfare.
+// What `clear` answers: the verdict of rows 21, 28, 22, 27 and 23 and, where they pass, net positions, flow-based
+// parts and welfare.
 pub struct Cleared {
     pub verdict: Outcome,
     pub nets: [Tenths; layout::ZONES],
@@ -76,8 +78,8 @@ pub struct Cleared {
     pub welfare: Microcents,
 }
 
-// The verdict and, of an hour that is valued, which is one of verdict 0 or 26, what was read, its clearing, prices and totals. What `clear` answered is kept
-// whole: its arrays are copied once.
+// The verdict and, for a valued hour (verdict 0 or 26), what was read, its clearing, prices and totals. The answer
+// of `clear` is kept whole, so its arrays are copied once.
 pub struct Found {
     pub verdict: Outcome,
     pub valued: bool,
@@ -87,7 +89,7 @@ pub struct Found {
     pub totals: Totals,
 }
 
-// What the rows of a stage answer that all pass.
+// The answer of a stage whose rows all pass.
 const PASSED: Outcome = Outcome {
     number: 0,
     index: 0,
@@ -128,7 +130,7 @@ fn uncleared(verdict: Outcome) -> Cleared
     }
 }
 
-// Refused, so that there is nothing to report.
+// Refused: there is nothing to report.
 fn refused_by(verdict: Outcome) -> Found
     ensures { λ r. ⌜ r ≡ refusedAs verdict ⌝ }
 {
@@ -189,7 +191,7 @@ fn not_read(verdict: Outcome) -> Reading
     }
 }
 
-// ROWS 9 TO 18, of a readable case: the proposal, and what is asked of both and the family list alone.
+// ROWS 9 TO 18, of a readable case: the proposal, then the tolerance and the family list.
 fn read(case: &[u8], counts: Counts, proposal: &[u8], families: &[u8], list: FamilyList) -> Reading
     requires { ⌜ CaseReadable (now «case») counts ⌝ }
     ensures verdict { λ r. ⌜ r .verdict ≡ answer (refusal (readCauses (listOf list (now (families .entry))) (now («case» .entry)) (now (proposal .entry)))) ⌝ }
@@ -252,7 +254,16 @@ fn order_verdict(
     PASSED
 }
 
-// Row 27 (S-6): a share of the LTA domain, which an hour without links does not have.
+// Row 22: the net positions do not add up to zero.
+fn is_unbalanced(nets: [Tenths; layout::ZONES], zones: usize) -> bool
+    requires { ⌜ zones ≤ 16 ⌝ }
+    requires { ⌜ SumsFit (λ z. tenthsAt nets z) zones ⌝ }
+    ensures { λ r. ⌜ r ≡ not (isZero (sumTo zones (λ z. tenthsAt nets z))) ⌝ }
+{
+    !net_sum(nets, zones).is_zero()
+}
+
+// Row 27 (S-6): a share above 0 in an hour without links, which has no LTA domain.
 fn share_without_link(links: usize, share: Share) -> bool
     ensures { λ r. ⌜ r ≡ (eqb links 0 && ltZ (pos 0) (share .0)) ⌝ }
 {
@@ -272,7 +283,7 @@ fn link_verdict(hour: HourRead, nets: [Tenths; layout::ZONES], overused: Place) 
 {
     let k = hour.counts;
     let share = hour.opening.share;
-    let unbalanced = !net_sum(nets, k.zones).is_zero();
+    let unbalanced = is_unbalanced(nets, k.zones);
     let no_domain = share_without_link(k.links, share);
     if unbalanced {
         return outcome(22, 0);
@@ -323,7 +334,7 @@ fn gap_verdict(gap: Microcents, tolerance: Microcents) -> u32
     if gap.exceeds(tolerance) { 26 } else { 0 }
 }
 
-// ROWS 24 TO 26: the branches, the zone prices and the gap, with all that is found in an hour that is valued.
+// ROWS 24 TO 26: the branches, the zone prices and the gap, with all that is found in a valued hour.
 fn value(case: &[u8], proposal: &[u8], hour: HourRead, cleared: Cleared) -> Found
     requires { ⌜ HourReadFrom (now «case») (now proposal) hour ⌝ }
     requires { ⌜ HourCleared (caseOf (now «case»)) (planOf (now «case») (now proposal)) cleared ⌝ }
@@ -366,7 +377,7 @@ fn value(case: &[u8], proposal: &[u8], hour: HourRead, cleared: Cleared) -> Foun
     }
 }
 
-// The hour of a readable case: the table's rows from 9 on top to bottom, stage by stage.
+// The hour of a readable case: the table's rows from 9 on, in order, stage by stage.
 fn find_after(
     case: &[u8],
     counts: Counts,
@@ -395,7 +406,7 @@ fn find_after(
     value(case, proposal, hour, cleared)
 }
 
-// Where the proposal begins: behind the case if they are joined.
+// Where the proposal begins: after the case if they are joined.
 fn proposal_start(files: Files, end: usize) -> usize
     ensures { λ r. ⌜ r ≡ proposalStart files end ⌝ }
 {
@@ -405,8 +416,8 @@ fn proposal_start(files: Files, end: usize) -> usize
     }
 }
 
-// THE HOUR, from its first byte. If case and proposal are joined, the input is lent as both, and its header, which says
-// where to cut, is read once.
+// THE HOUR, from its first byte. If case and proposal are joined, the input is lent as both, and its header, which
+// says where to cut, is read once.
 pub fn find_in(
     files: Files,
     case: &[u8],
@@ -417,8 +428,8 @@ pub fn find_in(
     requires { ⌜ (files ≡ Joined → now proposal ≡ now «case») ⌝ }
     ensures { λ r. ⌜ FindsIn files (listOf list (now (families .entry))) (now («case» .entry)) (now (proposal .entry)) r ⌝ }
 {
-    // 1 to 8, the case. Reborrow: handed on as it came, the slice is reloaded by 16 bytes right after it was stored by
-    // 8 and 8, for which the processor waits.
+    // 1 to 8, the case. Reborrow: passing `case` directly makes LLVM reload the slice as one 16-byte load right
+    // after two 8-byte stores, which stalls the processor.
     match read_case(files, &case[..]) {
         CaseAnswer::Refused(refusal) => refused_by(refusal),
         CaseAnswer::Readable(counts) => {
@@ -429,7 +440,7 @@ pub fn find_in(
     }
 }
 
-// The same of two files, without a family list.
+// The same for two files, without a family list.
 pub fn find(case: &[u8], proposal: &[u8]) -> Found
     ensures { λ r. ⌜ Finds (hourCauses none (now («case» .entry)) (now (proposal .entry))) (now («case» .entry)) (now (proposal .entry)) r ⌝ }
 {

@@ -1,4 +1,5 @@
-// Zone prices held to their limits, with the congestion rent (verdict 25, rule 11); order surpluses, link total, owed and the five totals (rules 7 to 11).
+// Zone prices within their limits, with the congestion rent (verdict 25, rule 11); order surpluses, link total,
+// owed and the five totals (rules 7 to 11).
 ghost use mathlib.Core.Path.{_≡_};
 ghost use mathlib.Core.Bool.{cond};
 ghost use mathlib.Core.Option.{none};
@@ -8,7 +9,7 @@ ghost use lib.IntN.{_*ℤ_};
 ghost use Rattle.base_integers.specs.Meaning.Order.{larger};
 ghost use Rattle.base_integers.specs.Meaning.Ranges.{outside};
 ghost use Rattle.base_integers.specs.Meaning.Sums.{sumTo};
-ghost use Rattle.base_measures.specs.Meaning.Limits as limits;
+ghost use Rattle.base_limits.specs.Meaning.Limits as limits;
 ghost use Rattle.rules.specs.Meaning.Hour.{caseOf, planOf, pricesOf};
 ghost use Rattle.rules.specs.Meaning.Hour as rules;
 ghost use Rattle.rules.specs.Meaning.Report.{totalsOf};
@@ -32,13 +33,13 @@ use case_orders::order_at;
 use judge_clearing::HourRead;
 use report_file::Totals;
 
-// What one pass over the zones yields: the first whose price lies outside its limits; where none does, the congestion rent.
+// One pass over the zones: the first whose price is outside its limits; where there is none, the congestion rent.
 pub struct ZoneSums {
     pub outside: Place,
     pub rent: Microcents,
 }
 
-// Verdict 25 and rule 11. The rent fits as far as the prices lie within their limits.
+// Verdict 25 and rule 11. The rent fits as long as the prices are within their limits.
 pub fn zone_sums(
     nets: [Tenths; layout::ZONES],
     prices: [Grains; layout::ZONES],
@@ -91,13 +92,14 @@ pub fn surpluses(
     sum
 }
 
-// What one pass over the links yields: rule 10's link total, and what is owed.
+// One pass over the links: rule 10's link total, and owed.
 pub struct LinkTotals {
     pub total: Microcents,
     pub owed: Microcents,
 }
 
-// Rule 9: capacities and contracted volumes (S-4) at the positive spreads. A volume times a negative spread is as negative, so that the product is held at zero.
+// Rule 9: capacities and contracted volumes (S-4) at the positive spreads. A negative spread makes the product
+// negative, so the product is raised to zero.
 pub fn link_totals(
     case: &[u8],
     proposal: &[u8],
@@ -127,7 +129,8 @@ pub fn link_totals(
     LinkTotals { total, owed }
 }
 
-// Rule 10's part of the network: the larger of both totals; without links the branch total alone, even a negative one (S-6).
+// Rule 10's part of the network: the larger of both totals; without links the branch total alone, even a negative
+// one (S-6).
 fn network_bound(links: usize, on_branches: Microcents, on_links: Microcents) -> Microcents
     ensures { λ r. ⌜ r .0 ≡ cond (eqb links 0) («on_branches» .0) (larger («on_branches» .0) («on_links» .0)) ⌝ }
 {

@@ -1,7 +1,8 @@
-// THE LAYOUT of every format, once: where a field stands, how many bytes it has, and how many records there may be. A block for each format, in the order of
-// its bytes. `rules` has the same numbers in `Meaning/Layout`, and the proofs hold the code to those.
+// THE LAYOUT of every format, in one place: where each field stands, how many bytes it has, and how many records
+// there may be. One block per format, in the order of its bytes. `rules` has the same numbers in `Meaning/Layout`;
+// the proofs hold the code to those.
 
-// THE MARK that opens every file: L, T and a letter of its own. The version follows it, 16 bits.
+// THE MARK at the start of every file: L, T and a letter of its own. The version follows it in 16 bits.
 pub const MARK_FIRST: u8 = b'L';
 
 pub const MARK_SECOND: u8 = b'T';
@@ -27,7 +28,8 @@ pub const LINKS: usize = 64;
 
 pub const ORDERS: usize = 512;
 
-// CASE, header of 14 bytes: mark, version, zones, branches, links, orders, tolerance. The offsets are those that a refusal names (S-2).
+// CASE, header of 14 bytes: mark, version, zones, branches, links, orders, tolerance. A refusal names these offsets
+// (S-2).
 pub const CASE_ZONES_AT: u32 = 5;
 
 pub const CASE_BRANCHES_AT: u32 = 6;
@@ -83,7 +85,7 @@ pub const FAMILY_HEADER: usize = 5;
 
 pub const PARENT: usize = 2;
 
-// DUMP (S-5): values of 64 bits, of which the first two are the LTA share and the system price
+// DUMP (S-5): values of 64 bits; the first two are the LTA share and the system price
 pub const DUMP_VALUE: usize = 8;
 
 pub const DUMP_OPENING: usize = 2;
@@ -111,11 +113,11 @@ pub const PRICES_AT: usize = 48;
 
 pub const ZONE_PRICE: usize = 8;
 
-// the room that a report buffer must have, whatever the number of zones
+// the room that a report buffer must have, for any number of zones
 pub const REPORT_ROOM: usize = PRICES_AT + ZONE_PRICE * ZONES;
 
 // TEXT of an hour for the desk: the room that it must have
 pub const DESK_ROOM: usize = 1024;
 
-// A NUMBER OF 64 BITS is two words of 32, the low one first; the high one counts so many
+// A NUMBER OF 64 BITS is two words of 32, the low one first; one in the high word counts this many
 pub const WORD_VALUES: u64 = 4294967296;

@@ -1,5 +1,5 @@
-// What the program over stored inputs reads and prints: the numbers of a record, the start of a buffer that is lent or
-// was written, and its lines.
+// What the program over stored inputs reads and prints: the numbers of a record, the start of a buffer that is lent
+// or was written, and its lines.
 ghost use mathlib.Core.Path.{_≡_};
 ghost use Prim.Native.Nat.{_+_, _≤_, _<_};
 ghost use lib.ListN.{length, take};
@@ -7,7 +7,7 @@ ghost use Rattle.io.specs.Counts.{Counts};
 ghost use Rattle.rules.specs.Meaning.Layout.{u32At};
 use libc::STDOUT_FILENO;
 
-// A number of a record, 32 bits, little-endian; 0 where the input ends before it does.
+// A number of a record, 32 bits, little-endian; 0 where the input ends before it.
 pub fn number_at(input: &[u8], at: usize) -> usize
     ensures { λ r. ⌜ r < 4294967296 ⌝ }
     ensures { λ r. ⌜ (at + 4 ≤ length (now (input .entry)) → r ≡ u32At (now (input .entry)) at) ⌝ }
@@ -49,7 +49,7 @@ pub fn lent(buffer: &mut [u8], room: usize) -> &mut [u8]
     &mut buffer[..k]
 }
 
-// THE SAME OF NUMBERS.
+// THE SAME FOR NUMBERS.
 fn numbers_there(numbers: &[i64], count: usize) -> usize
     ensures { λ r. ⌜ (r ≤ length (now (numbers .entry))) × (r ≡ length (take r (now (numbers .entry)))) ⌝ }
     ensures { λ r. ⌜ take r (now (numbers .entry)) ≡ take count (now (numbers .entry)) ⌝ }
@@ -90,7 +90,7 @@ pub fn print_count(n: u64) {
     io::print_decimal(STDOUT_FILENO, n);
 }
 
-// A count behind another.
+// A count after another.
 pub fn print_next(n: u64) {
     print_space();
     print_count(n);

@@ -1,5 +1,5 @@
-// A file through both entries of the archive (S-10). A record has the room that is lent and the file. Printed are two
-// lines, of columning it and of restoring it: number, index and length, and what was written, in hex.
+// A file through both entries of the archive (S-10). A record has the lent room and the file. Prints two lines, one
+// for columning it and one for restoring it: number, index and length, and what was written, in hex.
 use base_output::Written;
 use prog_common::print;
 

@@ -1,5 +1,5 @@
-// A dump through its entry (S-5). A record has a case and the dump. Printed is a line: number, index and length, and
-// of an answer the number by which the judgement of the case with that proposal is known.
+// A dump through its entry (S-5). A record has a case and the dump. Prints a line: number, index and length and,
+// for an answer, the number of the judgement of the case with that proposal.
 use prog_common::print;
 
 // One byte less than the largest proposal, so that one dump finds the output short.

@@ -1,8 +1,8 @@
-// Net positions, zone prices and pairs through the entries of requests S-3 and S-13. A record has how many numbers of
-// scratch are lent, to the wide entry and to the smaller; net positions and prices, 64 bits each, of which the
-// highest is the sign; and the pairs. Printed is a line, with the wide scratch and after it with the smaller: number,
-// index, 1 for a yes or 0, the total in tenths, and how many numbers at the scratch's start are zero; all are 7
-// before.
+// Net positions, zone prices and pairs through the entries of requests S-3 and S-13. A record has how many numbers
+// of scratch are lent to the wide entry and to the smaller one; net positions and prices, 64 bits each, of which
+// the highest is the sign; and the pairs. Prints one line, first for the wide scratch and then for the smaller.
+// Each part has number, index, 1 for a yes or 0, the total in tenths, and how many numbers at the start of the
+// scratch are zero; before the call all are 7.
 use bytes_read::Cursor;
 use bytes_read::LongField;
 use flow_intuitive::Carried;

@@ -1,4 +1,4 @@
-// An hour with families through the judgement (S-11). A record has a case, a proposal and a family list. Printed is a
+// An hour with families through the judgement (S-11). A record has a case, a proposal and a family list. Prints a
 // line: number and index with the list, the report buffer in hex, and number and index without the list.
 use base_causes::Outcome;
 use prog_common::print;

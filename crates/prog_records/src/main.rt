@@ -13,7 +13,7 @@ pub mod shortages;
 use libc::STDIN_FILENO;
 use prog_common::number_at;
 
-// The bytes of a record before its parts, and where its numbers and the parts' lengths stand there.
+// The bytes of a record before its parts, and where its numbers and the lengths of the parts stand there.
 const OPENING: usize = 21;
 
 const NUMBER: usize = 1;
@@ -26,10 +26,10 @@ const SECOND: usize = 13;
 
 const THIRD: usize = 17;
 
-// A proved loop has to end, and nothing says that an input does: so many records are more than any input has.
+// A proved loop must end, but an input need not: this is more records than any input has.
 const RECORDS: usize = 4294967296;
 
-// A text is printed as it stands: a name, or the heading of what follows.
+// A text is printed as it is: a name, or the heading of what follows.
 fn run(letter: u8, number: usize, room: usize, first: &[u8], second: &[u8], third: &[u8]) {
     match letter {
         b't' => prog_common::print(first),
@@ -45,7 +45,7 @@ fn run(letter: u8, number: usize, room: usize, first: &[u8], second: &[u8], thir
     }
 }
 
-// The parts are cut by their lengths. Where the input ends before they do, nothing is run.
+// The parts are cut by their lengths. Where the input ends before they do, nothing runs.
 fn run_parts(letter: u8, opening: &[u8], parts: &[u8]) {
     let second_at = number_at(opening, FIRST);
     let third_at = second_at + number_at(opening, SECOND);

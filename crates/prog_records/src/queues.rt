@@ -1,6 +1,6 @@
-// A run of the desk queue (S-8), which begins with an empty queue. A record has its events, each a letter and two
-// numbers: `p` posts an hour of an area, `s` serves, and any other changes a byte to what no call would leave.
-// Printed is a line for each: the event, behind a post its number, and behind a serve number, index, area and hour.
+// A run of the desk queue (S-8), from an empty queue. A record has its events, each a letter and two numbers: `p`
+// posts an hour of an area, `s` serves, and any other sets a byte to a value that no call would leave. Prints a
+// line for each: the event, then for a post its number, and for a serve number, index, area and hour.
 use bytes_read::u32_at;
 use prog_common::print;
 use prog_common::print_next;

@@ -1,5 +1,5 @@
-// A margin sheet through its entry (S-1). A record has the zone count, the room of the output and the sheet. Printed
-// is number, index and length, then a line for each branch with its margin in tenths and its PTDFs in
+// A margin sheet through its entry (S-1). A record has the zone count, the room of the output and the sheet. Prints
+// number, index and length, then a line for each branch with its margin in tenths and its PTDFs in
 // hundred-thousandths.
 use prog_common::print;
 

@@ -1,11 +1,11 @@
-// An hour through the entry of request S-14. A record has how many numbers are lent, a case and a proposal. Printed
-// is a line: number, index and length, and of an answer its numbers.
+// An hour through the entry of request S-14. A record has how many numbers are lent, a case and a proposal. Prints
+// a line: number, index and length and, for an answer, its numbers.
 use prog_common::print;
 
 // Room for every hour.
 const ROOM: usize = 1280;
 
-// A number of an answer, of which none is negative.
+// A number of an answer; none is negative.
 fn print_number(x: i64) {
     if x < 0 {
         print(b" negative");

@@ -1,4 +1,4 @@
--- THE PROOFS' MEANS
+-- THE STEPS of the proofs
 pub mod ReadBack
 pub mod Cells
 pub mod Walks

@@ -1,5 +1,6 @@
-// The desk queue of request S-8 in 101 bytes that the caller lends: a post and a serve. Bytes are laid out as specs/Meaning/Bytes.antt says; any are a queue, and
-// all zeros the empty one. The inner functions take and give the bytes by value, since only of an array by value a proof knows the length.
+// The desk queue of request S-8 in 101 bytes that the caller lends: a post and a serve. specs/Meaning/Bytes.antt
+// has the layout; any bytes are a queue, and all zeros the empty one. The inner functions take and return the bytes
+// by value, since a proof knows the length only of an array by value.
 ghost use mathlib.Core.Path.{_≡_};
 ghost use mathlib.Core.List.{List, [], _∷_, _++_};
 ghost use Prim.Native.Nat.{ℕ, _+_, _*_, _-_, _<_};
@@ -13,7 +14,7 @@ ghost use Rattle.queue_bytes.specs.Meaning.Answer.{given};
 ghost use Rattle.queue_bytes.specs.Steps.Answers.{PostStep, ServeStep};
 ghost use Rattle.queue_bytes.specs.Steps.Walks.{areaOf};
 
-// The hours that wait in one area: its cells, those that hold an hour first, and how many these are.
+// The hours that wait in one area: its cells, those with an hour first, and how many these are.
 pub struct Waiting {
     pub cells: [u8; 25],
     pub count: usize,
@@ -28,19 +29,20 @@ pub struct Served {
     pub hour: u32,
 }
 
-// What a post leaves, and its number.
+// The bytes after a post, and its number.
 pub struct AfterPost {
     pub number: u32,
     pub bytes: [u8; 101],
 }
 
-// What a serve leaves, and its answer.
+// The bytes after a serve, and its answer.
 pub struct AfterServe {
     pub answer: Served,
     pub bytes: [u8; 101],
 }
 
-// Whether a cell is among some cells. All of them are looked at, so that they can be compared at once.
+// Whether a cell is among some cells. No early exit: keeps the loop free of data-dependent exits, so that it
+// vectorises.
 fn is_among(cells: [u8; 25], c: u8) -> bool
     ensures { λ r. ⌜ r ≡ among c cells ⌝ }
 {
@@ -53,7 +55,7 @@ fn is_among(cells: [u8; 25], c: u8) -> bool
     found
 }
 
-// The hours with one more behind them. There is always room: at most 25 hours differ.
+// The hours with one more after them. There is always room: at most 25 hours differ.
 fn added(w: Waiting, c: u8) -> Waiting
     requires { ⌜ Addable w c ⌝ }
     ensures { λ r. ⌜ ((hours : List ℕ) → Hours hours → w ≡ waitingOf hours → r ≡ waitingOf (hours ++ ((c - 1) ∷ []))) ⌝ }
@@ -67,7 +69,7 @@ fn added(w: Waiting, c: u8) -> Waiting
     }
 }
 
-// Whether a cell counts behind some others: it holds an hour, and none of them the same.
+// Whether a cell counts after some others: it holds an hour, and none of them holds the same.
 fn counts(cells: [u8; 25], c: u8) -> bool
     ensures { λ r. ⌜ r ≡ countsBehind cells c ⌝ }
 {
@@ -200,8 +202,8 @@ fn serve_bytes(bytes: [u8; 101]) -> AfterServe
     }
 }
 
-// A post: 61 when the area is over 3, 62 when the hour is over 24, 63 when that area has it waiting already; else 0, and the hour waits. A refused post stores
-// nothing.
+// A post: 61 when the area is over 3, 62 when the hour is over 24, 63 when that area has it waiting already; else
+// 0, and the hour waits. A refused post stores nothing.
 pub fn post(queue: &mut [u8; 101], area: u32, hour: u32) -> u32
     ensures number { λ r. ⌜ r ≡ postNumber area hour (queueOf (now (queue .entry))) ⌝ }
     ensures queue { λ r. ⌜ queueOf (now (queue .exit)) ≡ afterPost area hour (queueOf (now (queue .entry))) ⌝ }
@@ -217,7 +219,8 @@ pub fn post(queue: &mut [u8; 101], area: u32, hour: u32) -> u32
     number
 }
 
-// A serve: the next area in turn that has an hour waiting, and its earliest posted; 64 when there is none, and nothing is stored.
+// A serve: the next area in turn that has an hour waiting, and its earliest posted; 64 when there is none, and
+// nothing is stored.
 pub fn serve(queue: &mut [u8; 101]) -> Served
     ensures answer { λ r. ⌜ r ≡ given (serveAnswer (queueOf (now (queue .entry)))) ⌝ }
     ensures queue { λ r. ⌜ queueOf (now (queue .exit)) ≡ afterServe (queueOf (now (queue .entry))) ⌝ }

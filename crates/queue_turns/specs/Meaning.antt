@@ -1,3 +1,3 @@
--- THE MEANING, to be read beside request S-8
+-- THE MEANING. Read it next to request S-8
 pub mod Queue
 pub mod Runs

@@ -1,4 +1,4 @@
--- THE PROOFS' MEANS
+-- THE STEPS of the proofs
 pub mod Invariant
 pub mod Fairness
 pub mod Account

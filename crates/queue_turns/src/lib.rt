@@ -1,1 +1,2 @@
-// The desk queue of request S-8: posts, serves, runs of them, and what holds of every run. It stands in specs/; there is no code.
+// The desk queue of request S-8: posts, serves, runs of them, and the theorems about every run, in specs/. There is
+// no code.

@@ -59,7 +59,7 @@ fn put_prices(report: &mut [u8], zones: usize, prices: [Grains; layout::ZONES])
     }
 }
 
-// The whole report; what stands past it is left as it was.
+// The whole report; all past it is unchanged.
 pub fn write_report(
     report: &mut [u8],
     number: u8,

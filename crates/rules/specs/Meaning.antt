@@ -1,4 +1,5 @@
--- THE MEANING, to be read beside document 01 as the requests amend it, in this order; Annex and AnnexPromise beside appendices A and B of Annex 14.29
+-- THE MEANING. Read it next to document 01 as the requests amend it, in this order; read Annex and AnnexPromise
+-- next to appendices A and B of Annex 14.29.
 pub mod Layout
 pub mod Hour
 pub mod Clearing

@@ -1,4 +1,4 @@
--- THE PROOFS' MEANS: nobody need believe or read these
+-- THE STEPS of the proofs: no reader needs to believe or read them
 pub mod LayoutLaws
 pub mod Duality
 pub mod Passed

@@ -1,4 +1,4 @@
--- THE MEANING, to be read beside request S-9, in this order
+-- THE MEANING. Read it next to request S-9, in this order
 pub mod Permutation
 pub mod Rearranged
 pub mod Sorted

@@ -1,4 +1,4 @@
--- THE PROOFS' MEANS: nobody need believe or read these
+-- THE STEPS of the proofs: no reader needs to believe or read them
 pub mod PermutedSums
 pub mod ReorderedBytes
 pub mod MovedOrders

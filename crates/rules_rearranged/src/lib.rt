@@ -1,1 +1,2 @@
-// The order of orders (request S-9): cases and proposals rearranged, and what is the same of them. It stands in specs/; there is no code.
+// The order of orders (request S-9): cases and proposals rearranged, and what stays the same, in specs/. There is
+// no code.

@@ -1,2 +1,2 @@
--- THE MEANING of an answer; that of a sheet stands in `sheet_lines`
+-- THE MEANING of an answer; `sheet_lines` has that of a sheet
 pub mod Answer

@@ -1,2 +1,2 @@
--- THE PROOFS' MEANS
+-- THE STEPS of the proofs
 pub mod Answers

@@ -1,4 +1,4 @@
-// Published margin sheets (request S-1): their text turned into the branch part of a case.
+// Published margin sheets (request S-1): the branch part of a case from their text.
 ghost use mathlib.Core.Path.{_≡_};
 ghost use Prim.Native.Nat.{_≤_};
 ghost use lib.ListN.{length};
@@ -12,7 +12,7 @@ use case_header::Counts;
 use sheet_lines::branch_part;
 use sheet_lines::read_lines;
 
-// A row for each branch that there may be, and one more that the lines past them share.
+// A row for each possible branch, and one more that all further lines share.
 const TABLE: usize = (layout::BRANCHES + 1) * (layout::MARGIN + layout::PTDF * layout::ZONES);
 
 // The branches, at the start of the output.
@@ -25,8 +25,9 @@ fn put_branches(branches: &[u8], out: &mut [u8])
     }
 }
 
-// The branch part of a case, from a sheet's text and the zone count, as `host` exports it. The sheet is read once, into
-// a table: a refusal leaves the output as it was, so it is written when every row of the table of causes has passed.
+// The branch part of a case, from a sheet's text and the zone count; `host` exports it. The sheet is read once,
+// into a table. A refusal must leave the output unchanged, so the output is written only after every row of the
+// table of causes has passed.
 pub fn sheet_branches(sheet: &[u8], zones: usize, out: &mut [u8]) -> Written
     ensures { λ r. ⌜ SheetAnswered zones (now (sheet .entry)) (now (out .entry)) (now (out .exit)) r ⌝ }
 {

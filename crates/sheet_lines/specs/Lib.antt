@@ -1,4 +1,4 @@
--- The rooms: `Meaning` is to be read and believed, all else is proved of it
+-- Read and believe `Meaning`. All else is proved of it.
 pub mod Meaning
 pub mod Promised
 pub mod Steps

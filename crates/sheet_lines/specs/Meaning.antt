@@ -1,3 +1,3 @@
--- THE MEANING, to be read beside request S-1
+-- THE MEANING. Read it next to request S-1
 pub mod Sheet
 pub mod Lines

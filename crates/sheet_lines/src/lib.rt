@@ -1,5 +1,5 @@
-// The lines of a published margin sheet (request S-1), read once: what is wrong with them, and the branches of a case
-// that they turn into.
+// The lines of a published margin sheet (request S-1), read once: their faults, and the branches of a case that
+// they turn into.
 ghost use mathlib.Core.Path.{_≡_};
 ghost use Prim.Native.Nat.{_+_, _*_, _≤_};
 ghost use lib.ListN.{length};
@@ -21,13 +21,13 @@ use sheet_numbers::Number;
 use sheet_numbers::NumberAnswer;
 use sheet_numbers::TextCursor;
 
-// What is wrong with a number: a decimal past ours is not zero; out of range.
+// The faults of a number: a decimal after ours is not zero; it is out of range.
 struct Flaws {
     finer: bool,
     outside: bool,
 }
 
-// A line whose fields are all numbers: what is wrong with them, and where the next line starts. Or another line.
+// A line whose fields are all numbers, with their faults and where the next line starts. Or a malformed line.
 enum LineAnswer {
     Read(Flaws, TextCursor),
     Malformed,
@@ -72,7 +72,7 @@ fn entry(j: usize, x: Number) -> Raw
     Raw::signed(x.units as i32)
 }
 
-// Whether entry j lies outside its measure's limits.
+// Whether entry j is outside its measure's limits.
 fn out_of_range(j: usize, x: Raw) -> bool
     ensures { λ r. ⌜ r ≡ ranges.outside (limit j) (x .0) ⌝ }
 {
@@ -88,7 +88,7 @@ fn out_of_range(j: usize, x: Raw) -> bool
     false
 }
 
-// The bytes of so many branches.
+// The bytes of n branches.
 pub fn branch_part(zones: usize, n: usize) -> usize
     requires { ⌜ zones ≤ 16 ⌝ }
     requires { ⌜ n ≤ 65 ⌝ }
@@ -97,7 +97,7 @@ pub fn branch_part(zones: usize, n: usize) -> usize
     4 * (zones + 1) * n
 }
 
-// LINES. A comma ends each field but the last, which the line's newline ends.
+// LINES. A comma ends each field except the last, which the line's newline ends.
 fn mark(zones: usize, j: usize) -> u8
     ensures { λ r. ⌜ r ≡ markOf zones j ⌝ }
 {
@@ -107,8 +107,8 @@ fn mark(zones: usize, j: usize) -> u8
     b'\n'
 }
 
-// The sheet ends with a field that is not the last of its line. Without this test the next field, an empty one past the
-// sheet's end, would be refused in its place. The loop was slower without it.
+// Whether the sheet ends with a field that is not the last of its line. Without this test the next field, an empty
+// one past the end, would be refused instead. The loop was slower without it.
 fn comma_missing(zones: usize, j: usize, end: usize, length: usize) -> bool
     ensures { λ r. ⌜ r ≡ commaMissing zones j end length ⌝ }
 {
@@ -118,7 +118,7 @@ fn comma_missing(zones: usize, j: usize, end: usize, length: usize) -> bool
     false
 }
 
-// The line that starts there. Its numbers are put into the table at `base`.
+// The line that starts at the cursor. Its numbers go into the table at `base`.
 fn read_line(
     sheet: &[u8],
     start: TextCursor,
@@ -151,7 +151,7 @@ fn read_line(
     LineAnswer::Read(Flaws { finer, outside }, cursor)
 }
 
-// The first place so far, with one place more.
+// The first place so far, after one place more.
 fn first(found: Place, n: usize, holds: bool) -> Place
     ensures { λ r. ⌜ placeOf r ≡ firstWith (placeOf found) n holds ⌝ }
 {
@@ -166,8 +166,8 @@ fn first(found: Place, n: usize, holds: bool) -> Place
     }
 }
 
-// The row of the table for line n. Lines past the 64th are read for their causes alone: they share one row more, which
-// is never written out.
+// The row of the table for line n. Lines past the 64th are read only for their causes: they share one more row,
+// which is never written out.
 fn row(n: usize) -> usize
     ensures { λ r. ⌜ r ≡ rowOf n ⌝ }
 {

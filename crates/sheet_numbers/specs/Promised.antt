@@ -1,4 +1,4 @@
--- WHAT HOLDS OF IT: which texts are numbers, that a value is exact, and that what is printed reads back
+-- WHAT HOLDS OF IT: which texts are numbers, that a value is exact, and that a printed amount reads back
 pub mod Spelled
 pub mod Exact
 pub mod Printed

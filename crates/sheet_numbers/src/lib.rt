@@ -4,7 +4,7 @@ ghost use mathlib.Core.Path.{_≡_};
 ghost use mathlib.Core.List.{[]};
 ghost use Prim.Native.Nat.{_+_, _*_, _-_, _≤_};
 ghost use lib.ListN.{length, drop};
-ghost use Rattle.text_decimal.specs.Meaning.Text.{valueFrom};
+ghost use Rattle.text_rules.specs.Meaning.Text.{valueFrom};
 ghost use Rattle.sheet_numbers.specs.Meaning.Numeral.{isDigit, starts, firstOf};
 ghost use Rattle.sheet_numbers.specs.Steps.Capped.{cap, capped};
 ghost use Rattle.sheet_numbers.specs.Meaning.Scan.{Separator};
@@ -23,7 +23,7 @@ pub struct Piece {
     pub next: TextCursor,
 }
 
-// A number: its size in units of a decimal, held at the cap, and whether a later decimal is not zero.
+// A number: its size in units of a decimal, cut at the cap, and whether a later decimal is not zero.
 pub struct Number {
     pub negative: bool,
     pub units: u64,
@@ -35,14 +35,14 @@ pub enum NumberAnswer {
     NoNumber,
 }
 
-// The digits before a point: the size that they add to, held at the cap, and where they end.
+// The digits before a point: their value, cut at the cap, and where they end.
 struct Whole {
     value: u64,
     end: usize,
 }
 
-// Those after it: the size with the ones that count, held at the cap, how many of these are missing, whether a later
-// one is not zero, where they end.
+// The digits after it: the size with those that count, cut at the cap; how many of these are missing; whether a
+// later one is not zero; where they end.
 struct Decimals {
     value: u64,
     missing: usize,
@@ -50,13 +50,13 @@ struct Decimals {
     end: usize,
 }
 
-// A size past every limit. A number is held at it, so that no count of digits overflows.
+// A size above every limit. Larger sizes are cut to it, so that no count of digits overflows.
 const CAP: u64 = 1000000000;
 
-// With a digit more, a size below it stays below the cap.
+// A size below it stays below the cap with one digit more.
 const CAP_TENTH: u64 = 100000000;
 
-// MARKS. Whether one stands at a place.
+// MARKS. Whether the mark is at a place.
 fn starts_at(s: &[u8], i: usize, mark: u8) -> bool
     ensures { λ r. ⌜ r ≡ starts mark (drop i (now (s .entry))) ⌝ }
 {
@@ -66,7 +66,7 @@ fn starts_at(s: &[u8], i: usize, mark: u8) -> bool
     false
 }
 
-// Whether one stands at a place, or the text ends there.
+// Whether the mark is at a place, or the text ends there.
 fn stops_at(s: &[u8], i: usize, mark: u8) -> bool
     ensures { λ r. ⌜ r ≡ stops mark (drop i (now (s .entry))) ⌝ }
 {
@@ -76,7 +76,7 @@ fn stops_at(s: &[u8], i: usize, mark: u8) -> bool
     true
 }
 
-// The piece that ends there: the mark that ends it, if one does, is passed.
+// The piece that ends there; the cursor goes past its mark, if there is one.
 fn piece_to(s: &[u8], end: usize) -> Piece
     ensures { λ r. ⌜ r ≡ pieceTo (length (now (s .entry))) end ⌝ }
 {
@@ -102,7 +102,7 @@ fn is_digit(b: u8) -> bool
     b <= b'9'
 }
 
-// One digit more. The size is tested before it grows: the test and the product do not wait for each other.
+// One digit more. The size is tested before it grows, so that the test and the product can run in parallel.
 fn with_digit(x: u64, b: u8) -> u64
     requires { ⌜ x ≤ cap ⌝ }
     requires { ⌜ 48 ≤ b ⌝ }
@@ -129,7 +129,7 @@ fn padded(x: u64, n: usize) -> u64
     value
 }
 
-// A size held at the cap.
+// A size cut at the cap.
 fn held(x: u64) -> u64
     ensures { λ r. ⌜ r ≡ capped x ⌝ }
 {
@@ -157,8 +157,8 @@ fn read_whole(s: &[u8], at: usize) -> Whole
     Whole { value, end: i }
 }
 
-// The same, of which the first k count after the digits of x. So few of them cannot overflow: the size is held at the
-// cap once, at the end.
+// The same after a point: the first k count after the digits of x. So few cannot overflow, so the size is cut at
+// the cap once, at the end.
 fn read_decimals(s: &[u8], at: usize, x: u64, k: usize) -> Decimals
     requires { ⌜ at ≤ length (now s) ⌝ }
     requires { ⌜ x ≤ cap ⌝ }
@@ -206,7 +206,7 @@ fn past_sign(s: &[u8], at: usize) -> usize
     at
 }
 
-// THE NEXT NUMBER of a text, which ends at a mark or with the text, in units of its k-th decimal.
+// THE NEXT NUMBER of a text, up to a mark or the end of the text, in units of decimal k.
 impl TextCursor {
     pub fn number(self, s: &[u8], mark: u8, k: usize) -> NumberAnswer
         requires { ⌜ self .at ≤ length (now s) ⌝ }

@@ -1,3 +1,3 @@
--- The pairs as they are written, and from what was found to the contract
+-- The pairs as written, and the way from what was found to the contract
 pub mod Meaning
 pub mod Steps

@@ -1,4 +1,5 @@
-// The shortfalls of an hour (request S-14): it is judged, and where it is accepted two numbers are written for each order, then each branch, then each link.
+// The shortfalls of an hour (request S-14): the hour is judged and, if it is accepted, two numbers are written for
+// each order, then each branch, then each link.
 ghost use mathlib.Core.Path.{_≡_};
 ghost use Prim.Native.Nat.{_+_, _*_, _≤_};
 ghost use lib.ListN.{length};
@@ -25,7 +26,7 @@ use short_single::branch_shortfall;
 use short_single::link_shortfall;
 use short_single::order_shortfall;
 
-// The n-th pair: whole microcents, and the parts past them.
+// Pair n: whole microcents, and the parts besides.
 fn put(out: &mut [i64], n: usize, x: ExactMicrocents)
     requires { ⌜ n ≤ 640 ⌝ }
     requires { ⌜ 2 * n + 2 ≤ length (now out) ⌝ }
@@ -104,7 +105,7 @@ fn put_links(
     }
 }
 
-// All of them, of an accepted hour, from what was found in it.
+// All pairs of an accepted hour, from what was found in it.
 fn put_all(case: &[u8], proposal: &[u8], found: Found, out: &mut [i64])
     requires { ⌜ HourAccepted (now «case») (now proposal) (found .hour) ⌝ }
     requires { ⌜ TenthsHold (fbPart (caseOf (now «case»)) (planOf (now «case») (now proposal))) (found .cleared .parts) ⌝ }
@@ -124,7 +125,8 @@ fn put_all(case: &[u8], proposal: &[u8], found: Found, out: &mut [i64])
     put_links(case, proposal, hour, prices, out);
 }
 
-// The judgement's number and index where the hour is not accepted; else its shortfalls, or 86 where the output is too short. As `host` exports it.
+// The judgement's number and index where the hour is not accepted; else its shortfalls, or 86 where the output is
+// too short. `host` exports it.
 pub fn hour_shortfalls(case: &[u8], proposal: &[u8], out: &mut [i64]) -> Written
     ensures { λ r. ⌜ HourShortfalls (now («case» .entry)) (now (proposal .entry)) (now (out .entry)) r (now (out .exit)) ⌝ }
 {

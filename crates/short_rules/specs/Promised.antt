@@ -1,4 +1,5 @@
--- WHAT IS PROMISED AND PROVED: of every accepted hour, of contracted volumes, of an answer, in the Annex's terms, and in plain numbers
+-- WHAT IS PROMISED AND PROVED: for every accepted hour, for contracted volumes, for an answer, in the Annex's
+-- terms, and in plain numbers
 pub mod Account
 pub mod Contracted
 pub mod Answer

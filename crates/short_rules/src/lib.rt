@@ -1,1 +1,2 @@
-// How far a single order, branch or link can be out (request S-14): the three shortfalls, and that they account for the gap. It stands in specs/; there is no code.
+// How far a single order, branch or link can be out (request S-14): the three shortfalls and how they account for
+// the gap, in specs/. There is no code.

@@ -1,3 +1,3 @@
--- One shortfall: the form that all three have, and what an accepted hour leaves for it
+-- One shortfall: the form that all three share, and what an accepted hour provides for it
 pub mod Meaning
 pub mod Steps

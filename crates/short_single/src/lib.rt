@@ -1,5 +1,5 @@
-// One shortfall of an accepted hour (request S-14), in the measures' types: that of an order, of a branch, of a link. All three are one form: a room at a price
-// where that is above zero, less what is used of it at the price.
+// One shortfall of an accepted hour (request S-14), in the measures' types: of an order, of a branch, of a link.
+// All three share one form: a room at a price where that is above zero, less what is used of it at the price.
 ghost use mathlib.Core.Path.{_≡_};
 ghost use mathlib.Core.List.{[]};
 ghost use Prim.Native.Nat.{ℕ, _≤_, _<_};
@@ -8,7 +8,7 @@ ghost use lib.IntN.{pos};
 ghost use Rattle.base_integers.specs.Meaning.Ranges.{Within};
 ghost use Rattle.base_integers.specs.Meaning.Machine.{SumsFit};
 ghost use Rattle.base_integers.specs.Meaning.Sums.{sumTo};
-ghost use Rattle.base_measures.specs.Meaning.Limits as limits;
+ghost use Rattle.base_limits.specs.Meaning.Limits as limits;
 ghost use Rattle.rules.specs.Meaning.Hour.{caseOf, planOf, pricesOf, fbPart};
 ghost use Rattle.case_branches.specs.Meaning.Table.{tableOf};
 ghost use Rattle.judge_clearing.specs.Meaning.TenthsHold.{TenthsHold};
@@ -32,8 +32,8 @@ use proposal_file::flow_at;
 use proposal_file::shadow_at;
 use proposal_file::volume_at;
 
-// A room at a price where that is above zero, less what is used of it at the price: what is left of the room at a price above zero, and all that is used at
-// one below, turned.
+// A room at a price where that is above zero, less what is used of it at the price. For a price above zero that is
+// the rest of the room at it; for one below, all that is used, at the price with its sign turned.
 fn short(room: Load, used: Load, price: Grains) -> ExactMicrocents
     requires { ⌜ Shortable (room .0) (used .0) (price .0) ⌝ }
     ensures { λ r. ⌜ Exact (shortOf (room .0) (used .0) (price .0)) r ⌝ }
@@ -44,7 +44,7 @@ fn short(room: Load, used: Load, price: Grains) -> ExactMicrocents
     room.minus(used).cost(price)
 }
 
-// Order i: its quantity is the room, and its volume is used, at what a unit of it gains.
+// Order i: the room is its quantity, its volume is used, and the price is the gain of a unit.
 pub fn order_shortfall(
     case: &[u8],
     proposal: &[u8],
@@ -67,7 +67,7 @@ pub fn order_shortfall(
     short(quantity.scaled_by_one(), volume.scaled_by_one(), gain)
 }
 
-// Rule 5's sum over the zones, of a branch with these PTDFs.
+// Rule 5's sum over the zones, for a branch with these PTDFs.
 fn load_of(row: [i32; 16], parts: [Tenths; layout::ZONES], zones: usize) -> Load
     requires { ⌜ zones ≤ 16 ⌝ }
     requires { ⌜ SumsFit (loadOn row parts) zones ⌝ }
@@ -83,7 +83,8 @@ fn load_of(row: [i32; 16], parts: [Tenths; layout::ZONES], zones: usize) -> Load
     load
 }
 
-// Branch m: its margin scaled by the flow-based share is the room, and its load is used, at its shadow price.
+// Branch m: the room is its margin scaled by the flow-based share, its load is used, and the price is its shadow
+// price.
 pub fn branch_shortfall(
     case: &[u8],
     proposal: &[u8],
@@ -111,7 +112,8 @@ pub fn branch_shortfall(
     )
 }
 
-// Link l: its capacity scaled by the LTA share is the room, and its flow is used, at its spread. Its contracted volume does not enter.
+// Link l: the room is its capacity scaled by the LTA share, its flow is used, and the price is its spread. Its
+// contracted volume does not enter.
 pub fn link_shortfall(
     case: &[u8],
     proposal: &[u8],

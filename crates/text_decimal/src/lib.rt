@@ -1,4 +1,5 @@
-// Counts and amounts as decimal text, put into a lent buffer at a position. Each function hands the position back, advanced past its text.
+// Counts and amounts as decimal text, written into a lent buffer at a position. Each function returns the position
+// past its text.
 ghost use mathlib.Core.Path.{_≡_};
 ghost use Prim.Native.Nat.{_+_, _/_, _%_, _^_, _≤_, _<_};
 ghost use lib.ListN.{length};
@@ -6,8 +7,8 @@ ghost use lib.IntN.{pos, natAbs};
 ghost use lib.Signed.{ltZ};
 ghost use mir.Syntax.{w64};
 ghost use mir.Val.{toZ};
-ghost use Rattle.text_decimal.specs.Meaning.Text.{places, lastDigits, countText, sizeText, amountText};
-ghost use Rattle.text_decimal.specs.Meaning.Put.{Put};
+ghost use Rattle.text_rules.specs.Meaning.Text.{places, lastDigits, countText, sizeText, amountText};
+ghost use Rattle.text_rules.specs.Meaning.Put.{Put};
 use base_measures::Bits;
 
 // Decimals of an amount of money in euros, and of a price in euros per MWh.
@@ -15,8 +16,8 @@ const MONEY_DECIMALS: usize = 8;
 
 const PRICE_DECIMALS: usize = 7;
 
-// Every power of ten that 64 bits hold, the k-th at k. It is read at indexes that are known when the code is compiled: such a read costs
-// nothing, and any other lays the whole table down first.
+// Every power of ten that 64 bits hold, 10 ^ k at k. Read it at constant indices only: such a read is folded, and
+// any other makes the compiler build the whole table first.
 const POWERS: [u64; 20] = [
     1,
     10,
@@ -63,8 +64,9 @@ pub fn put_count(out: &mut [u8], at: usize, n: u64) -> usize
     put_last(out, at, n, count_places(n))
 }
 
-// A minus sign before a negative amount only. The least number has no opposite of its own width, so its size is unsigned. The whole part is
-// the caller's, who knows the decimals: there the division is compiled to a product.
+// A minus sign before a negative amount only. The least number has no opposite of its own width, so its size is
+// unsigned. The caller gives the whole part, because it knows the decimals: there the compiler turns the division
+// into a product.
 fn put_amount(out: &mut [u8], at: usize, x: Bits, whole: u64, decimals: usize) -> usize
     requires { ⌜ whole ≡ natAbs (toZ w64 (x .0)) / 10 ^ decimals ⌝ }
     requires { ⌜ at + length (amountText decimals (toZ w64 (x .0))) ≤ length (now out) ⌝ }
@@ -88,7 +90,7 @@ fn put_size(out: &mut [u8], at: usize, n: u64, whole: u64, decimals: usize) -> u
     put_last(out, point + 1, n, decimals)
 }
 
-// The last k digits of n, written from the right, two at a step.
+// The last k digits of n, written from the right, two at a time.
 fn put_last(out: &mut [u8], at: usize, n: u64, k: usize) -> usize
     requires { ⌜ at + k ≤ length (now out) ⌝ }
     ensures { λ r. ⌜ Put (now (out .entry)) at (lastDigits k n) (now (out .exit)) r ⌝ }
@@ -116,7 +118,7 @@ fn digit(n: u64) -> u8
     b'0' + (n % 10) as u8
 }
 
-// How many digits n has, four at a step.
+// How many digits n has, counted four at a time.
 fn count_places(n: u64) -> usize
     ensures { λ r. ⌜ r ≡ places n ⌝ }
 {

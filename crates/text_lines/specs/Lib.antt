@@ -1,4 +1,4 @@
--- The rooms: `Meaning` is to be read and believed, what is `Promised` holds of it and is proved, as is all else
+-- Read and believe `Meaning`. All else is proved: what is `Promised` of it, and the steps.
 pub mod Meaning
 pub mod Promised
 pub mod Steps

@@ -1,2 +1,2 @@
--- THE MEANING: the desk's text in a lent output. What the text is stands in `rules`
+-- THE MEANING: the desk's text in a lent output. `rules` says what the text is
 pub mod Printed

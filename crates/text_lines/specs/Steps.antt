@@ -1,4 +1,4 @@
--- THE PROOFS' MEANS
+-- THE STEPS of the proofs
 pub mod Texts
 pub mod Header
 pub mod Judged

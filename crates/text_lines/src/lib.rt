@@ -1,12 +1,12 @@
-// The lines of text that the desk prints for one input: the driver cuts it into case and proposal and judges it, and
-// the lines are put into a lent buffer, from the totals and prices that it finds.
+// The lines that the desk prints for one input. The driver cuts the input into case and proposal and judges it; the
+// lines come from the totals and prices that it finds, and go into a lent buffer.
 ghost use mathlib.Core.Path.{_≡_};
 ghost use mathlib.Core.List.{_++_};
 ghost use Prim.Native.Nat.{_+_, _≤_};
 ghost use lib.ListN.{length};
-ghost use Rattle.text_decimal.specs.Meaning.Ascii.{ascii};
-ghost use Rattle.text_decimal.specs.Meaning.Text.{countText};
-ghost use Rattle.text_decimal.specs.Meaning.Put.{Put};
+ghost use Rattle.text_rules.specs.Meaning.Ascii.{ascii};
+ghost use Rattle.text_rules.specs.Meaning.Text.{countText};
+ghost use Rattle.text_rules.specs.Meaning.Put.{Put};
 ghost use Rattle.rules.specs.Meaning.Verdict.{_under_};
 ghost use Rattle.rules.specs.Meaning.Lines.{verdictLine, totalLine, totalLines, priceLine, priceLines, hourLines, deskText};
 ghost use Rattle.report_file.specs.Meaning.Written.{totalsIn, priceIn};
@@ -24,7 +24,6 @@ use text_decimal::put_count;
 use text_decimal::put_money;
 use text_decimal::put_price;
 
-// A text as it stands.
 fn put_text(out: &mut [u8], at: usize, text: &[u8]) -> usize
     requires { ⌜ at + length (now text) ≤ length (now out) ⌝ }
     ensures { λ r. ⌜ Put (now (out .entry)) at (now (text .entry)) (now (out .exit)) r ⌝ }
@@ -115,7 +114,7 @@ fn put_lines(input: &[u8], out: &mut [u8]) -> usize
     requires { ⌜ deskRoom ≤ length (now out) ⌝ }
     ensures { λ r. ⌜ Put (now (out .entry)) 0 (deskText (now (input .entry))) (now (out .exit)) r ⌝ }
 {
-    // The input lent as case and as proposal: the driver cuts it, by the header that it reads once.
+    // The input is lent as case and as proposal: the driver cuts it by the header, which it reads once.
     let found = find_in(Files::Joined, input, input, &input[..0], FamilyList::Absent);
     let verdict = found.verdict;
     let at = put_verdict(out, 0, verdict);
@@ -137,8 +136,8 @@ fn too_short(room: usize) -> bool
     room < ROOM
 }
 
-// The lines for an input, at the start of `out`, and how many bytes they are; or, where `out` has less than that
-// room, the refusal by 31, with length 0 and `out` as it was.
+// Writes the lines for an input at the start of `out` and returns their length; or, where `out` has less than that
+// room, refuses by 31 with length 0 and `out` unchanged.
 pub fn lines(input: &[u8], out: &mut [u8]) -> Written
     ensures { λ r. ⌜ DeskPrinted (now (input .entry)) (now (out .entry)) r (now (out .exit)) ⌝ }
 {

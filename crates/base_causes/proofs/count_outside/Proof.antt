@@ -1,4 +1,5 @@
--- `base_causes::count_outside` meets its contract: its tests are those of the range, in the same order. Assumes nothing.
+-- `base_causes::count_outside` meets its contract: its tests are those of the range, in the same order.
+-- Assumes nothing.
 use mathlib.Core.Path.{ap, sym}
 use mathlib.Core.Bool.{Bool, _||_}
 use lib.Dec.{ltb}

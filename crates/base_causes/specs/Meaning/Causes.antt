@@ -1,4 +1,5 @@
--- A table of causes: rows in the order in which they are asked. What is returned is the first row that fails, at its first place. Assumes nothing.
+-- A table of causes: rows in the order in which they are asked. The answer is the first row that fails, at its
+-- first place. Assumes nothing.
 use mathlib.Core.Bool.{Bool, false, not, cond, _||_}
 use mathlib.Core.List.{List, [], _∷_}
 use mathlib.Core.Option.{Option, none, some}
@@ -13,7 +14,6 @@ pub record Cause : Type 0 where
   pub fails : ℕ → Bool
   pub index : ℕ → ℕ
 
--- what is returned
 abbrev pub verdict : ℕ → ℕ → Outcome
 verdict n k = record { number = n; index = k }
 
@@ -27,7 +27,7 @@ unfoldable pub anyBelow : ℕ → (ℕ → Bool) → Bool
 anyBelow zero f = false
 anyBelow (suc n) f = anyBelow n f || f n
 
--- the first of the w fields of a row that is at fault (0 where none is)
+-- the first of the w fields of a row at fault; 0 where none is
 abbrev pub placeElse : Option ℕ → ℕ
 placeElse (some j) = j
 placeElse none = 0
@@ -57,7 +57,8 @@ abbrev pub answer : Option Outcome → Outcome
 answer (some o) = o
 answer none = verdict 0 0
 
--- a cause tested once, with index 0; a header field, with its offset; a cause tested at each of n places, with the place
+-- a cause tested once, with index 0; a header field, with its offset; a cause tested at each of n places, with the
+-- place
 abbrev pub once : ℕ → Bool → Cause
 once number f = record { number = number; places = 1; fails = λ k. f; index = λ k. 0 }
 
@@ -67,10 +68,11 @@ field number offset f = record { number = number; places = 1; fails = λ k. f; i
 abbrev pub each : ℕ → ℕ → (ℕ → Bool) → Cause
 each number n f = record { number = number; places = n; fails = f; index = λ k. k }
 
--- a cause tested at each of n places, with the offset at which the place stands (S-2)
+-- a cause tested at each of n places, with the offset of the place (S-2)
 abbrev pub eachAt : ℕ → ℕ → (ℕ → Bool) → (ℕ → ℕ) → Cause
 eachAt number n f offset = record { number = number; places = n; fails = f; index = offset }
 
--- a cause tested at each field of n rows in file order, w fields to a row: a row fails where a field of it is at fault, with the offset of the first (S-2)
+-- a cause tested at each field of n rows in file order, w fields to a row: a row fails where one of its fields is
+-- at fault, with the offset of the first (S-2)
 abbrev pub eachField : ℕ → ℕ → ℕ → (ℕ → ℕ → Bool) → (ℕ → ℕ → ℕ) → Cause
 eachField number n w fault offset = eachAt number n (λ i. anyBelow w (fault i)) (λ i. offset i (firstField w (fault i)))

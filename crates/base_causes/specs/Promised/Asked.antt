@@ -1,5 +1,5 @@
--- A table as a list of numbers with the kinds of their indices, and the order of such a list: the words of `table-order`.
--- Assumes nothing.
+-- A table as a list of numbers with the kinds of their indices, and the order of such a list: the terms of
+-- `table-order`. Assumes nothing.
 use mathlib.Core.Path.{_≡_, refl, sym, ap, subst}
 use mathlib.Core.Bool.{Bool, true, false, _&&_, _||_}
 use mathlib.Core.List.{List, [], _∷_}
@@ -12,8 +12,8 @@ use Rattle.base_causes.specs.declared.Outcome.{Outcome}
 use Rattle.base_causes.specs.Meaning.Causes.{Cause, verdict, firstBelow, causeElse, refusal}
 use Rattle.base_causes.specs.Promised.CauseLaws.{first-is}
 
--- THE ORDER OF A TABLE, as a list beside it: each row's number, and what its index is: none named (0), a given offset, the place, or the offset of the
--- first field at fault, of which `RefusedField` says which it is (S-2)
+-- THE ORDER OF A TABLE, as a list: each row's number and the kind of its index. The index is none (0), a given
+-- offset, the place, or the offset of the first field at fault; `RefusedField` says which field that is (S-2)
 pub data Index : Type 0 where
   unnamed : Index
   at-offset : ℕ → Index
@@ -77,7 +77,7 @@ asks [] (a ∷ order) e = absurd (subst (λ (b : Bool). T b) (ap isEmpty (sym e)
 asks (r ∷ rs) [] e = absurd (subst (λ (b : Bool). T b) (ap isEmpty e) tt)
 asks (r ∷ rs) (a ∷ order) e = (sym (ap (λ (l : List Cause). (first r l) .number) e), (indexed (a .index) (r .index) (λ k. ap (λ (l : List Cause). (first r l) .index k) e), asks rs order (ap rest e)))
 
--- numbers ascend, and of one number the offsets do
+-- the numbers ascend, and within one number the offsets
 abbrev pub offsetsAscend : Index → Index → Bool
 offsetsAscend (at-offset n) (at-offset m) = ltb n m
 offsetsAscend (at-offset n) unnamed = false
@@ -95,7 +95,7 @@ ascending [] = true
 ascending (a ∷ []) = true
 ascending (a ∷ (b ∷ bs)) = precedes a b && ascending (b ∷ bs)
 
--- Where every index is 0 or the place, the index of a refusal is below the number of all places together.
+-- Where every index is 0 or the place, the index of a refusal is below the total number of places.
 abbrev pub namesPlace : Index → Bool
 namesPlace unnamed = true
 namesPlace the-place = true

@@ -1,5 +1,6 @@
--- What holds of every table of causes: a refusal is given for its cause and no other, nothing asked earlier fails, and the rows before it passed.
--- To prove a refusal, walk the rows: `row-passes` past each that passes, `row-fails` at the one that fails. Assumes nothing.
+-- What holds of every table of causes: a refusal is given for its own cause and no other, nothing asked earlier
+-- fails, and the rows before it passed. To prove a refusal, walk the rows: `row-passes` past each that passes,
+-- `row-fails` at the one that fails. Assumes nothing.
 use mathlib.Core.Path.{_≡_, refl, sym, ap, _∙_, subst}
 use mathlib.Core.Bool.{Bool, true, false, not, cond, _&&_, _||_}
 use mathlib.Core.List.{List, [], _∷_, _++_}
@@ -86,7 +87,7 @@ first-is (suc n) f k e = first-is-step n f k (firstBelow n f) (λ j q. first-is 
 pub place-below : (n : ℕ) (f : ℕ → Bool) (k m : ℕ) → firstBelow n f ≡ some k → n ≤ m → k < m
 place-below n f k m e h = omega (arith, (first-is n f k e) .place-in)
 
--- tests that come to the same
+-- tests with the same values
 pub first-ext : (n : ℕ) (f g : ℕ → Bool) → ((k : ℕ) → k < n → f k ≡ g k) → firstBelow n f ≡ firstBelow n g
 unfolding firstBelow
 first-ext zero f g h = refl
@@ -96,7 +97,7 @@ first-ext (suc n) f g h = step (firstBelow n f) (firstBelow n g) (first-ext n f 
         → _≡_ {A = Option ℕ} (elim x [ some k ↦ some k | none ↦ cond a (some n) none ]) (elim y [ some k ↦ some k | none ↦ cond b (some n) none ])
     step x y e a b q = λ j. elim (e j) [ some k ↦ some k | none ↦ cond (q j) (some n) none ]
 
--- what a search in code found, read back
+-- what a search in code found
 pub at-place : (p : Place) (x : Option ℕ) (k : ℕ) → placeOf p ≡ x → p ≡ At k → x ≡ some k
 at-place p x k e q = sym e ∙ ap placeOf q
 
@@ -140,7 +141,8 @@ any-place (suc n) f t = by (anyBelow n f) refl t (any-place n f)
     by true e u ih = let w = ih (is-true e) in (w .0, omega (arith, w .1), w .2)
     by false e u ih = (n, omega arith, u)
 
--- A LOOP THAT LOOKS for the first place, or for any: with the invariant `firstBelow m f ≡ none`, or `anyBelow m f ≡ false`, a turn's two ends and the loop's
+-- A LOOP THAT LOOKS for the first place, or for any. Its invariant is `firstBelow m f ≡ none`, or
+-- `anyBelow m f ≡ false`; here are the two ends of a turn and the end of the loop
 module _ (f : ℕ → Bool) (m : ℕ) where
   -- the first place
   pub first-here : {n : ℕ} → m < n → firstBelow m f ≡ none → f m ≡ true → firstBelow n f ≡ some m
@@ -180,7 +182,7 @@ row-fails r rs k w = row-found r rs k (first-some (r .places) (r .fails) k w)
 pub row-passes : (r : Cause) (rs : List Cause) → Pass r → refusal (r ∷ rs) ≡ refusal rs
 row-passes r rs p = row-clear r rs (first-none (r .places) (r .fails) (p .pass))
 
--- THE ROWS ASKED ONE AFTER THE OTHER, and what they come to: past each that passes, at the one that fails
+-- THE ROWS, ASKED IN ORDER, and their result: past each that passes, at the one that fails
 pub record Comes (rs : List Cause) (o : Option Outcome) : Type 0 where
   pub is : refusal rs ≡ o
 
@@ -230,7 +232,8 @@ refusal-append (q ∷ qs) rs = step (firstBelow (q .places) (q .fails)) refl (re
     step (some k) e ih = row-found q (qs ++ rs) k e ∙ ap (λ (x : Option Outcome). else-refusal x (refusal rs)) (sym (row-found q qs k e))
     step none e ih = row-clear q (qs ++ rs) e ∙ ih ∙ ap (λ (x : Option Outcome). else-refusal x (refusal rs)) (sym (row-clear q qs e))
 
--- WHAT AN OUTCOME'S NUMBER SAYS. A row by its number and the index of its first place, which tells the header fields apart
+-- WHAT AN OUTCOME'S NUMBER SAYS. A row is known by its number and the index of its first place, which tells the
+-- header fields apart
 unfoldable pub isCause : ℕ → ℕ → Cause → Bool
 isCause n k r = eqb (r .number) n && eqb (r .index 0) k
 
@@ -247,7 +250,7 @@ unfoldable pub before : ℕ → List Cause → List Cause
 before n [] = []
 before n (r ∷ rs) = elim (eqb (r .number) n) [ true ↦ [] | false ↦ r ∷ before n rs ]
 
--- one row: o is where it fails first, a whether it is the one that stops, b whether it is the one looked for
+-- one row: o is where it fails first, a whether it is the row that stops, b whether it is the row looked for
 one-row : (n i k : ℕ) (r : Cause) (rs : List Cause) (o : Option ℕ) → firstBelow (r .places) (r .fails) ≡ o → ((answer (refusal rs)) .number ≡ n → T (hasCause i k (before n rs)) → Pass (rowOf i k rs))
     → (answer (causeElse r o (refusal rs))) .number ≡ n
     → (a : Bool) → eqb (r .number) n ≡ a → (b : Bool) → isCause i k r ≡ b
@@ -283,7 +286,8 @@ unfolding lacks refusal
 not-refused n [] t x e m = Option·none-ne-some x e
 not-refused n (r ∷ rs) t x e m = lacks-step n r rs (firstBelow (r .places) (r .fails)) refl (and-left (not (eqb (r .number) n)) (lacks n rs) t) (not-refused n rs (and-right (not (eqb (r .number) n)) (lacks n rs) t)) x e m
 
--- two tables of which the first has no row n: with the number n, the first refused nothing, and n is the second's
+-- two tables, the first without a row n: the number n means that the first refused nothing and the second answered
+-- n
 pub record Later (n : ℕ) (qs rs : List Cause) : Type 0 where
   pub none-first : refusal qs ≡ none
   pub then-second : (answer (refusal rs)) .number ≡ n
@@ -295,7 +299,7 @@ later n qs rs t e = by (refusal qs) refl (sym (ap (λ (x : Option Outcome). (ans
     by (some x) q e = absurd (not-refused n qs t x q (sym (ap (λ (y : Option Outcome). (answer (else-refusal y (refusal rs))) .number) q) ∙ e))
     by none q e = record { none-first = q; then-second = sym (ap (λ (y : Option Outcome). (answer (else-refusal y (refusal rs))) .number) q) ∙ e }
 
--- rows put between two tables, none of them of number n: with the number n the answer is the one without them
+-- rows between two tables, none of number n: if the answer is n, it is the answer without them
 pub left-out : (n : ℕ) (qs ms rs : List Cause) → T (lacks n ms) → (answer (refusal (qs ++ (ms ++ rs)))) .number ≡ n → refusal (qs ++ (ms ++ rs)) ≡ refusal (qs ++ rs)
 left-out n qs ms rs t e = refusal-append qs (ms ++ rs) ∙ by (refusal qs) (sym (ap (λ (x : Option Outcome). (answer x) .number) (refusal-append qs (ms ++ rs))) ∙ e) ∙ sym (refusal-append qs rs)
   where
@@ -306,7 +310,7 @@ left-out n qs ms rs t e = refusal-append qs (ms ++ rs) ∙ by (refusal qs) (sym 
 pub none-zero : (rs : List Cause) → refusal rs ≡ none → (answer (refusal rs)) .number ≡ 0
 none-zero rs e = ap (λ (x : Option Outcome). (answer x) .number) e
 
--- the number 0 is given for no row, so it means that none refused
+-- no row has the number 0, so 0 means that none refused
 pub zero-none : (rs : List Cause) → T (lacks 0 rs) → (answer (refusal rs)) .number ≡ 0 → refusal rs ≡ none
 zero-none rs t e = by (refusal rs) refl e
   where
@@ -331,7 +335,7 @@ unfolding hasCause before
 has-before n i k [] h = h
 has-before n i k (r ∷ rs) h = has-step i k r rs (before n rs) (has-before n i k rs) (eqb (r .number) n) (isCause i k r) refl h
 
--- THE ROW OF A NUMBER, or one with no place; the rows behind it
+-- THE ROW OF A NUMBER, or one with no place; the rows after it
 unfoldable pub causeNumbered : ℕ → List Cause → Cause
 causeNumbered n [] = empty
 causeNumbered n (r ∷ rs) = elim (eqb (r .number) n) [ true ↦ r | false ↦ causeNumbered n rs ]
@@ -340,12 +344,12 @@ abbrev pub behind : ℕ → List Cause → List Cause
 behind n [] = []
 behind n (r ∷ rs) = elim (eqb (r .number) n) [ true ↦ rs | false ↦ behind n rs ]
 
--- and those behind the row of a number and an offset
+-- the rows after the row of a number and an offset
 abbrev pub behindRow : ℕ → ℕ → List Cause → List Cause
 behindRow n k [] = []
 behindRow n k (r ∷ rs) = elim (eqb (r .number) n && eqb (r .index 0) k) [ true ↦ rs | false ↦ behindRow n k rs ]
 
--- where none is refused, every row passes: that of a number, and a header field by its offset
+-- where nothing is refused every row passes: the row of a number, and a header field by its offset
 none-refused : (r : Cause) (rs : List Cause) → refusal (r ∷ rs) ≡ none → Pass r × (refusal rs ≡ none)
 unfolding refusal
 none-refused r rs e = by (failing r) refl e
@@ -379,7 +383,8 @@ all-pass (r ∷ rs) e j = by-row (firstBelow (r .places) (r .fails)) refl (λ q 
     by-row none q ih e zero = record { pass = not-below (r .places) (r .fails) q }
     by-row none q ih e (suc i) = ih e i
 
--- NOTHING IS RETURNED FOR ANOTHER CAUSE: a refusal has a row of its number that fails at its place, and nothing before that row or that place fails
+-- NO OTHER CAUSE GIVES AN ANSWER: a refusal has a row of its number that fails at its place, and nothing before
+-- that row or that place fails
 pub record CausedBy (rs : List Cause) (o : Outcome) : Type 0 where
   pub position : ℕ
   pub place : ℕ
@@ -418,7 +423,7 @@ caused (r ∷ rs) o e = by-row (firstBelow (r .places) (r .fails)) refl (λ q. c
     }
     by-row none q ih e = cause-later r rs o (record { pass = not-below (r .places) (r .fails) q }) (ih e)
 
--- the same of an outcome whose number is not 0
+-- the same for an outcome whose number is not 0
 pub answer-caused : (rs : List Cause) → 0 < (answer (refusal rs)) .number → CausedBy rs (answer (refusal rs))
 answer-caused rs h = by (refusal rs) refl
   where
@@ -429,7 +434,7 @@ answer-caused rs h = by (refusal rs) refl
     by (some x) q = subst (λ (y : Outcome). CausedBy rs y) (sym (ap answer q)) (caused rs x q)
     by none q = absurd (never ((answer (refusal rs)) .number) h (ap (λ (y : Option Outcome). (answer y) .number) q))
 
--- and no cause that holds, in row j at place k, is asked before it
+-- no cause that holds, in row j at place k, is asked before it
 pub record Soonest (rs : List Cause) (o : Outcome) (j k : ℕ) : Type 0 where
   pub cause : CausedBy rs o
   pub row-first : cause .position ≤ j
@@ -452,7 +457,8 @@ soonest rs j k h f = by (refusal rs) refl
     by (some x) q = found (subst (λ (y : Outcome). CausedBy rs y) (sym (ap (λ (y : Option Outcome). answer y) q)) (caused rs x q))
     by none q = absurd (T-not ((getD rs j empty) .fails k) ((all-pass rs q j) .pass k h) f)
 
--- THE ROW THAT AN OUTCOME'S NUMBER NAMES, where it is the only one of that number: the rows before it pass, it fails first at a place, and its index is returned
+-- THE ROW THAT AN OUTCOME'S NUMBER NAMES, where only one row has that number: the rows before it pass, it fails
+-- first at a place, and its index is returned
 pub record RowNamed (qs : List Cause) (r : Cause) (o : Outcome) : Type 0 where
   pub earlier : refusal qs ≡ none
   pub place : ℕ
@@ -482,7 +488,7 @@ row-named n qs r rs h before-it after-it e = by (firstBelow (r .places) (r .fail
     }
     by none q = absurd (never (refusal rs) refl (sym (ap (λ (x : Option Outcome). (answer x) .number) (row-clear r rs q)) ∙ first .then-second))
 
--- the same, the row found by its number
+-- the same, with the row found by its number
 lacks-before : (n : ℕ) (rs : List Cause) → T (lacks n (before n rs))
 unfolding lacks before
 lacks-before n [] = tt
@@ -508,7 +514,8 @@ row-by-number n rs h some-row after-it e =
     subst (λ (l : List Cause). RowNamed (before n rs) (causeNumbered n rs) (answer (refusal l))) (sym same)
     (row-named n (before n rs) (causeNumbered n rs) (behind n rs) h (lacks-before n rs) after-it (ap (λ (l : List Cause). (answer (refusal l)) .number) (sym same) ∙ e))
 
--- AND BACK: where the rows before it pass and it fails first at a place, its number and the place's index are the answer
+-- CONVERSELY: where the rows before it pass and it fails first at a place, its number and the place's index are the
+-- answer
 pub row-answers : (n : ℕ) (rs : List Cause) → T (not (lacks n rs)) → refusal (before n rs) ≡ none → (k : ℕ) → First ((causeNumbered n rs) .places) ((causeNumbered n rs) .fails) k
     → answer (refusal rs) ≡ verdict ((causeNumbered n rs) .number) ((causeNumbered n rs) .index k)
 row-answers n rs some-row passed k w =
@@ -539,7 +546,7 @@ first-field w f t = by (firstBelow w f) refl
     by (some k) q = subst (λ (x : Option ℕ). First w f (placeElse x)) (sym q) (first-is w f k q)
     by none q = absurd (subst (λ (b : Bool). T b) (any-none w f (not-below w f q)) t)
 
--- and it is one of them, where there is one
+-- it is one of them, if there is any
 pub field-below : (w : ℕ) (f : ℕ → Bool) → 0 < w → firstField w f < w
 unfolding firstField
 field-below w f h = by (firstBelow w f) refl
@@ -564,7 +571,8 @@ cause-refuses rs o w = at-position rs (w .position) (w .position-in) (w .earlier
     at-position (r ∷ rs) zero h e f = row-fails r rs (w .place) f
     at-position (r ∷ rs) (suc j) h e f = row-passes r rs (e 0 (omega arith)) ∙ at-position rs j (omega (arith, h)) (λ i l. e (suc i) (omega (arith, l))) f
 
--- the answer of a table: 0 if and only if every row passes at every place; else the first row that fails, at its first place, and no other
+-- the answer of a table: 0 if and only if every row passes at every place; else the first row that fails, at its
+-- first place, and no other
 pub record Answered (rs : List Cause) (o : Outcome) : Type 0 where
   pub zero-passes : o .number ≡ 0 → (j : ℕ) → Pass (getD rs j empty)
   pub passes-zero : ((j : ℕ) → Pass (getD rs j empty)) → o ≡ verdict 0 0

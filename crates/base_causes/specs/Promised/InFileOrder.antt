@@ -1,5 +1,5 @@
--- A row over rows of fields (S-2) is a row over the fields in file order: its n-th place is the n-th field of the part, with that field's test and its
--- offset. Assumes nothing.
+-- A row over rows of fields (S-2) is a row over the fields in file order: place n is field n of the part, with that
+-- field's test and offset. Assumes nothing.
 use mathlib.Core.Path.{_≡_, refl, sym, ap, _∙_, subst}
 use mathlib.Core.Bool.{Bool, not}
 use mathlib.Core.List.{List, _∷_}
@@ -13,7 +13,7 @@ use lib.Dec.{T}
 use Rattle.base_causes.specs.Meaning.Causes.{Cause, verdict, firstBelow, firstField, refusal, eachAt, eachField}
 use Rattle.base_causes.specs.Promised.CauseLaws.{First, first-none, first-some, first-is, not-below, no-place, first-field, row-found, row-clear}
 
--- the k-th field of n rows of w fields: field k % w of row k / w
+-- field k of n rows of w fields: field k % w of row k / w
 abbrev pub eachInOrder : ℕ → ℕ → ℕ → (ℕ → ℕ → Bool) → (ℕ → ℕ → ℕ) → Cause
 eachInOrder number n w fault offset = eachAt number (n * w) (λ k. fault (k / w) (k % w)) (λ k. offset (k / w) (k % w))
 
@@ -30,7 +30,7 @@ module _ (number n w : ℕ) (some-field : 0 < w) (fault : ℕ → ℕ → Bool) 
   none-in-order : firstBelow n (rows .fails) ≡ none → firstBelow (n * w) (inOrder .fails) ≡ none
   none-in-order e = first-none (n * w) (inOrder .fails) (λ k h. clear-row (k / w) (not-below n (rows .fails) e (k / w) (div-lt-iff-lt-mul some-field .1 h)) k refl)
 
-  -- the first row's first field, counted from the part's first
+  -- the first field of the first row, counted from the first field of the part
   module _ (i : ℕ) (f : First n (rows .fails) i) where
     j : ℕ
     j = firstField w (fault i)
@@ -74,7 +74,7 @@ module _ (number n w : ℕ) (some-field : 0 < w) (fault : ℕ → ℕ → Bool) 
     unfolding j
     index-in-order = λ k. offset (row-is k) (field-is k)
 
-  -- THE SAME REFUSAL, whatever rows come after
+  -- THE SAME REFUSAL, whatever rows follow
   pub field-by-field : (rs : List Cause) → refusal (rows ∷ rs) ≡ refusal (inOrder ∷ rs)
   field-by-field rs = by (firstBelow n (rows .fails)) refl
     where

@@ -1,4 +1,4 @@
--- An integer as a difference of two natural numbers, of which one is zero.
+-- An integer as a difference of two natural numbers, one of them zero.
 use Prim.Native.Nat.{ℕ, zero, suc}
 use lib.IntN.{ℤ, pos, negsuc}
 

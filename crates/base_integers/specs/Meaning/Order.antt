@@ -1,9 +1,9 @@
--- The larger of two integers, and an integer held at zero from below.
+-- The larger of two integers, and the positive part of an integer.
 use mathlib.Core.Bool.{cond}
 use lib.IntN.{ℤ, pos}
 use lib.Signed.{ltZ}
 
--- the larger of two; what is above zero, else zero
+-- the larger of two; the positive part, zero below zero
 abbrev pub larger : ℤ → ℤ → ℤ
 larger a b = cond (ltZ a b) b a
 

@@ -14,7 +14,7 @@ minus n = negℤ (pos n)
 abbrev pub range : ℤ → ℤ → Range
 range a b = record { least = a; greatest = b }
 
--- `outside r x` is a test, `Within r x` what it leaves where it fails
+-- `outside r x` is a test; `Within r x` holds where it fails
 unfoldable pub outside : Range → ℤ → Bool
 outside r x = ltZ x (r .least) || ltZ (r .greatest) x
 
@@ -22,6 +22,6 @@ pub record Within (r : Range) (x : ℤ) : Type 0 where
   pub least-le : r .least ≤ℤ x
   pub le-greatest : x ≤ℤ r .greatest
 
--- a number is zero where it lies in the range from zero to zero
+-- a number is zero if it is in the range from zero to zero
 unfoldable pub isZero : ℤ → Bool
 isZero x = not (outside (range (pos 0) (pos 0)) x)

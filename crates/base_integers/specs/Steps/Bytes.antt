@@ -1,4 +1,5 @@
--- Numbers as little-endian bytes, of any width, and back; signed 32 and 64 bits in two's complement; runs of stores. Assumes nothing.
+-- Numbers as little-endian bytes of any width, and back; signed 32 and 64 bits in two's complement; runs of stores.
+-- Assumes nothing.
 use mathlib.Core.Path.{_≡_, refl, sym, ap, _∙_}
 use mathlib.Core.List.{List, [], _∷_, _++_}
 use Prim.Native.Nat.{ℕ, zero, suc, _+_, _*_, _/_, _%_, _^_, _≤_, _<_}
@@ -61,7 +62,7 @@ pub number-signed64 : (z : ℤ) → SFits w64 z → toZ w64 (numberOf (signed64 
 unfolding signed64
 number-signed64 z f = number-signed w64 8 z (omega arith) f
 
--- what is stored at i and then right after it is stored at i in one run
+-- two runs of stores, the second right after the first, are one run
 pub sets-append : {A : Type 0} (l : List A) (i : ℕ) (a b : List A) → sets (sets l i a) (i + length a) b ≡ sets l i (a ++ b)
 sets-append l i [] b = ap (λ (k : ℕ). sets l k b) (add-zero i)
 sets-append l i (x ∷ a) b = ap (λ (k : ℕ). sets (sets (set l i x) (suc i) a) k b) next ∙ sets-append (set l i x) (suc i) a b

@@ -1,6 +1,8 @@
--- Equations and inequalities over ℤ by `omega`, which reads only ℕ: an integer is read as a difference of two naturals, `up z` less `dn z`.
--- `As z` is a pair p, n with z = p - n. `at`, `⊕`, `⊖`, `⊗` build one along an expression; `le-by`, `eq-by` turn a goal over ℤ into one over ℕ,
--- and `le-fact`, `eq-fact` a hypothesis. `omega` multiplies products out, so one call is ring arithmetic and linear combination at once:
+-- Equations and inequalities over ℤ by `omega`, which reads only ℕ: an integer is a difference of two naturals,
+-- `up z` less `dn z`.
+-- `As z` is a pair p, n with z = p - n. `at`, `⊕`, `⊖`, `⊗` build one along an expression; `le-by`, `eq-by` turn a
+-- goal over ℤ into one over ℕ, and `le-fact`, `eq-fact` a hypothesis. `omega` multiplies products out, so one call
+-- does ring arithmetic and linear combination:
 --
 --     ring : (a b c : ℤ) → (a +ℤ b) *ℤ c ≡ c *ℤ b +ℤ a *ℤ c
 --     ring a b c = eq-by ((at a ⊕ at b) ⊗ at c) (at c ⊗ at b ⊕ at a ⊗ at c) (omega arith)
@@ -8,8 +10,8 @@
 --     linear : (a b c : ℤ) → a ≤ℤ b → (a +ℤ c) ≤ℤ (c +ℤ b)
 --     linear a b c h = le-by (at a ⊕ at c) (at c ⊕ at b) (omega (arith, le-fact (at a) (at b) h))
 --
--- A product of facts goes in already multiplied (`mul-le-mul-left k (le-fact ..)`). `omega` takes 64 atoms: give subterms plain names first.
--- `_≤ℤ_` binds tighter than `_+ℤ_`: write parentheses on both sides. Assumes nothing.
+-- Multiply a product of facts before passing it (`mul-le-mul-left k (le-fact ..)`). `omega` takes 64 atoms: give
+-- subterms plain names first. `_≤ℤ_` binds tighter than `_+ℤ_`: write parentheses on both sides. Assumes nothing.
 use mathlib.Core.Path.{_≡_, refl, ap}
 use mathlib.Core.Bool.{Bool, true, false, not, cond}
 use Prim.Native.Nat.{ℕ, zero, suc, _+_, _*_, _-_, _≤_, _<_}

@@ -1,11 +1,11 @@
--- What the machine holds of an integer: sums that a loop adds up in 64 bits, and the two's complement reading of 32 bits.
+-- Integers in the machine: sums that a loop adds up in 64 bits, and 32 bits read as two's complement.
 -- A loop over `f 0, f 1, ..` with the invariant `total ≡ sumTo i f` answers its needs so, from `fit : SumsFit f n`:
 --
 --     term-requires c κs = fit .term i taken                        -- the term of this turn fits
 --     plus-requires c κs = step-fits fit i taken inv term           -- the sum of this turn fits
 --     loop-again c       = (omega arith, step fit i inv term sum)    -- and is `sumTo (i + 1) f`
 --
--- and `fit` comes from `small-sums`: each term within b of zero, and n * b below 2 ^ 63. Assumes nothing.
+-- `fit` comes from `small-sums`: each term is within b of zero, and n * b is below 2 ^ 63. Assumes nothing.
 use mathlib.Core.Path.{_≡_, refl, sym, ap, subst, _∙_}
 use Prim.Native.Nat.{ℕ, suc, _+_, _*_, _-_, _<_, _≤_}
 use native.Mathlib.Nat.{mul-le-mul-right}
@@ -20,7 +20,7 @@ use Rattle.base_integers.specs.Steps.Sums.{sum-more}
 use Rattle.base_integers.specs.Steps.Size.{Near, near-sum, near-fits}
 use Rattle.base_integers.specs.Meaning.Machine.{SumsFit}
 
--- fits through an equation
+-- a number equal to one that fits fits
 pub sfits-by : (w : Width) {x y : ℤ} → x ≡ y → SFits w y → SFits w x
 sfits-by w e f = subst (SFits w) (sym e) f
 
@@ -30,7 +30,7 @@ small-sums f b n each room = record {
   fits = λ i h. near-fits w64 (omega (arith, mul-le-mul-right b h)) (near-sum i b f (λ k l. each k (omega arith)));
 }
 
--- a turn: x is the sum so far, t the term as the machine has it
+-- a turn: x is the sum so far, t the machine's term
 module _ {f : ℕ → ℤ} {n : ℕ} (fit : SumsFit f n) (i : ℕ) where
   pub step : {x t r : ℤ} → x ≡ sumTo i f → t ≡ f i → r ≡ x +ℤ t → r ≡ sumTo (i + 1) f
   step e d q = q ∙ (λ j. e j +ℤ d j) ∙ sym (sum-more i f)

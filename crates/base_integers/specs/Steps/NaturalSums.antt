@@ -1,5 +1,6 @@
--- Sums of naturals over the indices below a count. Where all terms are naturals `omega` needs no reading of integers as differences.
--- `gather` turns sums by key into one sum over the entries, `sum-parts` an integer sum into those of its positive and negative terms. Assumes nothing.
+-- Sums of naturals over the indices below a count. Where all terms are naturals, `omega` need not read integers as
+-- differences. `gather` turns sums by key into one sum over the entries, `sum-parts` an integer sum into the sums
+-- of its positive and negative terms. Assumes nothing.
 use mathlib.Core.Path.{_≡_, refl, sym, ap, _∙_}
 use mathlib.Core.Bool.{Bool, true, false}
 use Prim.Native.Nat.{ℕ, zero, suc, _+_, _*_, _-_, _≤_, _<_}
@@ -76,7 +77,7 @@ only-both true b x = refl
 only-both false true x = refl
 only-both false false x = refl
 
--- a flag over a sum goes to its terms
+-- a flag on a sum is a flag on each term
 pub only-sum : (b : Bool) (n : ℕ) (f : ℕ → ℕ) → only b (sumNat n f) ≡ sumNat n (λ i. only b (f i))
 only-sum true n f = refl
 only-sum false n f = sym (sum-zero n)
@@ -93,7 +94,7 @@ one-le-sum zero k f h = omega arith
 one-le-sum (suc n) k f h = elim (decLt k n)
     [ yes l ↦ omega (arith, one-le-sum n k f l) | no l ↦ let q : k ≡ n = omega arith in omega (arith, ap f q) ]
 
--- terms at most as large with an equal sum are equal
+-- if no term is larger and the sums are equal, the terms are equal
 pub each-equal : (n : ℕ) (f g : ℕ → ℕ) → ((i : ℕ) → i < n → f i ≤ g i) → sumNat n f ≡ sumNat n g → (i : ℕ) → i < n → f i ≡ g i
 each-equal n f g h e i l =
     let s = sum-ext n (λ k. f k + (g k - f k)) g (λ k p. diff (f k) (g k) (h k p)) in
@@ -114,14 +115,14 @@ sum-one (suc n) k f g h e = elim (decLt k n) [
       omega (arith, ap f q, ap g q)
 ]
 
--- KEYS. Of all z the one that is k is left
+-- KEYS. Among all z only the one equal to k is left
 pub sum-key : (n k : ℕ) (x : ℕ → ℕ) → k < n → sumNat n (λ z. only (eqb k z) (x z)) ≡ x k
 sum-key n k x h =
     let e = sum-one n k (λ z. 0) (λ z. only (eqb k z) (x z)) h (λ i p q. ap (λ (b : Bool). only b (x i)) (ne-eqb k i (λ w. q (sym w)))) in
     let s = ap (λ (b : Bool). only b (x k)) (eq-eqb k k refl) in
     omega (arith, e, s, sum-zero n)
 
--- amounts gathered by their keys, the gathered sums picked by a flag: the same as each amount picked by its key's flag
+-- adding amounts up by key and picking keys by a flag is picking each amount by its key's flag
 pub gather : (n m : ℕ) (key : ℕ → ℕ) (x : ℕ → ℕ) (s : ℕ → Bool) → ((i : ℕ) → i < n → key i < m)
     → sumNat m (λ z. only (s z) (sumNat n (λ i. only (eqb (key i) z) (x i)))) ≡ sumNat n (λ i. only (s (key i)) (x i))
 gather n m key x s h =
@@ -132,7 +133,7 @@ gather n m key x s h =
     (λ i l. sum-ext m (λ z. only (s z) (only (eqb (key i) z) (x i))) (λ z. only (eqb (key i) z) (only (s z) (x i))) (λ z p. only-both (s z) (eqb (key i) z) (x i))
     ∙ sum-key m (key i) (λ z. only (s z) (x i)) (h i l))
 
--- AN INTEGER SUM is that of its terms above zero less that of its terms below
+-- AN INTEGER SUM is the sum of its positive terms less the sum of its negative ones
 pub sum-parts : (f : ℕ → ℤ) (n : ℕ) → up (sumTo n f) + sumNat n (λ z. dn (f z)) ≡ sumNat n (λ z. up (f z)) + dn (sumTo n f)
 unfolding sumTo sumNat
 sum-parts f zero = refl

@@ -1,4 +1,5 @@
--- The order of ℤ: products of numbers that are not negative, the larger of two, and the machine's test `ltZ` read as the order. Assumes nothing.
+-- The order of ℤ: products of numbers that are not negative, the larger of two, and the machine's test `ltZ` as the
+-- order. Assumes nothing.
 use mathlib.Core.Path.{_≡_, refl}
 use mathlib.Core.Bool.{Bool, true, false, not, cond}
 use Prim.Native.Nat.{ℕ, _*_, _≤_}
@@ -16,7 +17,7 @@ le-trans {x} {y} {z} h k = le-by (at x) (at z) (omega (arith, le-fact (at x) (at
 pub le-antisym : {x y : ℤ} → x ≤ℤ y → y ≤ℤ x → x ≡ y
 le-antisym {x} {y} h k = eq-by (at x) (at y) (omega (arith, le-fact (at x) (at y) h, le-fact (at y) (at x) k))
 
--- what is left of a larger number
+-- a larger number less a smaller
 pub diff-nonneg : {x y : ℤ} → x ≤ℤ y → pos 0 ≤ℤ (y -ℤ x)
 diff-nonneg {x} {y} h = le-by (at (pos 0)) (at y ⊖ at x) (omega (arith, le-fact (at x) (at y) h))
 
@@ -54,7 +55,7 @@ larger-left a b = cond-ind (ltZ a b) b a (λ z. a ≤ℤ z) (λ t. lt-le a b t) 
 pub larger-right : (a b : ℤ) → b ≤ℤ larger a b
 larger-right a b = cond-ind (ltZ a b) b a (λ z. b ≤ℤ z) (λ t. ≤ℤ-refl b) (λ t. ltZ-no t)
 
--- the larger of two, less the one and less the other
+-- the larger of two, less either of them
 pub larger-less-left : (a b : ℤ) → larger a b -ℤ a ≡ positive (b -ℤ a)
 larger-less-left a b = le-antisym
     (cond-ind (ltZ a b) b a (λ z. (z -ℤ a) ≤ℤ positive (b -ℤ a)) (λ t. larger-right (pos 0) (b -ℤ a)) (λ t. le-trans (le-by (at a ⊖ at a) (at (pos 0)) (omega arith)) (larger-left (pos 0) (b -ℤ a))))
@@ -65,11 +66,11 @@ larger-less-right a b = le-antisym
     (cond-ind (ltZ a b) b a (λ z. (z -ℤ b) ≤ℤ positive (a -ℤ b)) (λ t. le-trans (le-by (at b ⊖ at b) (at (pos 0)) (omega arith)) (larger-left (pos 0) (a -ℤ b))) (λ t. larger-right (pos 0) (a -ℤ b)))
     (cond-ind (ltZ (pos 0) (a -ℤ b)) (a -ℤ b) (pos 0) (λ z. z ≤ℤ (larger a b -ℤ b)) (λ t. less-le b (larger-left a b)) (λ t. diff-nonneg (larger-right a b)))
 
--- what is not below zero is its own positive part
+-- a number that is not negative is its own positive part
 pub positive-nat : (n : ℕ) → positive (pos n) ≡ pos n
 positive-nat n = cond-ind (ltZ (pos 0) (pos n)) (pos n) (pos 0) (λ z. z ≡ pos n) (λ t. refl) (λ t. le-antisym (le-by (at (pos 0)) (at (pos n)) (omega arith)) (ltZ-no t))
 
--- a natural number times what is above zero
+-- a natural number times a positive part
 pub times-positive : (k : ℕ) (x : ℤ) → pos k *ℤ positive x ≡ positive (pos k *ℤ x)
 times-positive k x = le-antisym
     (cond-ind (ltZ (pos 0) x) x (pos 0) (λ z. (pos k *ℤ z) ≤ℤ positive (pos k *ℤ x)) (λ t. larger-right (pos 0) (pos k *ℤ x))

@@ -10,14 +10,14 @@ use Rattle.base_integers.specs.Steps.Difference.{at, le-by}
 use Rattle.base_integers.specs.Steps.Order.{le-antisym}
 use Rattle.base_integers.specs.Meaning.Ranges.{Range, range, outside, Within, isZero}
 
--- a test by its value, and back
+-- a test by its value, and conversely
 pub is-true : {b : Bool} → b ≡ true → T b
 is-true e = subst T (sym e) tt
 
 pub is-false : {b : Bool} → b ≡ false → T (not b)
 is-false e = subst (λ (b : Bool). T (not b)) (sym e) tt
 
--- of a flag whose negation was found set
+-- for a flag whose negation is set
 pub not-some : (b : Bool) {f : Bool} → b ≡ f → not b ≡ true → T (not f)
 not-some true e q = absurd (is-true q)
 not-some false e q = is-false (sym e)
@@ -65,7 +65,7 @@ within r x t = record {
   le-greatest = ltZ-no (nor-right (ltZ x (r .least)) (ltZ (r .greatest) x) t);
 }
 
--- and back
+-- and conversely
 le-not-lt : (a b : ℤ) → b ≤ℤ a → T (not (ltZ a b))
 le-not-lt (pos a) (pos b) h = not-T (ltb a b) (λ t. never (ltb→lt a b t) (leb→le b a (h .le)))
   where

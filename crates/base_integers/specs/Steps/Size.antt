@@ -1,5 +1,5 @@
--- How far an integer is from zero: `Near k z` is -k ≤ z ≤ k, in a form that `omega` reads. Sums, products, gathered sums, and that such a number fits a
--- signed width. Assumes nothing.
+-- How far an integer is from zero: `Near k z` is -k ≤ z ≤ k, in a form that `omega` reads. Sums, products, sums by
+-- key; such a number fits a signed width. Assumes nothing.
 use mathlib.Core.Path.{_≡_, sym, _∙_}
 use mathlib.Core.Bool.{Bool, true, false, not, cond}
 use native.Mathlib.Decide.{decLt}
@@ -65,8 +65,8 @@ near-fits w {k} {z} h a = record { sfits = omega (arith, near-mag z k a) }
 pub near-within : (k : ℕ) (r : Range) (x : ℤ) → Near k (r .least) → Near k (r .greatest) → Within r x → Near k x
 near-within k r x a b w = omega (arith, le-fact (at (r .least)) (at x) (w .least-le), le-fact (at x) (at (r .greatest)) (w .le-greatest))
 
--- amounts gathered by their keys and weighed, key by key: the first m of these, though there be keys past them, are no farther from zero than
--- the amounts weighed one by one
+-- amounts added up by key and weighed key by key: the first m keys, even if there are more, are no farther from
+-- zero than the amounts weighed one by one
 pub near-gathered : (n m k : ℕ) (key : ℕ → ℕ) (x w : ℕ → ℤ) → ((i : ℕ) → i < n → key i < m → Near k (x i *ℤ w (key i)))
     → Near (n * k) (sumTo m (λ z. sumTo n (λ i. only (eqb (key i) z) (x i)) *ℤ w z))
 near-gathered n m k key x w h = rw swapped (near-sum n k _ each)
@@ -109,7 +109,7 @@ near-only false k x h = near-le (omega arith) (near-pos 0)
 pub near-unsigned : (n k : ℕ) → n ≤ k → Near k (pos n)
 near-unsigned n k h = near-le h (near-pos n)
 
--- what is read as a signed number of 32 bits, whatever the bits
+-- any 32 bits read as a signed number
 pub near-32 : (v : ℕ) → Near 2147483648 (toZ w32 v)
 near-32 v = by (ltb v 2147483648) (ltb→lt v 2147483648) (nltb→le v 2147483648)
   where

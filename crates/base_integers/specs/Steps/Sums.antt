@@ -1,5 +1,6 @@
--- Sums of integers over the indices below a count, in the order in which a loop adds them: `sumTo (suc n) f` is `sumTo n f` plus `f n`.
--- A loop's invariant is `total ≡ sumTo i f`, and a turn is `sum-more`. `gather` turns sums by key into one sum over the entries. Assumes nothing.
+-- Sums of integers over the indices below a count, in the order in which a loop adds them: `sumTo (suc n) f` is
+-- `sumTo n f` plus `f n`. A loop's invariant is `total ≡ sumTo i f`, and a turn is `sum-more`. `gather` turns sums
+-- by key into one sum over the entries. Assumes nothing.
 use mathlib.Core.Path.{_≡_, refl, sym, ap, _∙_}
 use mathlib.Core.Logic.{_≢_}
 use mathlib.Core.Bool.{Bool, true, false, not, _&&_}
@@ -85,7 +86,7 @@ off-term k z x c h = ap (λ (y : ℤ). y *ℤ c) (only-off (eqb k z) x (λ t. h 
 pub sum-none : (n k : ℕ) (x : ℤ) (w : ℕ → ℤ) → n ≤ k → sumTo n (λ z. only (eqb k z) x *ℤ w z) ≡ pos 0
 sum-none n k x w h = sum-ext n (λ z. only (eqb k z) x *ℤ w z) (λ z. pos 0) (λ z l. off-term k z x (w z) (omega arith)) ∙ sum-zero n
 
--- of all z the one that is k is left
+-- among all z only the one equal to k is left
 pub sum-only : (n k : ℕ) (x : ℤ) (w : ℕ → ℤ) → k < n → sumTo n (λ z. only (eqb k z) x *ℤ w z) ≡ x *ℤ w k
 unfolding sumTo
 sum-only zero k x w h = absurd (f k h)
@@ -103,7 +104,7 @@ sum-only (suc n) k x w h = elim (decLt k n) [ yes l ↦ inside l (sum-only n k x
     last : k ≡ n → before +ℤ only (eqb k n) x *ℤ w n ≡ x *ℤ w k
     last e = cc (sum-none n k x w (omega arith), only-on (eqb k k) x (eqb-refl k), e, eq-by (at (pos 0) ⊕ at (x *ℤ w k)) (at (x *ℤ w k)) (omega arith))
 
--- amounts gathered by their keys, each gathered sum weighed: the same as each amount weighed at its key
+-- adding amounts up by key and weighing each sum is weighing each amount at its key
 pub gather : (n m : ℕ) (key : ℕ → ℕ) (x w : ℕ → ℤ) → ((i : ℕ) → i < n → key i < m)
     → sumTo m (λ z. sumTo n (λ i. only (eqb (key i) z) (x i)) *ℤ w z) ≡ sumTo n (λ i. x i *ℤ w (key i))
 gather n m key x w h =
@@ -144,7 +145,7 @@ only-swap true false x = refl
 only-swap false true x = refl
 only-swap false false x = refl
 
--- all terms but the one at k are zero
+-- only the term at k is not zero
 pub sum-one : (n k : ℕ) (f : ℕ → ℤ) → k < n → ((i : ℕ) → i < n → k ≢ i → f i ≡ pos 0) → sumTo n f ≡ f k
 sum-one n k f h off =
     sum-ext n f (λ i. only (eqb k i) (pos 1) *ℤ f i) (λ i l. pick (eqb k i) (f i) (λ t. off i l (λ e. T-not (eqb k i) t (rw e (eqb-refl i)))))
@@ -154,16 +155,16 @@ sum-one n k f h off =
     pick true x g = eq-by (at x) (at (pos 1) ⊗ at x) (omega arith)
     pick false x g = g tt ∙ eq-by (at (pos 0)) (at (pos 0) ⊗ at x) (omega arith)
 
--- of all z the one that is k is left, with no weight
+-- the same without weights
 pub sum-key : (n k : ℕ) (x : ℤ) → k < n → sumTo n (λ z. only (eqb k z) x) ≡ x
 sum-key n k x h = sum-one n k (λ z. only (eqb k z) x) h (λ i l ne. only-off (eqb k i) x (λ t. ne (eqb→eq k i t))) ∙ only-on (eqb k k) x (eqb-refl k)
 
--- what each of n gets from the others, less what it gives them, sums to zero
+-- the exchanges of n with each other, in less out, sum to zero
 pub sum-exchanged : (n : ℕ) (f : ℕ → ℕ → ℤ) → sumTo n (λ l. sumTo n (λ k. f k l) -ℤ sumTo n (λ k. f l k)) ≡ pos 0
 sum-exchanged n f = sum-sub n (λ l. sumTo n (λ k. f k l)) (λ l. sumTo n (λ k. f l k))
     ∙ (rw (sum-swap n n (λ l k. f k l)) (eq-by (at (sumTo n (λ l. sumTo n (λ k. f l k))) ⊖ at (sumTo n (λ l. sumTo n (λ k. f l k)))) (at (pos 0)) (omega arith)))
 
--- a sum of sums with a weight on each side, taken the other way
+-- a double sum with a weight on each side, in the other order
 pub sum-weights : (n m : ℕ) (a b : ℕ → ℤ) (g : ℕ → ℕ → ℤ) → sumTo n (λ z. a z *ℤ sumTo m (λ j. g j z *ℤ b j)) ≡ sumTo m (λ j. sumTo n (λ z. g j z *ℤ a z) *ℤ b j)
 sum-weights n m a b g =
     sum-ext n _ _ (λ z l. sym (sum-scale-l m (λ j. g j z *ℤ b j) (a z)))

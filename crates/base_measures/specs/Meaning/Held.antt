@@ -1,4 +1,4 @@
--- What a constructor of a measure answers: the number held, or that it lies outside its range. Assumes nothing.
+-- What a constructor of a measure answers: the number, or that it is outside its range. Assumes nothing.
 use mathlib.Core.Bool.{Bool, true, false}
 use lib.IntN.{ℤ}
 use Rattle.base_integers.specs.Meaning.Ranges.{Range, outside}
@@ -21,7 +21,7 @@ use Rattle.base_measures.specs.declared.Share.{Share}
 use Rattle.base_measures.specs.declared.ShareAnswer.{ShareAnswer}
 use Rattle.base_measures.specs.declared.ShareAnswer.the-variants as share
 
--- one of two answers, by the test that the number lies outside its range
+-- one of two answers, by the test whether the number is outside its range
 abbrev pub heldBy : {A : Type 0} → A → A → Bool → A
 heldBy refused held true = refused
 heldBy refused held false = held

@@ -1,4 +1,4 @@
--- The answers of a measure's constructors read back, and a range of money asked in cents. Assumes nothing.
+-- What the answers of a measure's constructors imply, and a range of money asked in cents. Assumes nothing.
 use mathlib.Core.Path.{_≡_, refl, sym, _∙_}
 use mathlib.Core.Bool.{Bool, true, false, _||_}
 use Prim.Native.Nat.{ℕ, _*_}
@@ -8,7 +8,7 @@ use borrow.Author.Tests.{lt-ltb, le-ltb}
 use lib.Dec.{ltb}
 use lib.IntN.{ℤ, pos}
 use Rattle.base_integers.specs.Meaning.Ranges.{range, outside}
-use Rattle.base_measures.specs.Meaning.Limits.{microcentsOf}
+use Rattle.base_limits.specs.Meaning.Limits.{microcentsOf}
 use Rattle.base_measures.specs.Meaning.Held.{heldBy, tenthsBy, centsBy, grainsBy, microcentsBy, ptdfBy, shareBy}
 use Rattle.base_measures.specs.declared.Tenths.{Tenths}
 use Rattle.base_measures.specs.declared.TenthsAnswer.{TenthsAnswer}
@@ -29,7 +29,7 @@ use Rattle.base_measures.specs.declared.Share.{Share}
 use Rattle.base_measures.specs.declared.ShareAnswer.{ShareAnswer}
 use Rattle.base_measures.specs.declared.ShareAnswer.the-variants as share
 
--- an answer read back, where the two answers differ: by the one that refuses, and by any that does not
+-- what an answer implies, where the two answers differ: the refusal, and any other
 by-refused : {A : Type 0} {refused held : A} → (held ≡ refused → false ≡ true) → (b : Bool) → heldBy refused held b ≡ refused → b ≡ true
 by-refused differ true e = refl
 by-refused differ false e = differ e
@@ -38,7 +38,7 @@ by-held : {A : Type 0} {refused held got : A} → (refused ≡ got → true ≡ 
 by-held differ true e = let d = differ e in (d, cc)
 by-held differ false e = (refl, e)
 
--- the same of each measure
+-- the same for each measure
 pub tenths-outside : (x : ℤ) (b : Bool) → tenthsBy x b ≡ tenths.Outside → b ≡ true
 tenths-outside x = by-refused (λ d. cc)
 

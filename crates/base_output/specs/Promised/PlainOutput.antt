@@ -1,4 +1,4 @@
--- A LENT OUTPUT BYTE BY BYTE: a byte is `getD out k 0`, the number at place k, counted from 0. Assumes nothing.
+-- A LENT OUTPUT BYTE BY BYTE: `getD out k 0` is the byte at place k, counted from 0. Assumes nothing.
 use mathlib.Core.Path.{_≡_, refl, sym, ap, _∙_}
 use mathlib.Core.List.{List, _++_}
 use mathlib.Core.Option.{none, some}
@@ -9,7 +9,7 @@ use lib.Seq.{getD-append-add, getD-drop}
 use Rattle.base_causes.specs.declared.Outcome.{Outcome}
 use Rattle.base_output.specs.Meaning.Output.{writtenBy, outputAfter}
 
--- `bytes` stand from place 0 on, and all past them is as it was
+-- `bytes` stand from place 0 on, and all past them is unchanged
 pub record Wrote (bytes out after : List ℕ) : Type 0 where
   pub written-at : (k : ℕ) → k < length bytes → getD after k 0 ≡ getD bytes k 0
   pub past-it : (k : ℕ) → length bytes ≤ k → getD after k 0 ≡ getD out k 0

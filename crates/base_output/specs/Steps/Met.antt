@@ -1,4 +1,5 @@
--- WHAT IS OWED OF AN ANSWER of an entry that writes into a lent output, where it refuses and where it answers. Assumes nothing.
+-- WHAT AN ANSWER MUST MEET, for an entry that writes into a lent output, where it refuses and where it answers.
+-- Assumes nothing.
 use mathlib.Core.Path.{_≡_, sym, ap, _∙_}
 use mathlib.Core.List.{List, _++_}
 use mathlib.Core.Option.{Option, none, some}
@@ -12,7 +13,7 @@ use Rattle.base_causes.specs.Meaning.Causes.{verdict, answer}
 use Rattle.base_output.specs.declared.Written.{Written}
 use Rattle.base_output.specs.Meaning.Output.{writtenBy, outputAfter}
 
--- with the refusal if there is one and the bytes of the answer: number and index, length, every byte of the output
+-- from the refusal, if any, and the bytes of the answer: number and index, length, every byte of the output
 abbrev pub Met : Option Outcome → List ℕ → List ℕ → Written → List ℕ → Type 0
 Met o bytes out r after =
     (verdict (r .number) (r .index) ≡ answer o)

@@ -1,4 +1,5 @@
--- The pairs of zones seen so far, as a set of zones for each zone: zone b is in the set of zone a where a pair before goes from a to b. Assumes nothing.
+-- The pairs of zones seen so far, as a set of zones for each zone: zone b is in the set of zone a if an earlier
+-- pair goes from a to b. Assumes nothing.
 use mathlib.Core.Path.{_≡_, refl, sym, ap, _∙_}
 use mathlib.Core.Bool.{Bool, true, false, _&&_, _||_, or-false}
 use mathlib.Core.List.{List}
@@ -38,7 +39,7 @@ blank zero a = refl
 blank (suc n) zero = refl
 blank (suc n) (suc a) = blank n a
 
--- THE PAIRS SEEN: the first l, of which pair j goes from `from j` to `to j`
+-- THE PAIRS SEEN: the first l; pair j goes from `from j` to `to j`
 abbrev pub samePair : (ℕ → ℕ) → (ℕ → ℕ) → ℕ → ℕ → ℕ → Bool
 samePair from to a b j = eqb (from j) a && eqb (to j) b
 

@@ -89,7 +89,7 @@ and-false false = refl
 pub member-none : (b : ℕ) → member 0 b ≡ false
 member-none b = ap (λ (n : ℕ). ltb b 16 && eqb (n % 2) 1) (zero-div (2 ^ b)) ∙ and-false (ltb b 16)
 
--- A ZONE THAT IS THERE ALREADY changes nothing, and another does
+-- A ZONE THAT IS ALREADY THERE changes nothing, another does
 absorbed : (t x : ℕ) → bit x t ≡ 1 → bitOr x (2 ^ t) ≡ x
 absorbed zero x e = or-step x 1 ∙ (λ i. or-zero-r (x / 2) i * 2 + max (odd i) 1) ∙ ap (λ (n : ℕ). x / 2 * 2 + n) (sym odd) ∙ div-add-mod' x 2
   where

@@ -1,5 +1,6 @@
--- THE SURPLUS OF TWO BOOKS JOINED IS THE SUM OF THEIRS (request S-9), in the entry's own answer: for good rows at the same prices, at most 512 together, and in
--- either order. Where the prices are refused all three sums are 0, so of the sums nothing is asked of the prices. Assumes nothing.
+-- THE SURPLUS OF TWO BOOKS JOINED IS THE SUM OF THEIRS (request S-9), in the entry's own answer: for good rows at
+-- the same prices, at most 512 together, in either order. Where the prices are refused all three sums are 0, so the
+-- law of the sums needs no good prices. Assumes nothing.
 use mathlib.Core.Path.{_≡_, refl, sym, ap, subst, _∙_}
 use mathlib.Core.List.{List, [], _∷_, _++_, map}
 use mathlib.Core.Option.{Option, none, some}
@@ -75,7 +76,8 @@ either-order prices a b g h l =
     let turned = eq-by (at (earned prices b) ⊕ at (earned prices a)) (at (earned prices a) ⊕ at (earned prices b)) (omega arith) in
     joined-is prices b a h g (omega arith) ∙ ap (λ (x : ℤ). answerWith prices x (priceRefusal prices)) turned ∙ sym (joined-is prices a b g h l)
 
--- AS A HOST MEETS IT: two books that are answered with 0 at the same prices, at most 512 rows together, are answered with 0 joined
+-- FOR A HOST: two books that are answered 0 at the same prices, with at most 512 rows together, are answered 0
+-- joined
 pub accepted-good : (prices : List ℤ) (orders : List OrderRow) → (lentAnswer orders prices) .number ≡ 0 → GoodRows orders prices × GoodPrices prices
 unfolding lentAnswer bookRefusal bookCauses lacks causeNumbered rowOf isCause
 accepted-good prices orders e =

@@ -1,5 +1,5 @@
--- S-9, TWO BOOKS JOINED, in plain numbers: "as long as each row is good and together they have at most 512". A good row
--- and a good price are those of `PlainBook` of `rules`, with their numbers. Assumes nothing.
+-- S-9, TWO BOOKS JOINED, in plain numbers: "as long as each row is good and together they have at most 512".
+-- `PlainBook` of `rules` has the numbers of a good row and a good price. Assumes nothing.
 use mathlib.Core.Path.{_≡_}
 use mathlib.Core.Logic.{_↔_}
 use mathlib.Core.List.{List, _++_, map}
@@ -37,6 +37,6 @@ module _ (prices : List ℤ) (a b : List OrderRow) (good : plain.GoodRows (map b
   pub turned-the-same : lentAnswer (b ++ a) prices ≡ lentAnswer (a ++ b) prices
   turned-the-same = either-order prices a b (good-rows-are a prices .1 (good .0)) (good-rows-are b prices .1 (good .1)) few
 
-  -- and at good prices the joined book is answered, by number 0
+  -- at good prices the joined book is answered 0
   pub answered-joined : PricesGood prices → lentAnswer (a ++ b) prices ≡ answered 0 0 (sumOf a prices +ℤ sumOf b prices)
   answered-joined p = joined-answer prices a b (good-rows-are a prices .1 (good .0)) (good-rows-are b prices .1 (good .1)) few (good-prices-are a prices .1 p)

@@ -1,5 +1,6 @@
--- Two lists of rows joined, in the terms of `rules`: each row of the joined list is a row of one of the two, so its rows are good and its surplus is the sum
--- of theirs; and with good rows, and few, a book is refused by its prices alone. Assumes nothing.
+-- Two lists of rows joined, in the terms of `rules`. Each row of the joined list is a row of one of the two, so its
+-- rows are good and its surplus is the sum of theirs. With good rows, and few, only its prices can refuse a book.
+-- Assumes nothing.
 use mathlib.Core.Path.{_≡_, sym, ap, subst, _∙_}
 use mathlib.Core.Bool.{Bool, false, not, _||_}
 use mathlib.Core.List.{List, [], _∷_, _++_}
@@ -16,7 +17,7 @@ use Rattle.base_integers.specs.Meaning.Ranges.{outside}
 use Rattle.base_integers.specs.Steps.Ranges.{not-is}
 use Rattle.base_integers.specs.Meaning.Sums.{sumTo}
 use Rattle.base_integers.specs.Steps.Sums.{sum-ext, sum-split}
-use Rattle.base_measures.specs.Meaning.Limits as limits
+use Rattle.base_limits.specs.Meaning.Limits as limits
 use Rattle.rules.specs.Meaning.Layout.{zoneCounts, orderCounts}
 use Rattle.rules.specs.Meaning.Hour.{surplusOf}
 use Rattle.base_causes.specs.declared.Outcome.{Outcome}
@@ -29,7 +30,7 @@ use Rattle.book_joined.specs.Meaning.GoodBook.{GoodPrices}
 abbrev pub AllGood : List BookRow → List ℤ → Type 0
 AllGood rows prices = (i : ℕ) → i < length rows → T (not (badBookRow rows prices i))
 
--- a row and what it earns, by the row alone
+-- a row's test and its surplus, from the row alone
 badOf : List ℤ → BookRow → Bool
 badOf prices r = badRow (length prices) (r .zone) (r .side) (r .quantity) (r .price)
 

@@ -1,11 +1,13 @@
--- `book_lent::book_surplus` meets its contract: a walk of its MIR, by hand, with a loop and four calls, over a slice of structs and a slice of numbers.
--- In each turn the state is asked whether a row is read. If so, the slice of rows is looked into, one row is copied out, the slice is shut again, and
--- `add_row` is called. All that the walk knows of the four callees is that they meet their contracts; that the state closed where it asks for no more rows
--- is the answer, and that it has room for each row that is read and counts it, are laws of `book_surplus` (`closing`, `ready`, `reading`).
---     acc i        the state after i rows.      At i    what is had at the loop's head after i turns
+-- `book_lent::book_surplus` meets its contract. The proof walks the MIR by hand: a loop and four calls, over a
+-- slice of structs and a slice of numbers. Each turn asks the state whether to read a row. If so, it opens the
+-- slice of rows, copies one row out, closes the slice and calls `add_row`. Of the four callees the walk uses only
+-- their contracts. Laws of `book_surplus` say the rest: the state closed where it asks for no more rows is the
+-- answer (`closing`), it has room for each row that is read (`ready`) and counts it (`reading`).
+--     acc i        the state after i rows.      At i    what holds at the loop's head after i turns
 --     asks         the start of a turn, with the state's answer
 --     more, ends   a turn that takes a row, and the turn that leaves the loop, with the rest of the body
--- The slice of prices is Copy: a copy of what it owns goes to each callee, beside its lifetime's token, which comes back. Assumes nothing.
+-- The slice of prices is Copy: each callee gets a copy of what it owns and its lifetime's token, and gives the
+-- token back. Assumes nothing.
 use mathlib.Core.Path.{_≡_, refl, sym, _∙_, ap, subst}
 use Prim.Native.Nat.{ℕ, zero, suc, _+_, _*_, _≤_, _<_, _^_}
 use native.Mathlib.Nat.{lt-suc-self}
@@ -100,7 +102,7 @@ scaled i n h k = omega arith
 none-left : (i n : ℕ) → i + 0 ≡ n → i < n → ⊥
 none-left i n e h = omega (arith, e)
 
--- the machine value of an state, and what is known where a callee gave one
+-- the machine value of a state, and what is known of a callee's state
 abbrev low : BookState → Val
 low a = LL.tuple-val N.the-type N′.the-laws (N.the-type .to a)
 
@@ -122,7 +124,7 @@ slice = sliceTy (tyRef (named 0) imm (pointee (T.the-row .written)))
 abbrev slice₂ : Ty
 slice₂ = sliceTy (tyRef (named 1) imm word)
 
--- the function, with its locals' types written as here: `code.function` by computation
+-- the function, with the types of its locals as written here: `code.function` by computation
 abbrev fn : Fn
 fn = record {
   lifetimes = 2;
@@ -138,7 +140,7 @@ fn-is = refl
 abbrev turn : Body
 turn = code-mir.turn-1
 
--- what follows a first statement; and so what follows in a turn once the state was asked
+-- the statements after the first, and so the rest of a turn after the state was asked
 abbrev second : Body → Body
 second (seq s t) = t
 second skip = skip
@@ -280,7 +282,7 @@ module _ {M : Type 1} (𝓤 : URA M) (H : Heap 𝓤) (A : Atoms 𝓤) (W : Given
           ∷ ‵ (flft κ′ q′) ∷ ‵ Own₂ ∷ ‵ (fat fullShare slice₂ l₂ 0 pv) ∷ ‵ (fat fullShare word l₅ 0 (vint w64 n))
           ∷ ‵ (fdies S′.mir l₀) ∷ ‵ (fdies slice l₁) ∷ ‵ (fdies slice₂ l₂) ∷ ‵ (fdies N′.mir l₃) ∷ ‵ (fdies word l₄) ∷ ‵ (fdies word l₅) ∷ ‵ (fdies tyBool l₆) ∷ ‵ (fdies word l₇) ∷ ‵ (fdies tyPtr l₈) ∷ ‵ (fdies T′.mir l₉) ∷ []
 
-      -- after i turns, with what `_6` and `_7` have
+      -- after i turns, with the values of `_6` and `_7`
       abbrev Turned : ℕ → Fml → Fml → List (Item 𝓤)
       Turned i c d = ‵ (fshr-bor κ (λ s. arr-parts (shares T.the-row) n .part s ys b o)) ∷ ‵ (flft κ q) ∷ ‵ (fat fullShare N′.mir l₃ 0 (low (acc i))) ∷ ‵ (fat fullShare word l₄ 0 (vint w64 i))
           ∷ ‵ c ∷ ‵ d ∷ ‵ (froom tyPtr l₈ 0) ∷ ‵ (froom T′.mir l₉ 0) ∷ Frame
@@ -314,7 +316,7 @@ module _ {M : Type 1} (𝓤 : URA M) (H : Heap 𝓤) (A : Atoms 𝓤) (W : Given
           assigns ! (of-opd ! (load ! (from ! (fld ! refl (stop !))) (look-in ! 8 (sub ! 1 refl (whole !))))) (from ! (stop !)) (init ! 5 refl (tt, record { fits = g .0 })) $
           nothing ! $ owned ! usize (Is usize) (uint-makes 𝓤 H A W w64) n (vint w64 n ∷ []) (refl, g .0) $ fjoin ! $ owned ! usize (Is usize) (uint-makes 𝓤 H A W w64) i (vint w64 i ∷ []) (refl, omega (arith, h, g .0)) $ fjoin ! $
           owned ! N.the-row (Is N.the-row) (LL.makes N.the-type N′.the-plain 𝓤 H A) (acc i) (low (acc i) ∷ []) good $ fjoin ! $ nothing ! $ use2 W (raw (Asks 𝓤 H A mem run .pre (to-ask i))) (asks-ask i) $
-          -- [what is asked; the fractured borrow; the token; acc; i; _6; _7; …]
+          -- [the callee's demands; the fractured borrow; the token; acc; i; _6; _7; …]
           calls-at ! (fmOf 𝓤 H (W .laws) 𝓣) (Asks 𝓤 H A mem run) known-ask (to-ask i) (and-then ! (load ! (from ! (stop !)) (look ! 3 refl)) (and-then ! (load ! (from ! (stop !)) (look ! 4 refl)) (and-then ! (load ! (from ! (stop !)) (look ! 6 refl)) (no-more !)))) (λ u.
           use1 W (later (some (λ (r : Bool). (‵ ftrue ⊛ ‵ (bool .own r (u ∷ []))) ⊛ raw (ensured 𝓤 H A asking.ended (asking.clauses 𝓤 H A mem run) tt (acc i, (i, (n, tt))) tt r)))) (id⊢ 𝓤 _) $ await ! tt $ pick ! (λ r.
           split ! $ move ! (1 ∷ []) $ use1 W (raw (fact 𝓤 (r ≡ asksRow (acc i) i n))) (says-ask i r) $ heard ! (r ≡ asksRow (acc i) i n) (λ e₁. split ! $ drop-item ! $
@@ -336,17 +338,20 @@ module _ {M : Type 1} (𝓤 : URA M) (H : Heap 𝓤) (A : Atoms 𝓤) (W : Given
           -- [orders[i]; what it owns; the others; what shuts; the fractured borrow; acc; i; _6; _7; _8; _9; _1; …]
           assigns ! (of-opd ! (load ! (from ! (hop ! (look ! 9 refl) (stop !))) (look-raw ! 0 refl))) (from ! (stop !)) (init ! 10 refl (LL.lawful T.the-type T′.the-laws 𝓤 H A W .typed (elem i) (mach i ∷ []) e .0)) $
           elem-back ! T.the-row s ys i noOrder (mach i ∷ []) b o small $ shuts-slice ! tt T.the-row s ys b o $
-          -- [the token; the fractured borrow; acc; i; _6; _7; _8; _9; _1; room for _0; res; the slice's fact; the other token; what prices owns; _2; _5; …]: what the callee asks is made
+          -- [the token; the fractured borrow; acc; i; _6; _7; _8; _9; _1; room for _0; res; the slice's fact; the
+          -- other token; what prices owns; _2; _5; …]: now what the callee requires
           move ! (13 ∷ []) $ use1 W (‵ Own₂ ⊛ ‵ Own₂) (shr-slice-copy 𝓤 H A W (named 1) κ′ i64 .twice p (pv ∷ [])) $ split ! $ nothing ! $ move ! (1 ∷ 0 ∷ []) $ fjoin ! $
           owned ! T.the-row (Is T.the-row) (LL.makes T.the-type T′.the-plain 𝓤 H A) (elem i) (mach i ∷ []) e $ fjoin ! $ owned ! N.the-row (Is N.the-row) (LL.makes N.the-type N′.the-plain 𝓤 H A) (acc i) (low (acc i) ∷ []) good $ fjoin ! $
           move ! (14 ∷ []) $ nothing ! $ move ! (1 ∷ 0 ∷ []) $ join ! $ use2 W (raw (Adds 𝓤 H A mem run .pre (to-add i))) (asks-add i wanted) $
-          -- [what is asked; what prices owns; the token; the fractured borrow; acc; i; _6; _7; _8; _9; _1; room for _0; res; the slice's fact; _2; _5; …]
+          -- [the callee's demands; what prices owns; the token; the fractured borrow; acc; i; _6; _7; _8; _9; _1;
+          -- room for _0; res; the slice's fact; _2; _5; …]
           calls-at ! (fmOf 𝓤 H (W .laws) 𝓣) (Adds 𝓤 H A mem run) known-add (to-add i) (and-then ! (load ! (from ! (stop !)) (look ! 4 refl)) (and-then ! (load ! (from ! (stop !)) (look ! 9 refl)) (and-then ! (load ! (from ! (stop !)) (look ! 14 refl)) (no-more !)))) (λ u.
           use1 W (later (some (λ (r : BookState). ((‵ (flft κ′ q′) ⊛ ‵ ftrue) ⊛ ‵ (N.the-row .own r (u ∷ []))) ⊛ raw (ensured 𝓤 H A adds.ended (adds.clauses 𝓤 H A mem run) (κ′, tt) (acc i, (elem i, (p, tt))) tt r)))) (id⊢ 𝓤 _) $ await ! tt $ pick ! (λ r.
           split ! $ move ! (1 ∷ []) $ use1 W (raw (fact 𝓤 (r ≡ addOf (acc i) (elem i) ps))) (says-add i r) $ heard ! (r ≡ addOf (acc i) (elem i) ps) (λ e₀. let e₁ : r ≡ acc (suc i) = e₀ ∙ reading ys ps i wanted in split ! $ move ! (1 ∷ []) $
           peeks ! N.the-row (Is N.the-row) (shows 𝓤 H A N.the-row) r (u ∷ []) (λ is.
           land ! (from ! (stop !)) (store ! 5 refl (LL.lawful N.the-type N′.the-laws 𝓤 H A W .typed r _ is .0)) $ drop-item ! $ split ! $
-          -- [the other token; true; what prices owns; the token; the fractured borrow; acc; i; _6; _7; _8; _9; _1; room for _0; res; the slice's fact; _2; _5; …]
+          -- [the other token; true; what prices owns; the token; the fractured borrow; acc; i; _6; _7; _8; _9; _1;
+          -- room for _0; res; the slice's fact; _2; _5; …]
           assigns-last ! (bin ! (load ! (from ! (stop !)) (look ! 6 refl)) (lit ! tt) (record { fits = next-fits })) (from ! (stop !)) (store ! 6 refl (tt, record { fits = next-fits })) $
           forget ! 7 refl $ forget ! 8 refl $ forget ! 9 refl $ forget ! 10 refl $
           rewrite ! 5 (λ (v : Val). ‵ (fat fullShare N′.mir l₃ 0 v)) (low-is r u is ∙ ap low e₁) refl $
@@ -367,7 +372,8 @@ module _ {M : Type 1} (𝓤 : URA M) (H : Heap 𝓤) (A : Atoms 𝓤) (W : Given
           calls-at ! (fmOf 𝓤 H (W .laws) 𝓣) (Closes 𝓤 H A mem run) known-close (to-close i) (and-then ! (load ! (from ! (stop !)) (look ! 3 refl)) (no-more !)) (λ u.
           use1 W (later (some (λ (r : Surplus). (‵ ftrue ⊛ ‵ (S.the-row .own r (u ∷ []))) ⊛ raw (ensured 𝓤 H A closes.ended (closes.clauses 𝓤 H A mem run) tt (acc i, tt) tt r)))) (id⊢ 𝓤 _) $ await ! tt $ pick ! (λ r.
           split ! $ move ! (1 ∷ []) $ use1 W (raw (fact 𝓤 (r ≡ closeOf (acc i)))) (says-close i r) $ heard ! (r ≡ closeOf (acc i)) (λ e. split ! $ drop-item ! $
-          -- [the result; the fractured borrow; the token; acc; i; _6; _7; _8; _9; _1; room for _0; res; the slice's fact; the other token; what prices owns; _2; _5; …]
+          -- [the result; the fractured borrow; the token; acc; i; _6; _7; _8; _9; _1; room for _0; res; the slice's
+          -- fact; the other token; what prices owns; _2; _5; …]
           peeks ! S.the-row (Is S.the-row) (shows 𝓤 H A S.the-row) r (u ∷ []) (λ is.
           land ! (from ! (stop !)) (init ! 10 refl (LL.lawful S.the-type S′.the-laws 𝓤 H A W .typed r _ is .0)) $
           returns ! (look ! 10 refl) $ forget ! 3 refl $ forget ! 4 refl $ forget ! 5 refl $ forget ! 6 refl $ forget ! 9 refl $ forget ! 10 refl $ forget ! 15 refl $ forget ! 16 refl $
@@ -398,7 +404,7 @@ module _ {M : Type 1} (𝓤 : URA M) (H : Heap 𝓤) (A : Atoms 𝓤) (W : Given
           (exI 𝓤 (λ (j : ℕ). guard 𝓤 (Facts n j) (⋆ 𝓤 H A (At j))) 0))
           (loop-rule 𝓤 H (W .laws) 𝓣 _<_ (Nat·lt-wfRel .wf) En turn Left Inv turns n)
 
-      -- the locals before the loop, with what `_3` has
+      -- the locals before the loop, with the value of `_3`
       abbrev Locals : Fml → List (Item 𝓤)
       Locals c = ‵ (froom T′.mir l₉ 0) ∷ ‵ (fdies T′.mir l₉) ∷ ‵ (froom tyPtr l₈ 0) ∷ ‵ (fdies tyPtr l₈) ∷ ‵ (froom word l₇ 0) ∷ ‵ (fdies word l₇) ∷ ‵ (froom tyBool l₆ 0) ∷ ‵ (fdies tyBool l₆)
           ∷ ‵ (fat fullShare word l₅ 0 (vint w64 n)) ∷ ‵ (fdies word l₅) ∷ ‵ (froom word l₄ 0) ∷ ‵ (fdies word l₄) ∷ ‵ c ∷ ‵ (fdies N′.mir l₃)
@@ -417,7 +423,7 @@ module _ {M : Type 1} (𝓤 : URA M) (H : Heap 𝓤) (A : Atoms 𝓤) (W : Given
           move ! (4 ∷ []) $ fsplit ! $ move ! (1 ∷ []) $ fsplit ! $
           keep ! (1 ∷ 5 ∷ 19 ∷ 17 ∷ 13 ∷ 11 ∷ 9 ∷ 7 ∷ 23 ∷ 25 ∷ 0 ∷ 2 ∷ 3 ∷ 6 ∷ 21 ∷ 15 ∷ 26 ∷ 24 ∷ 22 ∷ 20 ∷ 18 ∷ 16 ∷ 14 ∷ 12 ∷ 10 ∷ 8 ∷ []) $ by ! (loops (kept r (acc 0) u e is))
 
-      -- what the first callee asks, at the head
+      -- what the first callee requires, at the head
       abbrev Asking : List (Item 𝓤)
       Asking = raw (Opens 𝓤 H A mem run .pre to-open) ∷ ‵ (flft κ q) ∷ ‵ Own₂ ∷ ‵ Own ∷ Locals (froom N′.mir l₃ 0)
 
@@ -444,7 +450,7 @@ module _ {M : Type 1} (𝓤 : URA M) (H : Heap 𝓤) (A : Atoms 𝓤) (W : Given
       first =
           qed W Passed ∵ exec ! C Λ En code-mir.t-1 (atRet En Post) $
           assigns ! (of-opd ! (load ! (from ! (fld ! refl (stop !))) (look-in ! 16 (sub ! 1 refl (whole !))))) (from ! (stop !)) (init ! 8 refl (tt, record { fits = g .0 })) $
-          -- what the first callee asks is made
+          -- what the first callee requires
           move ! (21 ∷ []) $ fsplit ! $ move ! (1 ∷ []) $ fsplit ! $ use1 W (‵ Own₂ ⊛ ‵ Own₂) (shr-slice-copy 𝓤 H A W (named 1) κ′ i64 .twice p (pv ∷ [])) $ split ! $
           move ! (0 ∷ 2 ∷ []) $ fjoin ! $ owned ! usize (Is usize) (uint-makes 𝓤 H A W w64) n (vint w64 n ∷ []) (refl, g .0) $ fjoin ! $
           move ! (23 ∷ []) $ split ! $ move ! (1 ∷ 2 ∷ []) $ use2 W (raw (Opens 𝓤 H A mem run .pre to-open)) asks-open $ by ! called

@@ -1,10 +1,10 @@
--- `book_order::admit` meets its contract: each return goes by the tests passed on the way. Assumes nothing.
+-- `book_order::admit` meets its contract: each return follows from the tests passed before it. Assumes nothing.
 use mathlib.Core.Path.{_≡_, refl, ap, sym, _∙_}
 use mathlib.Core.Bool.{false}
 use borrow.Author.Tests.{le-leb, lt-leb, lt-ltb, le-ltb}
 use lib.IntN.{pos}
 use Rattle.base_integers.specs.Meaning.Ranges.{outside}
-use Rattle.base_measures.specs.Meaning.Limits as limits
+use Rattle.base_limits.specs.Meaning.Limits as limits
 use Rattle.base_measures.specs.Meaning.Held.{tenthsIn}
 use Rattle.base_measures.specs.Steps.Held.{tenths-outside, tenths-held, cents-outside, cents-held}
 use Rattle.book_order.specs.Meaning.Answer.{orderOf}
@@ -30,7 +30,7 @@ unsigned-requires c κs = search needs
 quantity-requires : tie.Need-quantity-requires
 quantity-requires c κs = search needs
 
--- what is answered for the quantity, in the terms of the row
+-- the answer for the quantity, in the terms of the row
 quantity-is : (c : tie.After-quantity) → c .quantity .result ≡ tenthsIn limits.quantity (pos (c .before .before .before .before .args .quantity))
 quantity-is c = c .quantity .ensures ∙ ap (tenthsIn limits.quantity) (c .before .unsigned .ensures)
 

@@ -1,4 +1,5 @@
--- `book_order::surplus` meets its contract: quantity and prices within their limits keep the product far below 2 ^ 63. Assumes nothing.
+-- `book_order::surplus` meets its contract: quantity and prices within their limits keep the product far below 2 ^
+-- 63. Assumes nothing.
 use mathlib.Core.Path.{_≡_, ap, sym, subst, _∙_}
 use native.Mathlib.Omega.{arith}
 use lib.IntN.{ℤ, _*ℤ_}
@@ -7,8 +8,8 @@ use Rattle.base_integers.specs.Meaning.Order.{positive}
 use Rattle.base_integers.specs.Meaning.Ranges.{Within}
 use Rattle.base_integers.specs.Steps.Size.{near-fits, near-mul, near-within}
 use Rattle.base_integers.specs.Steps.Machine.{sfits-by}
-use Rattle.base_measures.specs.Meaning.Limits.{grainsOf}
-use Rattle.base_measures.specs.Meaning.Limits as limits
+use Rattle.base_limits.specs.Meaning.Limits.{grainsOf}
+use Rattle.base_limits.specs.Meaning.Limits as limits
 use Rattle.rules.specs.Meaning.Hour.{above}
 use Rattle.rules.specs.Promised.Fits.{in-grains, near-above, near-zone-price}
 use borrow.Author.Needs.{needs}

@@ -1,4 +1,5 @@
--- `book_order::unit_gain` meets its contract: two prices of one range are no farther apart than its ends. Assumes nothing.
+-- `book_order::unit_gain` meets its contract: two prices of one range are no farther apart than its ends.
+-- Assumes nothing.
 use mathlib.Core.Path.{ap, sym, _∙_}
 use mathlib.Core.Bool.{Bool}
 use native.Mathlib.Omega.{arith}

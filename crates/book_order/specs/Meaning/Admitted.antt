@@ -1,7 +1,7 @@
--- Rule 8 of one order that is held by value.
+-- Rule 8 for one order, held by value.
 use lib.IntN.{ℤ, _*ℤ_}
 use Rattle.base_integers.specs.Meaning.Order.{positive}
-use Rattle.base_measures.specs.Meaning.Limits.{grainsOf}
+use Rattle.base_limits.specs.Meaning.Limits.{grainsOf}
 use Rattle.rules.specs.Meaning.Hour.{above}
 use Rattle.book_order.specs.declared.Order.{Order}
 

@@ -1,11 +1,11 @@
--- A row of an order book admitted: its answer read back, and its surplus. Assumes nothing.
+-- A row of an order book admitted: what its answer implies, and its surplus. Assumes nothing.
 use mathlib.Core.Path.{_≡_, refl, sym}
 use mathlib.Core.Bool.{Bool, true, false, _||_}
 use Prim.Native.Nat.{ℕ}
 use lib.Dec.{leb, ltb}
 use lib.IntN.{ℤ, pos}
 use Rattle.base_integers.specs.Meaning.Ranges.{outside}
-use Rattle.base_measures.specs.Meaning.Limits as limits
+use Rattle.base_limits.specs.Meaning.Limits as limits
 use Rattle.base_causes.specs.Meaning.Causes.{anyBelow}
 use Rattle.rules.specs.Meaning.Verdict.{rowFault, badRow}
 use Rattle.book_order.specs.declared.Order.{Order}
@@ -19,7 +19,7 @@ pub admitted-by : (n zone side quantity : ℕ) (price : ℤ) {a b e f : Bool}
 unfolding badRow rowFault anyBelow
 admitted-by n zone side quantity price ha hb he hf = sym (λ j. orderBy (orderOf zone side (pos quantity) price) (ha j || hb j || he j || hf j))
 
--- an answer read back: its test, and the order held
+-- what an answer implies: its test, and the order
 pub order-outside : (o : Order) (b : Bool) → orderBy o b ≡ Outside → b ≡ true
 order-outside o true e = refl
 order-outside o false e = cc

@@ -1,4 +1,4 @@
--- `book_surplus::add_row` meets its contract: each return goes by the tests passed on the way. Assumes nothing.
+-- `book_surplus::add_row` meets its contract: each return follows from the tests passed before it. Assumes nothing.
 use mathlib.Core.Path.{_≡_, ap, sym, subst, _∙_}
 use mathlib.Core.Bool.{false}
 use lib.ListN.{length}
@@ -33,7 +33,7 @@ returns c =
     c .refuse-row .ensures
     ∙ added-by (a .state) (a .row) (a .prices .now) (order-outside (rowOrder (a .row)) _ (sym (r .admit-row .ensures) ∙ c .before .enum-told .given .1))
 
--- the order that is held is the row's, and the row is in range
+-- the order is the row's, and the row is in range
 held : (c : tie.After-known-told)
     → (badIn (c .before .before .before .before .args .prices .now) (c .before .before .before .before .args .row) ≡ false)
     × (c .before .order .given .0 .0 ≡ rowOrder (c .before .before .before .before .args .row))

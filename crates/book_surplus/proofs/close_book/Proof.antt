@@ -1,4 +1,4 @@
--- `book_surplus::close_book` meets its contract: the sum counts where no refusal stands. Assumes nothing.
+-- `book_surplus::close_book` meets its contract: the sum counts where there is no refusal. Assumes nothing.
 use mathlib.Core.Path.{refl, _∙_}
 use borrow.Author.Tests.{eq-eqb, ne-eqb}
 use Rattle.book_surplus.specs.Steps.StateLaws.{closed-by}

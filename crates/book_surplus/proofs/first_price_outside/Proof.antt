@@ -1,11 +1,12 @@
--- `book_surplus::first_price_outside` meets its contract. The loop's invariant: no price before `zone` is out of range. Assumes nothing.
+-- `book_surplus::first_price_outside` meets its contract. The loop's invariant: no price before `zone` is out of
+-- range. Assumes nothing.
 use mathlib.Core.Path.{_≡_, refl, sym, _∙_}
 use mathlib.Core.Option.{none}
 use Prim.Native.Nat.{_-_, _≤_}
 use native.Mathlib.Omega.{arith}
 use lib.ListN.{length}
 use Rattle.base_integers.specs.Meaning.Ranges.{outside}
-use Rattle.base_measures.specs.Meaning.Limits as limits
+use Rattle.base_limits.specs.Meaning.Limits as limits
 use Rattle.rules.specs.Meaning.Book.{priceAt}
 use Rattle.base_causes.specs.Meaning.Causes.{firstBelow}
 use Rattle.base_causes.specs.Promised.CauseLaws.{first-here, first-later, first-nowhere}

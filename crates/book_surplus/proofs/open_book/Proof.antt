@@ -1,4 +1,5 @@
--- `book_surplus::open_book` meets its contract: each return goes by the tests passed on the way. Assumes nothing.
+-- `book_surplus::open_book` meets its contract: each return follows from the tests passed before it.
+-- Assumes nothing.
 use mathlib.Core.Path.{_≡_, refl, sym, _∙_}
 use mathlib.Core.Bool.{false}
 use native.Mathlib.Omega.{arith}

@@ -1,9 +1,10 @@
--- `book_surplus::order_surplus` meets its contract: rule 8 at the zone's price where that is held, else nothing. Assumes nothing.
+-- `book_surplus::order_surplus` meets its contract: rule 8 at the zone's price where that is in range, else zero.
+-- Assumes nothing.
 use mathlib.Core.Path.{_≡_, ap, sym, _∙_}
 use mathlib.Core.Bool.{false}
 use Rattle.base_integers.specs.Meaning.Ranges.{outside}
 use Rattle.base_integers.specs.Steps.Ranges.{within}
-use Rattle.base_measures.specs.Meaning.Limits as limits
+use Rattle.base_limits.specs.Meaning.Limits as limits
 use Rattle.base_measures.specs.Steps.Held.{grains-outside, grains-held}
 use Rattle.book_order.specs.Meaning.Admitted.{surplusAt}
 use Rattle.rules.specs.Meaning.Book.{priceAt}
@@ -27,7 +28,7 @@ returns c =
     let a = c .before .before .before .args in
     counted-by (a .order) (a .prices .now) (grains-outside (priceAt (a .prices .now) (a .order .zone)) _ (sym (c .before .before .zone-price .ensures) ∙ c .enum-told .given .1))
 
--- the price that is held is the zone's, and in range
+-- the price is the zone's, and in range
 price-held : (c : tie.After-known-told)
     → (outside limits.zonePrice (priceAt (c .before .before .before .before .args .prices .now) (c .before .before .before .before .args .order .zone)) ≡ false)
     × (c .before .price .given .0 .0 .0 ≡ priceAt (c .before .before .before .before .args .prices .now) (c .before .before .before .before .args .order .zone))

@@ -1,4 +1,4 @@
--- `book_surplus::price_outside` meets its contract: the constructor's answer, read back as its test. Assumes nothing.
+-- `book_surplus::price_outside` meets its contract: the constructor's answer as its test. Assumes nothing.
 use mathlib.Core.Path.{sym, _∙_}
 use Rattle.base_measures.specs.Steps.Held.{grains-outside, grains-held}
 use borrow.Author.Needs.{needs}

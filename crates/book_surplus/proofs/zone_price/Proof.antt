@@ -1,8 +1,9 @@
--- `book_surplus::zone_price` meets its contract: the element held to the limits of a zone price. Assumes nothing.
+-- `book_surplus::zone_price` meets its contract: the element, tested by the limits of a zone price.
+-- Assumes nothing.
 use mathlib.Core.Path.{ap, _∙_}
 use mir.Syntax.{w64}
 use mir.Facts.{toZ-ofZ}
-use Rattle.base_measures.specs.Meaning.Limits as limits
+use Rattle.base_limits.specs.Meaning.Limits as limits
 use Rattle.base_measures.specs.Meaning.Held.{grainsIn}
 use borrow.Author.Needs.{needs}
 use Rattle.book_surplus.proofs.zone_price.Statement.{statement}

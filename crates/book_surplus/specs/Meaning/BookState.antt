@@ -9,7 +9,7 @@ use lib.IntN.{ℤ, pos, _+ℤ_}
 use Rattle.base_integers.specs.Meaning.Ranges.{outside}
 use Rattle.base_integers.specs.Steps.Size.{Near}
 use Rattle.base_integers.specs.Meaning.Sums.{only}
-use Rattle.base_measures.specs.Meaning.Limits as limits
+use Rattle.base_limits.specs.Meaning.Limits as limits
 use Rattle.book_order.specs.Meaning.Answer.{orderOf}
 use Rattle.book_order.specs.Meaning.Admitted.{surplusAt}
 use Rattle.book_order.specs.declared.Order.{Order}
@@ -25,7 +25,7 @@ use Rattle.book_surplus.specs.declared.Surplus.{Surplus}
 abbrev pub newState : ℕ → ℕ → BookState
 newState number index = record { number = number; index = index; taken = 0; sum = record { 0 = pos 0 } }
 
--- refused by neither 4 nor 8: a row may still change it, and the next one is read
+-- refused by neither 4 nor 8: a row may still change it, and the next row is read
 abbrev pub isOpen : BookState → Bool
 isOpen a = eqb (a .number) 0 || eqb (a .number) 25
 
@@ -51,7 +51,7 @@ openBy false false none = newState 0 0
 abbrev pub openOf : ℕ → List ℤ → BookState
 openOf count prices = openBy (outside zoneCounts (pos (length prices))) (outside orderCounts (pos count)) (firstPriceOutside prices)
 
--- ONE ROW MORE: its order's surplus counts where the zone's price is in range
+-- ONE ROW MORE: its surplus counts where the zone's price is in range
 abbrev pub counted : Order → List ℤ → ℤ
 counted o prices = only (not (outside limits.zonePrice (priceAt prices (o .zone)))) (surplusAt o (priceAt prices (o .zone)))
 

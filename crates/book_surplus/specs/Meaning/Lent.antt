@@ -1,5 +1,5 @@
--- A lent book in the terms of document 01: each row as the host lends it is a row of `rules`, and the answer has the fields that the host is given.
--- Assumes nothing.
+-- A lent book in the terms of document 01: each lent row is a row of `rules`, and the answer has the fields that
+-- the host gets. Assumes nothing.
 use mathlib.Core.List.{List, map}
 use lib.IntN.{ℤ}
 use Rattle.rules.specs.Meaning.Book.{BookRow, BookAnswer, bookAnswer}

@@ -1,5 +1,5 @@
--- The lent book and the judgement agree: a readable case's orders at its zone prices, with those in range, are refused nothing, and their sum is the
--- surplus that the judgement's bound has (rule 10). Assumes nothing.
+-- The lent book and the judgement agree: the orders of a readable case at its zone prices, if these are in range,
+-- are not refused, and their sum is the surplus in the judgement's bound (rule 10). Assumes nothing.
 use mathlib.Core.Path.{_≡_, refl, sym, ap, subst, _∙_}
 use mathlib.Core.Bool.{Bool, true, false, not, _||_}
 use mathlib.Core.List.{List, [], _∷_, map}
@@ -14,7 +14,7 @@ use Rattle.base_integers.specs.Meaning.Ranges.{Range, outside, Within}
 use Rattle.base_integers.specs.Steps.Ranges.{not-is}
 use Rattle.base_integers.specs.Meaning.Sums.{sumTo}
 use Rattle.base_integers.specs.Steps.Sums.{sum-ext}
-use Rattle.base_measures.specs.Meaning.Limits as limits
+use Rattle.base_limits.specs.Meaning.Limits as limits
 use Rattle.rules.specs.Meaning.Layout.{zoneCounts, orderCounts}
 use Rattle.rules.specs.Meaning.Hour.{Case, Prices, caseOf, pricesOf, zonePrice, buys, surplusOf, orderSurplus, surplus}
 use Rattle.base_causes.specs.Meaning.Causes.{each, Pass}
@@ -50,7 +50,7 @@ getD-listed zero f i x h = absurd (no-less i h)
 getD-listed (suc n) f zero x h = refl
 getD-listed (suc n) f (suc i) x h = getD-listed n (λ i. f (suc i)) i x (omega arith)
 
--- in range, as the tests have it
+-- in range, by the tests
 nor : (a b : Bool) → T (not a) → T (not b) → T (not (a || b))
 nor true b s t = absurd s
 nor false b s t = t
@@ -105,7 +105,7 @@ module _ (s t : List ℕ) (readable : Readable s) (in-limits : (z : ℕ) → z <
   unfolding caseRefusal caseCauses causeNumbered orderFault badRow
   order-in i h = (number-passes (caseCauses s c) (readable .none-holds) 8) .pass i h
 
-  -- and so do the book's
+  -- so the book's rows pass too
   zones-pass : outside zoneCounts (pos (length prices)) ≡ false
   zones-pass = ap (λ (n : ℕ). outside zoneCounts (pos n)) prices-count ∙ not-is (outside zoneCounts (pos (c .zones))) zones-in
 
@@ -121,7 +121,7 @@ module _ (s t : List ℕ) (readable : Readable s) (in-limits : (z : ℕ) → z <
   price-pass z h = let l : z < c .zones = omega (arith, prices-count) in
       subst (λ (x : ℤ). T (not (outside limits.zonePrice x))) (sym (price-is z l)) (in-range limits.zonePrice (zonePrice c d z) (in-limits z l))
 
-  -- REFUSED NOTHING
+  -- NOT REFUSED
   pub accepted : bookRefusal rows prices ≡ none
   unfolding bookRefusal bookCauses
   accepted = field-passes 4 5 _ zones-pass ∙ field-passes 4 8 _ orders-pass ∙ row-passes (each 8 (length rows) (badBookRow rows prices)) _ (record { pass = row-pass })
@@ -137,7 +137,7 @@ module _ (s t : List ℕ) (readable : Readable s) (in-limits : (z : ℕ) → z <
   unfolding bookSurplus surplus
   agrees = ap (λ (n : ℕ). sumTo n (λ i. rowSurplus rows prices i)) rows-count ∙ sum-ext (c .orders) _ _ order-is
 
-  -- so the host that lends the case's orders is given the judgement's surplus
+  -- so a host that lends the case's orders gets the judgement's surplus
   pub lent-agrees : (orders : List OrderRow) → map bookRow orders ≡ rows → lentAnswer orders prices ≡ answered 0 0 (surplus c d)
   unfolding lentAnswer bookAnswer
   lent-agrees orders e = ap (λ (l : List BookRow). given (bookAnswer l prices)) e ∙ (λ j. given (bookAnswerBy (agrees j) (accepted j)))

@@ -1,6 +1,6 @@
--- WHAT A HOST CONCLUDES FROM THE BOOK'S ANSWER, in the plain numbers of `PlainBook` of `rules`: number 0 with the sum
--- of rule 8 for the books of `BookFacts` and no others; else the number and index of `Refused`, with sum 0.
--- Assumes nothing.
+-- WHAT A HOST CONCLUDES FROM THE BOOK'S ANSWER, in the plain numbers of `PlainBook` of `rules`. Number 0 with the
+-- sum of rule 8 is for the books of `BookFacts` and no others; else the answer is the number and index of
+-- `Refused`, with sum 0. Assumes nothing.
 use mathlib.Core.Path.{_≡_, ap}
 use mathlib.Core.List.{List, map}
 use Prim.Native.Nat.{ℕ, _<_}

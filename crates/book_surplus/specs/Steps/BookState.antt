@@ -1,18 +1,19 @@
--- The state of a lent book, row by row: what `open_book`, `add_row` and `close_book` give, and when a row is read. That the state closed where no more
--- rows are read is the answer of document 01 is shown in Closing.antt. Assumes nothing.
+-- The state of a lent book, row by row: what `open_book`, `add_row` and `close_book` give, and when a row is read.
+-- Closing.antt shows that the state closed where no more rows are read is the answer of document 01.
+-- Assumes nothing.
 use mathlib.Core.Bool.{cond}
 use mathlib.Core.List.{List}
 use Prim.Native.Nat.{ℕ, zero, suc, _<_}
 use lib.ListN.{length, getD}
 use lib.IntN.{ℤ, pos}
 use Rattle.base_integers.specs.Meaning.Ranges.{Within}
-use Rattle.base_measures.specs.Meaning.Limits as limits
+use Rattle.base_limits.specs.Meaning.Limits as limits
 use Rattle.book_order.specs.declared.Order.{Order}
 use Rattle.book_surplus.specs.declared.BookState.{BookState}
 use Rattle.book_surplus.specs.declared.OrderRow.{OrderRow}
 use Rattle.book_surplus.specs.Meaning.BookState.{isOpen, openOf, addOf}
 
--- what stands for a row past the last; nothing reads it
+-- the row past the last; nothing reads it
 abbrev pub noOrder : OrderRow
 noOrder = record { zone = 0; side = 0; quantity = 0; price = pos 0 }
 

@@ -1,5 +1,6 @@
--- The state closed where no more rows are read is document 01's answer, and before each row it has room for that row. After i rows with no refusal it has
--- taken i rows and their sum; at the first row that is out of range, k, it stops with 8 and k. Assumes nothing.
+-- The state closed where no more rows are read is document 01's answer, and before each row it has room for that
+-- row. After i rows without a refusal it has taken i rows and their sum; at the first row out of range, k, it stops
+-- with 8 and k. Assumes nothing.
 use mathlib.Core.Path.{_≡_, refl, sym, ap, subst, _∙_}
 use mathlib.Core.Bool.{Bool, true, false, not, cond, _&&_}
 use mathlib.Core.List.{List, [], _∷_, map}
@@ -16,7 +17,7 @@ use Rattle.base_integers.specs.Steps.Ranges.{nat-within}
 use Rattle.base_integers.specs.Meaning.Sums.{sumTo}
 use Rattle.base_integers.specs.Steps.Sums.{sum-ext}
 use Rattle.base_integers.specs.Steps.Size.{Near, near-sum}
-use Rattle.base_measures.specs.Meaning.Limits as limits
+use Rattle.base_limits.specs.Meaning.Limits as limits
 use Rattle.rules.specs.Meaning.Layout.{zoneCounts, orderCounts}
 use Rattle.rules.specs.Meaning.Hour.{surplusOf}
 use Rattle.base_causes.specs.declared.Outcome.{Outcome}
@@ -32,7 +33,7 @@ use Rattle.book_surplus.specs.Steps.BookState.{nextOf, noOrder, stateAt}
 use Rattle.base_integers.specs.Steps.Ranges.{is-false, not-is}
 use Rattle.book_surplus.specs.Steps.StateLaws.{opened-by, next-by, asked, counted-by, order-in, counted-near}
 
--- after i rows whose surpluses are f, by the first row that is out of range
+-- after i rows with the surpluses f, by the first row out of range
 abbrev reached : BookState → ℕ → (ℕ → ℤ) → Option ℕ → BookState
 reached o i f (some k) = record { number = 8; index = k; taken = k; sum = record { 0 = sumTo k f } }
 reached o i f none = record { number = o .number; index = o .index; taken = i; sum = record { 0 = sumTo i f } }
@@ -67,7 +68,7 @@ module _ (orders : List OrderRow) (prices : List ℤ) where
         | no g ↦ ap (λ (a : BookState). nextOf a (at i) prices) (stays k i (omega (arith, g)) s) ∙ next-by (stateAt orders prices k) (at i) prices s
       ]
 
-  -- refused by 4 at once
+  -- refused by 4 at the start
   never-read : (k : ℕ) → openOf (length orders) prices ≡ newState 4 k → (i : ℕ) → stateAt orders prices i ≡ newState 4 k
   unfolding stateAt
   never-read k e i = stays 0 i (omega arith) (ap isOpen e) ∙ e
@@ -100,7 +101,7 @@ module _ (orders : List OrderRow) (prices : List ℤ) where
     taken e zero = e ∙ starts z
     taken e (suc i) = ap (λ (a : BookState). nextOf a (at i) prices) (taken e i) ∙ next i (firstBelow i bad)
 
-  -- what the answer goes by, over the lent rows themselves
+  -- what the answer depends on, over the lent rows themselves
   abbrev rows : List BookRow
   rows = map bookRow orders
 

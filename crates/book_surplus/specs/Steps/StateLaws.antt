@@ -1,5 +1,5 @@
--- What each step on the state gives, by the tests passed on the way; what a row that is in range leaves; and that its surplus keeps the sum small.
--- Assumes nothing.
+-- What each step on the state gives, by the tests passed before it; what a row in range leaves; its surplus keeps
+-- the sum small. Assumes nothing.
 use mathlib.Core.Path.{_≡_, refl, ap, sym, _∙_}
 use mathlib.Core.Bool.{Bool, true, false, not, cond, _&&_}
 use mathlib.Core.List.{List}
@@ -15,7 +15,7 @@ use Rattle.base_integers.specs.Meaning.Ranges.{outside}
 use Rattle.base_integers.specs.Steps.Ranges.{within, nat-within, is-true, is-false}
 use Rattle.base_integers.specs.Steps.Size.{Near, near-le, near-pos, near-add, near-fits}
 use Rattle.base_integers.specs.Meaning.Sums.{only}
-use Rattle.base_measures.specs.Meaning.Limits as limits
+use Rattle.base_limits.specs.Meaning.Limits as limits
 use Rattle.book_order.specs.Meaning.Admitted.{surplusAt}
 use Rattle.book_order.specs.declared.Order.{Order}
 use Rattle.rules.specs.Meaning.Layout.{zoneCounts, orderCounts}
@@ -40,7 +40,7 @@ added-by a o prices hb = sym (ap (λ (b : Bool). addBy a b (counted (rowOrder o)
 pub next-by : (a : BookState) (o : OrderRow) (prices : List ℤ) {s : Bool} → isOpen a ≡ s → nextOf a o prices ≡ cond s (addOf a o prices) a
 next-by a o prices hs = ap (λ (s : Bool). cond s (addOf a o prices) a) hs
 
--- a row that is asked for is there, and no refusal by 4 or 8 stands before it
+-- a row that is asked for exists, and no earlier refusal by 4 or 8 stands
 asked-by : (s : Bool) (i count : ℕ) → T (s && ltb i count) → (s ≡ true) × (i < count)
 asked-by true i count t = (refl, ltb→lt i count t)
 asked-by false i count t = absurd t
@@ -66,7 +66,7 @@ module _ (prices : List ℤ) (o : OrderRow) (ok : T (not (badIn prices o))) wher
     price-in = within limits.orderPrice (o .price) (tests .3);
   }
 
-  -- rule 8 of the row where its zone's price is in range
+  -- rule 8 for the row where its zone's price is in range
   at-price : (b : Bool) → outside limits.zonePrice (priceAt prices (o .zone)) ≡ b → Near 4500000000000000 (only (not b) (surplusAt (rowOrder o) (priceAt prices (o .zone))))
   unfolding surplusOf
   at-price true e = near-le (omega arith) (near-pos 0)

@@ -1,4 +1,5 @@
--- `bytes_read::field_fits` meets its contract: the difference that is tested cannot wrap, and says the same as the sum. Assumes nothing.
+-- `bytes_read::field_fits` meets its contract: the tested difference cannot wrap, and gives the same answer as the
+-- sum. Assumes nothing.
 use mathlib.Core.Path.{_≡_, sym, _∙_}
 use Prim.Native.Nat.{ℕ, _+_, _-_, _≤_}
 use native.Mathlib.Omega.{arith}

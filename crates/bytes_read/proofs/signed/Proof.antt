@@ -1,4 +1,5 @@
--- `bytes_read::signed` meets its contract: the lower half of the 32 bits is the number, and the upper half is the number less 2 ^ 32. Assumes nothing.
+-- `bytes_read::signed` meets its contract: in the lower half of the 32 bits it is the number, in the upper half the
+-- number less 2 ^ 32. Assumes nothing.
 use mathlib.Core.Path.{_≡_, _∙_}
 use native.Mathlib.Omega.{arith}
 use borrow.Author.Needs.{needs}

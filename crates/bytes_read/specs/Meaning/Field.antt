@@ -1,4 +1,5 @@
--- What a walk over a file takes: the field at a cursor with the cursor past it, or that the file is too short for it. Assumes nothing.
+-- What a walk over a file takes: the field at a cursor with the cursor past it, or that the file is too short for
+-- it. Assumes nothing.
 use mathlib.Core.Bool.{Bool, true, false}
 use mathlib.Core.List.{List}
 use Prim.Native.Nat.{ℕ, _+_, _*_}
@@ -30,11 +31,11 @@ cursor n = record { at = n }
 abbrev pub raw : ℤ → Raw
 raw x = record { 0 = x }
 
--- n bytes stand at an offset
+-- n bytes are there from an offset on
 abbrev pub fieldFits : List ℕ → ℕ → ℕ → Bool
 fieldFits s at n = leb (at + n) (length s)
 
--- a field of any kind, by the test that its bytes stand there
+-- a field of any kind, by the test that its bytes are there
 abbrev pub fieldBy : {A F : Type 0} → (A → Cursor → F) → F → A → Cursor → Bool → F
 fieldBy taken short v c true = taken v c
 fieldBy taken short v c false = short

@@ -1,4 +1,5 @@
--- What a walk over rows of fields answers: the cursor past the last, or the refusal that a row of the verdict table gives. Assumes nothing.
+-- What a walk over rows of fields answers: the cursor past the last, or the refusal by a row of the verdict table.
+-- Assumes nothing.
 use mathlib.Core.List.{List}
 use mathlib.Core.Option.{Option, none, some}
 use Prim.Native.Nat.{ℕ}
@@ -21,11 +22,11 @@ abbrev pub walkedBy : Cause → Cursor → Option ℕ → Walked
 walkedBy r past (some k) = refusedAt (r .number) (r .index k)
 walkedBy r past none = Past past
 
--- the walk that a row of the table stands for, and ends at a cursor
+-- the walk for a row of the table, which ends at a cursor
 abbrev pub walked : Cause → Cursor → Walked
 walked r past = walkedBy r past (firstBelow (r .places) (r .fails))
 
--- A WALK OVER SEVERAL PARTS, by the rows that are asked of them
+-- A WALK OVER SEVERAL PARTS, by their rows
 abbrev pub rowsWalkedBy : Cursor → Option Outcome → Walked
 rowsWalkedBy past (some o) = Refused o
 rowsWalkedBy past none = Past past

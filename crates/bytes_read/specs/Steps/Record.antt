@@ -1,5 +1,5 @@
--- A RECORD: n bytes of a file from an offset, which a walk lends as a part, `&s[at..at + n]`. A field of it that is taken is the file's,
--- and no field that lies in it is missing. Assumes nothing.
+-- A RECORD: n bytes of a file from an offset on, which a walk lends as a part, `&s[at..at + n]`. A field taken from
+-- it is the file's, and no field in it is missing. Assumes nothing.
 use mathlib.Core.Path.{_≡_, sym, ap, _∙_}
 use mathlib.Core.List.{List}
 use Prim.Native.Nat.{ℕ, _+_, _-_, _≤_, _<_}
@@ -18,12 +18,12 @@ use Rattle.bytes_read.specs.Meaning.Field.{raw, byteField, halfField, wo
 use Rattle.bytes_read.specs.Steps.Part.{partOf, part-length, part-u8, part-u16, part-u32, part-i32}
 use Rattle.bytes_read.specs.Steps.Walk.{Took, byte-took, byte-short, half-took, half-short, word-took, word-short, signed-took, signed-short}
 
--- it stands within the file, which no offset exceeds
+-- it is within the file, and no offset is larger than the file
 pub record RecordWithin (s : List ℕ) (at n : ℕ) : Type 0 where
   pub inside : at + n ≤ length s
   pub small : length s < 4294967296
 
--- A FIELD of it that was taken: v is the number x of the file, and the cursor stands at the record's byte i
+-- A FIELD TAKEN from it: v is the number x of the file, and the cursor stands at the record's byte i
 pub record FieldRead {A : Type 0} (v x : A) (c : Cursor) (i : ℕ) : Type 0 where
   pub is : v ≡ x
   pub past : c .at ≡ i

@@ -1,4 +1,5 @@
--- TAKING THE FIELDS OF A FILE from its start: n bytes of fields are taken if and only if the file has them, and then the cursor is past them. Assumes nothing.
+-- TAKING THE FIELDS OF A FILE from its start: n bytes of fields are taken if and only if the file has them, and
+-- then the cursor is past them. Assumes nothing.
 use mathlib.Core.Path.{_≡_, sym, ap, _∙_}
 use mathlib.Core.List.{List}
 use Prim.Native.Nat.{ℕ, _+_, _≤_, _<_}

@@ -1,4 +1,4 @@
--- A field that a walk took, read back: its bytes stand there, and the cursor is past them. Assumes nothing.
+-- What a field that a walk took implies: its bytes are there, and the cursor is past them. Assumes nothing.
 use mathlib.Core.Path.{_≡_, refl, sym}
 use mathlib.Core.Bool.{Bool, true, false}
 use mathlib.Core.List.{List}
@@ -17,13 +17,14 @@ use Rattle.bytes_read.specs.declared.SignedField.the-variants as signed
 use Rattle.bytes_read.specs.declared.LongField.the-variants as long
 use Rattle.bytes_read.specs.Meaning.Field.{u64At, cursor, raw, fieldFits, fieldBy, fieldOf, markAt, markField, byteField, halfField, wordField, signedField, longField}
 
--- A FIELD THAT WAS TAKEN: its n bytes stand there, v is its number x, and the cursor is past it
+-- A FIELD THAT WAS TAKEN: its n bytes are there, v is its number x, and the cursor is past it
 pub record Took {A : Type 0} (s : List ℕ) (at n : ℕ) (x v : A) (c : Cursor) : Type 0 where
   pub inside : at + n ≤ length s
   pub is : v ≡ x
   pub past : c ≡ cursor (at + n)
 
--- A FIELD OF ANY KIND is taken or not, and not both: its two answers are apart, and one that is taken says what
+-- A FIELD OF ANY KIND is taken or not, and not both: its two answers differ, and a field taken determines its value
+-- and cursor
 pub record Kind {A F : Type 0} (taken : A → Cursor → F) (short : F) : Type 0 where
   pub same : {x v : A} {d c : Cursor} → taken x d ≡ taken v c → (v ≡ x) × (c ≡ d)
   pub apart : {x : A} {d : Cursor} → taken x d ≡ short → ⊥

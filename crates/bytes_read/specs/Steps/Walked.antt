@@ -1,4 +1,4 @@
--- A walk over rows of fields that is under way, and its answer read back. Assumes nothing.
+-- A walk over rows of fields, partly done, and what its answer implies. Assumes nothing.
 use mathlib.Core.Path.{_≡_, refl, sym, ap, subst, _∙_}
 use mathlib.Core.Bool.{Bool, true, false}
 use mathlib.Core.List.{List, [], _∷_}
@@ -14,14 +14,14 @@ use Rattle.bytes_read.specs.declared.Walked.the-variants.{Past, Refused}
 use Rattle.bytes_read.specs.Meaning.Field.{cursor}
 use Rattle.bytes_read.specs.Meaning.Walk.{refusedAt, pastAt, walkedBy, walked, rowsWalkedBy, rowsWalked}
 
--- of which the answer is past its end, and no refusal
+-- an answer past the end is no refusal
 pub past-is : {at : ℕ} {c : Cursor} → pastAt at ≡ Past c → c ≡ record { at = at }
 past-is e = cc
 
 pub never-refused : {at : ℕ} {x : Outcome} (w : Walked) → pastAt at ≡ Refused x → Refused x ≡ w
 never-refused w e = cc
 
--- and a refusal is not past an end
+-- a refusal is not past the end
 abbrev isPast : Walked → Type 0
 isPast (Past c) = Unit {0}
 isPast (Refused x) = ⊥
@@ -29,7 +29,7 @@ isPast (Refused x) = ⊥
 pub refused-past : {at : ℕ} {x : Outcome} → Refused x ≡ pastAt at → (A : Type 0) → A
 refused-past e A = absurd (subst isPast (sym e) tt)
 
--- A WALK that is under way: the places before k passed
+-- A WALK, PARTLY DONE: the places before k passed
 module _ (r : Cause) (past : Cursor) (k : ℕ) (clear : firstBelow k (r .fails) ≡ none) where
   pub walk-stops : k < r .places → r .fails k ≡ true → refusedAt (r .number) (r .index k) ≡ walked r past
   walk-stops h e = sym (ap (walkedBy r past) (first-here (r .fails) k h clear e))
@@ -37,11 +37,11 @@ module _ (r : Cause) (past : Cursor) (k : ℕ) (clear : firstBelow k (r .fails) 
   pub walk-ends : k ≤ r .places → r .places ≤ k → Past past ≡ walked r past
   walk-ends h l = sym (ap (walkedBy r past) (first-nowhere (r .fails) k h l clear))
 
--- a walk over records that is done: the cursor stood at each in its turn, and stands where the last ends
+-- a finished walk over records: the cursor stood at each in its turn, and stands where the last ends
 pub walk-done : (r : Cause) (place : ℕ → ℕ) {at i end : ℕ} → at ≡ place i → firstBelow i (r .fails) ≡ none → i ≡ r .places → place (r .places) ≡ end → pastAt at ≡ walked r (cursor end)
 walk-done r place {at} {i} {end} p e q f = ap pastAt (p ∙ ap place q ∙ f) ∙ walk-ends r (cursor end) i e (omega (arith, q)) (omega (arith, q))
 
--- AN ANSWER READ BACK
+-- WHAT AN ANSWER IMPLIES
 module _ (r : Cause) (past : Cursor) where
   pub walk-refused : {x : Outcome} → walked r past ≡ Refused x → (rs : List Cause) → refusal (r ∷ rs) ≡ some x
   walk-refused {x} e rs = by (firstBelow (r .places) (r .fails)) refl e
@@ -57,7 +57,8 @@ module _ (r : Cause) (past : Cursor) where
       by (some k) q e = (λ rs. cc, cc)
       by none q e = (λ rs. row-clear r rs q, cc)
 
--- A WALK OVER RECORDS that is under way, at field j of record i: no record before it has a field at fault, and no field of it before field j is at fault
+-- A WALK OVER RECORDS at field j of record i: no earlier record has a field at fault, and neither has this one
+-- before field j
 pub record AtField (number n w : ℕ) (fault : ℕ → ℕ → Bool) (offset : ℕ → ℕ → ℕ) (i j : ℕ) : Type 0 where
   pub one-of : i < n
   pub records-clear : firstBelow i (eachField number n w fault offset .fails) ≡ none
@@ -94,7 +95,6 @@ module _ (r : Cause) (rs : List Cause) (next past : Cursor) where
   pub part-passed : {c : Cursor} → walked r next ≡ Past c → rowsWalked rs past ≡ rowsWalked (r ∷ rs) past
   part-passed e = sym (ap (rowsWalkedBy past) ((walk-past r next e) .0 rs))
 
--- the last part
 pub last-part : (r : Cause) (past : Cursor) → walked r past ≡ rowsWalked (r ∷ []) past
 unfolding refusal
 last-part r past = by (walked r past) refl
@@ -103,7 +103,7 @@ last-part r past = by (walked r past) refl
     by (Past c) e = ap Past ((walk-past r past e) .1) ∙ part-passed r [] past past e
     by (Refused x) e = part-refused r [] past past e
 
--- an answer read back
+-- what an answer implies
 pub rows-refused : (rs : List Cause) (past : Cursor) {x : Outcome} → rowsWalked rs past ≡ Refused x → refusal rs ≡ some x
 rows-refused rs past {x} e = by (refusal rs) refl e
   where

@@ -1,4 +1,5 @@
--- The bits of a number by halves: the low 32 of 64 are those of the number where it fits 32, and the bytes of 64 are those of its halves. Assumes nothing.
+-- A number by halves: the low 32 of 64 bits are the number's own where it fits 32, and the bytes of 64 bits are
+-- those of the halves. Assumes nothing.
 use mathlib.Core.Path.{_≡_, ap, _∙_}
 use mathlib.Core.List.{List, [], _∷_}
 use Prim.Native.Nat.{ℕ, _+_, _/_, _%_}
@@ -19,7 +20,6 @@ pub two-halves : (l : List ℕ) (at n : ℕ) → sets (sets l at (bytesOf 4 (n %
 unfolding bytesOf
 two-halves l at n = sets-append l at (bytesOf 4 (n % 4294967296)) (bytesOf 4 (n / 4294967296)) ∙ ap (sets l at) (bytes-split 4 4 n)
 
--- the low half has the low bytes
 pub low-half : (n : ℕ) → bytesOf 4 (n % 4294967296) ≡ bytesOf 4 n
 unfolding bytesOf
 low-half n = λ i. first i ∷ second i ∷ third i ∷ fourth i ∷ []

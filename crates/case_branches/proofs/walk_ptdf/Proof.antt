@@ -1,10 +1,11 @@
--- `case_branches::walk_ptdf` meets its contract: the PTDF stands within the file, so that it is not missing. Assumes nothing.
+-- `case_branches::walk_ptdf` meets its contract: the PTDF is within the file, so it is not missing.
+-- Assumes nothing.
 use mathlib.Core.Path.{_≡_, sym, ap, _∙_}
 use Prim.Native.Nat.{ℕ, _+_}
 use native.Mathlib.Omega.{arith}
 use borrow.Author.Needs.{needs}
 use Rattle.base_integers.specs.Meaning.Ranges.{outside}
-use Rattle.base_measures.specs.Meaning.Limits as limits
+use Rattle.base_limits.specs.Meaning.Limits as limits
 use Rattle.base_measures.specs.Steps.Held.{ptdf-outside, ptdf-held}
 use Rattle.base_measures.specs.declared.Raw.{Raw}
 use Rattle.rules.specs.Meaning.Layout.{i32At}

@@ -1,5 +1,5 @@
--- `case_branches::walk_ptdfs` meets its contract. The loop's invariant: the cursor stands past one PTDF for each turn, none of which is out of range.
--- The measure is what is left of the zones. Assumes nothing.
+-- `case_branches::walk_ptdfs` meets its contract. The loop's invariant: the cursor stands past one PTDF for each
+-- turn, and none of them is out of range. The measure is the zones left. Assumes nothing.
 use mathlib.Core.Path.{_≡_, refl, sym, ap, _∙_}
 use mathlib.Core.List.{List}
 use mathlib.Core.Option.{none}

@@ -1,4 +1,4 @@
--- The walk over the branches of a case, by what their fields are as row 6 tests them. Assumes nothing.
+-- The walk over the branches of a case, field by field as row 6 tests them. Assumes nothing.
 use mathlib.Core.Path.{_≡_, refl, sym, ap, _∙_}
 use mathlib.Core.Bool.{Bool, true, false, not}
 use mathlib.Core.List.{List}
@@ -10,7 +10,7 @@ use native.Mathlib.Omega.{arith}
 use lib.Dec.{T}
 use Rattle.base_integers.specs.Meaning.Ranges.{outside}
 use Rattle.base_integers.specs.Steps.Ranges.{is-false}
-use Rattle.base_measures.specs.Meaning.Limits as limits
+use Rattle.base_limits.specs.Meaning.Limits as limits
 use Rattle.rules.specs.Meaning.Layout.{i32At, zonesIn, branchesIn, branchSize, branchAt, branchFieldAt, linkAt, ramIn, ptdfIn}
 use Rattle.rules.specs.Meaning.Hour.{caseOf}
 use Rattle.base_causes.specs.Meaning.Causes.{firstBelow}
@@ -28,7 +28,7 @@ use Rattle.case_header.specs.declared.Counts.{Counts}
 use Rattle.case_header.specs.Meaning.CaseReadable.{LengthValid, branchCause}
 use Rattle.case_header.specs.Steps.CaseReadable.{small, branch-start-is, branch-inside}
 
--- WHERE BRANCHES STAND: one begins where the one before ends, and the links begin where the last ends
+-- WHERE BRANCHES STAND: each begins where the one before ends, and the links begin where the last ends
 pub branch-next : (s : List ℕ) (m : ℕ) → branchAt s m + 4 + 4 * zonesIn s ≡ branchAt s (m + 1)
 unfolding branchAt branchSize
 branch-next s m = omega (arith, add-mul m 1 (4 + 4 * zonesIn s))
@@ -41,7 +41,7 @@ links-begin s = omega arith
 pub branch-within : {s : List ℕ} {k : Counts} → LengthValid s k → (m : ℕ) → m < k .branches → RecordWithin s (branchAt s m) (4 + 4 * k .zones)
 branch-within w m h = record { inside = omega (arith, branch-start-is (w .headed) m, branch-inside w m h); small = small w }
 
--- THE PTDFS of a branch, where they stand: each, and where the walk over them ends
+-- THE PTDFS of a branch: where each stands, and where the walk over them ends
 abbrev pub ptdfFault : List ℕ → ℕ → ℕ → Bool
 ptdfFault s at z = outside limits.ptdf (i32At s (at + 4 * z))
 
@@ -85,7 +85,7 @@ held : (b : Bool) → T b → b ≡ true
 held true t = refl
 held false t = absurd t
 
--- none of a first test and those behind it holds
+-- neither a first test nor those after it hold
 none-behind : (f : ℕ → Bool) (n : ℕ) → f 0 ≡ false → firstBelow n (λ z. f (suc z)) ≡ none → firstBelow (n + 1) f ≡ none
 none-behind f n e q = first-none (n + 1) f holds
   where
@@ -117,7 +117,7 @@ module _ (s : List ℕ) (m : ℕ) (h : m < branchesIn s) (clear : firstBelow m (
   branch-passes : firstBelow (zonesIn s + 1) fault ≡ none → firstBelow (m + 1) (branchCause s .fails) ≡ none
   branch-passes q = let t : Stands (zonesIn s + 1) = record { one-of = h; records-clear = clear; fields-clear = q } in record-passes t (omega arith)
 
-  -- the margin passed: the walk over the PTDFs ends at one, or passes them
+  -- the margin passed: the walk over the PTDFs stops at one, or passes them all
   module _ (margin : outside limits.margin (i32At s at) ≡ false) where
     abbrev found : Option ℕ
     found = firstBelow (zonesIn s) (ptdfFault s (at + 4))

@@ -9,7 +9,7 @@ use lib.ListN.{length, getD, set, length-set, length-replicate, getD-replicate}
 use lib.Seq.{getD-set-same, getD-set-other, set-getD, set-set}
 use lib.IntN.{ℤ, pos}
 use Rattle.base_integers.specs.Meaning.Ranges.{Within}
-use Rattle.base_measures.specs.Meaning.Limits as limits
+use Rattle.base_limits.specs.Meaning.Limits as limits
 use Rattle.rules.specs.Meaning.Layout.{zonesIn, branchesIn, ptdfIn}
 use Rattle.rules.specs.Meaning.Hour.{caseOf}
 use Rattle.rules.specs.Steps.Passed.{case-sound}
@@ -46,7 +46,7 @@ module _ {A : Type 0} (size : ℕ) (blank : A) (f : ℕ → A) where
   filled-past zero k d h l = getD-replicate size k blank d l
   filled-past (suc n) k d h l = getD-set-other (filled size blank f n) n k (f n) d (λ e. omega arith) ∙ filled-past n k d (omega arith) l
 
-  -- the next place is blank still
+  -- the next place is still blank
   pub filled-next : (n : ℕ) (d : A) → n < size → set (filled size blank f n) n blank ≡ filled size blank f n
   filled-next n d l = ap (set (filled size blank f n) n) (sym (filled-past n n d (omega arith) l)) ∙ set-getD (filled size blank f n) n d
 

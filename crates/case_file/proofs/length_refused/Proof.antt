@@ -1,4 +1,4 @@
--- `case_file::length_refused` meets its contract: the demanded length passes either way. Assumes nothing.
+-- `case_file::length_refused` meets its contract: the demanded length passes, apart and joined. Assumes nothing.
 use borrow.Author.Needs.{needs}
 use Rattle.case_file.specs.Steps.Files.{equal-passes, apart-refused, joined-refused}
 use Rattle.case_file.proofs.length_refused.Statement.{statement}

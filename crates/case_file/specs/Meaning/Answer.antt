@@ -1,4 +1,5 @@
--- What reading a case answers: the refusal by rows 1 to 8 of the verdict table, or the counts of a readable case. Assumes nothing.
+-- What reading a case answers: the refusal by rows 1 to 8 of the verdict table, or the counts of a readable case.
+-- Assumes nothing.
 use mathlib.Core.List.{List}
 use mathlib.Core.Option.{Option, none, some}
 use Prim.Native.Nat.{ℕ}

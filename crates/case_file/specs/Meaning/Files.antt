@@ -1,4 +1,4 @@
--- The case and the proposal in what is lent: two files, or one that is cut as the desk's input is. Assumes nothing.
+-- The case and the proposal in what is lent: two files, or one input that is cut as the desk's is. Assumes nothing.
 use mathlib.Core.List.{List}
 use Prim.Native.Nat.{ℕ}
 use Rattle.rules.specs.Meaning.Cut.{casePart, proposalPart}

@@ -1,4 +1,4 @@
--- A case's answer read back. Assumes nothing.
+-- What a case's answer implies. Assumes nothing.
 use mathlib.Core.Path.{_≡_, refl, _∙_}
 use mathlib.Core.List.{List}
 use mathlib.Core.Option.{Option, none, some}
@@ -11,7 +11,7 @@ use Rattle.case_header.specs.Meaning.CaseReadable.{CaseReadable}
 use Rattle.case_file.specs.declared.CaseAnswer.the-variants as answer
 use Rattle.case_file.specs.Meaning.Answer.{caseBy, caseAnswer}
 
--- AN ANSWER READ BACK
+-- WHAT AN ANSWER IMPLIES
 pub opened-of : (s : List ℕ) {k : Counts} → caseAnswer s ≡ answer.Readable k → CaseReadable s k
 opened-of s {k} e = by (caseRefusal s) refl e
   where

@@ -1,4 +1,4 @@
--- Row 5 by the bytes that are lent, and where case and proposal stand among them. Assumes nothing.
+-- Row 5 for the bytes that are lent, and where case and proposal stand among them. Assumes nothing.
 use mathlib.Core.Path.{_≡_, refl, sym, ap, _∙_}
 use mathlib.Core.Bool.{Bool, true, false, not}
 use mathlib.Core.List.{List, [], _∷_}
@@ -9,7 +9,7 @@ use borrow.Author.Tests.{ltb-true, ltb-false, eqb-true, not-false, eq-eqb, ne-eq
 use lib.ListN.{length, getD, take, drop}
 use lib.Seq.{length-take-le, take-all, take-length, getD-take}
 use lib.IntN.{pos}
-use Rattle.base_measures.specs.Meaning.Limits as limits
+use Rattle.base_limits.specs.Meaning.Limits as limits
 use Rattle.base_causes.specs.declared.Outcome.{Outcome}
 use Rattle.base_causes.specs.Meaning.Causes.{Cause, verdict, refusal}
 use Rattle.base_causes.specs.Promised.CauseLaws.{else-refusal, field-fails}
@@ -45,7 +45,7 @@ module _ (n demanded : ℕ) where
 abbrev pub parts : List ℕ → List Cause
 parts s = branchCause s ∷ linkCause s ∷ orderCause s ∷ []
 
--- the same header has the same counts
+-- the same header gives the same counts
 same-counts : (r s : List ℕ) → SameHeader r s → countsOf r ≡ countsOf s
 unfolding u8At u16At u32At caseVersion zonesIn branchesIn linksIn ordersIn toleranceIn
 same-counts r s h = λ i. record {

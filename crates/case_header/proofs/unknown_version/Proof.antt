@@ -1,4 +1,4 @@
--- `case_header::unknown_version` meets its contract: the two versions are asked one after the other. Assumes nothing.
+-- `case_header::unknown_version` meets its contract: it asks for one version, then for the other. Assumes nothing.
 use mathlib.Core.Path.{sym, ap}
 use mathlib.Core.Bool.{Bool, not, _&&_}
 use borrow.Author.Tests.{eq-eqb, ne-eqb}

@@ -1,4 +1,5 @@
--- What reading a header answers: the refusal by rows 1 to 4 of the verdict table, or the counts and the cursor past it. Assumes nothing.
+-- What reading a header answers: the refusal by rows 1 to 4 of the verdict table, or the counts and the cursor past
+-- it. Assumes nothing.
 use mathlib.Core.Bool.{Bool, true, false, not, _&&_}
 use mathlib.Core.List.{List, [], _∷_}
 use mathlib.Core.Option.{Option, none, some}
@@ -7,7 +8,7 @@ use lib.ListN.{length}
 use lib.Dec.{eqb}
 use lib.IntN.{pos}
 use Rattle.base_integers.specs.Meaning.Ranges.{outside}
-use Rattle.base_measures.specs.Meaning.Limits as limits
+use Rattle.base_limits.specs.Meaning.Limits as limits
 use Rattle.rules.specs.Meaning.Layout.{caseHeader, caseVersion, zonesIn, branchesIn, linksIn, ordersIn, toleranceIn, zoneCounts, branchCounts, linkCounts, orderCounts}
 use Rattle.base_causes.specs.declared.Outcome.{Outcome}
 use Rattle.base_causes.specs.Meaning.Causes.{Cause, verdict, once, field}
@@ -31,7 +32,7 @@ headerBy k past none = header.Good k past
 abbrev pub headerAnswer : List ℕ → HeaderAnswer
 headerAnswer s = headerBy (countsOf s) (cursor caseHeader) (headerRefusal s)
 
--- the header's fields as they stand in the file, and the cursor past them
+-- the header's fields in the file, and the cursor past them
 abbrev pub headerIn : List ℕ → Header
 headerIn s = record { mark = markAt s 0; version = caseVersion s; zones = zonesIn s; branches = branchesIn s; links = linksIn s; orders = ordersIn s; tolerance = toleranceIn s; past = cursor caseHeader }
 

@@ -1,4 +1,4 @@
--- A readable case with its counts, the two stages before it, and where its parts stand by the counts.
+-- A readable case with its counts, the two stages before it, and where the counts put its parts.
 use mathlib.Core.Path.{_≡_}
 use mathlib.Core.List.{List}
 use mathlib.Core.Option.{none}
@@ -16,12 +16,12 @@ pub record CaseReadable (s : List ℕ) (k : Counts) : Type 0 where
   pub readable : Readable s
   pub counts : k ≡ countsOf s
 
--- the counts of a header that rows 1 to 4 pass
+-- the counts of a header that passes rows 1 to 4
 pub record HeaderValid (s : List ℕ) (k : Counts) : Type 0 where
   pub passed : headerRefusal s ≡ none
   pub counts : k ≡ countsOf s
 
--- and of a case that row 5 passes too
+-- the counts of a case that passes row 5 too
 pub record LengthValid (s : List ℕ) (k : Counts) : Type 0 where
   pub headed : HeaderValid s k
   pub whole : length s ≡ caseLength s
@@ -32,7 +32,7 @@ pub record CountsInRange (k : Counts) : Type 0 where
   pub links-in : k .links ≤ 64
   pub orders-in : k .orders ≤ 512
 
--- where branch m, link l and order i stand, and the length demanded, by the counts
+-- where branch m, link l and order i begin, and the length demanded, from the counts
 abbrev pub branchStart : Counts → ℕ → ℕ
 branchStart k m = caseHeader + m * (4 + 4 * k .zones)
 

@@ -1,4 +1,5 @@
--- A header's answer read back: taken where row 1 passes, and then rows 2 to 4 of its fields are the table's. Assumes nothing.
+-- What a header's answer implies: it is taken where row 1 passes, and then rows 2 to 4 of its fields are the
+-- table's. Assumes nothing.
 use mathlib.Core.Path.{_≡_, refl}
 use mathlib.Core.Bool.{Bool, true, false}
 use mathlib.Core.List.{List}
@@ -15,7 +16,7 @@ use Rattle.case_header.specs.declared.Header.{Header}
 use Rattle.case_header.specs.declared.HeaderField.the-variants as taken
 use Rattle.case_header.specs.Meaning.Answer.{headerIn, takenBy, headerTaken, headerCauses}
 
--- A HEADER READ BACK: taken where row 1 passes, and then rows 2 to 4 of its fields are the table's
+-- A HEADER IS TAKEN where row 1 passes; then rows 2 to 4 of its fields are the table's
 pub header-taken : (s : List ℕ) {h : Header} → headerTaken s ≡ taken.Taken h → (length s under caseHeader ≡ false) × (h ≡ headerIn s)
 header-taken s {h} e = by (length s under caseHeader) refl e
   where

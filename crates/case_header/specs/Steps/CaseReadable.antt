@@ -1,5 +1,5 @@
--- A readable case and its counts: what the stages after reading require, and that every branch, link and order stands within the file.
--- Assumes nothing.
+-- A readable case and its counts: what the stages after reading require; every branch, link and order is within the
+-- file. Assumes nothing.
 use mathlib.Core.Path.{_≡_, refl, sym, ap, subst, _∙_}
 use mathlib.Core.Bool.{Bool, true, false, cond}
 use mathlib.Core.List.{List, [], _∷_}
@@ -23,7 +23,7 @@ use Rattle.case_header.specs.declared.HeaderAnswer.the-variants as heade
 use Rattle.case_header.specs.Meaning.Answer.{countsOf, headerBy, headerAnswer}
 use Rattle.case_header.specs.Meaning.CaseReadable.{CaseReadable, HeaderValid, LengthValid, CountsInRange, branchStart, linkStart, orderStart, lengthOf, branchCause, linkCause, orderCause}
 
--- AN ANSWER READ BACK
+-- WHAT AN ANSWER IMPLIES
 pub headed-of : (s : List ℕ) {k : Counts} {c : Cursor} → headerAnswer s ≡ header.Good k c → HeaderValid s k
 headed-of s {k} {c} e = by (headerRefusal s) refl e
   where
@@ -52,7 +52,7 @@ bodyCauses s = once 5 (differ (length s) (caseLength s))
     ∷ orderCause s
     ∷ []
 
--- the header's rows are asked before them
+-- the header's rows are asked before the others
 pub header-first : (s : List ℕ) → caseRefusal s ≡ else-refusal (headerRefusal s) (refusal (bodyCauses s))
 unfolding caseRefusal headerRefusal caseCauses caseOf
 header-first s = refusal-append (caseHeaderCauses s (caseOf s)) (bodyCauses s)
@@ -120,7 +120,7 @@ module _ {s : List ℕ} {k : Counts} where
     pub order-inside : (i : ℕ) → i < k .orders → orderStart k i + orderSize ≤ length s
     order-inside i h = omega (arith, demanded)
 
--- and no offset is large
+-- no offset is large
 pub branches-bound : (k : Counts) → CountsInRange k → (m : ℕ) → m ≤ k .branches → m * (4 + 4 * k .zones) ≤ 4352
 branches-bound k h m l = let a : m ≤ 64 = omega arith in let b : 4 + 4 * k .zones ≤ 68 = omega arith in mul-le-mul a b
 

@@ -1,4 +1,5 @@
--- `case_links::contracted_at` meets its contract: link l stands within the file, with its contracted volume where the version has one. Assumes nothing.
+-- `case_links::contracted_at` meets its contract: link l is within the file, with its contracted volume where the
+-- version has one. Assumes nothing.
 use mathlib.Core.Path.{_≡_, sym, ap, subst, _∙_}
 use mathlib.Core.Bool.{Bool, cond}
 use Prim.Native.Nat.{ℕ, _+_, _≤_}
@@ -8,7 +9,7 @@ use borrow.Author.Needs.{needs}
 use lib.ListN.{length}
 use lib.IntN.{ℤ, pos}
 use Rattle.base_integers.specs.Meaning.Ranges.{Within}
-use Rattle.base_measures.specs.Meaning.Limits as limits
+use Rattle.base_limits.specs.Meaning.Limits as limits
 use Rattle.base_measures.specs.declared.Tenths.{Tenths}
 use Rattle.rules.specs.Meaning.Layout.{u32At, caseVersion, contracts, contractedSize, linkAt, capacityIn, contractedIn}
 use Rattle.case_header.specs.declared.Counts.{Counts}

@@ -1,4 +1,5 @@
--- Link l of a case as the later stages have it, and that its capacity and its contracted volume lie within the limits. Assumes nothing.
+-- Link l of a case as the later stages have it; its capacity and its contracted volume are within the limits.
+-- Assumes nothing.
 use mathlib.Core.Path.{ap}
 use mathlib.Core.List.{List}
 use Prim.Native.Nat.{ℕ, _<_}
@@ -6,7 +7,7 @@ use native.Mathlib.Omega.{arith}
 use lib.IntN.{pos}
 use Rattle.base_integers.specs.Meaning.Ranges.{Within}
 use Rattle.base_integers.specs.Steps.Ranges.{within, nat-inside}
-use Rattle.base_measures.specs.Meaning.Limits as limits
+use Rattle.base_limits.specs.Meaning.Limits as limits
 use Rattle.rules.specs.Meaning.Layout.{linksIn, capacityIn, contractedIn}
 use Rattle.rules.specs.Meaning.Hour.{caseOf}
 use Rattle.rules.specs.Steps.Passed.{case-sound}

@@ -1,4 +1,5 @@
--- The walk over the links of a case, by what their fields are as row 7 tests them, with the set of the pairs seen. Assumes nothing.
+-- The walk over the links of a case, field by field as row 7 tests them, with the set of the pairs seen.
+-- Assumes nothing.
 use mathlib.Core.Path.{_≡_, refl, sym, ap, _∙_, subst}
 use mathlib.Core.Bool.{Bool, true, false, not, cond, _||_}
 use mathlib.Core.List.{List}
@@ -12,7 +13,7 @@ use lib.Signed.{ltZ}
 use lib.ListN.{length}
 use Rattle.base_integers.specs.Meaning.Ranges.{outside}
 use Rattle.base_integers.specs.Steps.Ranges.{is-true, and-left, and-right}
-use Rattle.base_measures.specs.Meaning.Limits as limits
+use Rattle.base_limits.specs.Meaning.Limits as limits
 use Rattle.rules.specs.Meaning.Layout.{u8At, u32At, caseVersion, zonesIn, linksIn, contracts, contractedSize, linkAt, linkFields, linkFieldAt, orderAt, fromIn, toIn, capacityIn, contractedIn}
 use Rattle.rules.specs.Meaning.Hour.{caseOf}
 use Rattle.base_causes.specs.Meaning.Causes.{firstBelow, firstField}
@@ -32,7 +33,8 @@ use Rattle.case_header.specs.Meaning.CaseReadable.{LengthValid, linkCause}
 use Rattle.case_header.specs.Steps.CaseReadable.{small, link-start-is, link-inside}
 use Rattle.base_zone_set.specs.Steps.Pairs.{holds, samePair, Seen}
 
--- THE CONTRACTED VOLUME that a walk takes at a cursor: of 32 bits where the version has them, else the capacity, and the cursor stays (S-4)
+-- THE CONTRACTED VOLUME at a cursor: 32 bits where the version has them; else the capacity, and the cursor stays
+-- (S-4)
 abbrev pub contractedAt : List ℕ → ℕ → ℕ → ℕ → ℕ
 contractedAt s version capacity at = cond (contracts version) (u32At s at) capacity
 
@@ -60,7 +62,7 @@ module _ (s : List ℕ) (version capacity at : ℕ) where
       by true e = word-short s at e
       by false e = let never : false ≡ true = cc in absurd (subst (λ (b : Bool). T (not b)) never tt)
 
--- WHERE LINKS STAND: one begins where the one before ends, and the orders begin where the last ends
+-- WHERE LINKS STAND: each begins where the one before ends, and the orders begin where the last ends
 pub link-next : (s : List ℕ) (l : ℕ) → linkAt s l + 6 + contractedSize (caseVersion s) ≡ linkAt s (l + 1)
 unfolding linkAt
 link-next s l = omega arith
@@ -69,7 +71,8 @@ pub orders-begin : (s : List ℕ) → linkAt s (linksIn s) ≡ orderAt s 0
 unfolding linkAt orderAt
 orders-begin s = omega arith
 
--- THE LINK OF A TURN of the walk: it stands within the file, no link before it has a field at fault, and the set holds the pairs of those
+-- THE LINK OF A TURN: it is within the file, no link before it has a field at fault, and the set holds the pairs of
+-- those
 pub record LinkTurn (s : List ℕ) (l at : ℕ) (seen : List ℕ) : Type 0 where
   pub within : RecordWithin s at 6
   pub room : at + 6 + contractedSize (caseVersion s) ≤ length s
@@ -89,7 +92,6 @@ link-turn {s} {k} w l h {at} p e q =
       pairs = q;
     }
 
--- its zones as they are read
 pub record PairRead (s : List ℕ) (at zones from to : ℕ) : Type 0 where
   pub zones-is : zones ≡ zonesIn s
   pub from-is : from ≡ u8At s (at + 0)
@@ -124,7 +126,7 @@ module _ {s : List ℕ} {l at : ℕ} {seen : List ℕ} (t : LinkTurn s l at seen
       let q : unknown (zonesIn s) (fromIn s l) ≡ true = sym (λ j. leb (e j) ((f ∙ from-place) j)) ∙ le-leb zones from h in
       field-stops (t .stands) (cursor (orderAt s 0)) (omega arith) (from-fault ∙ ap (λ (b : Bool). b || holds seen (fromIn s l) (toIn s l)) q) (p ∙ t .place)
 
-  -- a pair that was seen passed: its second zone is known, and not the first
+  -- a pair that was seen passed then: its second zone is known and differs from the first
   seen-passed : T (holds seen (fromIn s l) (toIn s l)) → T (not (fault 1))
   unfolding linkFault caseOf
   seen-passed h =

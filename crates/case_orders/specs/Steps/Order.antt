@@ -1,4 +1,5 @@
--- The walk over the orders of a case, by what their fields are as row 8 tests them, and order i as the later stages have it. Assumes nothing.
+-- The walk over the orders of a case, field by field as row 8 tests them, and order i as the later stages have it.
+-- Assumes nothing.
 use mathlib.Core.Path.{_≡_, refl, sym, ap, _∙_}
 use mathlib.Core.List.{List}
 use mathlib.Core.Option.{none}
@@ -7,7 +8,7 @@ use native.Mathlib.Omega.{arith}
 use lib.Dec.{leb, ltb}
 use lib.IntN.{ℤ, pos}
 use Rattle.base_integers.specs.Meaning.Ranges.{outside}
-use Rattle.base_measures.specs.Meaning.Limits as limits
+use Rattle.base_limits.specs.Meaning.Limits as limits
 use Rattle.rules.specs.Meaning.Layout.{u8At, u32At, i32At, zonesIn, ordersIn, orderAt, orderFields, orderFieldAt, caseLength, zoneIn, sideIn, quantityIn, priceIn}
 use Rattle.rules.specs.Meaning.Hour.{caseOf}
 use Rattle.base_causes.specs.Meaning.Causes.{firstBelow}
@@ -18,7 +19,7 @@ use Rattle.case_header.specs.declared.Counts.{Counts}
 use Rattle.case_header.specs.Meaning.CaseReadable.{LengthValid, orderCause}
 use Rattle.case_header.specs.Steps.CaseReadable.{small, order-start-is, order-inside}
 
--- WHERE ORDERS STAND: one begins where the one before ends, and the case ends where the last ends
+-- WHERE ORDERS STAND: each begins where the one before ends, and the case ends where the last ends
 pub order-next : (s : List ℕ) (i : ℕ) → orderAt s i + 10 ≡ orderAt s (i + 1)
 unfolding orderAt
 order-next s i = omega arith
@@ -27,7 +28,7 @@ pub case-ends : (s : List ℕ) → orderAt s (ordersIn s) ≡ caseLength s
 unfolding orderAt caseLength
 case-ends s = refl
 
--- THE ORDER OF A TURN of the walk: it stands within the file, and no order before it has a field at fault
+-- THE ORDER OF A TURN: it is within the file, and no order before it has a field at fault
 pub order-within : {s : List ℕ} {k : Counts} → LengthValid s k → (i : ℕ) → i < k .orders → {at : ℕ} → at ≡ orderAt s i → RecordWithin s at 10
 order-within w i h p = record { inside = omega (arith, p, order-start-is (w .headed) i, order-inside w i h); small = small w }
 

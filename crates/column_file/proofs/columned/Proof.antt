@@ -1,4 +1,5 @@
--- `column_file::columned` meets its contract: a readable case's orders end it, so that its length tells where they start. Assumes nothing.
+-- `column_file::columned` meets its contract: the orders end a readable case, so its length tells where they start.
+-- Assumes nothing.
 use mathlib.Core.Path.{_≡_, refl, sym, ap, subst, _∙_}
 use mathlib.Core.List.{List, _++_}
 use Prim.Native.Nat.{ℕ}
@@ -17,7 +18,7 @@ use Rattle.column_file.specs.Steps.Read.{refused-case, longest, orders-e
 use Rattle.column_file.proofs.columned.Statement.{statement}
 use Rattle.column_file.proofs.columned.Tie as tie
 
--- an answer by 0 holds what is promised of its bytes
+-- an answer by 0 keeps the promises about its bytes
 all : (s out : List ℕ) {r : Written} {after : List ℕ} → Owed (unreadable s) (length s) (columnedOf s) out r after → CaseColumned s out r after
 unfolding columnedOutcome columnedWritten columnedOutput columnedCauses
 all s out {r} {after} m =

@@ -1,5 +1,5 @@
--- `column_file::put_every` meets its contract. The loop's invariant: the first j bytes are stored. The measure is what is left of the count.
--- Assumes nothing.
+-- `column_file::put_every` meets its contract. The loop's invariant: the first j bytes are stored. The measure is
+-- the bytes left. Assumes nothing.
 use mathlib.Core.Path.{_≡_, refl, ap, _∙_}
 use Prim.Native.Nat.{ℕ, _+_, _*_, _-_, _≤_, _<_}
 use native.Mathlib.Omega.{arith}

@@ -1,4 +1,5 @@
--- `column_file::put_file` meets its contract: the mark, the bytes up to the orders and the orders, stored one after the other. Assumes nothing.
+-- `column_file::put_file` meets its contract: the mark, the bytes up to the orders and the orders, stored one after
+-- the other. Assumes nothing.
 use mathlib.Core.Path.{_≡_, ap, _∙_}
 use Prim.Native.Nat.{_*_}
 use native.Mathlib.Omega.{arith}

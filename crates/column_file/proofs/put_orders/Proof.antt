@@ -1,5 +1,5 @@
--- `column_file::put_orders` meets its contract. The loop's invariant: the first i rows are stored. The measure is what is left of the rows.
--- Assumes nothing.
+-- `column_file::put_orders` meets its contract. The loop's invariant: the first i rows are stored. The measure is
+-- the rows left. Assumes nothing.
 use mathlib.Core.Path.{_≡_, ap, _∙_}
 use Prim.Native.Nat.{ℕ, _+_, _*_, _-_, _≤_}
 use native.Mathlib.Omega.{arith}

@@ -1,5 +1,6 @@
--- `column_file::restore` meets its contract. The file in the other arrangement, where its length tells that the orders start, is the restored case if its
--- header demands that length; and otherwise neither is readable. Assumes nothing.
+-- `column_file::restore` meets its contract. The file's length tells where its orders would start. If its header
+-- demands that length, the file in the other arrangement is the restored case; otherwise neither is readable.
+-- Assumes nothing.
 use mathlib.Core.Path.{_≡_, sym, ap, subst, _∙_}
 use mathlib.Core.Bool.{true, false, not, _&&_}
 use mathlib.Core.List.{List}
@@ -72,7 +73,6 @@ taken d =
 differs-requires : tie.Need-differs-requires
 differs-requires c κs = search needs
 
--- the mark
 mark-test : (d : tie.After-differs) → d .differs .result ≡ notMark 76 84 75 (text d)
 unfolding notMark
 mark-test d = d .differs .ensures ∙ ap (λ (h : Header). not (eqb (h .mark .0) 76 && eqb (h .mark .1) 84 && eqb (h .mark .2) 75)) (taken d .1)
@@ -85,7 +85,6 @@ returns-2 c =
     let d = c .before .before in
     no-case (text d) (marked-otherwise (text d) (sym (mark-test d) ∙ c .before .if1 .taken)) (c .not-restored2 .ensures)
 
--- the orders
 cast-orders : tie.Need-cast-orders
 cast-orders c = search needs
 

@@ -1,4 +1,5 @@
--- `column_file::restored` meets its contract: the case is made in the first bytes of a local array, and copied once it is known to be readable. Assumes nothing.
+-- `column_file::restored` meets its contract: the case is made in the first bytes of a local array, and copied only
+-- if it is readable. Assumes nothing.
 use mathlib.Core.Path.{_≡_, refl, sym, ap, subst, _∙_}
 use mathlib.Core.Bool.{false}
 use mathlib.Core.List.{List, _++_}
@@ -17,7 +18,7 @@ use Rattle.column_file.specs.Steps.Read.{too-long, not-readable}
 use Rattle.column_file.proofs.restored.Statement.{statement}
 use Rattle.column_file.proofs.restored.Tie as tie
 
--- an answer by 0 holds what is promised of its bytes
+-- an answer by 0 keeps the promises about its bytes
 all : (t out : List ℕ) {r : Written} {after : List ℕ} → Owed (notRestored t) (length t) (restoredOf t) out r after → CaseRestored t out r after
 unfolding restoredOutcome restoredWritten restoredOutput restoredCauses
 all t out {r} {after} m = record { outcome-is = m .0; written = m .1 .0; output = m .1 .1; restored = stands }

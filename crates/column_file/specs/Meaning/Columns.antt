@@ -1,4 +1,5 @@
--- REQUEST S-10: a case whose order part stands column by column, for the archive, and the way back. What the two entries answer and write. Assumes nothing.
+-- REQUEST S-10: a case with its order part column by column, for the archive, and the way back; what the two
+-- entries answer and write. Assumes nothing.
 use mathlib.Core.Path.{_≡_}
 use mathlib.Core.Bool.{Bool, true, false, cond, _||_}
 use mathlib.Core.List.{List, [], _∷_, _++_}
@@ -18,13 +19,15 @@ unfoldable pub listed : ℕ → (ℕ → ℕ) → List ℕ
 listed zero f = []
 listed (suc n) f = listed n f ++ (f n ∷ [])
 
--- THE PERMUTATION OF OFFSETS, of a table of so many rows and columns. Byte q of the table written row by row is in row q / columns and column q % columns;
--- written column by column it stands at this place. Its inverse is the same with rows and columns exchanged.
+-- THE PERMUTATION OF OFFSETS of a table with these rows and columns. Written row by row, byte q of the table is
+-- in row q / columns and column q % columns; written column by column it stands at this place. The inverse is the
+-- same with rows and columns exchanged.
 unfoldable pub transposed : (rows columns : ℕ) → ℕ → ℕ
 transposed rows columns q = q % columns * rows + q / columns
 
--- THE OTHER ARRANGEMENT of a file whose orders begin at `start`: the mark is LT and a letter, the bytes from there to the orders stay, and the orders become
--- a table of so many rows and columns, where they were one of so many columns and rows. The length stays, whatever the file holds.
+-- THE OTHER ARRANGEMENT of a file whose orders begin at `start`: the mark is LT and a letter, and the bytes from
+-- there to the orders stay. The orders become a table of `rows` rows and `columns` columns; before, it had
+-- `columns` rows and `rows` columns. The length stays, whatever the file holds.
 unfoldable pub arrangedByte : (letter start rows columns : ℕ) → List ℕ → ℕ → ℕ
 arrangedByte letter start rows columns s k =
     cond (ltb k 3) (getD (76 ∷ 84 ∷ letter ∷ []) k 0)
@@ -34,7 +37,8 @@ arrangedByte letter start rows columns s k =
 unfoldable pub arranged : (letter start rows columns : ℕ) → List ℕ → List ℕ
 arranged letter start rows columns s = listed (length s) (arrangedByte letter start rows columns s)
 
--- COLUMNED, mark LTK: a row for each of an order's ten bytes (zone, side, four of the quantity, four of the price), with a byte for each order
+-- COLUMNED, mark LTK: a row for each of an order's ten bytes (zone, side, four of the quantity, four of the price),
+-- with a byte for each order
 unfoldable pub columnedOf : List ℕ → List ℕ
 columnedOf s = arranged 75 (orderAt s 0) orderSize (ordersIn s) s
 
@@ -65,7 +69,8 @@ columnedCauses s room = once 71 (unreadable s) ∷ shortOutput (length s) room �
 unfoldable pub restoredCauses : List ℕ → ℕ → List Cause
 restoredCauses t room = once 71 (notRestored t) ∷ shortOutput (length t) room ∷ []
 
--- COLUMNING a case s into an output: number and index, what is written (for a refusal nothing), and every byte of the output afterwards
+-- COLUMNING a case s into an output: number and index, what is written (nothing for a refusal), and every byte of
+-- the output afterwards
 unfoldable pub columnedOutcome : List ℕ → ℕ → Outcome
 columnedOutcome s room = answer (refusal (columnedCauses s room))
 
@@ -85,8 +90,9 @@ restoredWritten t room = writtenBy (refusal (restoredCauses t room)) (restoredOf
 unfoldable pub restoredOutput : List ℕ → List ℕ → List ℕ
 restoredOutput t out = outputAfter (restoredWritten t (length out)) out
 
--- WHAT HOLDS OF AN ANSWER. The columned file u of a case s, byte by byte: the length, the mark, all from the mark to the orders, and byte k of order i, which
--- stands in column k at place i. `only-columned` shows that no other file has these bytes.
+-- WHAT HOLDS OF AN ANSWER. The columned file u of a case s, byte by byte: the length, the mark, all from the mark
+-- to the orders, and byte k of order i, which stands in column k at place i. `only-columned` shows that no other
+-- file has these bytes.
 pub record Columned (s u : List ℕ) : Type 0 where
   pub long : length u ≡ length s
   pub mark : (k : ℕ) → k < 3 → getD u k 0 ≡ getD (76 ∷ 84 ∷ 75 ∷ []) k 0
@@ -102,14 +108,15 @@ pub record ComesBack (s u : List ℕ) : Type 0 where
 pub record NotJudged (u : List ℕ) : Type 0 where
   pub by-2 : (t : List ℕ) (room : ℕ) → reportRoom ≤ room → outcome u t room ≡ verdict 2 0
 
--- the case s that a file t is restored to: it is readable, t is its columned file byte by byte, and columning it gives t again
+-- the case s that a file t is restored to: it is readable, t is its columned file byte by byte, and columning it
+-- gives t again
 pub record Restored (t s : List ℕ) : Type 0 where
   pub readable : Readable s
   pub bytes : Columned s t
   pub same : columnedOf s ≡ t
 
--- WHAT IS OWED of an answer r, the output being `before` and then `after`: number and index, the length of what is written, every byte of the output, and of
--- an answer by 0 what its bytes hold
+-- WHAT AN ANSWER r MUST MEET, with the output `before` and then `after`: number and index, the length of what is
+-- written, every byte of the output, and for an answer by 0 what its bytes hold
 pub record CaseColumned (s before : List ℕ) (r : Written) (after : List ℕ) : Type 0 where
   pub outcome-is : verdict (r .number) (r .index) ≡ columnedOutcome s (length before)
   pub written : r .length ≡ length (columnedWritten s (length before))

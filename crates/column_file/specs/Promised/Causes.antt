@@ -1,5 +1,5 @@
--- The numbers of both tables in the order asked, that a refusal is given for its cause and for no other and writes nothing, and that no cause asked earlier
--- holds. Assumes nothing.
+-- The numbers of both tables in the order asked; a refusal is given for its own cause and no other and writes
+-- nothing; no cause asked earlier holds. Assumes nothing.
 use mathlib.Core.Path.{_≡_, refl, ap}
 use mathlib.Core.List.{List, [], _∷_}
 use mathlib.Core.Option.{Option, none, some}
@@ -14,7 +14,7 @@ use Rattle.base_causes.specs.Promised.CauseLaws.{empty, CausedBy, answer-caused
 use Rattle.base_output.specs.Meaning.Output.{writtenBy, outputAfter}
 use Rattle.column_file.specs.Meaning.Columns.{columnedOf, restoredOf, columnedCauses, restoredCauses, columnedOutcome, columnedWritten, columnedOutput, restoredOutcome, restoredWritten, restoredOutput}
 
--- a refusal writes nothing and leaves every byte as it was
+-- a refusal writes nothing and leaves every byte unchanged
 unwritten : (o : Option Outcome) (bytes out : List ℕ) → 0 < (answer o) .number → (length (writtenBy o bytes) ≡ 0) × (outputAfter (writtenBy o bytes) out ≡ out)
 unwritten (some x) bytes out h = (refl, refl)
 unwritten none bytes out h = absurd (omega arith)

@@ -1,5 +1,5 @@
--- S-10 IN PLAIN NUMBERS, both ways: when columning and the way back answer 0, 71 and 72, and where each byte of a case
--- stands in its columned file. A byte is `getD s k 0`, the number at place k of the file, counted from 0.
+-- S-10 IN PLAIN NUMBERS, both ways: when columning and the way back answer 0, 71 and 72, and where each byte of a
+-- case stands in its columned file. `getD s k 0` is the byte at place k of the file, counted from 0.
 -- Assumes nothing.
 use mathlib.Core.Path.{_≡_, refl, sym, ap, subst, _∙_}
 use mathlib.Core.Logic.{_↔_, inl, inr}
@@ -39,7 +39,7 @@ pub record InColumns (s u : List ℕ) : Type 0 where
   pub kept : (k : ℕ) → 3 ≤ k → k < start s width → getD u k 0 ≡ getD s k 0
   pub column : (i k : ℕ) → i < orders s → k < 10 → getD u (start s width + (k * orders s + i)) 0 ≡ getD s (start s width + (i * 10 + k)) 0
 
--- what the way back takes: the mark is LTK, and a readable case results
+-- which files the way back takes: the mark is LTK, and a readable case results
 pub record Restorable (t : List ℕ) : Type 0 where
   pub mark : (getD t 0 0 ≡ 76) × ((getD t 1 0 ≡ 84) × (getD t 2 0 ≡ 75))
   pub results : CaseFacts (restoredOf t)
@@ -51,7 +51,7 @@ pub record Answers (P : Type 0) (size room : ℕ) (o : Outcome) : Type 0 where
   pub is-0 : (o .number ≡ 0) ↔ (P × (size ≤ room))
   pub index-0 : o .index ≡ 0
 
--- of columning: taken is a readable case; and of the way back
+-- for columning, which takes a readable case; and for the way back
 abbrev pub ColumnedNumbers : List ℕ → ℕ → Outcome → Type 0
 ColumnedNumbers s room o = Answers (CaseFacts s) (length s) room o
 
@@ -117,7 +117,7 @@ module _ (t : List ℕ) where
   unfolding restoredOutcome restoredCauses
   restored-numbers room = of-table (length t) room (notRestored t) restorable-taken taken-restorable
 
--- THE BYTES. The places of the definition are these
+-- THE BYTES. These are the places of the definition
 start-is : (s : List ℕ) (width : ℕ) → LinkBytes s width → orderAt s 0 ≡ start s width
 unfolding ordersIn u16At
 start-is s width v = omega (arith, full-length s, case-length-is s width v)
@@ -179,7 +179,7 @@ in-columns s f = plain-columned s (columnedOf s) f (is-columned s (facts-readabl
 pub only-in-columns : (s u : List ℕ) → CaseFacts s → InColumns s u → u ≡ columnedOf s
 only-in-columns s u f c = let r = facts-readable s f in only-columned s u (columnedOf s) r (of-plain s u c) (is-columned s r)
 
--- the way back takes a file if and only if it has these bytes of a readable case, and that case results
+-- the way back takes a file if and only if it has these bytes for a readable case, and that case results
 pub restored-in-columns : (t : List ℕ) → Restorable t → InColumns (restoredOf t) t
 restored-in-columns t r = plain-columned (restoredOf t) t (r .results) (restored-file t (restorable-taken t r) .bytes)
 

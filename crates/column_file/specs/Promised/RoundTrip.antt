@@ -1,5 +1,6 @@
--- What holds of columned and restored files: the length and all before the orders stay, each byte of an order stands in its column, there and back is the
--- same file, each entry takes what the other writes, and the judgement refuses a columned file. Assumes nothing.
+-- What holds of columned and restored files. The length and all before the orders stay; each byte of an order
+-- stands in its column. There and back gives the same file, and each entry takes what the other writes. The
+-- judgement refuses a columned file. Assumes nothing.
 use mathlib.Core.Path.{_≡_, refl, sym, ap, subst, _∙_}
 use mathlib.Core.Bool.{Bool, true, false, not, _&&_, _||_}
 use mathlib.Core.List.{List, [], _∷_}
@@ -50,7 +51,8 @@ module _ (s : List ℕ) where
       ∙ ap (λ (x : ℕ). getD s (orderAt s 0 + x) 0) (transposed-at 10 (ordersIn s) k i h)
       ∙ ap (λ (x : ℕ). getD s x 0) place
 
--- RESTORED: length, the bytes before the orders; and the length of a file that is restored is the one that its header demands
+-- RESTORED: length, the bytes before the orders; the length of a file that is restored is the one that its header
+-- demands
 module _ (t : List ℕ) where
   pub restored-length : length (restoredOf t) ≡ length t
   unfolding restoredOf
@@ -124,7 +126,7 @@ module _ (s : List ℕ) (r : Readable s) where
       ∙ field-passes 1 0 _ (le-ltb (length (columnedOf s)) 14 (omega (arith, long, columned-length s)))
       ∙ field-fails 2 0 _ (not-mark 76 84 67))
 
--- NO OTHER FILE than the columned one has those bytes, so that the definition's arithmetic hides nothing
+-- NO OTHER FILE than the columned one has those bytes, so the definition's arithmetic hides nothing
 pub is-columned : (s : List ℕ) → Readable s → Columned s (columnedOf s)
 is-columned s r = record {
   long = columned-length s;
@@ -158,7 +160,7 @@ only-columned s a b r x y = ext-getD 0 a b (x .long ∙ sym (y .long)) at
       | no g ↦ elim (decLt k p) [ yes h ↦ x .kept k (omega arith) h ∙ sym (y .kept k (omega arith) h) | no m ↦ order k (omega arith) (omega (arith, x .long)) ]
     ]
 
--- OF WHAT THE ENTRIES WRITE, as it then stands in the output: columning
+-- WHAT THE ENTRIES WRITE, as it stands in the output: columning
 module _ (s : List ℕ) (room : ℕ) (answered : (columnedOutcome s room) .number ≡ 0) where
   was-readable : Readable s
   unfolding columnedCauses

@@ -1,4 +1,4 @@
--- The two causes that the entries ask, one after the other, and what an entry owes of an answer. Assumes nothing.
+-- The two causes that the entries ask, one after the other, and what an entry's answer must meet. Assumes nothing.
 use mathlib.Core.Path.{_≡_, refl, sym, ap, _∙_}
 use mathlib.Core.Bool.{Bool, true, false}
 use mathlib.Core.List.{List, [], _∷_, _++_}
@@ -39,7 +39,7 @@ pub restore-made : (bad : Bool) → restoreBy bad ≡ restore.Restored → bad �
 restore-made true e = cc
 restore-made false e = refl
 
--- WHAT IS OWED: r is returned, and the output is out before and after afterwards
+-- WHAT MUST BE MET: r is returned, and the output is `out` before and `after` afterwards
 abbrev pub Owed : Bool → ℕ → List ℕ → List ℕ → Written → List ℕ → Type 0
 Owed bad size bytes out r after = Met (refusal (rowsOf bad size (length out))) bytes out r after
 

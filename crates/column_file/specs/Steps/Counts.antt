@@ -1,4 +1,5 @@
--- Readable as a test, the mark, and the counts of a file: they stand before the orders, so that the other arrangement keeps them. Assumes nothing.
+-- Readable as a test, the mark, and the counts of a file: they stand before the orders, so the other arrangement
+-- keeps them. Assumes nothing.
 use mathlib.Core.Path.{_≡_, refl, sym, ap, subst, _∙_}
 use mathlib.Core.Bool.{Bool, true, false, not, _&&_}
 use mathlib.Core.List.{List}

@@ -1,4 +1,4 @@
--- Lists given by what stands at each place, and runs of stores of them. Assumes nothing.
+-- Lists given by their entry at each place, and runs of stores of them. Assumes nothing.
 use mathlib.Core.Path.{_≡_, refl, sym, ap, _∙_}
 use mathlib.Core.List.{List, [], _∷_, _++_, append-assoc, append-nil}
 use Prim.Native.Nat.{ℕ, zero, suc, _+_, _≤_, _<_}

@@ -1,4 +1,5 @@
--- What reading tells: where the orders of a readable case start, and when a columned file restores to a readable case. Assumes nothing.
+-- What reading implies: where the orders of a readable case start, and when a columned file restores to a readable
+-- case. Assumes nothing.
 use mathlib.Core.Path.{_≡_, refl, sym, ap, subst, _∙_}
 use mathlib.Core.Bool.{Bool, true, false, _||_}
 use mathlib.Core.List.{List, _++_, append-nil}
@@ -35,7 +36,7 @@ unless s f = by (unreadable s) refl
     by true e = e
     by false e = absurd (f (readable-of s e))
 
--- A READABLE CASE: no longer than this, and its orders end it
+-- A READABLE CASE: its length is at most this, and the orders end it
 pub longest : (s : List ℕ) → Readable s → length s ≤ 10126
 unfolding caseLength branchSize caseOf
 longest s r =
@@ -57,7 +58,7 @@ module _ {s : List ℕ} {k : Counts} (o : CaseReadable s k) where
       let e : length s - 10 * k .orders ≡ orderAt s 0 = omega (arith, orders-end) in
       λ j. arranged 75 (e j) 10 (orders-is j) s
 
--- THE WAY BACK. The orders end the file: what results if its length tells where they start
+-- THE WAY BACK. The orders end the file: the case that results if its length tells where they start
 abbrev pub byLength : List ℕ → List ℕ
 byLength t = arranged 67 (length t - 10 * ordersIn t) (ordersIn t) 10 t
 
@@ -89,7 +90,7 @@ module _ (t : List ℕ) where
   pub too-long : 10126 < length t → unreadable (restoredOf t) ≡ true
   too-long h = unless (restoredOf t) (λ r. omega (arith, longest (restoredOf t) r, restored-length t))
 
-  -- what then is asked of the file
+  -- what the file is then asked
   pub marked-otherwise : notMark 76 84 75 t ≡ true → notRestored t ≡ true
   unfolding notRestored
   marked-otherwise e = ap (λ (b : Bool). b || unreadable (restoredOf t)) e

@@ -1,4 +1,4 @@
--- The transpose of a table is undone by the other one, and each byte of a file in the other arrangement. Assumes nothing.
+-- The transpose of a table undoes the other one; and each byte of a file in the other arrangement. Assumes nothing.
 use mathlib.Core.Path.{_≡_, sym, ap, _∙_}
 use mathlib.Core.List.{List, [], _∷_}
 use Prim.Native.Nat.{ℕ, zero, suc, _+_, _*_, _-_, _/_, _%_, _≤_, _<_}
@@ -70,7 +70,7 @@ module _ (letter start rows columns : ℕ) (s : List ℕ) where
       let e : start + q - start ≡ q = omega arith in
       byte-is (start + q) l ∙ simp (le-ltb (start + q) 3 a, le-ltb (start + q) start b, e)
 
--- THERE AND BACK: the mark of s is LT and a letter, and its orders fill it up
+-- THERE AND BACK: the mark of s is LT and a letter, and its orders end it
 module _ (letter other start rows columns : ℕ) (s : List ℕ) (h : 3 ≤ start) (full : length s ≡ start + rows * columns)
     (a : getD s 0 0 ≡ 76) (b : getD s 1 0 ≡ 84) (d : getD s 2 0 ≡ letter) where
   abbrev t : List ℕ

@@ -1,4 +1,4 @@
--- `desk::main` is safe and ends: what was kept lies within the buffer. Assumes nothing.
+-- `desk::main` is safe and ends: what was kept is within the buffer. Assumes nothing.
 use mathlib.Core.Path.{sym}
 use lib.Seq.{length-take-le}
 use borrow.Author.Needs.{needs}

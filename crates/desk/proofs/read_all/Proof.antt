@@ -1,5 +1,5 @@
--- `desk::read_all` meets its contract. The loop's invariant: what is kept lies within the buffer, which has the length that it came with.
--- The measure is the turns left. Assumes nothing.
+-- `desk::read_all` meets its contract. The loop's invariant: what was kept is within the buffer, whose length is
+-- unchanged. The measure is the turns left. Assumes nothing.
 use mathlib.Core.Path.{_≡_}
 use Prim.Native.Nat.{_≤_}
 use borrow.Author.Needs.{needs}

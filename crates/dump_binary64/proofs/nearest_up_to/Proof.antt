@@ -1,4 +1,5 @@
--- `dump_binary64::nearest_up_to` meets its contract: past 2 ^ 51 the nearest is above every number of 32 bits. Assumes nothing.
+-- `dump_binary64::nearest_up_to` meets its contract: above 2 ^ 51 the nearest is above every number of 32 bits.
+-- Assumes nothing.
 use mathlib.Core.Path.{_≡_, sym, ap, _∙_, subst}
 use mathlib.Core.Bool.{Bool}
 use Prim.Native.Nat.{ℕ, _≤_, _<_}

@@ -29,7 +29,7 @@ int-to-float-if1 c = le→leb (c .before .truncating-f64-to-u64 .result) (2 ^ 53
 add-result : tie.Need-add-result
 add-result c = omega (arith, small (c .before .before))
 
--- the whole part and a half, as the test has it
+-- the whole part and a half, as in the test
 sum : (c : tie.After-truncating-f64-to-u64)
     → HasValue (add binary64 (ofInt binary64 (pos (c .truncating-f64-to-u64 .result))) (ofBits binary64 0x3fe0_0000_0000_0000)) false (2 * toUnsigned 64 (c .before .args .p) + 1) 2
 sum c =

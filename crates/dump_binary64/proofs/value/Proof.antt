@@ -1,4 +1,4 @@
--- `dump_binary64::value` meets its contract: what is finite is no NaN. Assumes nothing.
+-- `dump_binary64::value` meets its contract: a finite value is no NaN. Assumes nothing.
 use borrow.Author.Needs.{needs}
 use Rattle.dump_binary64.specs.Steps.Patterns.{no-nan}
 use Rattle.dump_binary64.proofs.value.Statement.{statement}

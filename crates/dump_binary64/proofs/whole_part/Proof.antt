@@ -13,7 +13,7 @@ use Rattle.dump_binary64.specs.Steps.WholePart.{NextTo, wholes-bits, rou
 use Rattle.dump_binary64.proofs.whole_part.Statement.{statement}
 use Rattle.dump_binary64.proofs.whole_part.Tie as tie
 
--- the value rounded, as the code has it
+-- the rounded value of the code
 abbrev rounded : Float → Float
 rounded p = sub binary64 (add binary64 p (ofBits binary64 0x4330_0000_0000_0000)) (ofBits binary64 0x4330_0000_0000_0000)
 

@@ -1,4 +1,4 @@
--- A value as the machine has it, and what the code answers with. Assumes nothing.
+-- A value in the machine, and the code's answers. Assumes nothing.
 use mathlib.Core.Bool.{false}
 use Prim.Native.Nat.{ℕ}
 use lib.IntN.{pos}

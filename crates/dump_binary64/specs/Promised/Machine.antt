@@ -1,4 +1,5 @@
--- THE PROCESSOR'S PRODUCT: for a finite value it is the meaning's, which is stated over the bits as a fraction. Assumes nothing.
+-- THE PROCESSOR'S PRODUCT: for a finite value it is the meaning's, which is a fraction of the bits.
+-- Assumes nothing.
 use mathlib.Core.Path.{_≡_}
 use mathlib.Core.Bool.{true}
 use Prim.Native.Nat.{ℕ, _^_, _≤_}

@@ -1,7 +1,7 @@
--- 64 BITS IN PLAIN NUMBERS, of any number b: bit 63 is the sign, bits 52 to 62 are the exponent's field, bits 0 to 51
--- the fraction's. A finite value is units b / 2 ^ 1074 with its sign. The laws say which bits are finite, which value
--- they are, which are below zero and which above one, by the bits alone and both ways. No machine's reading of them
--- enters. Assumes nothing.
+-- 64 BITS IN PLAIN NUMBERS, for any number b: bit 63 is the sign, bits 52 to 62 are the exponent field, bits 0 to
+-- 51 the fraction field. A finite value is units b / 2 ^ 1074 with its sign. The laws say, by the bits alone and
+-- both ways, which bits are finite, which value they have, which are below zero and which above one. No machine
+-- float enters. Assumes nothing.
 use mathlib.Core.Path.{_≡_, refl, sym, ap, _∙_, subst}
 use mathlib.Core.Logic.{_↔_}
 use mathlib.Core.Bool.{Bool, true, false, not, cond, _&&_}
@@ -15,7 +15,7 @@ use lib.Pow.{pow-pos}
 use Rattle.base_integers.specs.Steps.Ranges.{is-true, and-left, and-right}
 use Rattle.dump_binary64.specs.Meaning.Value.{minus, exponent, fraction, finite, units, negative, aboveOne}
 
--- NOT FINITE, an infinity or a NaN: the exponent's eleven bits are all ones
+-- NOT FINITE, an infinity or a NaN: the exponent field's eleven bits are all ones
 pub not-finite : (b : ℕ) → (finite b ≡ false) ↔ (b / 2 ^ 52 % 2048 ≡ 2047)
 unfolding finite
 not-finite b = (λ e. field b (eqb-true (exponent b) 2047 (not-false _ e)), λ e. ap not (eq-eqb (exponent b) 2047 (back b e)))
@@ -26,8 +26,8 @@ not-finite b = (λ e. field b (eqb-true (exponent b) 2047 (not-false _ e)), λ e
     back : (b : ℕ) → b / 0x10_0000_0000_0000 % 2048 ≡ 2047 → b % 0x8000_0000_0000_0000 / 0x10_0000_0000_0000 ≡ 2047
     back b e = omega arith
 
--- THE VALUE of a sign s, an exponent's field e and a fraction's f: (2 ^ 52 + f) * 2 ^ e / 2 ^ 1075, and where e is 0 f
--- / 2 ^ 1074
+-- THE VALUE of a sign s, an exponent field e and a fraction field f: (2 ^ 52 + f) * 2 ^ e / 2 ^ 1075; where e is 0,
+-- f / 2 ^ 1074
 module _ (s e f : ℕ) (s-in : s < 2) (e-in : e < 2048) (f-in : f < 2 ^ 52) where
   abbrev word : ℕ
   word = s * 2 ^ 63 + e * 2 ^ 52 + f
@@ -69,7 +69,7 @@ module _ (s e f : ℕ) (s-in : s < 2) (e-in : e < 2048) (f-in : f < 2 ^ 52) wher
           let less : suc e - 1 ≡ e = omega arith in
           ap (λ (k : ℕ). 2 * (m * 2 ^ k)) less ∙ (let p = pow-suc 2 e in omega (arith, ap (λ (k : ℕ). m * k) p))
 
--- the same by a number's own fields
+-- the same for a number's own fields
 parts : (b : ℕ) → b % 2 ^ 63 ≡ exponent b * 2 ^ 52 + fraction b
 parts b = by b
   where
@@ -91,7 +91,7 @@ normal x f = (λ i. cond (eqb·suc-zero x i) f ((2 ^ 52 + f) * 2 ^ (less i)))
     less : suc x - 1 ≡ x
     less = omega arith
 
--- ZERO, either one, has no other bit than the sign
+-- ZERO, of either sign, has no other bit set than the sign
 zero-units : (x f : ℕ) → x * 2 ^ 52 + f ≡ 0 → unitsOf x f ≡ 0
 zero-units zero f e = omega arith
 zero-units (suc x) f e = absurd (never x f e)
@@ -103,7 +103,7 @@ some-units : (x f : ℕ) → 0 < x * 2 ^ 52 + f → 0 < unitsOf x f
 some-units zero f h = omega arith
 some-units (suc x) f h = let p : 0 < 2 ^ 52 + f = omega arith in subst (λ (n : ℕ). 0 < n) (sym (normal x f)) (mul-pos p (pow-pos x))
 
--- BELOW ZERO: the sign is set, and another bit. Minus zero, 2 ^ 63, is not
+-- BELOW ZERO: the sign is set, and another bit. Minus zero, 2 ^ 63, is not below zero
 pub below-zero : (b : ℕ) → (negative b ≡ true) ↔ ((2 ^ 63 ≤ b) × (0 < b % 2 ^ 63))
 unfolding negative units
 below-zero b = (
@@ -127,8 +127,8 @@ below-zero b = (
         none : (n : ℕ) → 0 < n → n ≡ 0 → ⊥
         none n h e = omega arith
 
--- ABOVE ONE, 2 ^ 1074 units: the bits below the sign are more than those of 1.0, whose exponent's field is 1023 and
--- whose fraction is 0
+-- ABOVE ONE, 2 ^ 1074 units: the bits below the sign are more than those of 1.0, whose exponent field is 1023 and
+-- whose fraction field is 0
 past-one : (x f : ℕ) → f < 2 ^ 52 → 1023 * 2 ^ 52 < x * 2 ^ 52 + f → 2 ^ 1074 < unitsOf x f
 past-one zero f l h = absurd (never f l h)
   where

@@ -1,7 +1,6 @@
--- A PRODUCT TAKEN TO A WHOLE NUMBER, in plain numbers: what is cut is at most the rounded product and less than one
--- below it; what is taken to the nearest is within a half of it, and at a half it is the one away from zero. Both are
--- within one of the exact product too. And a value's 64 bits are its eight bytes, each times its power of 256. Assumes
--- nothing.
+-- A PRODUCT TAKEN TO A WHOLE NUMBER, in plain numbers. The cut is at most the rounded product and less than one
+-- below it. The nearest is within a half of it; at a half it is the one away from zero. Both are within one of the
+-- exact product too. And a value's 64 bits are its eight bytes, each times its power of 256. Assumes nothing.
 use mathlib.Core.Path.{_≡_, refl, sym, ap, _∙_, subst}
 use mathlib.Core.Logic.{_↔_}
 use mathlib.Core.Bool.{Bool, true, false, true≢false, cond}
@@ -29,7 +28,7 @@ use Rattle.dump_binary64.specs.Meaning.Value.{bitsAt, minus, units, prod
 use Rattle.dump_binary64.specs.Steps.WholePart.{cut-parts}
 use Rattle.dump_binary64.specs.Steps.Cutting.{lt-or-eq, over-by, under-by, round-cut-le, round-cut-ge}
 
--- THE 64 BITS of the n-th value
+-- THE 64 BITS of value n
 pub bits-are-bytes : (dump : List ℕ) (n : ℕ) → bitsAt dump n ≡ sumNat 8 (λ i. getD dump (8 * n + i) 0 * 256 ^ i)
 unfolding bitsAt u32At sumNat
 bits-are-bytes dump n =
@@ -54,8 +53,8 @@ pub record CutOf (b q v : ℕ) : Type 0 where
   pub at-most : v * den (rounded b q) ≤ num (rounded b q)
   pub past : num (rounded b q) < (v + 1) * den (rounded b q)
 
--- v is the whole number nearest to the product's size: 2 * |r - v| ≤ 1, and of two as near the one away from zero: r
--- is a half above no v
+-- v is the whole number nearest to the product's size: 2 * |r - v| ≤ 1, and of two equally near the one away from
+-- zero, so that r is a half above no v
 pub record NearestOf (b q v : ℕ) : Type 0 where
   pub finite : float.finite (rounded b q) ≡ true
   pub over : 2 * v * den (rounded b q) ≤ 2 * num (rounded b q) + den (rounded b q)
@@ -85,7 +84,7 @@ nearest-of b q f =
     let c = nearest-parts (num r) (den r) (den-pos r) in
     record { finite = f; over = c .0; under = omega (arith, c .1); away = λ k e. one-half _ k (num r) (den r) (den-pos r) (c .0) (c .1) e }
 
--- WHAT IS TAKEN IS ABOVE g if and only if the product is g + 1 or more, and for the nearest g + 1/2 or more
+-- THE RESULT IS ABOVE g if and only if the product is g + 1 or more, or for the nearest g + 1/2 or more
 pub cut-above : (b q g : ℕ) → (g < cut (product b q)) ↔ ((g + 1) * den (rounded b q) ≤ num (rounded b q))
 unfolding product cut
 cut-above b q g =
@@ -113,12 +112,12 @@ nearest-above b q g =
     down : (g v n d : ℕ) → (2 * g + 1) * d ≤ 2 * n → 2 * n < 2 * v * d + d → (2 * g + 1) * d < (2 * v + 1) * d
     down g v n d h l = omega arith
 
--- AGAINST THE EXACT PRODUCT, the fraction units b * q / 2 ^ 1074: what is cut differs from it by less than one
+-- AGAINST THE EXACT PRODUCT, the fraction units b * q / 2 ^ 1074: the cut differs from it by less than one
 pub record WithinOne (b q v : ℕ) : Type 0 where
   pub over : v * 2 ^ 1074 < units b * q + 2 ^ 1074
   pub under : units b * q < v * 2 ^ 1074 + 2 ^ 1074
 
--- a cast to 64 bits of a finite value with no sign, whose cut is small
+-- a cast to 64 bits of a finite value without sign, whose cut is small
 cast-is : (x : Float) (a c : ℕ) → HasValue x false a c → cut x < 2 ^ 53 → toUnsigned 64 x ≡ cut x
 unfolding cut toUnsigned
 cast-is nan a c v h = absurd v
@@ -129,7 +128,7 @@ cast-is (fin false m e) a c v h = uncapped (m * up e / down e) h
     uncapped : (n : ℕ) → n < 0x20_0000_0000_0000 → min n 0xffff_ffff_ffff_ffff ≡ n
     uncapped n h = omega arith
 
--- with no sign: a / c rounded and cut, against whole numbers that binary64 holds
+-- without sign: a / c rounded and cut, against whole numbers that binary64 holds
 plus-within : (a c : ℕ) → 0 < c → T (float.finite (round binary64 false a c)) → cut (round binary64 false a c) < 2 ^ 53
     → (cut (round binary64 false a c) * c < a + c) × (a < cut (round binary64 false a c) * c + c)
 plus-within a c C f l =
@@ -139,7 +138,7 @@ plus-within a c C f l =
       under-by a c r (λ g. subst (λ (x : ℕ). suc r ≤ x) e (round-cut-ge binary64 64 a c (suc r) C l (lt-of-le-of-lt l (lit< tt)) g)),
     )
 
--- a sign changes nothing of a product's size
+-- a sign does not change a product's size
 odd-size : (d : ℕ) (s : Bool) (q k l : ℕ) → (num (odd d s q k l) ≡ num (odd d false q k l)) × (den (odd d s q k l) ≡ den (odd d false q k l)) × (float.finite (odd d s q k l) ≡ float.finite (odd d false q k l))
 unfolding odd
 odd-size d s zero k l = (refl, refl, refl)
@@ -159,7 +158,7 @@ round-size s a c =
     let q = ieee-nearest (n / u) (compare (n % u * 2) u) in
     either-size (ltb (q * 2 ^ k) (2 ^ (low binary64 + suc (emax binary64)))) s _ _ (odd-size (suc (prec binary64)) s q k (low binary64))
 
--- what is rounded from a / c at most n is at most n
+-- a / c at most n, rounded, is at most n
 num-le : (a c : ℕ) (x y : Float) (n : ℕ) → HasValue x false a c → HasValue y false n 1 → T (le x y) → num x ≤ n * den x
 unfolding le
 num-le a c nan y n u v h = absurd u
@@ -175,7 +174,7 @@ round-num-le : (a c n : ℕ) → 0 < c → T (float.finite (round binary64 false
 round-num-le a c n C f p h =
     num-le _ _ (round binary64 false a c) (round binary64 false n 1) n (round-val binary64 a c (round-under binary64 a c f)) (round-whole binary64 false n p) (round-mono binary64 a c n 1 C (pow-pos 0) (le-trans (le-of-eq (mul-one a)) h))
 
--- by the size alone
+-- from the size alone
 pub within-one : (b q : ℕ) → float.finite (product b q) ≡ true → cut (product b q) < 2 ^ 53 → WithinOne b q (cut (product b q))
 unfolding product cut
 within-one b q f l =
@@ -184,7 +183,7 @@ within-one b q f l =
     let w = plus-within (units b * q) (2 ^ 1074) (pow-pos 1074) (is-true (sym (z .2) ∙ f)) (subst (λ (k : ℕ). k < 2 ^ 53) e l) in
     subst (λ (k : ℕ). WithinOne b q k) (sym e) (record { over = w .0; under = w .1 })
 
--- what is taken to the nearest is the cut or one more, and within one of the exact product too
+-- the nearest is the cut or one more, and within one of the exact product too
 near-cut : (w v n d : ℕ) → w * d ≤ n → n < (w + 1) * d → 2 * v * d ≤ 2 * n + d → 2 * n < 2 * v * d + d → (w ≤ v) × (v ≤ w + 1)
 near-cut w v n d a b h l =
     let p : 2 * w < 2 * v + 1 = lt-of-mul-lt-mul-right d {m = 2 * w} {n = 2 * v + 1} (omega arith) in

@@ -1,5 +1,5 @@
--- A SHARE'S PRODUCT that is rounded once and cut to a whole number is never above the whole, and differs from the
--- exact product, the fraction units b * q / 2 ^ 1074, by less than one. Assumes nothing.
+-- A SHARE'S PRODUCT, rounded once and cut to a whole number, is never above the whole, and differs from the exact
+-- product, the fraction units b * q / 2 ^ 1074, by less than one. Assumes nothing.
 use mathlib.Core.Path.{_≡_, sym, ap, _∙_, subst}
 use mathlib.Core.Bool.{Bool, true, false, not}
 use Prim.Native.Nat.{ℕ, _+_, _*_, _^_, _≤_, _<_}

@@ -1,5 +1,6 @@
--- A fraction rounded to a format and cut to a whole number, against whole numbers: what is at most n before is at most n after, and what is at least n
--- is at least n after. So the product that is rounded once and cut is within one of the exact one. Assumes nothing.
+-- A fraction rounded to a format and cut to a whole number, against whole numbers: if it is at most n before, it is
+-- at most n after, and if at least n, at least n after. So the product that is rounded once and cut is within one
+-- of the exact one. Assumes nothing.
 use mathlib.Core.Path.{_≡_, refl, sym, ap, _∙_, subst}
 use mathlib.Core.Logic.{_⊎_, inl, inr}
 use Prim.Native.Nat.{ℕ, zero, suc, _+_, _-_, _*_, _/_, _^_, _≤_, _<_, zero-le, min}
@@ -20,7 +21,7 @@ use lib.Ieee.Positive.{through, num, den}
 use Rattle.dump_binary64.specs.Meaning.Value.{cut}
 use Rattle.dump_binary64.specs.Meaning.Machine.{zero64, one64, times}
 
--- ≤ of two floats that are not negative, as ≤ of two numbers
+-- ≤ between two floats that are not negative is ≤ between two numbers
 or-split : (a b : Bool) → T (a || b) → T a ⊎ T b
 or-split true b t = inl tt
 or-split false b t = inr t
@@ -93,7 +94,7 @@ pub round-cut-ge : (f : Format) (w a c n : ℕ) → 0 < c → n ≤ 2 ^ prec f �
 round-cut-ge f w a c n C p l h =
     cut-ge w (round f false a c) (round f false n 1) n l (round-whole f false n p) (round-mono f n 1 a c (pow-pos 0) C (le-trans h (le-of-eq (sym (mul-one a)))))
 
--- what the truncating cast asks: above -1 and below 2 ^ 64
+-- what the truncating cast requires: above -1 and below 2 ^ 64
 under-64 : (a c n : ℕ) → 0 < c → n < 2 ^ 64 → a ≤ n * c → a * 1 < 1 * 2 ^ 64 * c
 under-64 a c n C l h =
     lt-of-le-of-lt (le-trans (le-of-eq (mul-one a)) h) (subst (λ (x : ℕ). n * c < x * c) (sym (one-mul (2 ^ 64))) (mul-lt-mul-of-pos-right l C))
@@ -172,7 +173,7 @@ mul-whole f s m e (fin true n d) q v = absurd (true≢false (v .0))
 mul-whole f true m e (fin false n d) q v = round-same f true (m * up e * (n * up d)) (down e * down d) (m * up e * q) (down e) (mul-pos (down-pos e) (down-pos d)) (down-pos e) (cross (m * up e) (n * up d) (down e) (down d) q (v .1))
 mul-whole f false m e (fin false n d) q v = round-same f false (m * up e * (n * up d)) (down e * down d) (m * up e * q) (down e) (mul-pos (down-pos e) (down-pos d)) (down-pos e) (cross (m * up e) (n * up d) (down e) (down d) q (v .1))
 
--- a share: from 0 to 1, a minus zero included
+-- a share: from 0 to 1, including minus zero
 -- x is finite, and its sign is minus only where it is zero
 abbrev pub Share : Float → Type 0
 Share nan = ⊥
@@ -211,7 +212,7 @@ share-in-range (fin false m e) q s h =
     (round-in-range (m * up e * q) (down e) q (down-pos e) h (share-most (m * up e) (down e) q s))
 
 -- within one of the exact product
--- r * c < a + c, by which r - 1 < a / c
+-- r * c < a + c, so r - 1 < a / c
 pub over-by : (a c r : ℕ) → 0 < c → ((n : ℕ) → n ≤ r → a ≤ n * c → r ≤ n) → r * c < a + c
 over-by a c zero C h = subst (λ (x : ℕ). x < a + c) (sym (zero-mul c)) (other a c C)
 over-by a c (suc r) C h = lt-of-not-le (λ (g : a + c ≤ suc r * c). lt-irrefl r (h r (le-suc r) (less a c (r * c) (subst (λ (x : ℕ). a + c ≤ x) (suc-mul r c) g))))
@@ -270,7 +271,7 @@ cast-cut (fin false m e) g r =
     uncapped : (a : ℕ) → a < 0x1_0000_0000_0000_0000 → min a 0xffff_ffff_ffff_ffff ≡ a
     uncapped a h = omega arith
 
--- A SHARE'S PRODUCT: cut it is at most the whole, and within one of the exact product
+-- A SHARE'S PRODUCT: its cut is at most the whole, and within one of the exact product
 pub record Part (x : Float) (q r : ℕ) : Type 0 where
   pub most : r ≤ q
   pub over : r * den x < num x * q + den x
@@ -312,7 +313,7 @@ share-finite nan s = absurd s
 share-finite (inf t) s = absurd s
 share-finite (fin t m e) s = tt
 
--- A PRODUCT OF WHAT IS NOT NEGATIVE is not negative
+-- A PRODUCT OF NUMBERS THAT ARE NOT NEGATIVE is not negative
 pub times-not-negative : (x : Float) (q : ℕ) → T (finite x) → q ≤ 2 ^ 53 → T (le zero64 x) → T (le zero64 (times x q))
 times-not-negative nan q f h g = absurd f
 times-not-negative (inf t) q f h g = absurd f

@@ -1,4 +1,5 @@
--- A value from 0 to 2 ^ 51 to the nearest whole number, a half up: its whole part, or one more where the value is at least the whole part and a half. That sum is exact. Assumes nothing.
+-- A value from 0 to 2 ^ 51 taken to the nearest whole number, a half up: its whole part, or one more where the
+-- value is at least the whole part and a half. That sum is exact. Assumes nothing.
 use mathlib.Core.Path.{_≡_, refl, sym, ap, _∙_, subst}
 use Prim.Native.Nat.{ℕ, suc, _+_, _-_, _*_, _/_, _%_, _^_, _≤_, _<_, zero-le, min}
 use native.Mathlib.Nat.{le-trans, le-of-eq, le-antisymm, le-of-suc-le-suc, lt-irrefl, lt-of-le-of-lt, lt-of-lt-of-le, lt-of-not-le, mul-one, one-mul, zero-mul, mul-assoc, mul-left-comm, mul-pos, add-mul, div-add-mod', mod-lt, le-div-iff-mul-le, div-lt-iff-lt-mul}
@@ -98,7 +99,7 @@ half-sum w h =
     small : (w : ℕ) → w ≤ 0x8_0000_0000_0000 → 2 * w + 1 < 0x20_0000_0000_0000
     small w h = omega arith
 
--- a value from 0 to 2 ^ 51, a minus zero included
+-- a value from 0 to 2 ^ 51, including minus zero
 abbrev pub Bounded : Float → Type 0
 Bounded nan = ⊥
 Bounded (inf s) = ⊥
@@ -169,7 +170,6 @@ zero-half n d D z = unique (2 * n + d) (2 * d) 0 (double-pos d D) (le-trans (le-
     less : (n d : ℕ) → 0 < d → n ≡ 0 → 2 * n + d < 2 * d
     less n d D z = omega arith
 
--- nothing is nearest to zero
 pub nearest-zero : (s : Bool) (m : ℕ) (e : ℤ) → m * up e ≡ 0 → nearest (fin s m e) ≡ 0
 unfolding nearest
 nearest-zero s m e z = zero-half (m * up e) (down e) (down-pos e) z

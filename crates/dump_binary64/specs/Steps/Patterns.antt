@@ -1,5 +1,5 @@
--- What number 64 bits stand for: the library's reading of them as a value is the fraction of the meaning, and finite where the meaning has it so.
--- Assumes nothing.
+-- The number of 64 bits: the library's value of them is the fraction of the meaning, and is finite where the
+-- meaning says so. Assumes nothing.
 use mathlib.Core.Path.{_≡_, refl, sym, ap, _∙_, subst}
 use Prim.Native.Nat.{ℕ, zero, suc, _+_, _-_, _*_, _/_, _%_, _^_, _≤_, _<_}
 use native.Mathlib.Nat.{mul-one}
@@ -40,7 +40,7 @@ fields-value s (suc x) t h =
 field-lt : (b : ℕ) → b % 0x8000_0000_0000_0000 < 0x7ff0_0000_0000_0000 → b % 0x8000_0000_0000_0000 / 0x10_0000_0000_0000 < 2047
 field-lt b h = omega arith
 
--- finite, as the code tests it
+-- finite, by the code's test
 pub finite-is : (b : ℕ) → b % 0x8000_0000_0000_0000 < 0x7ff0_0000_0000_0000 → finite b ≡ true
 unfolding finite
 finite-is b h = ap not (ne-eqb (exponent b) 2047 (λ (e : exponent b ≡ 2047). differ-from b h e))
@@ -70,7 +70,6 @@ finite-test b = elim (decLt (b % 0x8000_0000_0000_0000) 0x7ff0_0000_0000_0000) [
   | no g ↦ le-ltb (b % 0x8000_0000_0000_0000) 0x7ff0_0000_0000_0000 (omega arith) ∙ sym (finite-not b (omega arith))
 ]
 
--- the value
 pub bits-value : (b : ℕ) → finite b ≡ true → HasValue (ofBits binary64 b) (minus b) (units b) (2 ^ 1074)
 unfolding units
 bits-value b f = let h = finite-lt b f in subst (λ (v : Float). HasValue v (leb (2 ^ 63) b) (units b) (2 ^ 1074)) (sym (ofBits-is b)) (fields-value (leb (2 ^ 63) b) (exponent b) (b % 2 ^ 52) (field-lt b h))

@@ -1,4 +1,4 @@
--- The meaning of a value's bits against the machine's value: its sign, its order with 0 and 1, and its product. Assumes nothing.
+-- A value's bits and the machine's value: its sign, its order with 0 and 1, and its product. Assumes nothing.
 use mathlib.Core.Path.{_≡_, refl, sym, ap, _∙_}
 use Prim.Native.Nat.{ℕ, zero, suc, _+_, _-_, _*_, _/_, _%_, _^_, _≤_, _<_, zero-le, compare}
 use native.Mathlib.Nat.{le-trans, le-of-eq, mul-one, one-mul, zero-mul, mul-comm, mul-right-comm, mul-pos, zero-lt-suc, le-of-mul-le-mul-right, mul-le-mul-right, not-le-of-lt}

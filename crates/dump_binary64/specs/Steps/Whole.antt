@@ -1,4 +1,5 @@
--- Products that are not negative against the whole numbers that a field holds: the code's tests, and what they leave. Assumes nothing.
+-- Products that are not negative, against the whole numbers that a field holds: the code's tests, and what they
+-- leave. Assumes nothing.
 use mathlib.Core.Path.{_≡_, refl, sym, ap, _∙_, subst}
 use Prim.Native.Nat.{ℕ, _+_, _-_, _*_, _/_, _^_, _≤_, _<_}
 use native.Mathlib.Nat.{le-trans, le-of-eq, lt-of-le-of-lt, lt-of-not-le, mul-one, mul-left-comm, mul-pos, le-div-iff-mul-le, div-lt-iff-lt-mul}
@@ -29,7 +30,7 @@ pub one-bits : ofBits binary64 0x3ff0_0000_0000_0000 ≡ one64
 unfolding ofBits
 one-bits = refl
 
--- a test against them, as the code makes it
+-- a test against them, as in the code
 pub zero-test : {t : Bool} (x : Float) → le (ofBits binary64 0) x ≡ t → le zero64 x ≡ t
 zero-test x e = ap (λ (z : Float). le z x) (sym zero-bits) ∙ e
 
@@ -80,7 +81,7 @@ word-test (fin false m e) g = elim (decLt (m * up e * 1) (2 ^ 32 * down e)) [
     lt-or : (a b : ℕ) → (a < b → ⊥) → b ≤ a
     lt-or a b n = omega arith
 
--- what is in the cast's range is finite
+-- a value in the cast's range is finite
 pub ranged-finite : (p : Float) → Ranged p → finite p ≡ true
 unfolding lt
 ranged-finite nan r = absurd (r .1)
@@ -100,7 +101,7 @@ module _ (p : Float) (most : ℕ) where
       and-no true = refl
       and-no false = refl
 
--- past 2 ^ 51 it is above every number of 32 bits, or an infinity
+-- above 2 ^ 51 it is above every number of 32 bits, or an infinity
 past : (n d : ℕ) → 0 < d → 2 ^ 51 * d < n → 2 ^ 51 ≤ (2 * n + d) / (2 * d)
 past n d D h = le-div-iff-mul-le (twice d D) .1 (le-trans (le-of-eq (mul-left-comm (2 ^ 51) 2 d)) (more (2 ^ 51 * d) n d h))
   where
@@ -133,7 +134,7 @@ too-large (fin false m e) most l g k =
     far : (a b : ℕ) → a < 4294967296 → 0x8_0000_0000_0000 ≤ b → a < b
     far a b h k = omega arith
 
--- what is at most 2 ^ 51 and not negative is finite
+-- a value that is at most 2 ^ 51 and not negative is finite
 pub halves-finite : (p : Float) → T (le zero64 p) → T (le p halves-end) → finite p ≡ true
 unfolding le
 halves-finite nan g h = absurd g

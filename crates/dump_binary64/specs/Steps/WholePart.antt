@@ -1,6 +1,6 @@
--- THE WHOLE PART of a value, by one sum and one difference: from 2 ^ 52 on every binary64 is a whole number, so 2 ^
--- 52 and the value round to one of the two whole numbers next to it, and to take 2 ^ 52 away again is exact. Assumes
--- nothing.
+-- THE WHOLE PART of a value, by one sum and one difference. From 2 ^ 52 on every binary64 is a whole number, so the
+-- sum of 2 ^ 52 and the value rounds to one of the two whole numbers next to it, and subtracting 2 ^ 52 again is
+-- exact. Assumes nothing.
 use mathlib.Core.Path.{_≡_, refl, sym, ap, _∙_, subst}
 use Prim.Native.Nat.{ℕ, zero, suc, _+_, _-_, _*_, _/_, _%_, _^_, _≤_, _<_}
 use native.Mathlib.Nat.{le-trans, le-of-eq, lt-of-le-of-lt, lt-of-lt-of-le, lt-irrefl, mul-one, zero-mul, mul-pos, mul-le-mul-right, div-add-mod', mod-lt, le-div-iff-mul-le, div-lt-iff-lt-mul}

@@ -1,4 +1,4 @@
--- `dump_proposal::convert` meets its contract: rows 57 and 58, past each that passes; the rest is `convert_finite`'s.
+-- `dump_proposal::convert` meets its contract: rows 57 and 58; then `convert_finite` does the rest.
 -- Assumes nothing.
 use mathlib.Core.Path.{_≡_, sym, ap, _∙_}
 use mathlib.Core.List.{List}

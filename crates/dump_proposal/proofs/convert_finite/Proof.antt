@@ -1,5 +1,5 @@
--- `dump_proposal::convert_finite` meets its contract: row 59 at the LTA share and at the system price; the rest is
--- `convert_by`'s, with a table that has room for it. Assumes nothing.
+-- `dump_proposal::convert_finite` meets its contract: row 59 at the LTA share and at the system price; then
+-- `convert_by` does the rest, with a table that has room for it. Assumes nothing.
 use mathlib.Core.Path.{_≡_, sym, _∙_}
 use mathlib.Core.List.{List}
 use Prim.Native.Nat.{ℕ}
@@ -19,7 +19,7 @@ use Rattle.dump_proposal.proofs.convert_finite.Tie as tie
 opening-requires : tie.Need-opening-requires
 opening-requires c κs = let a = c .before .before .before in (omega (arith, a .pre .long), (a .pre .is-finite 0 (omega arith), a .pre .is-finite 1 (omega arith)))
 
--- THE CALL, and the opening as it was taken
+-- THE CALL, and the opening
 abbrev start : tie.After-opening → tie.Start
 start o = o .before .before .before .before
 
@@ -50,7 +50,6 @@ returns c =
 opening-fields-requires : tie.Need-opening-fields-requires
 opening-fields-requires c κs = let v = c .before in (share-finite (start (v .before .before) .pre) (taken v), system-finite (start (v .before .before) .pre) (taken v))
 
--- its fields
 abbrev of-fields : tie.After-opening-fields → tie.After-opening
 of-fields f = f .before .before .before .before
 
@@ -96,7 +95,7 @@ returns-3 c =
 rest-of-requires : tie.Need-rest-of-requires
 rest-of-requires c κs = limited (headed (start (of-fields (c .before .before .before .before .before .before)) .pre .opened))
 
--- what `convert_by` asks
+-- what `convert_by` requires
 abbrev of-rest : tie.After-rest-of → tie.After-opening
 of-rest r = of-fields (r .before .before .before .before .before .before .before)
 

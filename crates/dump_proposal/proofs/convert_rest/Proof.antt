@@ -1,6 +1,6 @@
 -- `dump_proposal::convert_rest` meets its contract. The loop's invariant: the cursor stands at the value of this
--- turn, every value before it has its field, and the table has those fields. The measure is what is left of the
--- values. Assumes nothing.
+-- turn, every value before it has its field, and the table has those fields. The measure is the values left.
+-- Assumes nothing.
 use mathlib.Core.Path.{_≡_, refl, sym, ap, _∙_, subst}
 use mathlib.Core.List.{List}
 use mathlib.Core.Option.{none, Option·some-ne-none}
@@ -122,7 +122,6 @@ field-of-requires c κs =
     let l = of-bits b in
     (entry l .pre .0 .opened, (within l, ap finite (took b .0) ∙ entry l .pre .0 .is-finite (2 + turn l) (omega (arith, within l))))
 
--- its field as it was found
 abbrev of-field : tie.After-field-of Inv-loop μ-loop → tie.In-loop Inv-loop μ-loop
 of-field f = of-bits (f .before .before)
 

@@ -1,4 +1,4 @@
--- `dump_proposal::dump_proposal` meets its contract: a case that is refused, or the dump held to the other rows.
+-- `dump_proposal::dump_proposal` meets its contract: a case that is refused, or the other rows for the dump.
 -- Assumes nothing.
 use mathlib.Core.Path.{sym, _∙_}
 use borrow.Author.Needs.{needs}

@@ -1,5 +1,5 @@
--- `dump_proposal::first_not_finite` meets its contract. The loop's invariant: the cursor stands at the value of this turn,
--- and no value before it is not finite. Assumes nothing.
+-- `dump_proposal::first_not_finite` meets its contract. The loop's invariant: the cursor stands at the value of
+-- this turn, and every value before it is finite. Assumes nothing.
 use mathlib.Core.Path.{_≡_, sym, ap, _∙_}
 use mathlib.Core.Bool.{Bool, not}
 use mathlib.Core.List.{List}

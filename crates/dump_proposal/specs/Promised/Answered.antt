@@ -1,4 +1,4 @@
--- WHAT AN ANSWER HOLDS: where the entry's number is 0, the bytes that it wrote are a proposal that holds each value's
+-- WHAT AN ANSWER HOLDS: where the entry's number is 0, the bytes that it wrote are a proposal with each value's
 -- number, each volume is within one tenth, and every byte of the output is given. Assumes nothing.
 use mathlib.Core.Path.{_≡_, sym, ap, _∙_, subst}
 use mathlib.Core.List.{List}

@@ -1,5 +1,5 @@
--- The table's numbers in the order asked, that a refusal is given for its cause and for no other and writes nothing,
--- and that no cause asked earlier holds. Assumes nothing.
+-- The table's numbers in the order asked; a refusal is given for its own cause and no other and writes nothing; no
+-- cause asked earlier holds. Assumes nothing.
 use mathlib.Core.Path.{_≡_, refl, ap}
 use mathlib.Core.List.{List, [], _∷_}
 use mathlib.Core.Option.{Option, none, some}
@@ -19,7 +19,7 @@ module _ (s d : List ℕ) (room : ℕ) where
   abbrev rows : List Cause
   rows = dumpCauses s d room
 
-  -- 56 to 60, in this order; 56 has the number by which the case is refused, 58 and 59 name the value
+  -- 56 to 60, in this order; the index of 56 is the number that refuses the case, 58 and 59 name the value
   pub dump-order : Asks rows (ask 56 (at-offset (numberIn (caseRefusal s))) ∷ ask 57 unnamed ∷ ask 58 the-place ∷ ask 59 the-place ∷ ask 60 unnamed ∷ [])
   unfolding dumpCauses
   dump-order = (refl, (λ k. refl, (refl, (λ k. refl, (refl, (λ k. refl, (refl, (λ k. refl, (refl, (λ k. refl, tt))))))))))
@@ -34,7 +34,7 @@ module _ (s d : List ℕ) (room : ℕ) where
   unfolding dumpOutcome dumpRefusal
   dump-caused h = answer-caused rows h
 
-  -- a cause that holds, in row j at place k, is not asked before the outcome's
+  -- if a cause holds, in row j at place k, it is not asked before the outcome's
   pub dump-first : (j k : ℕ) → k < (getD rows j empty) .places → T ((getD rows j empty) .fails k) → Soonest rows (dumpOutcome s d room) j k
   unfolding dumpOutcome dumpRefusal
   dump-first j k h f = soonest rows j k h f
@@ -52,7 +52,7 @@ module _ (s d : List ℕ) (room : ℕ) where
   unfolding dumpWritten
   dump-writes e = ap (λ (o : Option Outcome). writtenBy o (proposalBytes s d)) (dump-none e)
 
--- a refusal leaves every byte as it was
+-- a refusal leaves every byte unchanged
 pub dump-refused : (s d out : List ℕ) → 0 < (dumpOutcome s d (length out)) .number → (length (dumpWritten s d (length out)) ≡ 0) × (dumpOutput s d out ≡ out)
 unfolding dumpOutcome dumpWritten dumpOutput
 dump-refused s d out h = by (dumpRefusal s d (length out)) h

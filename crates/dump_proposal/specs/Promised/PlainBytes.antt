@@ -1,8 +1,8 @@
--- THE OUTPUT OF AN ANSWER IN PLAIN BYTES: mark, version, and the number of value n in the four bytes from 5 + 4 n on,
--- with what each number is by the bits of its own value. The LTA share is its product with 100,000, a volume the
--- share's product with the quantity, a flow ten times the MW, each rounded once and cut; a price is a hundred times
--- the euros, rounded once and taken to the nearest cent, halves away from zero. A value read in another's place, or as
--- another kind, would make it false. A byte is `getD b k 0`, the number at place k of the buffer, counted from 0.
+-- THE OUTPUT OF AN ANSWER IN PLAIN BYTES: mark, version, and the number of value n in the four bytes from 5 + 4 n
+-- on, with each number computed from the bits of its own value. Each product is rounded once. The LTA share is the
+-- product with 100,000, cut; a volume the share's product with the quantity, cut; a flow ten times the MW, cut. A
+-- price is a hundred times the euros, taken to the nearest cent, halves away from zero. A value at another's place,
+-- or of another kind, would make it false. `getD b k 0` is the byte at place k of the buffer, counted from 0.
 -- Assumes nothing.
 use mathlib.Core.Path.{_≡_, refl, sym, ap, _∙_, subst}
 use mathlib.Core.Bool.{false}
@@ -33,7 +33,7 @@ use Rattle.dump_proposal.specs.Promised.PlainCauses.{values, bits, answe
 use Rattle.dump_proposal.specs.Promised.ReadBack.{readable, all-finite, has-field, in-range, system-fits, field-at}
 use Rattle.dump_proposal.specs.Steps.Answers.{bytes-are}
 
--- a number modulo 2 ^ 32, as two's complement has it: -1 is 2 ^ 32 - 1
+-- a number modulo 2 ^ 32 (two's complement): -1 is 2 ^ 32 - 1
 abbrev pub modulo32 : ℤ → ℕ
 modulo32 (pos n) = n % 4294967296
 modulo32 (negsuc n) = 4294967295 - n % 4294967296
@@ -42,7 +42,7 @@ modulo32 (negsuc n) = 4294967295 - n % 4294967296
 abbrev pub FieldStands : List ℕ → ℕ → ℤ → Type 0
 FieldStands b k z = (i : ℕ) → i < 4 → getD b (k + i) 0 ≡ modulo32 z / 256 ^ i % 256
 
--- WHAT STANDS in an output after an answer for the case s and the dump d, where `before` stood in it
+-- THE BYTES `after` an answer for the case s and the dump d, in an output that held `before`
 pub record WrittenProposal (s d before after : List ℕ) : Type 0 where
   -- LTP, version 1
   pub mark-at : (getD after 0 0 ≡ 76) × ((getD after 1 0 ≡ 84) × (getD after 2 0 ≡ 80))
@@ -55,7 +55,7 @@ pub record WrittenProposal (s d before after : List ℕ) : Type 0 where
   pub volume-is : (i : ℕ) → i < orders s → ShareTaken (bits d (2 + i)) (quantityIn s i) (number (2 + i))
   pub flow-is : (l : ℕ) → l < links s → FlowTaken (bits d (2 + (orders s + l))) (number (2 + (orders s + l)))
   pub shadow-is : (m : ℕ) → m < branches s → ShadowTaken (bits d (2 + (orders s + links s + m))) (number (2 + (orders s + links s + m)))
-  -- all past the proposal is as it was
+  -- all past the proposal is unchanged
   pub past-it : (k : ℕ) → 13 + 4 * (orders s + links s + branches s) ≤ k → getD after k 0 ≡ getD before k 0
   pub same-length : length after ≡ length before
 

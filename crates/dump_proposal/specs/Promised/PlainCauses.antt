@@ -1,7 +1,7 @@
--- 0 AND 56 TO 60 IN PLAIN NUMBERS, both ways, number and index. A byte is `getD d k 0`, the number at place k, counted
--- from 0. The case's byte 6 counts its branches, byte 7 its links, bytes 8 and 9 its orders; value n of the dump is
--- its bytes 8 n to 8 n + 7. `CaseFacts` says in plain facts what a readable case is, and `PlainFaults` of
--- `dump_values` which value of which kind is refused. Assumes nothing.
+-- 0 AND 56 TO 60 IN PLAIN NUMBERS, both ways, number and index. `getD d k 0` is the byte at place k, counted from
+-- 0. The case's byte 6 counts its branches, byte 7 its links, bytes 8 and 9 its orders; value n of the dump is its
+-- bytes 8 n to 8 n + 7. `CaseFacts` says in plain facts what a readable case is, and `PlainFaults` of `dump_values`
+-- which value of which kind is refused. Assumes nothing.
 use mathlib.Core.Path.{_≡_, refl, sym, ap, _∙_, subst}
 use mathlib.Core.Logic.{_⊎_, inl, inr, _↔_, _≢_}
 use mathlib.Core.Bool.{Bool, true, false, not}
@@ -38,7 +38,7 @@ values s = 2 + (orders s + links s + branches s)
 abbrev pub bits : List ℕ → ℕ → ℕ
 bits d n = sumNat 8 (λ i. getD d (8 * n + i) 0 * 256 ^ i)
 
--- 58: a value whose eleven bits of the exponent are all ones
+-- 58: a value whose eleven exponent bits are all ones
 abbrev pub ValueNotFinite : List ℕ → ℕ → Type 0
 ValueNotFinite d n = bits d n / 2 ^ 52 % 2048 ≡ 2047
 
@@ -87,7 +87,7 @@ module _ (s d : List ℕ) (f : ValuesFinite s d) where
       by true e = e
       by false e = absurd (f .finite n h (not-finite (bits d n) .0 e))
 
-  -- by the kind that stands there
+  -- by the kind at that place
   test-as : (n : ℕ) (k : Kind) → kindOf s n ≡ k → {P : Type 0} → (fault k (bits d n) ≡ true) ↔ P → T (fault (kindOf s n) (bitsAt d n)) ↔ P
   test-as n k e {P} w = (λ t. w .0 (sym same ∙ is-so _ t), λ x. is-true (same ∙ w .1 x))
     where
@@ -212,7 +212,7 @@ module _ (s d : List ℕ) (room : ℕ) where
   unfolding dumpOutcome dumpRefusal dumpCauses lacks before causeNumbered refusal
   is-56 n k e = row-answers 56 (dumpCauses s d room) tt refl 0 (record { place-in = omega arith; holds = is-true (ap refuses e); none-before = nothing-before _ }) ∙ ap (λ (o : Option Outcome). verdict 56 (numberIn o)) e
 
-  -- 57 IF AND ONLY IF the case is readable and the dump has not eight bytes for each value; its index is 0
+  -- 57 IF AND ONLY IF the case is readable and the dump does not have eight bytes for each value; its index is 0
   pub refused-57 : (dumpOutcome s d room) .number ≡ 57 → (dumpOutcome s d room ≡ verdict 57 0) × (CaseFacts s × (length d ≢ 8 * (2 + (orders s + links s + branches s))))
   unfolding dumpOutcome dumpRefusal dumpCauses lacks before causeNumbered
   refused-57 e =

@@ -1,5 +1,5 @@
--- WHAT IS WRITTEN IS READ BACK: for its case the proposal has the right length and rows 9 to 14 pass, and each field
--- holds its own value's number. Assumes nothing.
+-- WHAT IS WRITTEN IS READ BACK: the proposal has the right length for its case and passes rows 9 to 14, and each
+-- field holds the number of its own value. Assumes nothing.
 use mathlib.Core.Path.{_≡_, refl, sym, ap, _∙_, subst}
 use mathlib.Core.Bool.{Bool, true, false, not}
 use mathlib.Core.List.{List, [], _++_, append-assoc, append-nil}
@@ -19,7 +19,7 @@ use Rattle.base_integers.specs.Meaning.Bytes.{bytesOf, signed32}
 use Rattle.base_integers.specs.Steps.Bytes.{bytes-length}
 use Rattle.base_integers.specs.Meaning.Ranges.{range, outside}
 use Rattle.base_integers.specs.Steps.Ranges.{nat-within, nat-inside, is-false, not-is, nor-left, nor-right}
-use Rattle.base_measures.specs.Meaning.Limits as limits
+use Rattle.base_limits.specs.Meaning.Limits as limits
 use Rattle.base_causes.specs.declared.Outcome.{Outcome}
 use Rattle.base_causes.specs.Meaning.Causes.{Cause, Pass, firstBelow, refusal, eachAt}
 use Rattle.base_causes.specs.Promised.CauseLaws.{empty, all-pass, first-none, row-clear, field-passes}
@@ -68,7 +68,7 @@ field-at s d j h =
     ∙ ap (λ (l : List ℕ). take 4 (drop (4 * j) l)) (sym (append-nil (fieldsFrom s d 0 (valueCount s))))
     ∙ field-there s d (valueCount s) [] j h
 
--- a number of no sign, and of either
+-- a number without sign, and of either sign
 word-read : (s d : List ℕ) (j m k : ℕ) → j < valueCount s → number s d j ≡ pos m → m < 4294967296 → k ≡ 5 + 4 * j → u32At (proposalBytes s d) k ≡ m
 word-read s d j m k h e l q = word-there (proposalBytes s d) k m l (ap (λ (i : ℕ). take 4 (drop i (proposalBytes s d))) q ∙ field-at s d j h ∙ ap fieldBytes e)
 
@@ -120,7 +120,7 @@ module _ (s d : List ℕ) (room : ℕ) (answered : (dumpOutcome s d room) .numbe
   abbrev t : List ℕ
   t = proposalBytes s d
 
-  -- A VALUE OF A KNOWN KIND, as a number of no sign: it is at most its field's greatest, and stands in its place
+  -- A VALUE OF A KNOWN KIND, as a number without sign: it is at most its field's greatest, and stands at its place
   module _ (n : ℕ) (h : n < valueCount s) {kind : Kind} (e : kindOf s n ≡ kind) where
     abbrev b : ℕ
     b = bitsAt d n
@@ -266,7 +266,7 @@ module _ (s d : List ℕ) (room : ℕ) (answered : (dumpOutcome s d room) .numbe
   pub volumes : VolumesWithin s d t
   volumes = record { volume-within = λ i h. subst (λ (v : ℕ). ShareWithin (bitsAt d (2 + i)) (quantityIn s i) v) (sym (volume-back i h)) (volume-exact i h) }
 
--- the same of the bytes that the entry says it wrote, as they then stand in its output
+-- the same for the bytes in the output after the entry wrote them
 stands : (s d out : List ℕ) → (dumpOutcome s d (length out)) .number ≡ 0 → take (length (dumpWritten s d (length out))) (dumpOutput s d out) ≡ proposalBytes s d
 unfolding dumpOutput
 stands s d out e = take-append-seam (dumpWritten s d (length out)) (drop (length (dumpWritten s d (length out))) out) ∙ dump-writes s d (length out) e

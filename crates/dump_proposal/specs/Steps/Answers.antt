@@ -1,4 +1,4 @@
--- The table of a dump as the code asks it, row by row, and what the entry owes of an answer. Assumes nothing.
+-- The table of a dump as the code asks it, row by row, and what the entry's answer must meet. Assumes nothing.
 use mathlib.Core.Path.{_≡_, refl, sym, ap, _∙_, subst}
 use mathlib.Core.Bool.{Bool, true, false, not}
 use mathlib.Core.List.{List, [], _++_, append-assoc}
@@ -50,7 +50,7 @@ notFiniteAt d n = not (finite (bitsAt d n))
 abbrev pub outOfFieldAt : List ℕ → List ℕ → ℕ → Bool
 outOfFieldAt s d n = fault (kindOf s n) (bitsAt d n)
 
--- THE FIRST VALUE WITHOUT A FIELD: of the opening, or of those after it
+-- THE FIRST VALUE WITHOUT A FIELD: in the opening, or after it
 module _ (s d : List ℕ) (rest : ℕ) where
   pub share-first : outOfFieldAt s d 0 ≡ true → firstBelow (2 + rest) (outOfFieldAt s d) ≡ some 0
   share-first e = first-some (2 + rest) (outOfFieldAt s d) 0 (record { place-in = omega arith; holds = is-true e; none-before = λ i h. absurd (omega arith) })
@@ -85,7 +85,7 @@ module _ (s d : List ℕ) (rest : ℕ) where
 
 -- ROW BY ROW
 module _ (s d : List ℕ) (room : ℕ) where
-  -- the rows from the n-th on are left
+  -- the rows from row n on are left
   abbrev pub RowsFrom : ℕ → Type 0
   RowsFrom n = dumpRefusal s d room ≡ refusal (drop n (dumpCauses s d room))
 
@@ -150,7 +150,7 @@ whole-run s d l {x} {y} rest e p q =
     ∙ sets-append l 0 (proposalMark ++ fieldsFrom s d 0 2) (fieldsFrom s d 2 rest)
     ∙ ap (sets l 0) (append-assoc proposalMark (fieldsFrom s d 0 2) (fieldsFrom s d 2 rest) ∙ ap (λ (b : List ℕ). proposalMark ++ b) (fields-split s d 2 rest ∙ ap (fieldsFrom s d 0) e))
 
--- WHAT IS OWED, of a refusal and of an answer
+-- WHAT MUST BE MET by a refusal and by an answer
 pub met-refusal : (s d out : List ℕ) {n k : ℕ} {r : Written} → dumpRefusal s d (length out) ≡ some (verdict n k) → r ≡ record { number = n; index = k; length = 0 } → DumpAnswered s d out r out
 unfolding dumpOutcome dumpWritten dumpOutput
 met-refusal s d out e q = let m = output.met-refusal (proposalBytes s d) out e q in record { outcome = m .0; written = m .1 .0; output = m .1 .1 }
@@ -192,7 +192,7 @@ module _ (s d out : List ℕ) {k : Counts} where
     met-59 : {n : ℕ} {r : Written} → firstBelow (countOf k) (outOfFieldAt s d) ≡ some n → r ≡ record { number = 59; index = n; length = 0 } → DumpAnswered s d out r out
     met-59 e q = met-refusal s d out (refused-59 s d (length out) from-3 (counted e)) q
 
-    -- the LTA share has no field; or it has, and the system price has none
+    -- the LTA share has no field; or it has one, and the system price has none
     pub met-share : {r : Written} → fieldOf (kindOf s 0) (bitsAt d 0) ≡ answer.Outside → r ≡ record { number = 59; index = 0; length = 0 } → DumpAnswered s d out r out
     met-share e q = met-59 (share-first s d (restOf k) (field-outside (kindOf s 0) (bitsAt d 0) e)) q
 
@@ -200,7 +200,7 @@ module _ (s d out : List ℕ) {k : Counts} where
         → r ≡ record { number = 59; index = 1; length = 0 } → DumpAnswered s d out r out
     met-system z e q = met-59 (system-first s d (restOf k) (field-held (kindOf s 0) (bitsAt d 0) z) (field-outside (kindOf s 1) (bitsAt d 1) e)) q
 
-    -- both have, and another value has none
+    -- both have one, and another value has none
     module _ {o : OpeningNumbers} (h : OpeningHeld s d o) where
       share-in : outOfFieldAt s d 0 ≡ false
       share-in = field-held (kindOf s 0) (bitsAt d 0) (h .share-held)

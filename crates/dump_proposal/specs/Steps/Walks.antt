@@ -71,7 +71,7 @@ value-took d at n e {v} {c} q =
 pub value-there : (d : List ℕ) (at n : ℕ) → at ≡ 8 * n → 8 * n + 8 ≤ length d → longField d at ≡ long.Short → ⊥
 value-there d at n e h q = omega (arith, long-short d at q, e, h)
 
--- the same over its own eight bytes, from a place in the dump on
+-- the same over a slice of eight bytes, from a place in the dump on
 pub part-took : (d : List ℕ) (at size n : ℕ) → at ≡ 8 * n → size ≡ 8 → {v : ℕ} {c : Cursor} → longField (partOf d at size) 0 ≡ long.Taken v c → (v ≡ bitsAt d n) × (c .at ≡ 8)
 unfolding bitsAt
 part-took d at size n e q {v} {c} t =
@@ -91,7 +91,7 @@ pub record FiniteDump (s : List ℕ) (k : Counts) (d : List ℕ) : Type 0 where
   pub long : length d ≡ 8 * countOf k
   pub is-finite : (n : ℕ) → n < countOf k → finite (bitsAt d n) ≡ true
 
--- row 59 at the i-th value after the opening
+-- row 59 at value i after the opening
 abbrev pub faultAfter : List ℕ → List ℕ → ℕ → Bool
 faultAfter s d i = fault (afterOpening s i) (bitsAt d (2 + i))
 
@@ -121,12 +121,12 @@ pub record OpeningHeld (s d : List ℕ) (o : OpeningNumbers) : Type 0 where
 pub record TableHolds (s d : List ℕ) (n : ℕ) (table : List ℕ) : Type 0 where
   pub entry-is : (i : ℕ) → i < n → bytesOf 4 (getD table i 0) ≡ fieldBytes (converted (kindOf s (2 + i)) (bitsAt d (2 + i)))
 
--- the values after the opening: the first that has no field, or the table with each one's
+-- the values after the opening: the first without a field, or the table with all fields
 pub record RestConverted (s d : List ℕ) (rest : ℕ) (place : Option ℕ) (table : List ℕ) : Type 0 where
   pub first : place ≡ firstBelow rest (faultAfter s d)
   pub held : place ≡ none → TableHolds s d rest table
 
--- a field's answer read back
+-- what a field's answer implies
 pub field-held : (k : Kind) (b : ℕ) {x : Bits} → fieldOf k b ≡ answer.Held x → fault k b ≡ false
 field-held k b {x} e = by (fault k b) refl e
   where

@@ -31,7 +31,7 @@ order-at-requires c κs = search needs
 bits-requires : tie.Need-bits-requires
 bits-requires c κs = search needs
 
--- the order's quantity, as it leaves its measure
+-- the order's quantity, as bits of its measure
 quantity-is : (c : tie.After-struct-known2) → let o = c .before .before in let a = o .before .before .before .before .before .args in c .before .bits .result .0 ≡ quantityIn (now (a .case)) (a .i)
 quantity-is c = let o = c .before .before in c .before .bits .ensures ∙ ap (λ (r : Order). ofZ w64 (r .quantity .0)) (o .order-at .ensures)
 

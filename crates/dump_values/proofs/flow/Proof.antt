@@ -1,4 +1,5 @@
--- `dump_values::flow` meets its contract: the product of a flow that is not negative is not negative, and its cut is a word or none. Assumes nothing.
+-- `dump_values::flow` meets its contract: the product of a flow that is not negative is not negative, and its cut
+-- is a word or none. Assumes nothing.
 use mathlib.Core.Path.{_≡_, sym, ap, _∙_, subst}
 use borrow.Author.Needs.{needs}
 use lib.Dec.{T, lit≤}

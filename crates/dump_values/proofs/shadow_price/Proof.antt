@@ -1,4 +1,5 @@
--- `dump_values::shadow_price` meets its contract: the nearest whole number of a product that is not negative, held to the measure's limits. Assumes nothing.
+-- `dump_values::shadow_price` meets its contract: the nearest whole number of a product that is not negative,
+-- within the measure's limits. Assumes nothing.
 use mathlib.Core.Path.{_≡_, sym, ap, _∙_, subst}
 use borrow.Author.Needs.{needs}
 use lib.Dec.{T, lit≤}
@@ -10,7 +11,7 @@ use Rattle.dump_binary64.specs.Meaning.Machine.{zero64, times}
 use Rattle.dump_binary64.specs.Steps.Cutting.{times-not-negative}
 use Rattle.dump_binary64.specs.Steps.Whole.{zero-test}
 use Rattle.dump_binary64.specs.declared.WholeAnswer.{WholeAnswer}
-use Rattle.base_measures.specs.Meaning.Limits as limits
+use Rattle.base_limits.specs.Meaning.Limits as limits
 use Rattle.base_measures.specs.Meaning.Held.{centsIn}
 use Rattle.dump_binary64.specs.Meaning.Answer.{wholeUpTo}
 use Rattle.dump_values.specs.Steps.Agree.{hundred-bits}

@@ -1,4 +1,4 @@
--- `dump_values::system_price` meets its contract: by the side of zero on which the product lies. Assumes nothing.
+-- `dump_values::system_price` meets its contract, for a product on either side of zero. Assumes nothing.
 use mathlib.Core.Path.{_≡_, sym, ap, _∙_, subst}
 use Prim.Native.Nat.{_≤_}
 use native.Mathlib.Omega.{arith}

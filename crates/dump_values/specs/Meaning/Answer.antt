@@ -1,4 +1,4 @@
--- What a value of a dump becomes: the number of its field, or that it leaves it. Assumes nothing.
+-- What a value of a dump becomes: the number of its field, or that it does not fit. Assumes nothing.
 use mathlib.Core.Bool.{Bool, true, false, not}
 use Prim.Native.Nat.{ℕ}
 use lib.IntN.{ℤ}

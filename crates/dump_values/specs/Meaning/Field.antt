@@ -1,4 +1,5 @@
--- REQUEST S-5: WHAT A VALUE OF A DUMP BECOMES, by its place: the number of the proposal's field, and when it has none (row 59). Assumes nothing.
+-- REQUEST S-5: WHAT A VALUE OF A DUMP BECOMES, by its place: the number of the proposal's field, and when there is
+-- none (row 59). Assumes nothing.
 use mathlib.Core.Bool.{Bool, false, not, cond, _||_}
 use mathlib.Core.List.{List}
 use Prim.Native.Nat.{ℕ, zero, suc, _+_}
@@ -7,7 +8,7 @@ use lib.IntN.{ℤ, pos, negℤ}
 use lib.Ieee.{Float}
 use lib.Ieee.Scale as float
 use Rattle.base_integers.specs.Meaning.Ranges.{Range, range, outside}
-use Rattle.base_measures.specs.Meaning.Limits as limits
+use Rattle.base_limits.specs.Meaning.Limits as limits
 use Rattle.rules.specs.Meaning.Layout.{ordersIn, linksIn, quantityIn}
 use Rattle.dump_binary64.specs.Meaning.Value.{minus, negative, aboveOne, product, cut, nearest}
 
@@ -18,7 +19,8 @@ pub data Kind : Type 0 where
   system-price : Kind
   shadow-price : Kind
 
--- THE PLACES: the LTA share and the system price open the dump; then come a share per order, a flow per link, a shadow price per branch of the case s
+-- THE PLACES: the LTA share and the system price open the dump; then come a share per order, a flow per link, a
+-- shadow price per branch of the case s
 unfoldable pub afterOpening : List ℕ → ℕ → Kind
 afterOpening s i = cond (ltb i (ordersIn s)) (share-of (quantityIn s i)) (cond (ltb i (ordersIn s + linksIn s)) flow shadow-price)
 
@@ -37,14 +39,15 @@ factor shadow-price = 100
 unfoldable pub productOf : Kind → ℕ → Float
 productOf k b = product b (factor k)
 
--- shares and flows are cut, prices taken to the nearest; below zero there are only system prices
+-- shares and flows are cut, prices taken to the nearest; only system prices may be below zero
 unfoldable pub converted : Kind → ℕ → ℤ
 converted (share-of q) b = pos (cut (productOf (share-of q) b))
 converted flow b = pos (cut (productOf flow b))
 converted system-price b = cond (minus b) (negℤ (pos (nearest (productOf system-price b)))) (pos (nearest (productOf system-price b)))
 converted shadow-price b = pos (nearest (productOf shadow-price b))
 
--- 59: a share outside 0 to 1, a flow or shadow price that is negative, or a result that is infinite or leaves its field's range
+-- 59: a share outside 0 to 1, a flow or shadow price that is negative, or a result that is infinite or leaves its
+-- field's range
 abbrev pub forbidden : Kind → ℕ → Bool
 forbidden (share-of q) b = negative b || aboveOne b
 forbidden flow b = negative b

@@ -5,7 +5,7 @@ use lib.IntN.{ℤ, pos, negℤ}
 use lib.Ieee.{Float, nan, inf, fin, le}
 use lib.Ieee.Scale as float
 use Rattle.base_integers.specs.Meaning.Ranges.{outside}
-use Rattle.base_measures.specs.Meaning.Limits as limits
+use Rattle.base_limits.specs.Meaning.Limits as limits
 use Rattle.dump_binary64.specs.Meaning.Value.{cut, nearest}
 use Rattle.dump_binary64.specs.Meaning.Machine.{zero64, one64, times}
 use Rattle.dump_values.specs.declared.FieldAnswer.{FieldAnswer}
@@ -17,7 +17,7 @@ use Rattle.dump_values.specs.Meaning.Answer.{fieldBy}
 abbrev pub shareField : Float → ℕ → FieldAnswer
 shareField x q = fieldBy (le zero64 x && le x one64) (pos (cut (times x q)))
 
--- the sign that a price's product has
+-- the sign of a price's product
 abbrev pub signOf : Float → Bool
 signOf nan = false
 signOf (inf s) = s

@@ -21,7 +21,7 @@ use lib.Ieee.Positive.{num, den}
 use lib.Ieee.Scale as float
 use Rattle.base_integers.specs.Meaning.Ranges.{range, outside}
 use Rattle.base_integers.specs.Steps.Ranges.{is-true, not-is, nat-inside}
-use Rattle.base_measures.specs.Meaning.Limits as limits
+use Rattle.base_limits.specs.Meaning.Limits as limits
 use Rattle.dump_binary64.specs.Meaning.Value.{finite, minus, units, negative, aboveOne, product, cut, nearest}
 use Rattle.dump_binary64.specs.Promised.PlainBits.{below-zero, above-one}
 use Rattle.dump_binary64.specs.Promised.Within.{share-within, share-finite}
@@ -165,7 +165,7 @@ module _ (b : ℕ) where
           left h (inl x) = x .1
           left h (inr x) = absurd (not-le-of-lt h (x .0))
 
--- MINUS ZERO IS ZERO, and so is zero: whatever the kind, the value is taken, and its number is 0
+-- MINUS ZERO IS ZERO, for every kind: both are taken, and their number is 0
 zero-product : (s : Bool) (q : ℕ) → round binary64 s (0 * q) (2 ^ 1074) ≡ fin s 0 (pos 0)
 unfolding round
 zero-product s q = ap (λ (n : ℕ). round binary64 s n (2 ^ 1074)) (zero-mul q) ∙ by s
@@ -230,8 +230,8 @@ minus-zero k = taken-zero (2 ^ 63) (unfold units in refl) k
 pub plus-zero : (k : Kind) → Zero k 0
 plus-zero k = taken-zero 0 (unfold units in refl) k
 
--- THE SIGN of a system price is its value's: a number below zero has a value below zero, and one above zero a value
--- with no sign
+-- THE SIGN of a system price is its value's: a number below zero comes from a value below zero, and one above zero
+-- from a value without sign
 module _ (b : ℕ) where
   abbrev size : ℕ
   size = nearest (product b 100)

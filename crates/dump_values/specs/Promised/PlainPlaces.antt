@@ -1,6 +1,6 @@
--- WHICH VALUE OF A DUMP IS WHICH, by its place counted from 0 and the case's bytes: 0 is the LTA share, 1 the system
--- price; then come a share per order, a flow per link and a shadow price per branch. The case's byte 6 counts its
--- branches, byte 7 its links, bytes 8 and 9 its orders. Assumes nothing.
+-- WHICH VALUE OF A DUMP IS WHICH, by its place, counted from 0, and the case's bytes. Value 0 is the LTA share, 1
+-- the system price; then come a share per order, a flow per link and a shadow price per branch. The case's byte 6
+-- counts its branches, byte 7 its links, bytes 8 and 9 its orders. Assumes nothing.
 use mathlib.Core.Path.{_≡_, refl, sym, ap, _∙_, subst}
 use mathlib.Core.Bool.{Bool, cond}
 use mathlib.Core.List.{List}
@@ -71,7 +71,7 @@ module _ (s : List ℕ) where
   unfolding ordersIn linksIn u8At u16At
   branch-value m = sym (after-kind s (orders s + links s + m)) ∙ shadow-kind s (orders s + links s + m) (omega arith) (omega arith)
 
-  -- the same by the range in which a place n lies
+  -- the same by the range of a place n
   from-two : (n i : ℕ) → n ≡ 2 + i → kindOf s n ≡ afterOpening s i
   from-two n i e = ap (kindOf s) e ∙ sym (after-kind s i)
 

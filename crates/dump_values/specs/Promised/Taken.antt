@@ -1,8 +1,8 @@
--- WHAT EACH VALUE BECAME, by its kind and in plain numbers, over the exact fraction that its 64 bits are.
+-- WHAT EACH VALUE BECAME, by its kind and in plain numbers, over the exact fraction of its 64 bits.
 -- A share of q is its product with q, rounded once and cut: within one of the exact product and never above q.
 -- A flow is ten times the MW, rounded once and cut.
 -- A price is a hundred times the euros, rounded once and taken to the nearest cent, halves away from zero.
--- Another factor, a cut for the nearest, or a lost sign would make it false. Assumes nothing.
+-- Another factor, a cut instead of the nearest, or a lost sign would make it false. Assumes nothing.
 use mathlib.Core.Path.{_≡_, refl, ap}
 use mathlib.Core.Bool.{Bool, true, false, not, cond}
 use Prim.Native.Nat.{ℕ, _^_, _≤_, _<_}
@@ -11,7 +11,7 @@ use borrow.Author.Tests.{not-false, lt-leb, le-leb}
 use lib.IntN.{ℤ, pos, negℤ}
 use lib.Ieee.Scale as float
 use Rattle.base_integers.specs.Steps.Difference.{at, ⊝_, le-fact}
-use Rattle.base_measures.specs.Meaning.Limits as limits
+use Rattle.base_limits.specs.Meaning.Limits as limits
 use Rattle.base_integers.specs.Meaning.Ranges.{outside}
 use Rattle.base_integers.specs.Steps.Ranges.{within, is-false, not-is, nor-left, nor-right, nat-within}
 use Rattle.dump_binary64.specs.Meaning.Value.{finite, minus, negative, aboveOne, product, cut, nearest, ShareWithin}

@@ -1,4 +1,5 @@
--- A field by the machine's value is the field by the bits: what the code tests is what the meaning asks. Assumes nothing.
+-- A field by the machine's value is the field by the bits: the code's tests are those of the meaning.
+-- Assumes nothing.
 use mathlib.Core.Path.{_≡_, refl, sym, ap, _∙_, subst}
 use mathlib.Core.Bool.{Bool, true, false, not, cond, _&&_, _||_}
 use Prim.Native.Nat.{ℕ, zero, suc, _≤_, _<_}
@@ -12,7 +13,7 @@ use lib.Ieee.{Float, nan, inf, fin, binary64, neg, le, lt, ofBits, ofInt, round}
 use lib.Ieee.Scale as float
 use Rattle.base_integers.specs.Meaning.Ranges.{range, outside}
 use Rattle.base_integers.specs.Steps.Ranges.{is-true, not-is, nat-inside}
-use Rattle.base_measures.specs.Meaning.Limits as limits
+use Rattle.base_limits.specs.Meaning.Limits as limits
 use Rattle.dump_binary64.specs.Meaning.Value.{minus, finite, negative, aboveOne, product, cut, nearest}
 use Rattle.dump_binary64.specs.Meaning.Machine.{zero64, one64, times}
 use Rattle.dump_binary64.specs.Steps.Cutting.{times-not-negative, minus-zero}
@@ -28,7 +29,7 @@ use Rattle.dump_values.specs.Meaning.Answer.{fieldBy, fieldOf}
 use Rattle.dump_values.specs.Meaning.Fields.{shareField, signOf, signedOf, systemBy, systemField}
 use Rattle.dump_values.specs.Steps.Fields.{flowField, shadowField}
 
--- TESTS. A number of no sign against a range from zero, and a number of either sign against 32 signed bits
+-- TESTS. A number without sign against a range from zero, and a number of either sign against 32 signed bits
 pub outside-above : (g n : ℕ) → outside (range (pos 0) (pos g)) (pos n) ≡ not (leb n g)
 outside-above g n = elim (decLt g n) [
   | yes l ↦ unfold outside in past g n l ∙ sym (ap not (lt-leb n g l))
@@ -76,7 +77,7 @@ neither : (a b : Bool) → not (not a || b) ≡ a && not b
 neither true b = refl
 neither false b = refl
 
--- THE FAULT by what is forbidden, and else by the product
+-- THE FAULT: something forbidden, or else the product
 module _ (k : Kind) (b : ℕ) where
   forbidden-fault : forbidden k b ≡ true → fault k b ≡ true
   unfolding fault
@@ -164,7 +165,7 @@ module _ (b : ℕ) (f : finite b ≡ true) where
       signed : signedOf (product b 100) ≡ cond (minus b) (negℤ (pos (nearest (product b 100)))) (pos (nearest (product b 100)))
       signed = ap (λ (t : Bool). cond t (negℤ (pos (nearest (product b 100)))) (pos (nearest (product b 100)))) (sign-is (minus b) (product b 100) (product-signs b 100))
 
--- A SYSTEM PRICE by the side of zero on which its product lies
+-- A SYSTEM PRICE, for a product on either side of zero
 pub system-up : (p : Float) → T (le zero64 p) → systemBy p ≡ fieldBy (float.finite p && leb (nearest p) 2147483647) (pos (nearest p))
 system-up nan g = refl
 system-up (inf s) g = refl

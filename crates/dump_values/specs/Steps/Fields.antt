@@ -1,10 +1,10 @@
--- What a value becomes by the machine's own float. Assumes nothing.
+-- What a value becomes by the machine's float. Assumes nothing.
 use mathlib.Core.Bool.{not, _&&_}
 use lib.IntN.{pos}
 use lib.Ieee.{Float, le, lt}
 use lib.Ieee.Scale as float
 use Rattle.base_integers.specs.Meaning.Ranges.{outside}
-use Rattle.base_measures.specs.Meaning.Limits as limits
+use Rattle.base_limits.specs.Meaning.Limits as limits
 use Rattle.dump_binary64.specs.Meaning.Value.{cut, nearest}
 use Rattle.dump_binary64.specs.Meaning.Machine.{zero64, times}
 use Rattle.dump_binary64.specs.Steps.Whole.{word-end}

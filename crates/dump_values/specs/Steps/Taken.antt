@@ -1,4 +1,4 @@
--- What a field comes to, by what the code's calls answered. Assumes nothing.
+-- A field, from the answers of the code's calls. Assumes nothing.
 use mathlib.Core.Path.{_≡_, refl, sym, ap, _∙_}
 use mathlib.Core.Bool.{Bool, true, false, not, _&&_}
 use Prim.Native.Nat.{ℕ, zero, suc, _≤_, _<_}
@@ -15,7 +15,7 @@ use Rattle.base_integers.specs.Steps.Size.{near-pos, near-neg, near-fits}
 use lib.Ieee.Scale as float
 use Rattle.base_integers.specs.Meaning.Ranges.{outside}
 use Rattle.base_integers.specs.Steps.Ranges.{is-true, and-right}
-use Rattle.base_measures.specs.Meaning.Limits as limits
+use Rattle.base_limits.specs.Meaning.Limits as limits
 use Rattle.base_measures.specs.declared.Bits.{Bits}
 use Rattle.base_measures.specs.declared.Cents.{Cents}
 use Rattle.base_measures.specs.declared.CentsAnswer.the-variants as cents
@@ -32,11 +32,11 @@ use Rattle.dump_values.specs.Meaning.Fields.{signOf, systemBy}
 use Rattle.dump_values.specs.Steps.Fields.{flowField, shadowField}
 use Rattle.dump_values.specs.Steps.Agree.{outside-above, system-up, system-down}
 
--- a number as it leaves its measure
+-- a number as bits of its measure
 pub bits-are : {b : Bits} {n : ℕ} → b .0 ≡ n → Held b ≡ Held (record { 0 = n })
 bits-are e = λ i. Held (record { 0 = e i })
 
--- an answer read back
+-- what an answer implies
 whole-held : (t : Bool) (n m : ℕ) → wholeBy t n ≡ whole.Held m → (t ≡ true) × (n ≡ m)
 whole-held true n m e = (refl, cc)
 whole-held false n m e = (cc, cc)
@@ -53,7 +53,7 @@ cents-outside : (z : ℤ) (t : Bool) → centsBy z t ≡ cents.Outside → t ≡
 cents-outside z true e = refl
 cents-outside z false e = cc
 
--- a field of the number that was held
+-- a field of the number
 held-field : (t : Bool) (m n : ℕ) (z : ℕ → ℤ) → wholeBy t m ≡ whole.Held n → fieldBy true (z n) ≡ fieldBy t (z m)
 held-field t m n z e = let w = whole-held t m n e in (λ i. fieldBy (sym (w .0) i) (z (sym (w .1) i)))
 
@@ -170,7 +170,7 @@ module _ (n : ℕ) (h : n ≤ 2147483648) where
   pub minus-fits : SFits w64 (pos 0 -ℤ toZ w64 n)
   minus-fits = sfits-by w64 minus-is (near-fits w64 (omega arith) (near-neg (near-pos n)))
 
-  -- as it comes out of the subtraction, and then of the cast
+  -- after the subtraction, and then after the cast
   pub wide-is : toZ w64 (ofZ w64 (pos 0 -ℤ toZ w64 n)) ≡ negℤ (pos n)
   wide-is = toZ-ofZ minus-fits ∙ minus-is
 

@@ -1,4 +1,5 @@
--- `family_fractions::exceeds_parent` meets its contract: the parent is an order, and the two products are the row's. Assumes nothing.
+-- `family_fractions::exceeds_parent` meets its contract: the parent is an order, and the two products are the
+-- row's. Assumes nothing.
 use mathlib.Core.Path.{_≡_, sym, ap, _∙_}
 use mathlib.Core.Option.{some}
 use Prim.Native.Nat.{ℕ, _<_}

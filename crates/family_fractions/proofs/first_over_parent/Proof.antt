@@ -1,4 +1,5 @@
--- `family_fractions::first_over_parent` meets its contract. The loop's invariant: no child before i has a fraction above its parent's. Assumes nothing.
+-- `family_fractions::first_over_parent` meets its contract. The loop's invariant: no child before i has a fraction
+-- above its parent's. Assumes nothing.
 use mathlib.Core.Path.{_≡_, refl, sym, ap, _∙_}
 use mathlib.Core.Bool.{Bool}
 use mathlib.Core.List.{List}
@@ -23,7 +24,7 @@ Inv-loop case k proposal families orders i₀ i = (i ≤ k .orders) × (firstBel
 abbrev μ-loop : tie.MeasureT-loop
 μ-loop case k proposal families orders i₀ i = k .orders - i
 
--- as the row counts them
+-- the orders that the row counts
 orders-are : (a : tie.Start Inv-loop μ-loop) (f : ℕ → Bool) → firstBelow (a .args .k .orders) f ≡ firstBelow ((caseOf (a .args .«case» .now)) .orders) f
 unfolding caseOf
 orders-are a f = ap (λ (k : Counts). firstBelow (k .orders) f) (a .pre .0 .opened .counts)

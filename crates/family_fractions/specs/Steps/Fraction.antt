@@ -1,4 +1,4 @@
--- The products that row 28 compares fit 64 bits, and are compared as the row says. Assumes nothing.
+-- The products that row 28 compares fit 64 bits, and the comparison is the row's. Assumes nothing.
 use mathlib.Core.Path.{_≡_, sym, ap, _∙_}
 use mathlib.Core.Bool.{Bool, cond}
 use mathlib.Core.List.{List}
@@ -18,7 +18,7 @@ use Rattle.judge_clearing.specs.Meaning.InRange.{VolumesInRange}
 use Rattle.rules.specs.Meaning.Families.{noParent, named, parentIn, parentOf}
 use Rattle.rules.specs.Meaning.Verdict.{exceedsParent}
 
--- the parent as it is read
+-- the parent as read
 pub has-parent : (f : List ℕ) (i : ℕ) {v : ℕ} → v ≡ parentIn f i → (v ≡ noParent → ⊥) → parentOf f i ≡ some v
 unfolding parentOf
 has-parent f i {v} e h = sym (ap named e) ∙ ap (λ (b : Bool). cond b none (some v)) (ne-eqb v noParent h)

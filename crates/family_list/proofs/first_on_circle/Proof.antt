@@ -1,5 +1,5 @@
--- `family_list::first_on_circle` meets its contract. The loop's invariant: the orders before i had their turn. The measure is what is left of the orders.
--- Assumes nothing.
+-- `family_list::first_on_circle` meets its contract. The loop's invariant: the orders before i had their turn. The
+-- measure is the orders left. Assumes nothing.
 use mathlib.Core.Path.{sym}
 use Prim.Native.Nat.{_-_, _<_}
 use native.Mathlib.Omega.{arith}

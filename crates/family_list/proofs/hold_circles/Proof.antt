@@ -1,4 +1,5 @@
--- `family_list::hold_circles` meets its contract: row 18, by the first order that leads back to itself. Assumes nothing.
+-- `family_list::hold_circles` meets its contract: row 18, by the first order that leads back to itself.
+-- Assumes nothing.
 use mathlib.Core.Path.{sym, ap}
 use native.Mathlib.Omega.{arith}
 use borrow.Author.Needs.{needs}

@@ -1,4 +1,5 @@
--- `family_list::is_absent` meets its contract: 65,535 names no parent, any other number an order, which exists below their count. Assumes nothing.
+-- `family_list::is_absent` meets its contract: 65,535 names no parent; any other number names an order, which
+-- exists below their count. Assumes nothing.
 use mathlib.Core.Path.{sym, ap}
 use mathlib.Core.Bool.{Bool, cond}
 use mathlib.Core.Option.{none, some}

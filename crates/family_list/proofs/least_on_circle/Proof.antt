@@ -1,5 +1,6 @@
--- `family_list::least_on_circle` meets its contract. The loop's invariant: so many steps around the circle, the least of the orders passed is known. The measure is
--- what is left of the orders, since no circle has more steps than there are orders. Assumes nothing.
+-- `family_list::least_on_circle` meets its contract. The loop's invariant: `least` is the least of the orders
+-- passed in `steps` steps around the circle. The measure is the orders left, since no circle has more steps than
+-- there are orders. Assumes nothing.
 use mathlib.Core.Path.{_≡_, sym, subst, _∙_}
 use Prim.Native.Nat.{ℕ, _+_, _-_, _<_}
 use native.Mathlib.Omega.{arith}

@@ -1,4 +1,5 @@
--- `family_list::read_families` meets its contract: rows 16 and 17 by the walk over the list, and then row 18. Assumes nothing.
+-- `family_list::read_families` meets its contract: rows 16 and 17 by the walk over the list, then row 18.
+-- Assumes nothing.
 use mathlib.Core.Path.{_≡_, sym, ap, _∙_}
 use mathlib.Core.List.{List}
 use mathlib.Core.Option.{none}

@@ -1,4 +1,5 @@
--- `family_list::walk_header` meets its contract: a list that lacks a field is under 5 bytes, which is no length of a list. Assumes nothing.
+-- `family_list::walk_header` meets its contract: a list that lacks a field has under 5 bytes, which is no length of
+-- a list. Assumes nothing.
 use mathlib.Core.Path.{_≡_, sym, ap, _∙_}
 use mathlib.Core.Bool.{not, _&&_}
 use mathlib.Core.List.{List}

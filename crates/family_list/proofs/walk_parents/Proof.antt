@@ -1,5 +1,6 @@
--- `family_list::walk_parents` meets its contract. The loop's invariant: the cursor stands at the parent of this turn, every parent before it exists, and the
--- array has their numbers. The measure is what is left of the orders. Assumes nothing.
+-- `family_list::walk_parents` meets its contract. The loop's invariant: the cursor stands at the parent of this
+-- turn, every earlier parent exists, and the array has their numbers. The measure is the orders left.
+-- Assumes nothing.
 use mathlib.Core.Path.{_≡_, refl, sym, ap, subst, _∙_}
 use mathlib.Core.List.{List}
 use mathlib.Core.Option.{none}
@@ -83,7 +84,7 @@ number-is : (c : tie.After-parent Inv-loop μ-loop) → let l = of-parent c in c
 unfolding parentIn
 number-is c = let l = of-parent c in let p : at l + 0 ≡ 5 + 2 * turn l = omega (arith, l .before .loop .inv .1 .0) in parent-read c .is ∙ ap (u16At (file l)) p
 
--- ROW 17, of this order
+-- ROW 17 for this order
 abbrev of-test : tie.After-is-absent Inv-loop μ-loop → tie.After-parent Inv-loop μ-loop
 of-test c = c .before .before
 

@@ -1,5 +1,5 @@
--- `family_list::walk_up` meets its contract. The loop's invariant: the walk is under way and has come to tip. The measure is how many orders no walk has been at.
--- Assumes nothing.
+-- `family_list::walk_up` meets its contract. The loop's invariant: the walk has come to tip. The measure is the
+-- number of orders that no walk has visited. Assumes nothing.
 use mathlib.Core.Path.{_≡_, _∙_}
 use mathlib.Core.Option.{Option}
 use Prim.Native.Nat.{ℕ, _+_, _<_}

@@ -22,7 +22,7 @@ use Rattle.rules.specs.Meaning.Families.{familyHeader, familyVersion, familyLen
 use Rattle.rules.specs.Meaning.Verdict.{differ, notMark}
 use Rattle.family_list.specs.Meaning.Parents.{Exist}
 
--- THE TESTS of the three rows, and the rows: of a case they ask the number of its orders alone
+-- THE TESTS of the three rows, and the rows; of the case they use only the number of orders
 abbrev pub wrongList : List ℕ → ℕ → Bool
 wrongList f orders = notMark 76 84 70 f || differ (familyVersion f) 1 || differ (length f) (familyLength orders)
 
@@ -38,7 +38,7 @@ parentCause f orders = each 17 orders (absent f orders)
 abbrev pub circleCause : List ℕ → ℕ → Cause
 circleCause f orders = each 18 orders (leadsBack orders (parentOf f))
 
--- those that the walk over the list asks, and all
+-- the rows of the walk over the list, and all three
 abbrev pub listCauses : List ℕ → ℕ → List Cause
 listCauses f orders = listCause f orders ∷ parentCause f orders ∷ []
 
@@ -53,7 +53,7 @@ familyBy none = Sound
 abbrev pub familyAnswer : List ℕ → ℕ → FamilyAnswer
 familyAnswer f orders = familyBy (refusal (rowsBeside f orders))
 
--- of row 18 alone
+-- for row 18 alone
 abbrev pub circleAnswer : List ℕ → ℕ → FamilyAnswer
 circleAnswer f orders = familyBy (refusal (circleCause f orders ∷ []))
 
@@ -62,12 +62,12 @@ abbrev pub headerBy : Bool → Walked
 headerBy true = walk.Refused (verdict 16 0)
 headerBy false = pastAt familyHeader
 
--- ROW 16 PASSED: the length is right, beside at most 512 orders
+-- ROW 16 PASSED: the length is right, for at most 512 orders
 pub record ListLengthValid (f : List ℕ) (orders : ℕ) : Type 0 where
   pub few : orders ≤ 512
   pub long : length f ≡ familyLength orders
 
--- ROW 17 PASSED too: every parent that is named is an order
+-- ROW 17 PASSED too: every named parent is an order
 pub record FamiliesReadable (f : List ℕ) (orders : ℕ) : Type 0 where
   pub whole : ListLengthValid f orders
   pub exist : Exist orders (parentOf f)

@@ -1,5 +1,5 @@
--- S-11: a parent of each of n orders, where there is one, is an order itself. Row 18's test and its sentence agree there (`Circle.leads-back`).
--- Assumes nothing.
+-- S-11: the parent of each of n orders, if it has one, is itself an order. Then row 18's test and its definition
+-- agree (`Circle.leads-back`). Assumes nothing.
 use mathlib.Core.Path.{_≡_}
 use mathlib.Core.Option.{Option, some}
 use Prim.Native.Nat.{ℕ, _<_}

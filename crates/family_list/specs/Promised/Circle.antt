@@ -1,5 +1,5 @@
--- AN ORDER LEADS BACK TO ITSELF: the sentence, that some number of steps up ends where it began, is what row 18 tests within as many steps as there are orders.
--- Assumes nothing.
+-- AN ORDER LEADS BACK TO ITSELF: by definition, some number of steps up ends where it began. Row 18 tests this
+-- within as many steps as there are orders. Assumes nothing.
 use mathlib.Core.Path.{_≡_, sym, ap, subst}
 use mathlib.Core.Logic.{_↔_}
 use mathlib.Core.Option.{Option, none, some}
@@ -17,7 +17,7 @@ module _ (parent : ℕ → Option ℕ) where
   is-order i none t = absurd t
   is-order i (some j) t = ap some (eqb→eq j i t)
 
-  -- WHERE EVERY PARENT EXISTS the test and the sentence agree, of each of the n orders
+  -- WHERE EVERY PARENT EXISTS the test and the definition agree for each of the n orders
   pub leads-back : {n : ℕ} → Exist n parent → {i : ℕ} → i < n → T (leadsBack n parent i) ↔ LeadsBack parent i
   unfolding leadsBack
   leads-back {n} x {i} h = (from, to)

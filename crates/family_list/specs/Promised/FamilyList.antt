@@ -1,4 +1,4 @@
--- What rows 16 to 18 promise of a family list beside a case, and what an accepted hour keeps of it (S-11). Assumes nothing.
+-- What rows 16 to 18 promise of a family list, and what an accepted hour keeps of it (S-11). Assumes nothing.
 use mathlib.Core.Path.{_≡_, refl, sym, ap, subst, _∙_}
 use mathlib.Core.Bool.{not}
 use mathlib.Core.List.{List, []}
@@ -20,18 +20,18 @@ use Rattle.family_list.specs.Meaning.Answer.{absent}
 use Rattle.family_list.specs.Steps.Answer.{exist-of}
 use Rattle.family_list.specs.Promised.Circle.{leads-back}
 
--- AN EMPTY LIST is 16, however many orders there are
+-- AN EMPTY LIST is 16, for any number of orders
 pub empty-list : (c : Case) → refusal (familyCauses (some []) c) ≡ some (verdict 16 0)
 unfolding notMark u8At
 empty-list c = field-fails 16 0 _ refl
 
--- 16 TO 18 PASSED: every parent that is named is an order, and no order leads back to itself
+-- 16 TO 18 PASSED: every named parent is an order, and no order leads back to itself
 pub record Sound (f : List ℕ) (orders : ℕ) : Type 0 where
   pub exist : Exist orders (parentOf f)
   pub no-circle : (i : ℕ) → i < orders → LeadsBack (parentOf f) i → ⊥
 
 module _ (f : List ℕ) (c : Case) where
-  -- by what the two rows test
+  -- from the tests of the two rows
   by-rows : ((i : ℕ) → i < c .orders → T (not (absent f (c .orders) i))) → ((i : ℕ) → i < c .orders → T (not (leadsBack (c .orders) (parentOf f) i))) → Sound f (c .orders)
   by-rows p q = let x = exist-of f (c .orders) p in record { exist = x; no-circle = λ i h b. T-not (leadsBack (c .orders) (parentOf f) i) (q i h) (leads-back (parentOf f) x h .1 b) }
 
@@ -39,7 +39,8 @@ module _ (f : List ℕ) (c : Case) where
   unfolding causeNumbered
   sound e = let passed = number-passes (familyCauses (some f) c) e in by-rows ((passed 17) .pass) ((passed 18) .pass)
 
--- REFUSED BY 18: the order named leads back to itself, and none before it does. An order that leads into a circle, and does not lie on it, is never named
+-- REFUSED BY 18: the order named leads back to itself, and no earlier order does. An order that leads into a circle
+-- without being on it is never named
 pub record OnCircle (f : List ℕ) (orders k : ℕ) : Type 0 where
   pub order : k < orders
   pub back : LeadsBack (parentOf f) k
@@ -58,7 +59,7 @@ on-circle f c k e =
       none-before = λ i l b. T-not (leadsBack (c .orders) (parentOf f) i) (at-k .none-before i l) (leads-back (parentOf f) x (omega (arith, at-k .place-in)) .1 b);
     }
 
--- ACCEPTED with the list f: what the list asks is kept
+-- ACCEPTED with the list f: the list's demands are kept
 module _ (s t f : List ℕ) (room : ℕ) (accepted : (familyOutcome s t f room) .number ≡ 0) where
   list-sound : Sound f ((caseOf s) .orders)
   unfolding familyOutcome table roomCauses caseCauses proposalCauses clearingCauses before hasCause rowOf isCause

@@ -1,5 +1,5 @@
--- 18 AND 28 IN PLAIN BYTES, both ways, of the judgement with a family list: its number and its index. What a list, a parent and a round of orders are in bytes
--- says `PlainFamilies` of `rules`, which has 16 and 17. Assumes nothing.
+-- 18 AND 28 IN PLAIN BYTES, both ways, for the judgement with a family list: number and index. `PlainFamilies` of
+-- `rules` says what a list, a parent and a round of orders are in bytes, and has 16 and 17. Assumes nothing.
 use mathlib.Core.Path.{_≡_, sym, ap, subst}
 use mathlib.Core.Bool.{not}
 use mathlib.Core.List.{List, [], _∷_}
@@ -34,7 +34,7 @@ module _ (f : List ℕ) (orders : ℕ) (x : ParentsExist f orders) where
   exist : Exist orders (parentOf f)
   exist = record { exists = λ i j h e. let w = has-parent f i j .0 e in subst (λ (k : ℕ). k < orders) (w .0) (x i h (w .1)) }
 
-  -- the row's test is the sentence
+  -- the row's test is the definition
   is-round : (i : ℕ) → i < orders → T (leadsBack orders (parentOf f) i) → Round f i
   is-round i h t = leads-back-is f i .0 (leads-back (parentOf f) exist h .0 t)
 
@@ -59,7 +59,8 @@ module _ (f : List ℕ) (c : Case) where
       (list-facts f c .0 (passed 16), (x, λ i h r. T-not (leadsBack (c .orders) (parentOf f) i) ((passed 18) .pass i h) (the-test f (c .orders) x i h r)))
 
 module _ (s t f : List ℕ) (room : ℕ) where
-  -- 18 IF AND ONLY IF the bytes are a list, every parent exists, and an order leads back to itself; its index is the first that does
+  -- 18 IF AND ONLY IF the rows before pass, the bytes are a list, every parent exists, and an order leads back to
+  -- itself; its index is the first that does
   pub refused-18 : (familyOutcome s t f room) .number ≡ 18
       → ReadFacts s t room × (ListFacts f (ordersIn s) × (ParentsExist f (ordersIn s) × FirstRound f (ordersIn s) ((familyOutcome s t f room) .index)))
   unfolding familyOutcome table roomCauses caseCauses proposalCauses clearingCauses lacks before causeNumbered caseOf
@@ -94,12 +95,13 @@ module _ (s t f : List ℕ) (room : ℕ) where
         none-before = λ j h. no-round f (ordersIn s) x j (omega (arith, w .is-order)) (w .first-one j h);
       })
 
-  -- 28, where the list is one, every parent exists and no order leads back to itself (`PlainFamilies.refused-28` has what it says of the hour)
+  -- 28, where the bytes are a list, every parent exists and no order leads back to itself
+  -- (`PlainFamilies.refused-28` says what it means for the hour)
   pub is-28 : ReadFacts s t room → ListFacts f (ordersIn s) → ParentsExist f (ordersIn s) → NoRound f (ordersIn s) → VolumesWithin s t → (i : ℕ) → ExceedsParent s t f i → familyOutcome s t f room ≡ verdict 28 i
   unfolding caseOf
   is-28 r l x n v i w = Plain.is-28 s t f room r (rows-pass f (caseOf s) l x n) v i w
 
-  -- and where no child's fraction exceeds its parent's either, the list changes nothing
+  -- if also no child's fraction exceeds its parent's, the list changes nothing
   pub list-changes-nothing : ListFacts f (ordersIn s) → ParentsExist f (ordersIn s) → NoRound f (ordersIn s) → ChildrenWithin s t f → familyOutcome s t f room ≡ outcome s t room
   unfolding caseOf
   list-changes-nothing l x n w = within-alike s t f room (rows-pass f (caseOf s) l x n) w

@@ -1,5 +1,5 @@
--- STEPS UP: where they lead, and that a circle over n orders has at most n steps, since of the n + 1 orders that 0, 1, .., n steps lead to two are the same.
--- Assumes nothing.
+-- STEPS UP: where they lead. A circle over n orders has at most n steps, since two of the n + 1 orders after 0, 1,
+-- .., n steps are the same. Assumes nothing.
 use mathlib.Core.Path.{_≡_, refl, sym, ap, _∙_}
 use mathlib.Core.Option.{Option, none, some, Option·none-ne-some, Option·some-injective}
 use Prim.Native.Nat.{ℕ, zero, suc, _+_, _*_, _-_, _≤_, _<_}
@@ -36,13 +36,13 @@ module _ (parent : ℕ → Option ℕ) where
   unfolding ancestor
   has-parent {i} b = let q : 1 + (b .steps - 1) ≡ b .steps = omega (arith, b .one-or-more) in earlier 1 (b .steps - 1) i (ap (λ (s : ℕ). ancestor parent s i) q ∙ b .back)
 
-  -- round and round
+  -- any number of rounds
   pub rounds : (k : ℕ) {i : ℕ} → ancestor parent k i ≡ some i → (m : ℕ) → ancestor parent (k * m) i ≡ some i
   unfolding ancestor
   rounds k e zero = rw (mul-zero k) refl
   rounds k {i} e (suc m) = rw (mul-suc k m) (ancestor-add (k * m) k i (rounds k e m) ∙ e)
 
-  -- the order that k steps lead to, where they lead to one
+  -- the order after k steps, if there is one
   valueOf : Option ℕ → ℕ
   valueOf none = 0
   valueOf (some j) = j
@@ -91,7 +91,7 @@ module _ (parent : ℕ → Option ℕ) where
       at-least : (m : ℕ) → m ≤ k * m
       at-least m = omega (arith, mul-le-mul-right {m = 1} {n = k} m (b .one-or-more))
 
-      -- so many steps and the rest of m rounds
+      -- m steps, and the rest of m rounds
       rest : (m : ℕ) → ancestor parent (m + (k * m - m)) i ≡ some i
       rest m = let q : m + (k * m - m) ≡ k * m = omega (arith, at-least m) in ap (λ (l : ℕ). ancestor parent l i) q ∙ rounds k (b .back) m
 
@@ -101,7 +101,7 @@ module _ (parent : ℕ → Option ℕ) where
       r : ℕ
       r = k * t .first - t .first
 
-      -- from the place back to i, and once more round the place before
+      -- from the place back to i, and once more around to the place before
       on : ancestor parent r (t .place) ≡ some i
       on = sym (ancestor-add (t .first) r i (t .at-first)) ∙ rest (t .first)
 

@@ -1,4 +1,4 @@
--- A family list's answer read back, and what rows 16 to 18 leave where they pass. Assumes nothing.
+-- What a family list's answer implies, and what rows 16 to 18 leave where they pass. Assumes nothing.
 use mathlib.Core.Path.{_≡_, refl, sym, ap, _∙_}
 use mathlib.Core.Bool.{Bool, true, false, not, cond, _||_}
 use mathlib.Core.List.{List, [], _∷_}
@@ -55,7 +55,7 @@ whole-of f orders h e = record { few = h; long = by (notMark 76 84 70 f || diffe
     by true false q e = cc
     by false false q e = cc
 
--- ROW 17, by the number that an order gives
+-- ROW 17, by the number of an order
 module _ (f : List ℕ) (orders i : ℕ) {v : ℕ} (is : v ≡ parentIn f i) where
   by-number : (b : Bool) → eqb v noParent ≡ b → absent f orders i ≡ missing orders (cond b none (some v))
   unfolding parentOf
@@ -77,7 +77,7 @@ exist-of f orders h = record { exists = λ i j l e. by (parentOf f i) j e (h i l
     by none j e t = absurd (Option·none-ne-some j e)
     by (some i) j e t = let q : i ≡ j = cc in omega (arith, nleb→lt orders i t)
 
--- THE WALK, read back
+-- WHAT THE WALK'S ANSWER IMPLIES
 module _ (f : List ℕ) (orders : ℕ) where
   pub header-refused : (past : Cursor) {o : Outcome} → headerBy (wrongList f orders) ≡ walk.Refused o → walk.Refused o ≡ rowsWalked (listCauses f orders) past
   header-refused past {o} e = by (wrongList f orders) refl e
@@ -125,7 +125,7 @@ module _ (f : List ℕ) (orders : ℕ) where
 pub known-passed : (f : List ℕ) (orders : ℕ) → orders ≤ 512 → refusal (rowsBeside f orders) ≡ none → FamiliesReadable f orders
 known-passed f orders h e = list-known f orders h ((none-each (listCauses f orders) (circleCause f orders ∷ []) e) .0)
 
--- AN ANSWER READ BACK, beside a case of so many orders
+-- WHAT AN ANSWER IMPLIES, for a case with this many orders
 module _ (f : List ℕ) (c : Case) {orders : ℕ} (count : c .orders ≡ orders) where
   pub refused-of : {o : Outcome} → familyAnswer f orders ≡ Refused o → refusal (familyCauses (some f) c) ≡ some o
   refused-of {o} e = ap refusal (rows-are f c count) ∙ by (refusal (rowsBeside f orders)) e

@@ -1,4 +1,5 @@
--- THE PARENTS AS THEY ARE TAKEN from a family list into an array, on the way through row 17: what no walk has been at. Assumes nothing.
+-- THE PARENTS, copied from a family list into an array while row 17 is asked; no walk has visited them yet.
+-- Assumes nothing.
 use mathlib.Core.Path.{_≡_, sym, ap, _∙_}
 use mathlib.Core.Bool.{Bool, true, false, cond}
 use mathlib.Core.List.{List}
@@ -26,7 +27,7 @@ named-some v j e = by (eqb v noParent) e
 named-order : (v : ℕ) → v < noParent → named v ≡ some v
 named-order v h = ap (λ (b : Bool). cond b none (some v)) (ne-eqb v noParent (λ e. omega arith))
 
--- the number that an order gives is its parent's, where it has one
+-- the number of an order is its parent's, if it has one
 pub parent-is : (f : List ℕ) (j k : ℕ) → parentOf f j ≡ some k → parentIn f j ≡ k
 unfolding parentOf
 parent-is f j k e = named-some (parentIn f j) k e
@@ -36,7 +37,7 @@ pub record ParentsTaken (f : List ℕ) (n : ℕ) (up : List ℕ) : Type 0 where
   pub long : length up ≡ 512
   pub entries : (j : ℕ) → j < n → held up j ≡ parentIn f j
 
--- a turn of the loop that takes them
+-- a turn of the loop that copies them
 pub take-none : (f up : List ℕ) → length up ≡ 512 → ParentsTaken f 0 up
 take-none f up l = record { long = l; entries = λ j h. absurd (no-less j h) }
 
@@ -48,7 +49,7 @@ take-more f up n x h t e =
       entries = λ j l. elim (ℕ-discrete j n) [ yes q ↦ ap (held (set up n x)) q ∙ p .here ∙ e ∙ ap (parentIn f) (sym q) | no d ↦ p .others j d ∙ t .entries j (omega arith) ];
     }
 
--- THE SEARCH OVER THEM, under way at order i
+-- THE SEARCH OVER THEM, at order i
 pub record Search (f : List ℕ) (n i first : ℕ) (up : List ℕ) : Type 0 where
   pub long : length up ≡ 512
   pub found : SearchSoFar (parentOf f) n i first (held up)

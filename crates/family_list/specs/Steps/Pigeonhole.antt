@@ -1,4 +1,4 @@
--- PIGEONHOLE: of n + 1 places with n values, two hold the same. Assumes nothing.
+-- PIGEONHOLE: of n + 1 places with n values, two have the same. Assumes nothing.
 use mathlib.Core.Path.{_≡_, refl, ap, subst}
 use mathlib.Core.Bool.{Bool, true, false, cond}
 use mathlib.Core.Option.{Option, none, some}
@@ -9,7 +9,7 @@ use lib.Dec.{T, T-not, eqb, eqb→eq, eqb-refl}
 use Rattle.base_causes.specs.Meaning.Causes.{firstBelow}
 use Rattle.base_causes.specs.Promised.CauseLaws.{first-is, not-below}
 
--- two of the places 0 to n hold the same
+-- two of the places 0 to n have the same
 pub record Same (n : ℕ) (f : ℕ → ℕ) : Type 0 where
   pub first : ℕ
   pub second : ℕ
@@ -17,11 +17,11 @@ pub record Same (n : ℕ) (f : ℕ → ℕ) : Type 0 where
   pub second-in : second ≤ n
   pub same : f first ≡ f second
 
--- n's place is taken by the last value
+-- the value n is replaced by the last value
 squeezed : ℕ → ℕ → ℕ → ℕ
 squeezed n last v = cond (eqb v n) last v
 
--- a value either is n and squeezes to the last, or is not and stays
+-- a value is n and is replaced by the last, or it is not and stays
 data Squeezed (n last v : ℕ) : Type 0 where
   is-n : v ≡ n → squeezed n last v ≡ last → Squeezed n last v
   other : (v ≡ n → ⊥) → squeezed n last v ≡ v → Squeezed n last v

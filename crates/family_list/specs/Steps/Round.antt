@@ -1,4 +1,5 @@
--- ONCE AROUND: the least order on a circle, as a walk from an order that leads back to itself, until it is back there, finds it. Assumes nothing.
+-- ONCE AROUND: the least order on a circle, found by a walk from an order that leads back to itself until the walk
+-- is back there. Assumes nothing.
 use mathlib.Core.Path.{_≡_, refl, sym, ap, _∙_}
 use mathlib.Core.Bool.{Bool, true, false, cond}
 use mathlib.Core.Option.{Option, some, Option·some-injective}
@@ -43,7 +44,8 @@ pub record Least (parent : ℕ → Option ℕ) (n i tip least : ℕ) : Type 0 wh
   pub back : LeadsBack parent least
   pub no-less : (s k : ℕ) → ancestor parent s tip ≡ some k → i ≤ k → least ≤ k
 
--- ON THE WAY AROUND, so many steps from tip: the circle is no shorter than that, and the least of the orders passed is one of them
+-- ON THE WAY AROUND, some steps from tip: the circle has at least that many steps, and the least of the orders
+-- passed is one of them
 pub record Round (parent : ℕ → Option ℕ) (n tip steps at least : ℕ) : Type 0 where
   pub whole : ℕ
   pub whole-in : whole ≤ n
@@ -86,7 +88,7 @@ module _ (parent : ℕ → Option ℕ) {n : ℕ} (x : Exist n parent) {tip : ℕ
     pub at-in : at < n
     at-in = stays-in parent x steps h (r .there)
 
-    -- one that is not back yet has steps to go
+    -- a walk that is not back yet has steps to go
     pub not-round : (at ≡ tip → ⊥) → steps < r .whole
     not-round d = elim (decLt steps (r .whole)) [ yes l ↦ l | no g ↦ absurd (d (back (omega (arith, r .within)))) ]
       where
@@ -142,6 +144,6 @@ module _ (parent : ℕ → Option ℕ) {n : ℕ} (x : Exist n parent) {tip : ℕ
             all fuel (s - steps) k (omega (arith, r .one-or-more)) (sym (ancestor-add parent steps (s - steps) tip again) ∙ ap (λ (s : ℕ). ancestor parent s tip) m ∙ q)
       ]
 
-  -- where the walk came back to the order at which it began, this is the least from there on
+  -- where the walk came back to its first order, this is the least from there on
   pub itself : LeadsBack parent tip → Least parent n tip tip tip
   itself b = record { inside = h; back = b; no-less = λ s k q l. l }

@@ -1,5 +1,6 @@
--- How the orders that lead back to themselves are found: a walk up from each order in turn, over orders that no walk has been at. An order holds its parent's
--- number until a walk has been at it, and from then on 512 more than the number of that walk. Laws over plain variables. Assumes nothing.
+-- How the orders that lead back to themselves are found: a walk up from each order in turn, over orders that no
+-- walk has visited. Entry i is the parent of order i until walk w visits i, then 512 + w. Laws over plain
+-- variables. Assumes nothing.
 use mathlib.Core.Path.{_≡_, refl, sym, ap, subst, _∙_}
 use mathlib.Core.Logic.{_⊎_, inl, inr}
 use mathlib.Core.Bool.{Bool, cond}
@@ -32,7 +33,7 @@ held up j = getD up j 0
 pub put-set : (up : List ℕ) (j x : ℕ) → j < length up → Put (held up) (held (set up j x)) j x
 put-set up j x h = record { here = getD-set-same up j x 0 h; others = λ k u. getD-set-other up j k x 0 u }
 
--- HOW MANY of the first m hold an order: those that no walk has been at
+-- HOW MANY of the first m entries are orders: those that no walk has visited
 abbrev counted : Bool → ℕ
 counted b = cond b 1 0
 
@@ -81,7 +82,7 @@ module _ (parent : ℕ → Option ℕ) where
   unfolding ancestor
   step-more w e = record { steps = suc (w .steps); one-or-more = omega arith; there = ap (onward parent) (w .there) ∙ e }
 
-  -- who leads back is led to by all that he leads to
+  -- if j leads back to itself, all orders that it leads to lead to it
   pub around : {j k : ℕ} → LeadsTo parent j k → LeadsBack parent j → (s : ℕ) × (ancestor parent s k ≡ some j)
   around {j} {k} w b =
       let a = w .steps in
@@ -90,14 +91,15 @@ module _ (parent : ℕ → Option ℕ) where
       (m * a - a, sym (ancestor-add parent a (m * a - a) j (w .there)) ∙ ap (λ (s : ℕ). ancestor parent s j) q ∙ rounds parent m (b .back) a)
 
 module _ (parent : ℕ → Option ℕ) (n : ℕ) where
-  -- BEFORE WALK i: the walks have been at every order before it, and wherever the orders lead that they have been at
+  -- BEFORE WALK i: the walks have visited every earlier order, and every order that a visited order leads to
   pub record Walked (i : ℕ) (v : ℕ → ℕ) : Type 0 where
     pub holds-parent : (j : ℕ) → j < n → v j < n → parent j ≡ some (v j)
     pub closed : (j k : ℕ) → j < n → n ≤ v j → parent j ≡ some k → n ≤ v k
     pub before : (j : ℕ) → j < n → j < i → n ≤ v j
     pub ahead : (j k : ℕ) → j < n → i ≤ k → k < 512 → v j ≡ 512 + k → ⊥
 
-  -- IN WALK i, that has come to the order tip: an order is as it was, or the walk has been at it and it leads to tip
+  -- IN WALK i, which has come to the order tip: an entry is unchanged, or the walk has visited it and it leads to
+  -- tip
   pub data Now (i : ℕ) (u : ℕ → ℕ) (tip : ℕ) (v : ℕ → ℕ) (j : ℕ) : Type 0 where
     as-before : v j ≡ u j → Now i u tip v j
     been-at : v j ≡ 512 + i → u j < n → LeadsTo parent j tip → Now i u tip v j
@@ -112,11 +114,11 @@ module _ (parent : ℕ → Option ℕ) (n : ℕ) where
   walk-starts i u w = record { holds-parent = w .holds-parent; closed = λ j k h l e. inl (w .closed j k h l e); each = λ j h. as-before refl; start = inl refl }
 
   module _ (few : n ≤ 512) (i : ℕ) (u : ℕ → ℕ) (tip : ℕ) (h : tip < n) (v w : ℕ → ℕ) (fresh : v tip < n) (p : Put v w tip (512 + i)) where
-    -- what was walked stays so
+    -- a visited order stays visited
     stays : (k : ℕ) → n ≤ v k → n ≤ w k
     stays k l = elim (ℕ-discrete k tip) [ yes e ↦ absurd (omega (arith, ap v e)) | no d ↦ omega (arith, p .others k d) ]
 
-    -- a step up from tip, which then holds the walk's number
+    -- a step up from tip, whose entry then holds the walk's number
     pub walk-steps : Walking i u tip v → Walking i u (v tip) w
     walk-steps s = record {
       holds-parent = λ j l f. elim (ℕ-discrete j tip) [ yes e ↦ absurd (omega (arith, ap w e, p .here)) | no d ↦ kept j l (p .others j d) f ];
@@ -153,7 +155,7 @@ module _ (parent : ℕ → Option ℕ) (n : ℕ) where
         started (inl e) = inr (omega (arith, ap w e, p .here))
         started (inr g) = inr (stays i g)
 
-  -- wherever an order leads that the walks have been at, they have been
+  -- the walks have visited every order that a visited order leads to
   pub closed-up : Exist n parent → (i : ℕ) (u : ℕ → ℕ) → Walked i u → (s j k : ℕ) → j < n → n ≤ u j → ancestor parent s j ≡ some k → n ≤ u k
   unfolding ancestor
   closed-up x i u w zero j k h g e = omega (arith, ap u (Option·some-injective j k e))
@@ -163,7 +165,7 @@ module _ (parent : ℕ → Option ℕ) (n : ℕ) where
       last none q e ih = absurd (Option·none-ne-some k e)
       last (some m) q e ih = w .closed m k (stays-in parent x s h q) (ih m q) e
 
--- A SEARCH UNDER WAY: of the orders that the walks have been at, none that leads back to itself stands before first, which does so if it is an order
+-- THE SEARCH SO FAR: no visited order before `first` leads back to itself, and `first` does, if it is an order
 pub record SearchSoFar (parent : ℕ → Option ℕ) (n i first : ℕ) (v : ℕ → ℕ) : Type 0 where
   pub walked : Walked parent n i v
   pub first-in : first ≤ n
@@ -180,7 +182,7 @@ module _ (parent : ℕ → Option ℕ) {n : ℕ} (few : n ≤ 512) (x : Exist n 
   walk : Walking parent n i u tip v
   walk = t .walking parent (s .walked)
 
-  -- what the walks have been at
+  -- what the walks have visited
   after : Walked parent n (i + 1) v
   after = record {
     holds-parent = walk .holds-parent;
@@ -205,7 +207,7 @@ module _ (parent : ℕ → Option ℕ) {n : ℕ} (few : n ≤ 512) (x : Exist n 
       not-ahead j k h l m e (as-before q) = s .walked .ahead j k h (omega arith) m (sym q ∙ e)
       not-ahead j k h l m e (been-at q f w) = omega arith
 
-  -- THE WALK CAME BACK to an order that it had been at: this leads back to itself
+  -- THE WALK CAME BACK to an order that it had visited: this order leads back to itself
   pub came-back : v tip ≡ 512 + i → LeadsBack parent tip
   came-back e = by (walk .each tip (t .tip-in))
     where
@@ -228,7 +230,8 @@ module _ (parent : ℕ → Option ℕ) {n : ℕ} (few : n ≤ 512) (x : Exist n 
         | no q ↦ let a = around parent w b in omega (arith, smaller-right first r, l .no-less (a .0) j (a .1) (omega arith))
       ]
 
-  -- THE WALK ENDED at an order that walks before it had been at, or that has no parent: none that it was at leads back to itself
+  -- THE WALK ENDED at an order that earlier walks had visited, or that has no parent: no order that it visited
+  -- leads back to itself
   pub next-none : (v tip ≡ 512 + i → ⊥) → SearchSoFar parent n (i + 1) first v
   next-none d = record {
     walked = after;
@@ -247,7 +250,7 @@ module _ (parent : ℕ → Option ℕ) {n : ℕ} (few : n ≤ 512) (x : Exist n 
           let a = around parent w b in
           absurd (omega (arith, f, closed-up parent n x i u (s .walked) (a .0) tip j (t .tip-in) (known (walk .each tip (t .tip-in))) (a .1)))
 
--- AN ORDER THAT A WALK HAS BEEN AT, or that has no parent, needs none of its own
+-- A VISITED ORDER, or one without a parent, needs no walk of its own
 pub next-been : (parent : ℕ → Option ℕ) {n i first : ℕ} {v : ℕ → ℕ} → SearchSoFar parent n i first v → n ≤ v i → SearchSoFar parent n (i + 1) first v
 next-been parent {n} {i} {first} {v} s g = record {
   walked = record {

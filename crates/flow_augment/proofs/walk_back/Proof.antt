@@ -1,5 +1,5 @@
--- `flow_augment::walk_back` meets its contract. The loop's invariant: whatever path led to the zone at which the walk began leads to the zone at which it
--- is. The measure is the depth. Assumes nothing.
+-- `flow_augment::walk_back` meets its contract. The loop's invariant: the path that led to the zone where the walk
+-- began also leads to the zone where it is now. The measure is the depth. Assumes nothing.
 use mathlib.Core.List.{List}
 use Prim.Native.Nat.{ℕ, _+_, _*_, _<_}
 use native.Mathlib.Omega.{arith}
@@ -23,7 +23,7 @@ abbrev μ-loop : tie.MeasureT-loop
 loop-holds : tie.Need-loop-holds Inv-loop μ-loop
 loop-holds c = (λ netExports prices total h. h, rest-refl (now (c .before .args .s)))
 
--- the path as it is at the loop's head
+-- the path at the loop's head
 module _ (c : tie.At-loop Inv-loop μ-loop) where
   abbrev st : tie.Start Inv-loop μ-loop
   st = c .before .before

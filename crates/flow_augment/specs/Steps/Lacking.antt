@@ -1,6 +1,6 @@
--- AN AUGMENTING PATH, one pair at a time. The import of its last zone is used for d more, so that this zone lacks d; a pair that leads there carries d more,
--- or one that leaves it d less, and then the pair's other zone lacks d; at a zone with export left that is used for d more, and nothing is lacking.
--- Assumes nothing.
+-- AN AUGMENTING PATH, one pair at a time. First the import of its last zone is used for d more, so that this zone
+-- lacks d. Then a pair that leads to it carries d more, or a pair that leaves it d less, and the pair's other zone
+-- lacks d. At a zone with export left, that export is used for d more, and no zone lacks anything. Assumes nothing.
 use mathlib.Core.Path.{_≡_, sym, ap, _∙_}
 use mathlib.Core.Bool.{Bool, true, false}
 use Prim.Native.Nat.{ℕ, _+_, _-_, _≤_, _<_}
@@ -22,7 +22,7 @@ pub record Lacking (c : Network) (b : Flow) (total d z : ℕ) : Type 0 where
   pub sum : carried c b ≡ total
   pub flows : (k : ℕ) → k < c .pairs → b .flow k ≤ total + d
 
--- a flow that carries a total, with no flow above it
+-- a flow that carries a total; no amount on a pair is above the total
 pub record State (c : Network) (b : Flow) (total : ℕ) : Type 0 where
   pub feasible : Feasible c b
   pub sum : carried c b ≡ total
@@ -31,7 +31,7 @@ pub record State (c : Network) (b : Flow) (total : ℕ) : Type 0 where
 clash : {A : Type 0} → true ≡ false → A
 clash e = let z : _≡_ {A = ℕ} 0 1 = cc in absurd (omega arith)
 
--- a sum over the pairs of which pair k has d more
+-- a sum over the pairs where pair k has d more
 picked : (n k d : ℕ) (q : ℕ → Bool) (f g : ℕ → ℕ) → k < n → g k ≡ f k + d → ((j : ℕ) → j < n → (j ≡ k → ⊥) → g j ≡ f j)
     → sumNat n (λ j. only (q j) (g j)) ≡ sumNat n (λ j. only (q j) (f j)) + only (q k) d
 picked n k d q f g h more e =
@@ -42,7 +42,7 @@ picked n k d q f g h more e =
       only-add (q k) (f k) d,
     )
 
--- an amount of zone t that is used for d more
+-- an amount of zone t increased by d
 used-more : (n t d : ℕ) (f g : ℕ → ℕ) → g t ≡ f t + d → ((y : ℕ) → y < n → (y ≡ t → ⊥) → g y ≡ f y) → (y : ℕ) → y < n → g y ≡ f y + only (eqb t y) d
 used-more n t d f g at rest y p = elim (ℕ-discrete t y) [
   | yes e ↦ omega (arith, at, ap f e, ap g e, ap (λ (q : Bool). only q d) (eq-eqb t y e))
@@ -72,7 +72,7 @@ module _ (c : Network) (b b' : Flow) (total d : ℕ) where
       by-import-used y p (yes e) = omega (arith, ap (b' .import-used) e, ap (c .imports) e, g .at)
       by-import-used y p (no e) = omega (arith, g .rest y p e, st .feasible .import-used-le y p)
 
-  -- a pair that leads to the zone that lacks it carries d more: its first zone lacks d
+  -- a pair that leads to the lacking zone carries d more: its first zone lacks d
   pub more-along : (k z : ℕ) → Lacking c b total d z → k < c .pairs → c .to k ≡ z → c .counted k ≡ true → b .flow k ≤ total → FlowSet c b b' k (b .flow k + d)
       → Lacking c b' total d (c .from k)
   more-along k z sh l e t r g =
@@ -101,7 +101,7 @@ module _ (c : Network) (b b' : Flow) (total d : ℕ) where
       by-flows j p (yes q) = omega (arith, ap (b' .flow) q, g .at)
       by-flows j p (no q) = omega (arith, g .rest j p q, sh .flows j p)
 
-  -- a pair that leaves the zone that lacks it carries d less: its second zone lacks d
+  -- a pair that leaves the lacking zone carries d less: its second zone lacks d
   pub less-along : (k z : ℕ) → Lacking c b total d z → k < c .pairs → c .from k ≡ z → d ≤ b .flow k → FlowSet c b b' k (b .flow k - d)
       → Lacking c b' total d (c .to k)
   less-along k z sh l e r g =
@@ -133,7 +133,7 @@ module _ (c : Network) (b b' : Flow) (total d : ℕ) where
       by-flows j p (yes q) = omega (arith, ap (b' .flow) q, back, sh .flows k l)
       by-flows j p (no q) = omega (arith, g .rest j p q, sh .flows j p)
 
-  -- the export of the zone that lacks it is used for d more: flow is conserved in all zones, and d more is carried
+  -- the export of the lacking zone is used for d more: flow is conserved in all zones, and d more is carried
   pub use-export : (z : ℕ) → Lacking c b total d z → z < c .zones → ExportUsedSet c b b' z (b .export-used z + d) → b .export-used z + d ≤ c .exports z → State c b' (total + d)
   use-export z sh l g h =
       record {

@@ -1,5 +1,6 @@
--- THE LABELS OF A SEARCH: how much can be brought to a zone (0: it is not reached), its depth, which falls along a path back to a zone with export left, and
--- the pair by which it was reached. A path's step changes one flow; the links of the zones before it stay. Assumes nothing.
+-- THE LABELS OF A SEARCH: how much can be brought to a zone (0: it is not reached); its depth, which falls along
+-- the path back to a zone with export left; and the pair by which it was reached. A step of the path changes one
+-- flow; the links of the earlier zones stay. Assumes nothing.
 use mathlib.Core.Path.{_≡_, sym, ap, _∙_}
 use mathlib.Core.Bool.{true}
 use Prim.Native.Nat.{ℕ, _+_, _-_, _≤_, _<_}
@@ -37,7 +38,7 @@ abbrev pub Links : Network → Flow → ℕ → Trail → ℕ → Type 0
 Links c b total m n = (y : ℕ) → y < c .zones → 0 < m .lab y → m .dep y ≤ n → Link c b total m y
 
 module _ (c : Network) (b b' : Flow) (total d : ℕ) (m : Trail) where
-  -- a link stays where its zone has the same export used and its pair still has the room, or carries enough
+  -- a link stays where its zone has the same export used and its pair still has the room or carries enough
   link-stays : (y : ℕ) → Link c b total m y → b' .export-used y ≡ b .export-used y → (0 < m .dep y → c .to (m .by y) ≡ y → b' .flow (m .by y) ≤ total)
       → (0 < m .dep y → (c .to (m .by y) ≡ y → ⊥) → m .lab y ≤ b' .flow (m .by y)) → Link c b' total m y
   link-stays y l e room enough = record {

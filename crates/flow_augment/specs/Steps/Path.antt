@@ -32,7 +32,7 @@ pub record SomePath (bytes : List ℕ) (s : List ℤ) (m : Trail) (d z : ℕ) : 
   pub total : ℕ
   pub path : PathBack netExports prices total bytes s m d z
 
--- one step back: the flow of the pair, and the zone that lacks d after it
+-- one step back: the flow of the pair, and the zone that then lacks d
 pub record Shifted (bytes : List ℕ) (s s' : List ℤ) (k z d r : ℕ) : Type 0 where
   pub on : secondZone bytes k ≡ z → (r ≡ firstZone bytes k) × (s' ≡ set s k (pos (amountAt s k + d)))
   pub back : (secondZone bytes k ≡ z → ⊥) → (r ≡ secondZone bytes k) × (s' ≡ set s k (pos (amountAt s k - d)))

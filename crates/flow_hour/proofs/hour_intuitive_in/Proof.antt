@@ -1,4 +1,5 @@
--- `flow_hour::hour_intuitive_in` meets its contract: the judgement's refusal, or the answer for the accepted hour's own lists. Assumes nothing.
+-- `flow_hour::hour_intuitive_in` meets its contract: the judgement's refusal, or the answer for the accepted hour's
+-- own lists. Assumes nothing.
 use mathlib.Core.Path.{_≡_, sym, _∙_}
 use mathlib.Core.List.{List}
 use Prim.Native.Nat.{ℕ, _<_}
@@ -13,7 +14,7 @@ use Rattle.flow_hour.specs.Steps.Kept.{hour-refused, exports-fit, prices
 use Rattle.flow_hour.proofs.hour_intuitive_in.Statement.{statement}
 use Rattle.flow_hour.proofs.hour_intuitive_in.Tie as tie
 
--- the arguments, and that the hour is accepted where it was not refused
+-- the arguments; the hour is accepted where it was not refused
 abbrev entry : tie.After-find → tie.Start
 entry f = f .before .before .before .before
 

@@ -1,4 +1,5 @@
--- `flow_hour::lent` meets its contract: the lower half of the 64 bits is the number, and the upper half is turned. Assumes nothing.
+-- `flow_hour::lent` meets its contract: in the lower half of the 64 bits it is the number, in the upper half the
+-- number less 2 ^ 64. Assumes nothing.
 use native.Mathlib.Omega.{arith}
 use borrow.Author.Needs.{needs}
 use Rattle.flow_hour.specs.Steps.Lent.{turned-fits, less-fits, less-back}

@@ -1,4 +1,5 @@
--- `flow_hour::listed` meets its contract: after z turns the first z numbers of the list are the zones'. Assumes nothing.
+-- `flow_hour::listed` meets its contract: after z turns the first z numbers of the list are those of the zones.
+-- Assumes nothing.
 use mathlib.Core.Path.{_≡_, subst}
 use Prim.Native.Nat.{ℕ, _≤_, _-_}
 use native.Mathlib.Omega.{arith}

@@ -1,5 +1,6 @@
--- REQUEST S-3, of an hour: its net positions with export positive (ours are turned first), its zone prices, and what is asked of it: the verdict table with
--- room enough for a report, and then the causes 81 to 85 of its positions and prices. Assumes nothing.
+-- REQUEST S-3 for an hour: its net positions with export positive (ours with their sign turned), and its zone
+-- prices. The table asks the verdict table with room for a report, then causes 81 to 85 of these positions and
+-- prices. Assumes nothing.
 use mathlib.Core.List.{List, [], _∷_, _++_}
 use mathlib.Core.Option.{none}
 use Prim.Native.Nat.{ℕ, zero, suc}
@@ -34,7 +35,8 @@ hourNetwork s t pairs = networkOf (hourExports s t) (hourPrices s t) pairs
 abbrev pub hourRent : List ℕ → List ℕ → ℤ
 hourRent s t = rent (caseOf s) (planOf s t) (pricesOf s t)
 
--- THE TABLE, for a case s, a proposal t, pairs, and a scratch of `room` numbers of which n are asked for, 324 or 96 (S-13)
+-- THE TABLE, for a case s, a proposal t, pairs, and a scratch of `room` numbers of which n are needed, 324 or 96
+-- (S-13)
 unfoldable pub askedCauses : List ℕ → List ℕ → List ℕ → ℕ → ℕ → List Cause
 askedCauses s t pairs n room = table none s t reportRoom (caseOf s) (planOf s t) (pricesOf s t) ++ intuitiveCauses (hourExports s t) (hourPrices s t) pairs n room
 
@@ -45,7 +47,6 @@ hourOutcome s t pairs n room = answer (refusal (askedCauses s t pairs n room))
 unfoldable pub hourScratch : List ℕ → List ℕ → List ℕ → ℕ → List ℤ → List ℤ
 hourScratch s t pairs n scratch = scratchBy (refusal (askedCauses s t pairs n (length scratch))) n scratch
 
--- WHAT AN ENTRY ANSWERS of an hour, with n = 324 or 96, for the scratch that is lent, the result and the scratch
--- afterwards
+-- WHAT AN ENTRY ANSWERS for an hour, with n = 324 or 96: the lent scratch, the result and the scratch afterwards
 abbrev pub HourAnswer : List ℕ → List ℕ → List ℕ → ℕ → List ℤ → Carried → List ℤ → Type 0
 HourAnswer s t pairs n scratch = EntryAnswer (hourOutcome s t pairs n (length scratch)) (hourNetwork s t pairs) (hourScratch s t pairs n scratch)

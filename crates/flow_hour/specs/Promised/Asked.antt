@@ -1,5 +1,6 @@
--- An hour that is not accepted is answered as the judgement answers it, with room enough for a report; of an accepted hour 81, 82 and 83 cannot occur, since
--- its zones, its balance and its prices passed the judgement: it is answered by its pairs and the scratch alone. Assumes nothing.
+-- An hour that is not accepted gets the judgement's answer with room for a report. For an accepted hour 81, 82 and
+-- 83 cannot occur, since its zones, its balance and its prices passed the judgement: only its pairs and the scratch
+-- are asked. Assumes nothing.
 use mathlib.Core.Path.{_≡_, refl, sym, ap, subst, _∙_}
 use mathlib.Core.Bool.{Bool, true, false, not, _||_}
 use mathlib.Core.List.{List, [], _∷_, _++_}
@@ -18,7 +19,7 @@ use Rattle.base_integers.specs.Steps.Ranges.{inside, nat-inside, not-is}
 use Rattle.base_integers.specs.Steps.Size.{Near, near-sub, near-pos, near-le}
 use Rattle.base_integers.specs.Meaning.Sums.{sumTo}
 use Rattle.base_integers.specs.Steps.Sums.{sum-ext, sum-sub, sum-zero}
-use Rattle.base_measures.specs.Meaning.Limits as limits
+use Rattle.base_limits.specs.Meaning.Limits as limits
 use Rattle.base_causes.specs.declared.Outcome.{Outcome}
 use Rattle.base_causes.specs.Meaning.Causes.{Cause, refusal, answer, once, each, failing}
 use Rattle.base_causes.specs.Promised.CauseLaws.{lacks, not-refused, else-refusal, refusal-append, zero-none, later, row-clear, once-passes, first-none}
@@ -61,7 +62,7 @@ module _ (s t pairs : List ℕ) (n room : ℕ) where
   abbrev asked : List Cause
   asked = intuitiveCauses (hourExports s t) (hourPrices s t) pairs n room
 
-  -- THE JUDGEMENT FIRST: what it refuses is its own answer; what it accepts is asked
+  -- THE JUDGEMENT FIRST: if it refuses, that is the answer; if it accepts, the rest is asked
   pub refused-first : (o : Outcome) → refusal judged ≡ some o → refusal (askedCauses s t pairs n room) ≡ some o
   unfolding askedCauses
   refused-first o e = refusal-append judged asked ∙ ap (λ (x : Option Outcome). else-refusal x (refusal asked)) e
@@ -89,7 +90,7 @@ module _ (s t pairs : List ℕ) (n room : ℕ) where
   unfolding hourOutcome intuitiveOutcome intuitiveRefusal
   accepted-asks e = ap answer (asked-then (none-refused e))
 
-  -- OF AN ACCEPTED HOUR 81, 82 and 83 have no cause
+  -- FOR AN ACCEPTED HOUR 81, 82 and 83 have no cause
   module _ (e : (outcome s t reportRoom) .number ≡ 0) where
     passed : Sound s t reportRoom
     unfolding reports
@@ -154,7 +155,7 @@ module _ (s t pairs : List ℕ) (n room : ℕ) where
     pub lists-pass : ListsPass (hourExports s t) (hourPrices s t)
     lists-pass = record { count-in = count-in; lengths = prices-many ∙ sym zones-many; positions-in = positions-pass; balanced = balanced; prices-in = prices-pass }
 
-    -- so that the pairs and the scratch are all that is left
+    -- so only the pairs and the scratch are left
     abbrev left : List Cause
     left = each 84 (pairCount pairs) (badPair (length (hourExports s t)) pairs) ∷ once 85 (room under n) ∷ []
 
@@ -176,7 +177,7 @@ module _ (s t pairs : List ℕ) (n room : ℕ) where
             zero-not : 0 ≡ k → ⊥
             zero-not e = omega (arith, h)
 
-  -- a number that neither the judgement has nor the rows of pairs and scratch
+  -- a number that neither the judgement nor the rows of pairs and scratch have
   never : (k : ℕ) → T (lacks k judged) → T (lacks k (each 84 (pairCount pairs) (badPair (length (hourExports s t)) pairs) ∷ once 85 (room under n) ∷ [])) → 0 < k → (hourOutcome s t pairs n room) .number ≡ k → ⊥
   unfolding hourOutcome askedCauses outcome
   never k a b h q =

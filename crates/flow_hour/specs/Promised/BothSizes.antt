@@ -1,5 +1,6 @@
--- BOTH SIZES OF SCRATCH GIVE AN HOUR ONE ANSWER (S-13): of any two results that meet the two contracts with number 0, yes or no and the total are equal;
--- what the wide entry takes the smaller takes too; and every refusal but 85 is the same. Assumes nothing.
+-- BOTH SIZES OF SCRATCH GIVE AN HOUR ONE ANSWER (S-13). In any two results that meet the two contracts with number
+-- 0, the yes or no and the total are equal. What the wide entry takes, the smaller takes too. Every refusal except
+-- 85 is the same. Assumes nothing.
 use mathlib.Core.Path.{_≡_, sym, ap, _∙_}
 use mathlib.Core.List.{List, _++_}
 use mathlib.Core.Option.{none}
@@ -27,19 +28,19 @@ module _ (s t pairs : List ℕ) where
   abbrev judged : List Cause
   judged = table none s t reportRoom (caseOf s) (planOf s t) (pricesOf s t)
 
-  -- an hour that is answered is one whose exports, prices and pairs are
+  -- if an hour is answered, so are its exports, prices and pairs
   pub answered : (n room : ℕ) → (hourOutcome s t pairs n room) .number ≡ 0 → intuitiveRefusal (hourExports s t) (hourPrices s t) pairs n room ≡ none
   unfolding hourOutcome askedCauses intuitiveOutcome intuitiveRefusal table roomCauses caseCauses proposalCauses clearingCauses lacks
   answered n room e = intuitive-none (hourExports s t) (hourPrices s t) pairs n room ((later 0 judged (intuitiveCauses (hourExports s t) (hourPrices s t) pairs n room) tt e) .then-second)
 
-  -- YES OR NO AND THE TOTAL ARE EQUAL on each hour that both take, whatever scratches are lent
+  -- YES OR NO AND THE TOTAL ARE EQUAL on each hour that both take, with any scratches
   pub answers-agree : (a b : List ℤ) (r q : Carried) (a' b' : List ℤ) → HourAnswer s t pairs scratchRoom a r a' → HourAnswer s t pairs smallRoom b q b' → r .number ≡ 0 → q .number ≡ 0
       → (r .intuitive ≡ q .intuitive) × (r .total .0 ≡ q .total .0)
   answers-agree a b r q a' b' x y e f =
       let taken = answered scratchRoom (length a) (sym (ap (λ (o : Outcome). o .number) (x .outcome)) ∙ e) in
       entries-agree (hourNetwork s t pairs) (placed (hourExports s t) (hourPrices s t) pairs scratchRoom (length a) taken) _ _ _ _ r q a' b' x y e f
 
-  -- WHAT IS TAKEN: a scratch which the wide entry takes is answered alike by the smaller, refused or not
+  -- WHAT IS TAKEN: with a scratch that the wide entry takes, both answer alike, refused or not
   pub wide-is-small : (room : ℕ) → scratchRoom ≤ room → hourOutcome s t pairs smallRoom room ≡ hourOutcome s t pairs scratchRoom room
   unfolding hourOutcome askedCauses
   wide-is-small room h = ap (λ (rows : List Cause). answer (refusal (judged ++ rows))) (same-rows (hourExports s t) (hourPrices s t) pairs smallRoom scratchRoom room room (omega arith) h)
@@ -47,7 +48,7 @@ module _ (s t pairs : List ℕ) where
   pub small-takes : (room : ℕ) → (hourOutcome s t pairs scratchRoom room) .number ≡ 0 → (hourOutcome s t pairs smallRoom room) .number ≡ 0
   small-takes room e = ap (λ (o : Outcome). o .number) (wide-is-small room (room-in (hourExports s t) (hourPrices s t) pairs scratchRoom room (answered scratchRoom room e))) ∙ e
 
-  -- EVERY REFUSAL BUT 85, with any scratch, index and all
+  -- EVERY REFUSAL EXCEPT 85, with any scratch, including the index
   pub refused-but-85 : (m n room other : ℕ) → 0 < (hourOutcome s t pairs m room) .number → (hourOutcome s t pairs m room) .number < 85 → hourOutcome s t pairs n other ≡ hourOutcome s t pairs m room
   refused-but-85 m n room other h l = by (decLt 0 ((outcome s t reportRoom) .number))
     where

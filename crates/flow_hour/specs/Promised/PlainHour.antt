@@ -1,7 +1,7 @@
 -- AN HOUR'S ANSWER IN PLAIN NUMBERS (S-3, S-13), number and index, both ways. An hour that the judgement refuses,
--- with 176 bytes for a report, has the judgement's number and index. An accepted hour has 84 for its first pair that
--- is not good, among as many zones as byte 5 of the case says, then 85 for a scratch under 324 (96) numbers, and else
--- 0. Its yes, no and total are those of its net positions turned and its zone prices. Assumes nothing.
+-- with 176 bytes for a report, has the judgement's number and index. An accepted hour has 84 for its first bad
+-- pair, with as many zones as byte 5 of the case says, then 85 for a scratch under 324 (96) numbers, else 0. Its
+-- yes, no and total are those of its zone prices and its net positions with their sign turned. Assumes nothing.
 use mathlib.Core.Path.{_≡_, refl, sym, ap, subst, _∙_}
 use mathlib.Core.Logic.{_↔_, _⊎_, inl, inr, _≢_}
 use mathlib.Core.List.{List}
@@ -43,8 +43,8 @@ plain-lists exports prices l = (
   prices-inside exports prices .0 (record { pass = not-below _ _ (l .prices-in) }),
 )
 
--- THE HOUR'S LISTS: a number for each zone, the net position turned, since ours are import positive, and the zone
--- price
+-- THE HOUR'S LISTS: for each zone the net position with its sign turned, since ours are import positive, and the
+-- zone price
 module _ (s t : List ℕ) where
   pub exports-length : length (hourExports s t) ≡ getD s 5 0
   unfolding hourExports caseOf zonesIn u8At
@@ -76,7 +76,7 @@ module _ (s t pairs : List ℕ) (n room : ℕ) where
   abbrev asked : List Cause
   asked = intuitiveCauses (hourExports s t) (hourPrices s t) pairs n room
 
-  -- ACCEPTED, or answered by a number that the judgement has not
+  -- ACCEPTED, or answered by a number that the judgement does not have
   accepted-if : refusal judged ≡ none → outcome s t 176 ≡ verdict 0 0
   unfolding outcome
   accepted-if e = ap answer e

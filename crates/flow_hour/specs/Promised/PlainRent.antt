@@ -1,7 +1,7 @@
--- THE REPORTED RENT OF AN HOUR THAT IS ANSWERED YES, in the bytes of its report, with any buffer of 176 bytes or more.
--- What `lta_judge` writes at 32 is the sum, over the pairs, of a flow times the difference of the reported prices of
--- its two zones. No flow goes to a lower price, so the rent is not negative. With net positions of the other sign, or
--- pairs counted from higher price to lower, it would be false. Assumes nothing.
+-- THE REPORTED RENT OF AN HOUR THAT IS ANSWERED YES, in the bytes of its report, with any buffer of 176 bytes or
+-- more. What `lta_judge` writes at 32 is the sum over the pairs of a flow times the difference of the reported
+-- prices of its two zones. No flow goes to a lower price, so the rent is not negative. Net positions of the other
+-- sign, or pairs counted from a higher price to a lower, would make it false. Assumes nothing.
 use mathlib.Core.Path.{_≡_, refl, sym, ap, _∙_}
 use mathlib.Core.Bool.{Bool, cond}
 use mathlib.Core.Logic.{inl}
@@ -44,14 +44,14 @@ use Rattle.flow_hour.specs.Promised.BothSizes.{answered}
 use Rattle.flow_hour.specs.Promised.PlainHour.{price-is, says-0, accepted}
 use Rattle.flow_hour.specs.Promised.Rent.{rent-of-flows, rent-nonneg}
 
--- EIGHT BYTES from place k on, the lowest first, and the integer that they are in two's complement
+-- EIGHT BYTES from place k on, the lowest first, and their integer in two's complement
 abbrev pub wordAt : List ℕ → ℕ → ℕ
 wordAt b k = sumNat 8 (λ i. getD b (k + i) 0 * 256 ^ i)
 
 abbrev pub signedAt : List ℕ → ℕ → ℤ
 signedAt b k = cond (ltb (wordAt b k) 9223372036854775808) (pos (wordAt b k)) (pos (wordAt b k) -ℤ pos 18446744073709551616)
 
--- a value that stands there is that integer
+-- a value there is that integer
 digits : (m : ℕ) → m < 18446744073709551616 → sumNat 8 (λ i. m / 256 ^ i % 256 * 256 ^ i) ≡ m
 unfolding bytesOf numberOf sumNat
 digits m h = natural.sum-ext 8 (λ i. m / 256 ^ i % 256 * 256 ^ i) (λ i. getD (bytesOf 8 m) i 0 * 256 ^ i) (λ i l. ap (λ (x : ℕ). x * 256 ^ i) (sym (byte-at 8 m i l)))
@@ -71,15 +71,15 @@ stands-signed b k (negsuc n) f w =
     ap (λ (q : Bool). cond q (pos m) (pos m -ℤ pos 18446744073709551616)) (le-ltb m 9223372036854775808 (omega (arith, word, f .sfits)))
     ∙ eq-by (at (pos m) ⊖ at (pos 18446744073709551616)) (at (negsuc n)) (omega (arith, word))
 
--- WHAT THE REPORT b SAYS of an hour that is answered yes: some flows along the pairs, as 64-bit numbers the prices at
--- 48 + 8 z and the rent at 32
+-- WHAT THE REPORT b SAYS for an hour that is answered yes: there are flows along the pairs that give the rent at 32
+-- from the prices at 48 + 8 z, all 64-bit numbers
 pub record RentOfFlows (pairs b : List ℕ) : Type 0 where
   pub flow : ℕ → ℕ
   pub rises : (k : ℕ) → 2 * k < length pairs → 0 < flow k → signedAt b (48 + 8 * getD pairs (2 * k) 0) ≤ℤ signedAt b (48 + 8 * getD pairs (2 * k + 1) 0)
   pub rent-is : signedAt b 32 ≡ sumTo (length pairs / 2) (λ k. pos (flow k) *ℤ (signedAt b (48 + 8 * getD pairs (2 * k + 1) 0) -ℤ signedAt b (48 + 8 * getD pairs (2 * k) 0)))
   pub rent-nonneg : pos 0 ≤ℤ signedAt b 32
 
--- 30 aside, which asks for 176 bytes, the verdict is the same with every buffer
+-- except for 30, which asks for 176 bytes, the verdict is the same with every buffer
 pub same-verdict : (s t : List ℕ) (room : ℕ) → 176 ≤ room → outcome s t room ≡ outcome s t 176
 unfolding outcome table roomCauses
 same-verdict s t room h = ap answer (field-passes 30 0 (hourCauses none s t) (le-ltb room 176 h) ∙ sym (field-passes 30 0 (hourCauses none s t) refl))
@@ -91,7 +91,7 @@ module _ (s t buffer : List ℕ) (enough : 176 ≤ length buffer) (e : outcome s
   fit : Fit (caseOf s) (planOf s t) (pricesOf s t)
   fit = fits s t (length buffer) (reports-of _ (inl zero))
 
-  -- THE RENT AND THE PRICES of an accepted hour, as its report has them
+  -- THE RENT AND THE PRICES of an accepted hour in its report
   pub rent-stands : signedAt (bufferAfter s t buffer) 32 ≡ hourRent s t
   rent-stands = stands-signed (bufferAfter s t buffer) 32 (hourRent s t) (fit .rent-fits) ((report-written s t buffer (inl zero)) .rent-at)
 
@@ -100,7 +100,7 @@ module _ (s t buffer : List ℕ) (enough : 176 ≤ length buffer) (e : outcome s
   price-stands z h = price-is s t z h
       ∙ sym (stands-signed (bufferAfter s t buffer) (48 + 8 * z) (zonePrice (caseOf s) (pricesOf s t) z) (fit .zonePrice-fits z h) ((report-written s t buffer (inl zero)) .price-at z h))
 
--- OF EITHER ENTRY: an hour that it answers yes
+-- FOR EITHER ENTRY: an hour that it answers yes
 module _ (s t pairs : List ℕ) (n : ℕ) (scratch : List ℤ) (r : Carried) (after : List ℤ) (met : HourAnswer s t pairs n scratch r after) (taken : r .number ≡ 0) (yes-said : r .intuitive ≡ 1) where
   number-is : (hourOutcome s t pairs n (length scratch)) .number ≡ 0
   number-is = sym (ap (λ (o : Outcome). o .number) (met .outcome)) ∙ taken

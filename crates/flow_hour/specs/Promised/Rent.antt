@@ -1,7 +1,7 @@
--- THE RENT OF AN INTUITIVE HOUR IS NOT NEGATIVE: of an hour that is answered yes, the judgement's rent (rule 11), which
--- counts imports positive, is what the flows of the yes gain from the price of each pair's first zone to that of its
--- second. No flow loses. `PlainRent` says the same of the report's bytes. Of net positions that were not turned, or of
--- prices or zones taken otherwise, it would be false. Assumes nothing.
+-- THE RENT OF AN INTUITIVE HOUR IS NOT NEGATIVE. For an hour that is answered yes, the judgement's rent (rule 11),
+-- which counts imports positive, is what the flows of the yes gain from the price of each pair's first zone to that
+-- of its second. No flow loses. `PlainRent` says the same of the report's bytes. Net positions without their sign
+-- turned, or other prices or zones, would make it false. Assumes nothing.
 use mathlib.Core.Path.{_≡_, sym, ap, _∙_}
 use mathlib.Core.List.{List}
 use mathlib.Core.Option.{none}
@@ -30,14 +30,14 @@ module _ (s t pairs : List ℕ) where
   turned-back : (x : ℤ) → negℤ (pos 0 -ℤ x) ≡ x
   turned-back x = eq-by (⊝_ (at (pos 0) ⊖ at x)) (at x) (omega arith)
 
-  -- the rent is what the exports are worth, turned to imports
+  -- the rent is the worth of the imports
   pub rent-is : importsWorth (hourExports s t) (hourPrices s t) ≡ hourRent s t
   unfolding hourExports hourPrices rent
   rent-is =
       ap (λ (k : ℕ). sumTo k (λ z. negℤ (positionAt (hourExports s t) z) *ℤ priceAt (hourPrices s t) z)) (list-length ((caseOf s) .zones) (λ z. pos 0 -ℤ net (caseOf s) (planOf s t) z))
       ∙ sum-ext ((caseOf s) .zones) _ _ (λ z l. λ j. (ap negℤ (list-at _ (λ z. pos 0 -ℤ net (caseOf s) (planOf s t) z) z l) ∙ turned-back (net (caseOf s) (planOf s t) z)) j *ℤ list-at _ (λ z. zonePrice (caseOf s) (pricesOf s t) z) z l j)
 
-  -- OF AN HOUR THAT IS TAKEN AND HAS SUCH FLOWS, with either scratch
+  -- FOR AN HOUR THAT IS TAKEN AND HAS SUCH FLOWS, with either scratch
   module _ (n room : ℕ) (e : (hourOutcome s t pairs n room) .number ≡ 0) (i : FeasibleAll (hourNetwork s t pairs)) where
     passed : intuitiveRefusal (hourExports s t) (hourPrices s t) pairs n room ≡ none
     passed = answered s t pairs n room e
@@ -48,6 +48,6 @@ module _ (s t pairs : List ℕ) where
     pub rent-nonneg : pos 0 ≤ℤ hourRent s t
     rent-nonneg = rw (← rent-is) (worth-nonneg (hourExports s t) (hourPrices s t) pairs (placed _ _ pairs n room passed) (balanced _ _ pairs n room passed) i)
 
-  -- OF THE ENTRY: an hour that it answers yes
+  -- FOR THE ENTRY: an hour that it answers yes
   pub yes-rent : (n : ℕ) (scratch : List ℤ) (r : Carried) (after : List ℤ) → HourAnswer s t pairs n scratch r after → r .number ≡ 0 → r .intuitive ≡ 1 → pos 0 ≤ℤ hourRent s t
   yes-rent n scratch r after a e y = rent-nonneg n (length scratch) (sym (ap (λ (o : Outcome). o .number) (a .outcome)) ∙ e) (a .a-yes e y)

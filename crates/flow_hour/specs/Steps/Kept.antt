@@ -33,7 +33,7 @@ use Rattle.flow_hour.specs.Promised.Asked.{refused-first, asked-then, no
 use Rattle.flow_hour.specs.Steps.Lent.{FitsTo, Lists, part-is, same-list, refusedAs}
 
 module _ (s t pairs : List ℕ) (n : ℕ) (scratch : List ℤ) where
-  -- with room enough 30 passes
+  -- with enough room 30 passes
   past-room : refusal (table none s t reportRoom (caseOf s) (planOf s t) (pricesOf s t)) ≡ refusal (hourCauses none s t)
   unfolding table roomCauses
   past-room = field-passes 30 0 (hourCauses none s t) refl
@@ -83,7 +83,7 @@ module _ (s t pairs : List ℕ) (n : ℕ) (scratch : List ℤ) where
       pub prices-fit : FitsTo (λ z. grainsAt (f .prices) z) (f .hour .counts .zones)
       prices-fit = record { fits = λ z l. sfits-by w64 (price-is z l) (near-fits w64 (omega arith) (near-zone-price _ (price-in s t pairs n (length scratch) accepted z (omega (arith, h .zones-are valued))))) }
 
-      -- the lists that are lent are the hour's
+      -- the lent lists are the hour's
       pub exports-are : (xs : List ℤ) → Lists (λ z. pos 0 -ℤ tenthsAt (f .cleared .nets) z) (f .hour .counts .zones) xs → take (f .hour .counts .zones) xs ≡ hourExports s t
       unfolding hourExports
       exports-are xs l = part-is _ (f .hour .counts .zones) xs (h .few-zones) l ∙ same-list (f .hour .counts .zones) _ _ net-is ∙ ap (λ (k : ℕ). listTo k (λ z. pos 0 -ℤ net (caseOf s) (planOf s t) z)) (h .zones-are valued)
@@ -96,7 +96,7 @@ module _ (s t pairs : List ℕ) (n : ℕ) (scratch : List ℤ) where
       pub pass : (exports prices : List ℤ) → exports ≡ hourExports s t → prices ≡ hourPrices s t → ListsPass exports prices
       pass exports prices x y = subst (λ (p : List ℤ). ListsPass p prices) (sym x) (subst (λ (q : List ℤ). ListsPass (hourExports s t) q) (sym y) (lists-pass s t pairs n (length scratch) accepted))
 
-      -- so that their answer is the hour's
+      -- so their answer is the hour's
       pub hour-answer : (exports prices : List ℤ) → exports ≡ hourExports s t → prices ≡ hourPrices s t → {r : Carried} {b : List ℤ}
           → EntryAnswer (intuitiveOutcome exports prices pairs n (length scratch)) (networkOf exports prices pairs) (intuitiveScratch exports prices pairs n scratch) r b → HourAnswer s t pairs n scratch r b
       unfolding hourOutcome hourScratch intuitiveOutcome intuitiveRefusal intuitiveScratch

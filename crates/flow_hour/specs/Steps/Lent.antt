@@ -1,4 +1,4 @@
--- Numbers by zone as a list that is lent: sixteen numbers of which the first are a definition's. Assumes nothing.
+-- Numbers by zone as a lent list: sixteen numbers, the first of which are a definition's. Assumes nothing.
 use mathlib.Core.Path.{_≡_, refl, sym, ap, _∙_}
 use mathlib.Core.Logic.{_≢_}
 use mathlib.Core.List.{List, [], _∷_, _++_}
@@ -22,11 +22,11 @@ use Rattle.flow_hour.specs.Meaning.Hour.{listTo}
 pub record FitsTo (f : ℕ → ℤ) (n : ℕ) : Type 0 where
   pub fits : (z : ℕ) → z < n → SFits w64 (f z)
 
--- a number that fits, there and back: as it leaves a measure, and as it stands in a list
+-- a number that fits, there and back: from its measure, and in a list
 pub back-twice : {x : ℤ} → SFits w64 x → {r : ℤ} {b : ℕ} → r ≡ toZ w64 b → b ≡ ofZ w64 x → toZ w64 (ofZ w64 r) ≡ x
 back-twice f p q = let e = p ∙ ap (toZ w64) q ∙ toZ-ofZ f in ap (λ (y : ℤ). toZ w64 (ofZ w64 y)) e ∙ toZ-ofZ f
 
--- the upper half of 64 bits, as the machine turns it
+-- the upper half of 64 bits, as the machine computes it
 module _ (v : ℕ) (h : 9223372036854775808 ≤ v) (l : v < 18446744073709551616) where
   abbrev size : ℕ
   size = 18446744073709551615 - v
@@ -75,7 +75,7 @@ lists-more f n xs x h a e = record {
     before : (z n : ℕ) → z < n + 1 → z ≢ n → z < n
     before z n l q = omega arith
 
--- the part that is lent
+-- the lent part
 pub part-is : (f : ℕ → ℤ) (n : ℕ) (xs : List ℤ) → n ≤ 16 → Lists f n xs → take n xs ≡ listTo n f
 unfolding listTo
 part-is f zero xs h a = refl

@@ -1,4 +1,4 @@
--- `flow_intuitive::answered` meets its contract: what no row refuses is answered by the max flow. Assumes nothing.
+-- `flow_intuitive::answered` meets its contract: where no row refuses, the max flow answers. Assumes nothing.
 use mathlib.Core.Path.{refl}
 use lib.ListN.{length}
 use denote.Ref.{now}

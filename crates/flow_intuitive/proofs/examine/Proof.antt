@@ -1,4 +1,4 @@
--- `flow_intuitive::examine` meets its contract: the table's rows in their order, past each that passes to the one that fails. Assumes nothing.
+-- `flow_intuitive::examine` meets its contract: the table's rows in their order, until one fails. Assumes nothing.
 use mathlib.Core.Path.{_≡_, sym, ap, _∙_}
 use mathlib.Core.Bool.{false}
 use mathlib.Core.Option.{none, some}
@@ -150,7 +150,6 @@ returns-5 c =
 enum-told-2 : tie.Need-enum-told-2
 enum-told-2 c = search needs
 
--- the rest
 examine-rest-requires : tie.Need-examine-rest-requires
 examine-rest-requires c κs = few (of-position (of-price c .before .before) .before)
 

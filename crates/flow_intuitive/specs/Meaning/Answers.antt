@@ -1,4 +1,4 @@
--- Lists of positions and prices that causes 81 to 83 pass.
+-- Lists of positions and prices that pass causes 81 to 83.
 use mathlib.Core.Path.{_≡_}
 use mathlib.Core.Bool.{false}
 use mathlib.Core.List.{List}
@@ -12,7 +12,7 @@ use Rattle.rules.specs.Meaning.Layout.{zoneCounts}
 use Rattle.flow_positions.specs.Meaning.Positions.{positionOutside, unbalanced}
 use Rattle.flow_intuitive.specs.Meaning.Intuitive.{priceOutside}
 
--- lists that 81 to 83 pass
+-- lists that pass 81 to 83
 pub record ListsPass (netExports prices : List ℤ) : Type 0 where
   pub count-in : outside zoneCounts (pos (length netExports)) ≡ false
   pub lengths : length prices ≡ length netExports

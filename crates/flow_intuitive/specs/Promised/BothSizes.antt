@@ -1,5 +1,6 @@
--- BOTH SIZES OF SCRATCH GIVE ONE ANSWER (S-13): of any two results that meet the two contracts with number 0 on one input, yes or no and the total are equal;
--- what the wide one takes the smaller takes too; and 81 to 84 are the same. It rests on what the contracts say, and on nothing of how they are met. Assumes nothing.
+-- BOTH SIZES OF SCRATCH GIVE ONE ANSWER (S-13). In any two results that meet the two contracts with number 0 on one
+-- input, the yes or no and the total are equal. What the wide entry takes, the smaller takes too. 81 to 84 are the
+-- same. The proof uses only the contracts, not how they are met. Assumes nothing.
 use mathlib.Core.Path.{_≡_, refl, sym, ap, _∙_}
 use mathlib.Core.Bool.{Bool, true, false}
 use mathlib.Core.List.{List, [], _∷_, _++_}
@@ -24,7 +25,7 @@ use Rattle.flow_intuitive.specs.Promised.Causes.{intuitive-none}
 use Rattle.flow_intuitive.specs.Promised.OneAnswer.{one-answer}
 use Rattle.flow_intuitive.specs.Steps.Sizes.{placed, room-in}
 
--- two answers with number 0 say the same of one network
+-- two answers with number 0 agree on one network
 pub entries-agree : (c : Network) → Placed c → (o p : Outcome) (s′ t′ : List ℤ) (r q : Carried) (s t : List ℤ) → EntryAnswer o c s′ r s → EntryAnswer p c t′ q t → r .number ≡ 0 → q .number ≡ 0
     → (r .intuitive ≡ q .intuitive) × (r .total .0 ≡ q .total .0)
 entries-agree c ok o p s′ t′ r q s t a b e f =
@@ -33,14 +34,14 @@ entries-agree c ok o p s′ t′ r q s t a b e f =
     (record { yes-or-no = b .yes-or-no; a-yes = b .a-yes f; a-no = b .a-no f; most = b .largest f })
 
 module _ (netExports prices : List ℤ) (pairs : List ℕ) where
-  -- YES OR NO AND THE TOTAL ARE EQUAL on each input that both take, whatever scratches are lent
+  -- YES OR NO AND THE TOTAL ARE EQUAL on each input that both take, with any scratches
   pub answers-agree : (s t : List ℤ) (r q : Carried) (s' t' : List ℤ) → IntuitiveAnswer netExports prices pairs scratchRoom s r s' → IntuitiveAnswer netExports prices pairs smallRoom t q t' → r .number ≡ 0 → q .number ≡ 0
       → (r .intuitive ≡ q .intuitive) × (r .total .0 ≡ q .total .0)
   answers-agree s t r q s' t' a b e f =
       let taken = intuitive-none netExports prices pairs scratchRoom (length s) (sym (ap (λ (o : Outcome). o .number) (a .outcome)) ∙ e) in
       entries-agree (networkOf netExports prices pairs) (placed netExports prices pairs scratchRoom (length s) taken) _ _ _ _ r q s' t' a b e f
 
-  -- WHAT IS TAKEN. With room enough the table is the same, however much is asked for
+  -- WHAT IS TAKEN. With enough room the table is the same for either n
   abbrev before-85 : List Cause
   before-85 =
       once 81 (unfit netExports prices)
@@ -57,7 +58,7 @@ module _ (netExports prices : List ℤ) (pairs : List ℕ) where
   unfolding intuitiveCauses
   same-rows m n room other h k = ap (λ (b : Bool). before-85 ++ (once 85 b ∷ [])) (le-ltb room m h ∙ sym (le-ltb other n k))
 
-  -- so that a scratch which the wide entry takes is answered alike by the smaller, refused or not
+  -- so with a scratch that the wide entry takes, both answer alike, refused or not
   pub wide-is-small : (room : ℕ) → scratchRoom ≤ room → intuitiveOutcome netExports prices pairs smallRoom room ≡ intuitiveOutcome netExports prices pairs scratchRoom room
   unfolding intuitiveOutcome intuitiveRefusal
   wide-is-small room h = ap (λ (rows : List Cause). answer (refusal rows)) (same-rows smallRoom scratchRoom room room (omega arith) h)
@@ -74,7 +75,7 @@ module _ (netExports prices : List ℤ) (pairs : List ℕ) where
       by true u = omega (arith, h, l, ap (λ (o : Option Outcome). (answer o) .number) (field-fails 85 0 [] u))
       by false u = omega (arith, h, l, ap (λ (o : Option Outcome). (answer o) .number) (field-passes 85 0 [] u))
 
-  -- 81 TO 84 AS BEFORE, with any scratch, index and all
+  -- 81 TO 84 AS BEFORE, with any scratch, including the index
   pub refused-alike : (m n room other : ℕ) → 0 < (intuitiveOutcome netExports prices pairs m room) .number → (intuitiveOutcome netExports prices pairs m room) .number < 85
       → intuitiveOutcome netExports prices pairs n other ≡ intuitiveOutcome netExports prices pairs m room
   unfolding intuitiveOutcome intuitiveRefusal intuitiveCauses
@@ -87,6 +88,7 @@ module _ (netExports prices : List ℤ) (pairs : List ℕ) where
       by (some x) q = ap answer (split n other (some x) q ∙ sym (split m room (some x) q))
       by none q = absurd (last-else m room (rw (split m room none q) at h) (rw (split m room none q) at l))
 
--- THE SCRATCH IS LAID OUT as S-13 says: what flows, is exported and is imported on the way to an answer stands at these places and at no other
+-- THE SCRATCH IS LAID OUT as S-13 says: on the way to an answer the flows, exports used and imports used stand at
+-- these places and at no other
 pub scratch-places : (s : List ℤ) → flowOf s ≡ record { flow = λ k. amountAt s (flowPlace k); export-used = λ z. amountAt s (exportPlace z); import-used = λ z. amountAt s (importPlace z) }
 scratch-places s = refl

@@ -1,5 +1,5 @@
--- The table's numbers in the order asked, that a refusal is given for its cause and for no other and writes nothing, and that no cause asked earlier holds.
--- Assumes nothing.
+-- The table's numbers in the order asked; a refusal is given for its own cause and no other and writes nothing; no
+-- cause asked earlier holds. Assumes nothing.
 use mathlib.Core.Path.{_≡_, refl, ap}
 use mathlib.Core.List.{List, [], _∷_, _++_}
 use mathlib.Core.Option.{Option, none, some}
@@ -18,7 +18,7 @@ module _ (netExports prices : List ℤ) (pairs : List ℕ) (n room : ℕ) where
   abbrev rows : List Cause
   rows = intuitiveCauses netExports prices pairs n room
 
-  -- 81 to 85, in this order; 82 (but for the sum) and 83 name the zone, 84 the pair
+  -- 81 to 85, in this order; 82 (except for the sum) and 83 name the zone, 84 the pair
   pub intuitive-order : Asks rows (ask 81 unnamed ∷ ask 82 the-place ∷ ask 82 unnamed ∷ ask 83 the-place ∷ ask 84 the-place ∷ ask 85 unnamed ∷ [])
   unfolding intuitiveCauses
   intuitive-order = (refl, (λ k. refl, (refl, (λ k. refl, (refl, (λ k. refl, (refl, (λ k. refl, (refl, (λ k. refl, (refl, (λ k. refl, tt))))))))))))
@@ -33,7 +33,7 @@ module _ (netExports prices : List ℤ) (pairs : List ℕ) (n room : ℕ) where
   unfolding intuitiveOutcome intuitiveRefusal
   intuitive-caused h = answer-caused rows h
 
-  -- a cause that holds, in row j at place k, is not asked before the outcome's
+  -- if a cause holds, in row j at place k, it is not asked before the outcome's
   pub intuitive-first : (j k : ℕ) → k < (getD rows j empty) .places → T ((getD rows j empty) .fails k) → Soonest rows (intuitiveOutcome netExports prices pairs n room) j k
   unfolding intuitiveOutcome intuitiveRefusal
   intuitive-first j k h f = soonest rows j k h f
@@ -52,7 +52,7 @@ module _ (netExports prices : List ℤ) (pairs : List ℕ) (n room : ℕ) where
   intuitive-below = number-below 86 rows (omega arith) tt
 
 module _ (netExports prices : List ℤ) (pairs : List ℕ) (n : ℕ) (s : List ℤ) where
-  -- a refusal leaves every number of the scratch as it was
+  -- a refusal leaves every number of the scratch unchanged
   pub scratch-refused : 0 < (intuitiveOutcome netExports prices pairs n (length s)) .number → intuitiveScratch netExports prices pairs n s ≡ s
   unfolding intuitiveOutcome intuitiveScratch
   scratch-refused h = by (intuitiveRefusal netExports prices pairs n (length s)) h
@@ -61,7 +61,7 @@ module _ (netExports prices : List ℤ) (pairs : List ℕ) (n : ℕ) (s : List �
       by (some x) h = refl
       by none h = absurd (omega arith)
 
-  -- an answer's is zero in its first n numbers, and as it was past them
+  -- after an answer the first n numbers are zero, and all past them unchanged
   pub scratch-answered : (intuitiveOutcome netExports prices pairs n (length s)) .number ≡ 0 → intuitiveScratch netExports prices pairs n s ≡ replicate n (pos 0) ++ drop n s
   unfolding intuitiveScratch
   scratch-answered e = ap (λ (o : Option Outcome). scratchBy o n s) (intuitive-none netExports prices pairs n (length s) e)

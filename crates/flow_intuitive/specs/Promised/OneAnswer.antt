@@ -1,4 +1,4 @@
--- THE ANSWER IS A FUNCTION OF THE INPUT: what two scratches of any size answer is the same. Assumes nothing.
+-- THE ANSWER IS A FUNCTION OF THE INPUT: it is the same with two scratches of any size. Assumes nothing.
 use mathlib.Core.Path.{_≡_, refl, sym, ap, _∙_}
 use mathlib.Core.List.{List}
 use Prim.Native.Nat.{ℕ, zero, suc, _<_}
@@ -33,7 +33,7 @@ one-answer c ok i j x y a b = (flags (ℕ-discrete i j), a .most .is ∙ ap pos 
     flags (yes e) = e
     flags (no e) = absurd (by i j e a b)
 
--- of one input that two sizes of scratch take, as S-13 asks
+-- for one input that two sizes of scratch take, as S-13 asks
 pub same-answer : (netExports prices : List ℤ) (pairs : List ℕ) (n room : ℕ) → (intuitiveOutcome netExports prices pairs n room) .number ≡ 0
     → (i j : ℕ) (x y : ℤ) → Answers (networkOf netExports prices pairs) i x → Answers (networkOf netExports prices pairs) j y → (i ≡ j) × (x ≡ y)
 same-answer netExports prices pairs n room e = one-answer (networkOf netExports prices pairs) (placed netExports prices pairs n room (intuitive-none netExports prices pairs n room e))

@@ -1,7 +1,7 @@
--- YES, NO AND THE TOTAL IN PLAIN NUMBERS (S-3, S-13), both ways, for every result that meets an entry's contract with
--- number 0. A yes is flows that leave each zone its net position, a no is zones that no pair of rising or equal price
--- leaves and whose positions sum to more than zero, and the total is the largest that any flows carry. Pair k is the
--- bytes 2 k and 2 k + 1, and `getD xs z (pos 0)` is the number of zone z. Assumes nothing.
+-- YES, NO AND THE TOTAL IN PLAIN NUMBERS (S-3, S-13), both ways, for every result that meets an entry's contract
+-- with number 0. A yes is flows that leave each zone its net position. A no is a set of zones that no pair of
+-- rising or equal price leaves and whose positions sum to more than zero. The total is the largest that any flows
+-- carry. Pair k is the bytes 2 k and 2 k + 1, and `getD xs z (pos 0)` is the number of zone z. Assumes nothing.
 use mathlib.Core.Path.{_≡_, refl, sym, ap, subst, _∙_}
 use mathlib.Core.Logic.{_↔_}
 use mathlib.Core.Bool.{Bool, true, false}
@@ -32,7 +32,7 @@ use Rattle.flow_intuitive.specs.Meaning.Intuitive.{intuitiveRefusal, Int
 use Rattle.flow_intuitive.specs.Promised.Causes.{intuitive-none}
 use Rattle.flow_intuitive.specs.Steps.Sizes.{placed, balanced, pairs-even}
 
--- what flows into zone z along the pairs, and out of it
+-- the flow into zone z along the pairs, and out of it
 abbrev pub flowsIn : List ℕ → (ℕ → ℕ) → ℕ → ℕ
 flowsIn pairs flow z = sumNat (length pairs / 2) (λ k. only (eqb (getD pairs (2 * k + 1) 0) z) (flow k))
 
@@ -43,7 +43,7 @@ flowsOut pairs flow z = sumNat (length pairs / 2) (λ k. only (eqb (getD pairs (
 abbrev pub Counts : List ℤ → List ℕ → ℕ → Type 0
 Counts prices pairs k = getD prices (getD pairs (2 * k) 0) (pos 0) ≤ℤ getD prices (getD pairs (2 * k + 1) 0) (pos 0)
 
--- A YES: flows along pairs that count, of which each zone's net position is what flows out of it less what flows in
+-- A YES: flows along pairs that count, such that each zone's net position is its outflow less its inflow
 pub record Routes (netExports prices : List ℤ) (pairs : List ℕ) : Type 0 where
   pub flow : ℕ → ℕ
   pub counts : (k : ℕ) → 2 * k < length pairs → 0 < flow k → Counts prices pairs k
@@ -55,9 +55,9 @@ pub record Enclosed (netExports prices : List ℤ) (pairs : List ℕ) : Type 0 w
   pub none-leaves : (k : ℕ) → 2 * k < length pairs → Counts prices pairs k → set (getD pairs (2 * k) 0) ≡ true → set (getD pairs (2 * k + 1) 0) ≡ true
   pub exports-more : pos 0 <ℤ sumTo (length netExports) (λ z. whole.only (set z) (getD netExports z (pos 0)))
 
--- FLOWS THAT CARRY u, in fractions over d (whole ones are those over 1): a zone sends up to its position where that
--- is an export, gets up to it where it is an import, and what it sends and what flows in is what it gets and what
--- flows out
+-- FLOWS THAT CARRY u, in fractions over d (whole ones are those over 1). An exporting zone sends up to its
+-- position, an importing one gets up to its own. In each zone what it sends and its inflow equal what it gets and
+-- its outflow
 pub record FlowsCarry (netExports prices : List ℤ) (pairs : List ℕ) (d u : ℕ) : Type 0 where
   pub flow : ℕ → ℕ
   pub export-used : ℕ → ℕ
@@ -68,11 +68,11 @@ pub record FlowsCarry (netExports prices : List ℤ) (pairs : List ℕ) (d u : �
   pub zone-conserved : (z : ℕ) → z < length netExports → export-used z + flowsIn pairs flow z ≡ import-used z + flowsOut pairs flow z
   pub total-is : sumNat (length netExports) export-used ≡ u
 
--- THE LARGEST TOTAL t: some flows carry it, and none carry more, in fractions either
+-- THE LARGEST TOTAL t: some flows carry it, and none carry more, not even in fractions
 abbrev pub LargestCarried : List ℤ → List ℤ → List ℕ → ℕ → Type 0
 LargestCarried netExports prices pairs t = FlowsCarry netExports prices pairs 1 t × ((d u : ℕ) → FlowsCarry netExports prices pairs d u → u ≤ d * t)
 
--- the sum of all exports: what each position has above zero
+-- the sum of all exports: the positive parts of the positions
 abbrev pub everyExport : List ℤ → ℕ
 everyExport netExports = sumNat (length netExports) (λ z. up (getD netExports z (pos 0)))
 
@@ -211,7 +211,7 @@ module _ (netExports prices : List ℤ) (pairs : List ℕ) (n room : ℕ) (passe
     },
   )
 
--- OF A RESULT THAT MEETS THE CONTRACT, of either entry
+-- FOR A RESULT THAT MEETS THE CONTRACT of either entry
 module _ (netExports prices : List ℤ) (pairs : List ℕ) (n : ℕ) (s : List ℤ) (r : Carried) (s' : List ℤ) (met : IntuitiveAnswer netExports prices pairs n s r s') (taken : r .number ≡ 0) where
   passed : intuitiveRefusal netExports prices pairs n (length s) ≡ none
   passed = intuitive-none netExports prices pairs n (length s) (sym (ap (λ (o : Outcome). o .number) (met .outcome)) ∙ taken)

@@ -1,7 +1,7 @@
--- 81 TO 85 AND 0 IN PLAIN NUMBERS (S-3, S-13), number and index, both ways: which net positions, prices, pairs and
--- scratch each is for, and what the scratch holds afterwards. `getD xs z (pos 0)` is the number at place z of a list,
--- counted from 0, and pair k is the bytes 2 k and 2 k + 1. The numbers are the paper's own and cite no limit. Index 0
--- of 82 is zone 0's or the sum's, and `says-82` tells which. Assumes nothing.
+-- 81 TO 85 AND 0 IN PLAIN NUMBERS (S-3, S-13), number and index, both ways: for which net positions, prices, pairs
+-- and scratch each is given, and what the scratch holds afterwards. `getD xs z (pos 0)` is the number at place z of
+-- a list, counted from 0, and pair k is the bytes 2 k and 2 k + 1. The numbers are the paper's own and cite no
+-- limit. Index 0 of 82 is zone 0's or the sum's, and `says-82` tells which. Assumes nothing.
 use mathlib.Core.Path.{_≡_, refl, sym, ap, subst, _∙_}
 use mathlib.Core.Logic.{_↔_, _⊎_, inl, inr}
 use mathlib.Core.Bool.{Bool, true, false, not}
@@ -16,7 +16,7 @@ use lib.Seq.{getD-append-add, getD-drop}
 use lib.IntN.{ℤ, pos, negℤ}
 use Rattle.base_integers.specs.Meaning.Ranges.{outside}
 use Rattle.base_integers.specs.Steps.Ranges.{is-true, nor-left, nor-right, nor-both, nat-within, nat-inside}
-use Rattle.base_measures.specs.Promised.Numbers.{zone-price-is}
+use Rattle.base_limits.specs.Promised.Numbers.{zone-price-is}
 use Rattle.base_causes.specs.declared.Outcome.{Outcome}
 use Rattle.base_causes.specs.Meaning.Causes.{Cause, Pass, verdict, failing, refusal, answer, once, each}
 use Rattle.base_causes.specs.Promised.CauseLaws.{empty, First, Comes, past, none-left, later, lacks, before, causeNumbered, row-named, row-by-number, row-answers, row-clear, row-fails, row-passes, all-pass, first-is, not-below, none-both, none-each}
@@ -90,7 +90,7 @@ module _ (netExports prices : List ℤ) (pairs : List ℕ) (n room : ℕ) where
   abbrev said : Outcome
   said = intuitiveOutcome netExports prices pairs n room
 
-  -- 81 IF AND ONLY IF there is no zone or there are more than 16, or the lists have two lengths
+  -- 81 IF AND ONLY IF there is no zone or there are more than 16, or the lists have different lengths
   pub says-81 : (k : ℕ) → (said ≡ verdict 81 k) ↔ ((k ≡ 0) × (ListsFit netExports prices → ⊥))
   unfolding intuitiveOutcome intuitiveRefusal intuitiveCauses lacks before causeNumbered refusal
   says-81 k = (
@@ -183,7 +183,7 @@ module _ (netExports prices : List ℤ) (pairs : List ℕ) (n room : ℕ) where
     λ w. one-more to-82 price-row .1 (past-82 .1 (w .0), prices-inside netExports prices .1 (w .1)),
   )
 
-  -- at most 16 zones, behind 81
+  -- at most 16 zones, after 81
   few : Past83 netExports prices → length netExports ≤ 16
   few w = w .0 .0 .zones-in .1
 
@@ -271,8 +271,8 @@ module _ (netExports prices : List ℤ) (pairs : List ℕ) (room : ℕ) where
   pub small-0 : (k : ℕ) → (intuitiveOutcome netExports prices pairs smallRoom room ≡ verdict 0 k) ↔ ((k ≡ 0) × (Past84 netExports prices pairs × (96 ≤ room)))
   small-0 = says-0 netExports prices pairs 96 room
 
--- THE SCRATCH AFTERWARDS: of an answer the first 324 (96) numbers are zero and all others as they were; of a refusal
--- all are as they were
+-- THE SCRATCH AFTERWARDS: after an answer the first 324 (96) numbers are zero and all others unchanged; after a
+-- refusal all are unchanged
 pub record ScratchCleared (n : ℕ) (before after : List ℤ) : Type 0 where
   pub same-length : length after ≡ length before
   pub zeros : (i : ℕ) → i < n → getD after i (pos 0) ≡ pos 0

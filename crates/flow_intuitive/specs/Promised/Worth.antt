@@ -1,6 +1,6 @@
--- A YES GOES FROM LOWER PRICE TO HIGHER: of an input that is taken and answered yes, the net exports turned to imports,
--- each at its zone's price, sum to what the flows of the yes gain, pair by pair, from the price of the first zone to
--- that of the second. No flow loses, so the sum is not negative. Assumes nothing.
+-- A YES GOES FROM A LOWER PRICE TO A HIGHER ONE. For an input that is answered yes, sum what each zone imports
+-- (minus what it exports) at its zone's price. The result is what the flows of the yes gain, pair by pair, from the
+-- price of the first zone to that of the second. No flow loses, so the sum is not negative. Assumes nothing.
 use mathlib.Core.Path.{_≡_, sym, ap, _∙_}
 use mathlib.Core.List.{List}
 use mathlib.Core.Option.{none}
@@ -20,7 +20,7 @@ use Rattle.flow_intuitive.specs.Promised.Causes.{intuitive-none}
 use Rattle.flow_intuitive.specs.Steps.Sizes.{placed, balanced}
 
 module _ (netExports prices : List ℤ) (pairs : List ℕ) where
-  -- OF AN INPUT THAT IS TAKEN, with either scratch, and has such flows
+  -- FOR AN INPUT THAT IS TAKEN, with either scratch, and has such flows
   module _ (n room : ℕ) (e : (intuitiveOutcome netExports prices pairs n room) .number ≡ 0) (i : FeasibleAll (networkOf netExports prices pairs)) where
     passed : intuitiveRefusal netExports prices pairs n room ≡ none
     passed = intuitive-none netExports prices pairs n room e
@@ -31,6 +31,6 @@ module _ (netExports prices : List ℤ) (pairs : List ℕ) where
     pub worth-nonneg : pos 0 ≤ℤ importsWorth netExports prices
     worth-nonneg = pairs-worth.worth-nonneg netExports prices pairs (placed netExports prices pairs n room passed) (balanced netExports prices pairs n room passed) i
 
-  -- OF THE ENTRY: what it answers yes
+  -- FOR THE ENTRY: an input that it answers yes
   pub yes-worth-nonneg : (n : ℕ) (s : List ℤ) (r : Carried) (s' : List ℤ) → IntuitiveAnswer netExports prices pairs n s r s' → r .number ≡ 0 → r .intuitive ≡ 1 → pos 0 ≤ℤ importsWorth netExports prices
   yes-worth-nonneg n s r s' a e y = worth-nonneg n (length s) (sym (ap (λ (o : Outcome). o .number) (a .outcome)) ∙ e) (a .a-yes e y)

@@ -1,4 +1,5 @@
--- The table's rows as the entry asks them, and what it then answers of the number, the answer and every number of the scratch. Assumes nothing.
+-- The table's rows as the entry asks them, and what it then answers: the number, the answer and every number of the
+-- scratch. Assumes nothing.
 use mathlib.Core.Path.{_≡_, refl, sym, ap, _∙_}
 use mathlib.Core.Bool.{Bool, true, false, not, _||_}
 use mathlib.Core.List.{List, [], _∷_, _++_}
@@ -29,7 +30,7 @@ use Rattle.flow_intuitive.specs.Meaning.Intuitive.{priceOutside, intuiti
 use Rattle.flow_intuitive.specs.Promised.Causes.{intuitive-none, scratch-refused, scratch-answered}
 use Rattle.flow_intuitive.specs.Meaning.Answers.{ListsPass}
 
--- 84 and 85, of so many zones
+-- 84 and 85, for some number of zones
 abbrev pub restCauses : ℕ → List ℕ → ℕ → ℕ → List Cause
 restCauses zones pairs n room = each 84 (pairCount pairs) (badPair zones pairs) ∷ once 85 (room under n) ∷ []
 
@@ -79,12 +80,11 @@ module _ (netExports prices : List ℤ) (pairs : List ℕ) (n room : ℕ) where
   unfolding intuitiveRefusal intuitiveCauses
   past-83 p e = p ∙ row-clear (each 83 (length prices) (priceOutside prices)) _ e
 
-  -- as the outcome
   pub outcome-by : {x : Option Outcome} → intuitiveRefusal netExports prices pairs n room ≡ x → answer x ≡ intuitiveOutcome netExports prices pairs n room
   unfolding intuitiveOutcome
   outcome-by e = sym (ap answer e)
 
-  -- the rest, behind 83
+  -- the rest, after 83
   pub by-rest : From 4 → answer (refusal (restCauses (length netExports) pairs n room)) ≡ intuitiveOutcome netExports prices pairs n room
   unfolding intuitiveOutcome intuitiveCauses
   by-rest p = sym (ap answer p)
@@ -95,7 +95,7 @@ module _ (netExports prices : List ℤ) (pairs : List ℕ) (n room : ℕ) where
 pub few-listed : {netExports prices : List ℤ} → ListsPass netExports prices → length netExports ≤ 16
 few-listed {netExports} l = nat-within 1 16 (length netExports) (is-false (l .count-in)) .1
 
--- a pair that is named is at most the 65th
+-- a named pair is at most the 65th
 pub pair-named : (zones : ℕ) (pairs : List ℕ) (k : ℕ) → firstBelow (pairCount pairs) (badPair zones pairs) ≡ some k → k ≤ 64
 pair-named zones pairs k e = by (decLt 64 k)
   where
@@ -139,7 +139,7 @@ flag-low : (b : Bool) → flagOf b < 2
 flag-low true = omega arith
 flag-low false = omega arith
 
--- an answer and the eighth clause as the clauses of a contract
+-- an answer and the eighth clause, as the clauses of a contract
 pub clauses : {o : Outcome} {c : Network} {b′ : List ℤ} {r : Carried} {b : List ℤ} {H : Type 0} → EntryAnswer o c b′ r b → H
     → (verdict (r .number) (r .index) ≡ o)
     × ((r .number ≡ 0 → r .intuitive ≡ 1 → FeasibleAll c)

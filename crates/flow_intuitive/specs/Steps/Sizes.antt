@@ -1,4 +1,4 @@
--- WHAT NO ROW REFUSES has the sizes that the search takes. Assumes nothing.
+-- AN INPUT THAT NO ROW REFUSES has the sizes that the search takes. Assumes nothing.
 use mathlib.Core.Path.{_≡_, sym, ap, _∙_}
 use mathlib.Core.Bool.{true, false, not}
 use mathlib.Core.List.{List}
@@ -15,7 +15,7 @@ use Rattle.base_integers.specs.Steps.Difference.{at, le-fact}
 use Rattle.base_integers.specs.Meaning.Ranges.{outside, isZero}
 use Rattle.base_integers.specs.Steps.Ranges.{within, nat-within, nor-left, nor-right, not-is, is-true, zero-is}
 use Rattle.base_integers.specs.Meaning.Sums.{sumTo}
-use Rattle.base_measures.specs.Meaning.Limits as limits
+use Rattle.base_limits.specs.Meaning.Limits as limits
 use Rattle.base_causes.specs.Meaning.Causes.{Pass}
 use Rattle.base_causes.specs.Promised.CauseLaws.{empty, all-pass}
 use Rattle.flow_positions.specs.Meaning.Positions.{positionAt, positionOutside, unbalanced}
@@ -25,7 +25,7 @@ use Rattle.flow_network.specs.Meaning.Network.{Placed}
 use Rattle.flow_augment.specs.Meaning.Path.{InputsInRange}
 use Rattle.flow_intuitive.specs.Meaning.Intuitive.{intuitiveCauses, intuitiveRefusal, unfit}
 
--- a position within its limits, in both parts
+-- a position within its limits, both parts
 near : (x : ℤ) → T (not (outside limits.netPosition x)) → (up x ≤ 51200000) × (dn x ≤ 51200000)
 near x t =
     let w = within limits.netPosition x t in

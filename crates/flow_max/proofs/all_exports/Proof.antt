@@ -1,4 +1,5 @@
--- `flow_max::all_exports` meets its contract. The loop's invariant: the sum is that of the exports before z. Assumes nothing.
+-- `flow_max::all_exports` meets its contract. The loop's invariant: the sum is over the exports before z.
+-- Assumes nothing.
 use mathlib.Core.Path.{_≡_, refl, ap, sym, _∙_}
 use Prim.Native.Nat.{ℕ, _+_, _-_, _*_, _≤_, _<_}
 use native.Mathlib.Omega.{arith}

@@ -1,5 +1,5 @@
--- `flow_max::fill` meets its contract. The loop's invariant: the flow carries the total, and past it the scratch is as it was. The measure is what
--- is left of all exports. Assumes nothing.
+-- `flow_max::fill` meets its contract. The loop's invariant: the flow carries the total, and the scratch past it is
+-- unchanged. The measure is all exports less the total. Assumes nothing.
 use mathlib.Core.List.{List}
 use Prim.Native.Nat.{ℕ, _+_, _*_, _-_, _≤_, _<_}
 use native.Mathlib.Omega.{arith}

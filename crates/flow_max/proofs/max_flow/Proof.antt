@@ -1,4 +1,5 @@
--- `flow_max::max_flow` meets its contract: an empty flow, filled until no augmenting path is left, and cleared. Assumes nothing.
+-- `flow_max::max_flow` meets its contract: an empty flow is filled until no augmenting path is left, and then
+-- cleared. Assumes nothing.
 use mathlib.Core.Path.{_≡_, sym, subst}
 use Prim.Native.Nat.{ℕ, _≤_}
 use native.Mathlib.Omega.{arith}

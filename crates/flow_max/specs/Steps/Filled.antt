@@ -1,4 +1,5 @@
--- A flow is augmented until no augmenting path is left: its total is then the largest, and with it comes the yes or the no. Assumes nothing.
+-- A flow is augmented until no augmenting path is left. Its total is then the largest, and decides the yes or no.
+-- Assumes nothing.
 use mathlib.Core.Path.{_≡_, ap, _∙_}
 use mathlib.Core.Bool.{Bool}
 use mathlib.Core.List.{List}
@@ -53,7 +54,7 @@ module _ (netExports prices : List ℤ) (bytes : List ℕ) (z : InputsInRange ne
   exports-few = omega (arith, sum-bound (length netExports) 51200000 (λ y. up (positionAt netExports y)) (z .exports-le), mul-le-mul-right 51200000 (z .zones))
 
   module _ (s : List ℤ) (total : ℕ) (room : 96 ≤ length s) (st : State c (flowOf s) total) (m : Labels) (r : SearchAnswer netExports prices bytes s m) where
-    -- a zone was found: d more can be brought to it
+    -- a zone was found to which d more can be brought
     pub augment-of : (d : ℕ) → m .sink < length netExports → 0 < d → d ≤ getD (m .label) (m .sink) 0 → d ≤ dn (positionAt netExports (m .sink)) - amountAt s (80 + m .sink) → Augment netExports prices total bytes s (trailOf m) d (m .sink)
     augment-of d h some l i = record {
       sized = z;

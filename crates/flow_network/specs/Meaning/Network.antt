@@ -1,5 +1,5 @@
--- REQUEST S-3: zones that export or import, ordered pairs of zones of which some count, and flows of exports to imports along counted pairs.
--- Volumes are naturals. Assumes nothing.
+-- REQUEST S-3: zones that export or import, ordered pairs of zones, some of which count, and flows of exports to
+-- imports along counted pairs. Volumes are naturals. Assumes nothing.
 use mathlib.Core.Path.{_≡_}
 use mathlib.Core.Bool.{Bool, true, false}
 use Prim.Native.Nat.{ℕ, _+_, _*_, _≤_, _<_}
@@ -20,20 +20,20 @@ pub record Placed (c : Network) : Type 0 where
   pub from-in : (k : ℕ) → k < c .pairs → c .from k < c .zones
   pub to-in : (k : ℕ) → k < c .pairs → c .to k < c .zones
 
--- for each pair what flows along it; for each zone its export used and its import used
+-- for each pair its flow; for each zone its export used and its import used
 pub record Flow : Type 0 where
   pub flow : ℕ → ℕ
   pub export-used : ℕ → ℕ
   pub import-used : ℕ → ℕ
 
--- what flows into a zone and out of it
+-- the flow into a zone and out of it
 abbrev pub inflow : Network → Flow → ℕ → ℕ
 inflow c b z = sumNat (c .pairs) (λ k. only (eqb (c .to k) z) (b .flow k))
 
 abbrev pub outflow : Network → Flow → ℕ → ℕ
 outflow c b z = sumNat (c .pairs) (λ k. only (eqb (c .from k) z) (b .flow k))
 
--- A FLOW: within the exports and imports, along counted pairs alone, and nothing is lost or made in a zone
+-- A FLOW: within the exports and imports, along counted pairs only, and conserved in every zone
 pub record Feasible (c : Network) (b : Flow) : Type 0 where
   pub export-used-le : (z : ℕ) → z < c .zones → b .export-used z ≤ c .exports z
   pub import-used-le : (z : ℕ) → z < c .zones → b .import-used z ≤ c .imports z
@@ -47,7 +47,7 @@ carried c b = sumNat (c .zones) (b .export-used)
 abbrev pub allExports : Network → ℕ
 allExports c = sumNat (c .zones) (c .exports)
 
--- the network with each export and import d times as large: its flows are those in fractions over d
+-- the network with each export and import d times as large: its flows are the flows in fractions over d
 abbrev pub times : ℕ → Network → Network
 times d c = record {
   zones = c .zones;
@@ -59,7 +59,7 @@ times d c = record {
   imports = λ z. d * c .imports z;
 }
 
--- THE LARGEST TOTAL: some flow carries t, and none carries more, in fractions over any denominator either
+-- THE LARGEST TOTAL: some flow carries t, and none carries more, not even in fractions over any denominator
 pub record Largest (c : Network) (t : ℕ) : Type 0 where
   pub flows : Flow
   pub feasible : Feasible c flows

@@ -1,5 +1,5 @@
--- No flow carries more than a set that no counted pair leaves lets through; so a yes excludes a no, the largest total is unique, and it is that of all
--- exports where a yes holds and less where a no does. Assumes nothing.
+-- No flow carries more than a set that no counted pair leaves lets through. So a yes excludes a no, and the largest
+-- total is unique: all exports for a yes, less for a no. Assumes nothing.
 use mathlib.Core.Path.{_≡_, refl, sym, ap, _∙_}
 use mathlib.Core.Bool.{Bool, true, false, not}
 use Prim.Native.Nat.{ℕ, _+_, _*_, _≤_, _<_}
@@ -95,7 +95,7 @@ one-largest c t u x y =
       y .most 1 (x .flows) (once c (x .flows) (x .feasible)),
     )
 
--- A YES OR A NO SAYS WHAT THE TOTAL IS
+-- A YES OR A NO DETERMINES THE TOTAL
 pub yes-total : (c : Network) (t : ℕ) → FeasibleAll c → Largest c t → t ≡ allExports c
 yes-total c t i x =
     omega (

@@ -1,6 +1,6 @@
--- A YES AND THE LARGEST TOTAL BY FLOWS ALONE, both ways, with every sum written out: where imports are as large as
--- exports, a yes is flows along counted pairs that leave each zone with what it imports. The largest total is carried
--- by some flows, and no flows carry more, in fractions either. Assumes nothing.
+-- A YES AND THE LARGEST TOTAL BY FLOWS ALONE, both ways, with every sum written out. Where imports equal exports, a
+-- yes is flows along counted pairs that leave each zone with what it imports. Some flows carry the largest total,
+-- and no flows carry more, not even in fractions. Assumes nothing.
 use mathlib.Core.Path.{_≡_, refl}
 use mathlib.Core.Bool.{false}
 use mathlib.Core.Logic.{_↔_}
@@ -12,15 +12,15 @@ use Rattle.flow_network.specs.Meaning.Network.{Network, Placed, Flow, Fe
 use Rattle.flow_network.specs.Promised.Duality.{once}
 use Rattle.flow_network.specs.Promised.Worth.{every-import}
 
--- what so many flows bring to zone z, and what they take from it
+-- what the flows bring to zone z, and what they take from it
 abbrev pub broughtTo : Network → (ℕ → ℕ) → ℕ → ℕ
 broughtTo c flow z = sumNat (c .pairs) (λ k. only (eqb (c .to k) z) (flow k))
 
 abbrev pub takenFrom : Network → (ℕ → ℕ) → ℕ → ℕ
 takenFrom c flow z = sumNat (c .pairs) (λ k. only (eqb (c .from k) z) (flow k))
 
--- FLOWS THAT CARRY ALL: in each zone what it exports and what is brought to it is what it imports and what is taken
--- from it
+-- FLOWS THAT CARRY ALL: in each zone, its export and what is brought to it equal its import and what is taken from
+-- it
 pub record Routed (c : Network) : Type 0 where
   pub flow : ℕ → ℕ
   pub counted-only : (k : ℕ) → k < c .pairs → c .counted k ≡ false → flow k ≡ 0

@@ -1,6 +1,6 @@
--- WHAT A FLOW IS WORTH at prices of the zones. What each zone gets less what it sends, at its price, is over all
--- zones what flows along each pair at the price of its second zone less that of its first. Where every counted pair
--- goes from lower or equal price to higher, that is not negative. Assumes nothing.
+-- WHAT A FLOW IS WORTH at the zones' prices. Sum over all zones what each gets less what it sends, at its price:
+-- the result is the sum over all pairs of the flow times the price of the second zone less that of the first. Where
+-- every counted pair goes from a lower or equal price to a higher one, it is not negative. Assumes nothing.
 use mathlib.Core.Path.{_≡_, refl, sym, ap, _∙_}
 use mathlib.Core.Bool.{Bool, true, false}
 use Prim.Native.Nat.{ℕ, zero, suc, _+_, _<_}
@@ -18,11 +18,11 @@ use Rattle.base_integers.specs.Steps.NaturalSums.{each-equal, sum-ext}
 use Rattle.flow_network.specs.Promised.Duality.{set-conserved}
 use Rattle.flow_network.specs.Meaning.Network.{Network, Placed, Flow, inflow, outflow, Feasible, allExports, FeasibleAll}
 
--- each counted pair goes from lower or equal price to higher
+-- each counted pair goes from a lower or equal price to a higher one
 abbrev pub Rising : Network → (ℕ → ℤ) → Type 0
 Rising c price = (k : ℕ) → k < c .pairs → c .counted k ≡ true → price (c .from k) ≤ℤ price (c .to k)
 
--- what flows along a pair, at what it gains
+-- a pair's flow times its gain in price
 abbrev pub gain : Network → Flow → (ℕ → ℤ) → ℕ → ℤ
 gain c b price k = pos (b .flow k) *ℤ (price (c .to k) -ℤ price (c .from k))
 
@@ -43,7 +43,7 @@ sum-pos (suc n) f = eq-by (at (pos (sumNat n f + f n))) (at (pos (sumNat n f)) �
 keyed-pos : (n : ℕ) (key : ℕ → ℕ) (x : ℕ → ℕ) (z : ℕ) → pos (sumNat n (λ k. only (eqb (key k) z) (x k))) ≡ sumTo n (λ k. meant.only (eqb (key k) z) (pos (x k)))
 keyed-pos n key x z = sum-pos n (λ k. only (eqb (key k) z) (x k)) ∙ whole.sum-ext n _ _ (λ k l. only-pos (eqb (key k) z) (x k))
 
--- what flows along the pairs whose key is z, as integers
+-- the flow along the pairs whose key is z, as integers
 abbrev keyed : Network → Flow → (ℕ → ℕ) → ℕ → ℤ
 keyed c b key z = sumTo (c .pairs) (λ k. meant.only (eqb (key k) z) (pos (b .flow k)))
 
@@ -89,7 +89,7 @@ pub every-import : (c : Network) → Placed c → (i : FeasibleAll c) → allExp
 every-import c ok i e = each-equal (c .zones) (i .flows .import-used) (c .imports) (i .feasible .import-used-le)
     (omega (arith, total-conserved c ok (i .flows) (i .feasible), sum-ext (c .zones) (i .flows .export-used) (c .exports) (i .every), e))
 
--- OF A YES: imports less exports, at the prices, are what its flows gain, and not negative
+-- FOR A YES: imports less exports, at the prices, are what its flows gain, and not negative
 pub yes-worth : (c : Network) → Placed c → (i : FeasibleAll c) → allExports c ≡ sumNat (c .zones) (c .imports) → (price : ℕ → ℤ)
     → sumTo (c .zones) (λ z. (pos (c .imports z) -ℤ pos (c .exports z)) *ℤ price z) ≡ sumTo (c .pairs) (gain c (i .flows) price)
 yes-worth c ok i e price =

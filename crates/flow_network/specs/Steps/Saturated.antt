@@ -1,4 +1,5 @@
--- Flows that leave no augmenting path carry as much as a closed set lets through: the largest total, and with it the yes or the no. Assumes nothing.
+-- Flows that leave no augmenting path carry as much as a closed set lets through: the largest total, which decides
+-- the yes or no. Assumes nothing.
 use mathlib.Core.Path.{_≡_, refl, sym, ap, _∙_}
 use mathlib.Core.Bool.{Bool, true, false, not}
 use Prim.Native.Nat.{ℕ, _+_, _*_, _≤_, _<_}
@@ -8,7 +9,8 @@ use Rattle.base_integers.specs.Steps.NaturalSums.{sum-ext, sum-scale, only-scal
 use Rattle.flow_network.specs.Meaning.Network.{Network, Placed, Flow, Feasible, carried, allExports, Closed, times, Largest, DeficientSet, FeasibleAll}
 use Rattle.flow_network.specs.Promised.Duality.{cut, split, set-conserved, flow-stays, at-most}
 
--- flows that leave no way on: a set that no counted pair leaves, that no flow enters, whose imports are used up and outside of which all exports are used up
+-- flows without an augmenting path: there is a set that no counted pair leaves and no flow enters; its imports are
+-- all used, and outside it all exports are used
 pub record Saturated (c : Network) (b : Flow) (s : ℕ → Bool) : Type 0 where
   pub closed : Closed c s
   pub back : (k : ℕ) → k < c .pairs → s (c .to k) ≡ true → s (c .from k) ≡ false → b .flow k ≡ 0
@@ -51,7 +53,7 @@ cut-times d c s = omega (arith, pull (c .imports) s, pull (c .exports) (λ z. no
         sum-ext (c .zones) (λ z. only (q z) (d * x z)) (λ z. d * only (q z) (x z)) (λ z l. only-scale (q z) d (x z))
         ∙ sum-scale (c .zones) d (λ z. only (q z) (x z))
 
--- flows that leave no way on carry the largest total
+-- flows without an augmenting path carry the largest total
 pub largest-of : (c : Network) → Placed c → (b : Flow) → Feasible c b → (s : ℕ → Bool) → Saturated c b s → Largest c (carried c b)
 largest-of c ok b ca s f = record { flows = b; feasible = ca; total = refl; most = most }
   where

@@ -1,4 +1,5 @@
--- `flow_pairs::bad_pair` meets its contract: each return is one cause of the row's test, the last that of the pairs seen. Assumes nothing.
+-- `flow_pairs::bad_pair` meets its contract: each return is one cause of the row's test, the last that of the pairs
+-- seen. Assumes nothing.
 use mathlib.Core.Path.{_≡_, refl, sym, _∙_}
 use native.Mathlib.Omega.{arith}
 use denote.Ref.{now}

@@ -1,5 +1,5 @@
--- `flow_pairs::first_bad_pair` meets its contract. The loop's invariant: row 84 refuses no pair before this one, and those pairs are seen.
--- The measure is what is left of the pairs. Assumes nothing.
+-- `flow_pairs::first_bad_pair` meets its contract. The loop's invariant: row 84 refuses no pair before this one,
+-- and those pairs are in `seen`. The measure is the pairs left. Assumes nothing.
 use mathlib.Core.Path.{_≡_, refl, sym, ap, _∙_}
 use mathlib.Core.Bool.{false}
 use mathlib.Core.Option.{none}

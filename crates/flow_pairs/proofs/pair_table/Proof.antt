@@ -1,4 +1,5 @@
--- `flow_pairs::pair_table` meets its contract. The loop's invariant: the pairs before k stand in the table. Assumes nothing.
+-- `flow_pairs::pair_table` meets its contract. The loop's invariant: the pairs before k stand in the table.
+-- Assumes nothing.
 use mathlib.Core.Path.{_≡_, sym, ap, _∙_}
 use Prim.Native.Nat.{ℕ, _+_, _*_, _-_, _≤_, _<_}
 use native.Mathlib.Omega.{arith}

@@ -1,4 +1,4 @@
--- `flow_pairs::zone_or_none` meets its contract: past the last byte stands 16. Assumes nothing.
+-- `flow_pairs::zone_or_none` meets its contract: past the last byte the zone is 16. Assumes nothing.
 use mathlib.Core.Path.{sym}
 use lib.ListN.{List·getD-eq-default}
 use denote.Ref.{now}

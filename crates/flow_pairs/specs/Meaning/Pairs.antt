@@ -1,4 +1,5 @@
--- REQUEST S-3: ordered pairs of zones lent as bytes, two to a pair, which of them row 84 refuses, and the network that they make of an hour. Assumes nothing.
+-- REQUEST S-3: ordered pairs of zones lent as bytes, two to a pair; which of them row 84 refuses; and the network
+-- that they make of an hour. Assumes nothing.
 use mathlib.Core.Bool.{Bool, _&&_, _||_}
 use mathlib.Core.List.{List}
 use Prim.Native.Nat.{ℕ, _+_, _*_, _/_, _%_}
@@ -27,16 +28,17 @@ secondZone bytes k = getD bytes (2 * k + 1) 16
 unfoldable pub repeated : List ℕ → ℕ → Bool
 repeated bytes k = anyBelow k (λ j. eqb (firstZone bytes j) (firstZone bytes k) && eqb (secondZone bytes j) (secondZone bytes k))
 
--- ROW 84: past the 64th, an unknown zone, equal zones, or an earlier pair again
+-- ROW 84: a pair past the 64th, an unknown zone, equal zones, or a repeated pair
 unfoldable pub badPair : ℕ → List ℕ → ℕ → Bool
 badPair zones bytes k =
     leb 64 k || (leb zones (firstZone bytes k) || (leb zones (secondZone bytes k) || (eqb (firstZone bytes k) (secondZone bytes k) || repeated bytes k)))
 
--- THE NETWORK OF AN HOUR, from net positions with export positive and zone prices: a pair counts when its first price is at most its second
+-- THE NETWORK OF AN HOUR, from net positions with export positive and zone prices: a pair counts if its first price
+-- is at most its second
 abbrev pub priceAt : List ℤ → ℕ → ℤ
 priceAt prices z = getD prices z (pos 0)
 
--- what the zones import, each at its price: a position turned is an import
+-- what the zones import, each at its price; an import is a position with its sign turned
 abbrev pub importsWorth : List ℤ → List ℤ → ℤ
 importsWorth netExports prices = sumTo (length netExports) (λ z. negℤ (positionAt netExports z) *ℤ priceAt prices z)
 

@@ -1,6 +1,6 @@
--- PAIRS OF ZONES IN PLAIN BYTES (S-3), both ways: which numbers are pairs, which pair passes row 84 and which is the
--- first that does not, and what the network of an hour has. Pair k is the bytes 2 k and 2 k + 1 of the list, `getD
--- bytes k 0` the byte at place k, counted from 0. Assumes nothing.
+-- PAIRS OF ZONES IN PLAIN BYTES (S-3), both ways: which numbers are pairs, which pair passes row 84 and which is
+-- the first that does not, and what the network of an hour has. Pair k is the bytes 2 k and 2 k + 1 of the list,
+-- and `getD bytes k 0` is the byte at place k, counted from 0. Assumes nothing.
 use mathlib.Core.Path.{_≡_, refl, sym, _∙_}
 use mathlib.Core.Bool.{Bool, true, false, not, _&&_}
 use mathlib.Core.Logic.{_↔_, _≢_}
@@ -20,11 +20,11 @@ use Rattle.base_causes.specs.Promised.CauseLaws.{First, no-place, any-none}
 use Rattle.flow_pairs.specs.Meaning.Pairs.{pairCount, firstZone, secondZone, repeated, badPair, networkOf}
 use Rattle.flow_pairs.specs.Steps.Tests.{read-below}
 
--- so many pairs: a last byte alone is one too
+-- the pairs; a last byte alone is one too
 pub is-pair : (bytes : List ℕ) (k : ℕ) → (k < pairCount bytes) ↔ (2 * k < length bytes)
 is-pair bytes k = (λ h. omega arith, λ h. omega arith)
 
--- A PAIR THAT PASSES, among so many zones
+-- A PAIR THAT PASSES, with this many zones
 pub record GoodPair (zones : ℕ) (bytes : List ℕ) (k : ℕ) : Type 0 where
   pub up-to-64th : k < 64
   pub two-bytes : 2 * k + 1 < length bytes
@@ -95,7 +95,7 @@ module _ (bytes : List ℕ) where
         (sym (first-is j (omega (arith, g .two-bytes, h))) ∙ eqb→eq _ _ (and-left (eqb (firstZone bytes j) (firstZone bytes k)) _ t) ∙ a)
         (sym (second-is j (omega (arith, g .two-bytes, h))) ∙ eqb→eq _ _ (and-right (eqb (firstZone bytes j) (firstZone bytes k)) _ t) ∙ b))))))))
 
-    -- ROW 84, both ways, of up to 16 zones
+    -- ROW 84, both ways, for up to 16 zones
     pub good-pair : (k : ℕ) → T (not (badPair zones bytes k)) ↔ GoodPair zones bytes k
     good-pair k = (passes-good k, good-passes k)
 
@@ -140,8 +140,8 @@ module _ (netExports prices : List ℤ) (pairs : List ℕ) where
       set-is true t = refl
       set-is false t = absurd t
 
-  -- a zone of positive position exports it and imports nothing, one of negative position imports it and exports
-  -- nothing
+  -- a zone with a positive position exports it and imports nothing; one with a negative position imports it and
+  -- exports nothing
   pub exports-are : (z n : ℕ) → getD netExports z (pos 0) ≡ pos n → ((networkOf netExports prices pairs) .exports z ≡ n) × ((networkOf netExports prices pairs) .imports z ≡ 0)
   exports-are z n e = rw e (refl, refl)
 

@@ -1,7 +1,8 @@
--- WHAT A YES IS WORTH: a counted pair goes from its first zone to its second and never to a lower price, a zone's
--- imports less its exports are its position turned, and where the positions sum to zero there is as much to import as to
--- export. So what a yes carries is worth, at the zones' prices, what its flows gain (`flow_network`), and that is not
--- negative. Exports taken for imports, or pairs counted from higher price to lower, would make it false. Assumes nothing.
+-- WHAT A YES IS WORTH. A counted pair goes from its first zone to its second and never to a lower price; a zone's
+-- imports less its exports are its position with its sign turned; where the positions sum to zero, imports equal
+-- exports. So what a yes carries is worth, at the zones' prices, what its flows gain (`flow_network`), and that is
+-- not negative. Exports taken for imports, or pairs counted from a higher price to a lower, would make it false.
+-- Assumes nothing.
 use mathlib.Core.Path.{_≡_, sym, ap, _∙_}
 use mathlib.Core.List.{List}
 use Prim.Native.Nat.{ℕ}
@@ -21,12 +22,12 @@ use Rattle.flow_network.specs.Meaning.Network.{Placed, allExports, FeasibleAll}
 use Rattle.flow_network.specs.Promised.Worth.{Rising, yes-worth, yes-nonneg}
 use Rattle.flow_pairs.specs.Meaning.Pairs.{pairCount, firstZone, secondZone, priceAt, importsWorth, networkOf}
 
--- what so much gains along pair k, from its first zone to its second
+-- what an amount gains along pair k, from its first zone to its second
 abbrev pub pairGain : List ℤ → List ℕ → ℕ → ℕ → ℤ
 pairGain prices pairs flow k = pos flow *ℤ (priceAt prices (secondZone pairs k) -ℤ priceAt prices (firstZone pairs k))
 
 module _ (netExports prices : List ℤ) (pairs : List ℕ) where
-  -- A COUNTED PAIR goes from lower or equal price to higher
+  -- A COUNTED PAIR goes from a lower or equal price to a higher one
   pub counted-rises : Rising (networkOf netExports prices pairs) (priceAt prices)
   counted-rises k l e = leZ-yes (is-true e)
 
@@ -41,11 +42,11 @@ module _ (netExports prices : List ℤ) (pairs : List ℕ) where
   worth-parts : importsWorth netExports prices ≡ sumTo (length netExports) (λ z. (pos ((networkOf netExports prices pairs) .imports z) -ℤ pos ((networkOf netExports prices pairs) .exports z)) *ℤ priceAt prices z)
   worth-parts = sum-ext (length netExports) _ _ (λ z l. ap (λ (x : ℤ). x *ℤ priceAt prices z) (sym (imports-less-exports z)))
 
-  -- AS MUCH TO IMPORT AS TO EXPORT
+  -- IMPORTS EQUAL EXPORTS
   pub as-much-imported : sumTo (length netExports) (positionAt netExports) ≡ pos 0 → allExports (networkOf netExports prices pairs) ≡ sumNat (length netExports) ((networkOf netExports prices pairs) .imports)
   as-much-imported e = omega (arith, sum-parts (positionAt netExports) (length netExports), ap up e, ap dn e)
 
-  -- OF A YES, over the flows that it has
+  -- FOR A YES, over its flows
   module _ (ok : Placed (networkOf netExports prices pairs)) (e : sumTo (length netExports) (positionAt netExports) ≡ pos 0) (i : FeasibleAll (networkOf netExports prices pairs)) where
     pub flows-gain : importsWorth netExports prices ≡ sumTo (pairCount pairs) (λ k. pairGain prices pairs (i .flows .flow k) k)
     flows-gain = worth-parts ∙ yes-worth (networkOf netExports prices pairs) ok i (as-much-imported e) (priceAt prices)

@@ -1,4 +1,5 @@
--- THE TABLE OF PAIRS: for two zones the pair that leads from the first to the second, where there is one. Assumes nothing.
+-- THE TABLE OF PAIRS: for two zones, the pair that leads from the first to the second, if there is one.
+-- Assumes nothing.
 use mathlib.Core.Path.{_≡_, refl, sym, ap, _∙_}
 use mathlib.Core.List.{List}
 use Prim.Native.Nat.{ℕ, _+_, _*_, _<_}

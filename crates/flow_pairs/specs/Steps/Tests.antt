@@ -1,4 +1,4 @@
--- Row 84's test of a pair, one cause after the other, and what a pair that passes has. Assumes nothing.
+-- Row 84's test of a pair, one cause after the other, and what holds of a pair that passes. Assumes nothing.
 use mathlib.Core.Path.{_≡_, refl, sym, ap, _∙_}
 use mathlib.Core.Bool.{Bool, true, false, not, _&&_, _||_}
 use mathlib.Core.List.{List, [], _∷_}
@@ -12,13 +12,13 @@ use Rattle.base_causes.specs.Promised.CauseLaws.{no-place}
 use Rattle.base_zone_set.specs.Steps.Pairs.{holds, Seen, samePair}
 use Rattle.flow_pairs.specs.Meaning.Pairs.{pairCount, firstZone, secondZone, repeated, badPair}
 
--- what stands past the last does not matter below it
+-- below the end the value past the end does not matter
 pub read-below : (l : List ℕ) (i d e : ℕ) → i < length l → getD l i d ≡ getD l i e
 read-below [] i d e h = absurd (omega arith)
 read-below (x ∷ xs) zero d e h = refl
 read-below (x ∷ xs) (suc i) d e h = read-below xs i d e (omega arith)
 
--- by the zones as they were read
+-- by the zones as read
 module _ (zones : ℕ) (bytes : List ℕ) (k a b : ℕ) (ea : a ≡ firstZone bytes k) (eb : b ≡ secondZone bytes k) where
   test-is : badPair zones bytes k ≡ (leb 64 k || (leb zones a || (leb zones b || (eqb a b || repeated bytes k))))
   unfolding badPair
@@ -54,7 +54,7 @@ pub record PairValid (zones : ℕ) (bytes : List ℕ) (k : ℕ) : Type 0 where
   pub second-in : secondZone bytes k < zones
   pub new : (j : ℕ) → j < k → firstZone bytes j ≡ firstZone bytes k → secondZone bytes j ≡ secondZone bytes k → ⊥
 
--- an earlier pair with the same zones would be found
+-- the test would find an earlier pair with the same zones
 new-by : (bytes : List ℕ) (k : ℕ) → T (not (repeated bytes k)) → (j : ℕ) → j < k → firstZone bytes j ≡ firstZone bytes k → secondZone bytes j ≡ secondZone bytes k → ⊥
 unfolding repeated
 new-by bytes k t j h f g =

@@ -1,4 +1,5 @@
--- `flow_positions::first_position_outside` meets its contract. The loop's invariant: no position before `zone` is out of range. Assumes nothing.
+-- `flow_positions::first_position_outside` meets its contract. The loop's invariant: no position before `zone` is
+-- out of range. Assumes nothing.
 use mathlib.Core.Path.{_≡_, refl, sym, _∙_}
 use mathlib.Core.Option.{none}
 use Prim.Native.Nat.{_-_, _≤_}

@@ -1,8 +1,9 @@
--- `flow_positions::position` meets its contract: the element held to the limits of a net position. Assumes nothing.
+-- `flow_positions::position` meets its contract: the element, tested by the limits of a net position.
+-- Assumes nothing.
 use mathlib.Core.Path.{ap, _∙_}
 use mir.Syntax.{w64}
 use mir.Facts.{toZ-ofZ}
-use Rattle.base_measures.specs.Meaning.Limits as limits
+use Rattle.base_limits.specs.Meaning.Limits as limits
 use Rattle.base_measures.specs.Meaning.Held.{tenthsIn}
 use borrow.Author.Needs.{needs}
 use Rattle.flow_positions.proofs.position.Statement.{statement}

@@ -1,4 +1,5 @@
--- `flow_positions::position_held` meets its contract: the constructor holds what lies within its limits. Assumes nothing.
+-- `flow_positions::position_held` meets its contract: the constructor takes a number within its limits.
+-- Assumes nothing.
 use mathlib.Core.Path.{_≡_, sym, _∙_}
 use mathlib.Core.Bool.{true, false}
 use Prim.Native.Nat.{ℕ}

@@ -1,4 +1,4 @@
--- `flow_positions::position_outside` meets its contract: the constructor's answer, read back as its test. Assumes nothing.
+-- `flow_positions::position_outside` meets its contract: the constructor's answer as its test. Assumes nothing.
 use mathlib.Core.Path.{sym, _∙_}
 use Rattle.base_measures.specs.Steps.Held.{tenths-outside, tenths-held}
 use borrow.Author.Needs.{needs}

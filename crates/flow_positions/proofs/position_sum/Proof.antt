@@ -1,4 +1,5 @@
--- `flow_positions::position_sum` meets its contract: after z turns the sum is that of the first z positions. Assumes nothing.
+-- `flow_positions::position_sum` meets its contract: after z turns the sum is over the first z positions.
+-- Assumes nothing.
 use mathlib.Core.Path.{_≡_, refl, ap, _∙_}
 use mathlib.Core.List.{List}
 use Prim.Native.Nat.{ℕ, _*_, _≤_, _-_}
@@ -12,7 +13,7 @@ use Rattle.base_integers.specs.Steps.Size.{near-within}
 use Rattle.base_integers.specs.Meaning.Sums.{sumTo}
 use Rattle.base_integers.specs.Meaning.Machine.{SumsFit}
 use Rattle.base_integers.specs.Steps.Machine.{small-sums, step, step-fits}
-use Rattle.base_measures.specs.Meaning.Limits as limits
+use Rattle.base_limits.specs.Meaning.Limits as limits
 use Rattle.flow_positions.specs.Meaning.Positions.{positionAt}
 use Rattle.flow_positions.proofs.position_sum.Statement.{statement}
 use Rattle.flow_positions.proofs.position_sum.Tie as tie

@@ -1,4 +1,5 @@
--- REQUEST S-3: net positions lent by the host, in tenths and with export positive, and the tests of row 82. Assumes nothing.
+-- REQUEST S-3: net positions lent by the host, in tenths and with export positive, and the tests of row 82.
+-- Assumes nothing.
 use mathlib.Core.Bool.{Bool, not}
 use mathlib.Core.List.{List}
 use Prim.Native.Nat.{ℕ}
@@ -6,7 +7,7 @@ use lib.ListN.{length, getD}
 use lib.IntN.{ℤ, pos}
 use Rattle.base_integers.specs.Meaning.Ranges.{outside, isZero}
 use Rattle.base_integers.specs.Meaning.Sums.{sumTo}
-use Rattle.base_measures.specs.Meaning.Limits as limits
+use Rattle.base_limits.specs.Meaning.Limits as limits
 
 abbrev pub positionAt : List ℤ → ℕ → ℤ
 positionAt netExports z = getD netExports z (pos 0)

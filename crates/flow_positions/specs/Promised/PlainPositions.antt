@@ -13,12 +13,12 @@ use lib.Signed.{_≤ℤ_}
 use Rattle.base_integers.specs.Meaning.Ranges.{Range, outside, isZero}
 use Rattle.base_integers.specs.Steps.Ranges.{zero-is}
 use Rattle.base_integers.specs.Meaning.Sums.{sumTo}
-use Rattle.base_measures.specs.Promised.Numbers.{Allows, net-position-is}
+use Rattle.base_limits.specs.Promised.Numbers.{Allows, net-position-is}
 use Rattle.base_causes.specs.Meaning.Causes.{Pass, each}
 use Rattle.base_causes.specs.Promised.CauseLaws.{First}
 use Rattle.flow_positions.specs.Meaning.Positions.{positionOutside, unbalanced}
 
--- A LIST OF NUMBERS: the one at place z lies from a to b, both included
+-- A LIST OF NUMBERS: the one at place z is from a to b, both included
 abbrev pub Inside : ℤ → ℤ → List ℤ → ℕ → Type 0
 Inside a b xs z = (a ≤ℤ getD xs z (pos 0)) × (getD xs z (pos 0) ≤ℤ b)
 
@@ -31,7 +31,7 @@ pub record FirstOutside (a b : ℤ) (xs : List ℤ) (z : ℕ) : Type 0 where
   pub not-inside : Inside a b xs z → ⊥
   pub first-one : (y : ℕ) → y < z → Inside a b xs y
 
--- a row that asks each number for a limit, in these words
+-- a row that tests each number by a limit, in these terms
 module _ (r : Range) (a b : ℤ) (limit : Allows r a b) (xs : List ℤ) where
   abbrev test : ℕ → Bool
   test z = outside r (getD xs z (pos 0))

@@ -1,4 +1,5 @@
--- `flow_scratch::clear` meets its contract. The loop's invariant: the first i numbers are zero and the others as they were. Assumes nothing.
+-- `flow_scratch::clear` meets its contract. The loop's invariant: the first i numbers are zero and the others
+-- unchanged. Assumes nothing.
 use mathlib.Core.Path.{_≡_, refl, ap, sym, _∙_}
 use Prim.Native.Nat.{ℕ, _+_, _-_, _≤_, _<_}
 use native.Mathlib.Omega.{arith}

@@ -1,4 +1,5 @@
--- `flow_scratch::negative` meets its contract: what is below zero and near it has a size that fits. Assumes nothing.
+-- `flow_scratch::negative` meets its contract: a number below zero and near it has a size that fits.
+-- Assumes nothing.
 use mathlib.Core.Path.{_≡_, ap, sym, subst, _∙_}
 use native.Mathlib.Omega.{arith}
 use lib.Dec.{T}

@@ -1,4 +1,4 @@
--- `flow_scratch::store` meets its contract: an amount below 2 ^ 63 is the number that it is stored as. Assumes nothing.
+-- `flow_scratch::store` meets its contract: an amount below 2 ^ 63 is stored as itself. Assumes nothing.
 use borrow.Author.Needs.{needs}
 use mathlib.Core.Path.{_≡_, ap}
 use lib.IntN.{ℤ}

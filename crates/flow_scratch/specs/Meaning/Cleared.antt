@@ -1,4 +1,4 @@
--- A scratch whose first n numbers are zero and whose others are as they were.
+-- A scratch whose first n numbers are zero and whose others are unchanged.
 use mathlib.Core.Path.{_≡_}
 use mathlib.Core.List.{List}
 use Prim.Native.Nat.{ℕ, _≤_, _<_}

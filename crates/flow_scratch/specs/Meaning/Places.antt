@@ -7,10 +7,10 @@ use lib.IntN.{ℤ, pos}
 use Rattle.base_integers.specs.Meaning.Difference.{up}
 use Rattle.flow_network.specs.Meaning.Network.{Flow}
 
--- the amount at a place: what stands there, or 0 where that is negative
+-- the amount at a place: the number there, or 0 where that is negative
 abbrev pub amountAt : List ℤ → ℕ → ℕ
 amountAt s i = up (getD s i (pos 0))
 
--- what flows along pair k stands at k, the export used of zone z at 64 + z, its import used at 80 + z
+-- the flow along pair k is at k, the export used of zone z at 64 + z, its import used at 80 + z
 abbrev pub flowOf : List ℤ → Flow
 flowOf s = record { flow = λ k. amountAt s k; export-used = λ z. amountAt s (64 + z); import-used = λ z. amountAt s (80 + z) }

@@ -1,4 +1,4 @@
--- A signed number's part above zero and its part below, by the machine's test. Assumes nothing.
+-- The positive and the negative part of a signed number, by the machine's test. Assumes nothing.
 use mathlib.Core.Path.{_≡_, refl}
 use mathlib.Core.Bool.{true, false}
 use Prim.Native.Nat.{ℕ}

@@ -1,4 +1,4 @@
--- THE SCRATCH AFTERWARDS: its first n numbers are zero, and the others as they were. Assumes nothing.
+-- THE SCRATCH AFTERWARDS: its first n numbers are zero, the others unchanged. Assumes nothing.
 use mathlib.Core.Path.{_≡_, refl, _∙_}
 use mathlib.Core.List.{List}
 use Prim.Native.Nat.{ℕ, _+_, _≤_, _<_}
@@ -25,7 +25,7 @@ cleared-more n s s' t h c e =
     by i l (yes q) = rw q (getD-set-same s' n (pos 0) (pos 0) (omega (arith, c .len)))
     by i l (no q) = getD-set-other s' n i (pos 0) (pos 0) q ∙ c .zeros i (omega arith)
 
--- cleared in its first m numbers, used in its first 96, and cleared in its first n
+-- cleared in its first m numbers, used in its first 96, then cleared in its first n
 pub cleared-again : (m n : ℕ) (s s' t t' : List ℤ) → 96 ≤ n → m ≤ n → Cleared m s s' → Rest s' t → Cleared n t t' → Cleared n s t'
 cleared-again m n s s' t t' h k a b c = record {
   len = c .len ∙ b .len ∙ a .len;

@@ -10,7 +10,7 @@ use Rattle.base_integers.specs.Meaning.Difference.{up}
 use Rattle.flow_network.specs.Meaning.Network.{Network, Flow}
 use Rattle.flow_scratch.specs.Meaning.Places.{amountAt, flowOf}
 
--- the same list but for its first 96 numbers
+-- the same list except for its first 96 numbers
 pub record Rest (s s' : List ℤ) : Type 0 where
   pub len : length s' ≡ length s
   pub past : (i : ℕ) → 96 ≤ i → getD s' i (pos 0) ≡ getD s i (pos 0)

@@ -1,5 +1,5 @@
--- `flow_search::next_arc` meets its contract. The loop's invariant: no arc leads to a zone between w
--- and z. Assumes nothing.
+-- `flow_search::next_arc` meets its contract. The loop's invariant: no arc leads to a zone between w and z.
+-- Assumes nothing.
 use Prim.Native.Nat.{ℕ, _-_, _≤_}
 use native.Mathlib.Omega.{arith}
 use lib.ListN.{length}

@@ -1,4 +1,5 @@
--- `flow_search::pair_on` meets its contract: the table has no pair, or its pair counts, or does not. Assumes nothing.
+-- `flow_search::pair_on` meets its contract: the table has no pair, or its pair counts, or it does not.
+-- Assumes nothing.
 use mathlib.Core.Path.{_≡_, sym, _∙_}
 use Prim.Native.Nat.{ℕ, _≤_, _<_}
 use native.Mathlib.Omega.{arith}

@@ -1,6 +1,6 @@
--- `flow_search::search` meets its contract. The loop's invariant: the zones before h in the queue are done, of the
--- zone at h what leads to the zones before w, and no zone that is reached has import left. The measure is what is left
--- of sixteen zones to go on from and of sixteen to reach. Assumes nothing.
+-- `flow_search::search` meets its contract. The loop's invariant: the zones before h in the queue are done; from
+-- the zone at h the arcs to the zones before w are done; no reached zone has import left. The measure is the zones
+-- left to go on from and the zones left to reach. Assumes nothing.
 use mathlib.Core.Path.{_≡_, refl, sym, ap, subst, _∙_}
 use mathlib.Core.List.{List}
 use Prim.Native.Nat.{ℕ, _+_, _-_, _≤_, _<_}
@@ -71,7 +71,6 @@ next-arc-requires c κs =
     let some = from-reached (netExports i) (prices i) (bytes i) (scratch i) (t .pre .0) (l i .loop .labels) (l i .loop .h) (l i .loop .w) (l i .loop .inv .1) (here i) in
     ((omega (arith, u .wide .ensures, at, t .pre .0 .prices-too), (l i .loop .inv .0 .1, omega (arith, t .pre .0 .prices-too, t .pre .0 .zones))), ((t .pre .0 .pairs, t .pre .1 .0), (t .pre .1 .1, rw (u .wide .ensures) some)))
 
--- the arc
 module _ (a : tie.After-next-arc Inv-loop μ-loop) where
   abbrev i : tie.In-loop Inv-loop μ-loop
   i = a .before .before .before .before .before

@@ -1,5 +1,5 @@
--- `flow_search::seed_zones` meets its contract. The loop's invariant: of the zones before z those with
--- export left are reached. Assumes nothing.
+-- `flow_search::seed_zones` meets its contract. The loop's invariant: the zones before z with export left are
+-- reached. Assumes nothing.
 use mathlib.Core.Path.{_≡_, subst, sym}
 use mathlib.Core.Logic.{⊎-elim}
 use Prim.Native.Nat.{ℕ, _-_, _≤_, _<_}

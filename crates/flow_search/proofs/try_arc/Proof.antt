@@ -1,5 +1,5 @@
--- `flow_search::try_arc` meets its contract: the zone is reached already, along a pair, back along one,
--- or by no pair. Assumes nothing.
+-- `flow_search::try_arc` meets its contract: the zone is reached already, or reached along a pair, or back along
+-- one, or there is no arc. Assumes nothing.
 use mathlib.Core.Path.{_≡_, refl, sym, ap, _∙_}
 use mathlib.Core.List.{List}
 use Prim.Native.Nat.{ℕ, _≤_, _<_}

@@ -12,7 +12,7 @@ use Rattle.flow_augment.specs.declared.Labels.{Labels}
 use Rattle.flow_augment.specs.Meaning.Path.{trailOf}
 use Rattle.flow_search.specs.Steps.Search.{Found}
 
--- WHAT IS FOUND: a zone to bring more to, or that no augmenting path is left
+-- WHAT IS FOUND: a zone to which more can be brought, or that no augmenting path is left
 pub record SearchAnswer (netExports prices : List ℤ) (bytes : List ℕ) (s : List ℤ) (m : Labels) : Type 0 where
   pub found : m .sink < length netExports → Found (networkOf netExports prices bytes) (flowOf s) (trailOf m) (m .sink)
   pub none : length netExports ≤ m .sink → Feasible (networkOf netExports prices bytes) (flowOf s) → Saturated (networkOf netExports prices bytes) (flowOf s) (λ z. ltb 0 (getD (m .label) z 0))

@@ -17,7 +17,7 @@ use Rattle.flow_search.specs.declared.Arc.{Arc}
 clash : {A : Type 0} → true ≡ false → A
 clash e = let z : _≡_ {A = ℕ} 0 1 = cc in absurd (omega arith)
 
--- the pair from u to w that counts, or that none does
+-- the pair from u to w that counts, or that there is none
 pub record PairOn (prices : List ℤ) (bytes : List ℕ) (u w r : ℕ) : Type 0 where
   pub found : r < pairCount bytes → (firstZone bytes r ≡ u) × ((secondZone bytes r ≡ w) × (leZ (priceAt prices (firstZone bytes r)) (priceAt prices (secondZone bytes r)) ≡ true))
   pub none : pairCount bytes ≤ r → (j : ℕ) → j < pairCount bytes → firstZone bytes j ≡ u → secondZone bytes j ≡ w → leZ (priceAt prices (firstZone bytes j)) (priceAt prices (secondZone bytes j)) ≡ true → ⊥

@@ -1,4 +1,4 @@
--- The labels of a search: what five stores change of them, and the zones with export left. Assumes nothing.
+-- The labels of a search: what five stores change, and the zones with export left. Assumes nothing.
 use mathlib.Core.Path.{_≡_, refl, _∙_}
 use mathlib.Core.List.{List}
 use Prim.Native.Nat.{ℕ, _+_, _-_, _≤_, _<_}

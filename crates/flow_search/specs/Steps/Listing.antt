@@ -1,4 +1,4 @@
--- THE ORDER OF A SEARCH: of the first n zones those that are reached, each once, e of them. Assumes nothing.
+-- THE ORDER OF A SEARCH: it has each reached zone of the first n once, e of them. Assumes nothing.
 use mathlib.Core.Path.{_≡_, refl, sym, ap, _∙_}
 use mathlib.Core.Bool.{Bool}
 use Prim.Native.Nat.{ℕ, _+_, _≤_, _<_}
@@ -14,7 +14,7 @@ use Rattle.flow_augment.specs.Steps.Links.{Trail}
 abbrev pub unreached : ℕ → Trail → ℕ
 unreached n m = sumNat n (λ y. only (eqb (m .lab y) 0) 1)
 
--- zone y stands in the order
+-- zone y is in the order
 pub record Listed (q : ℕ → ℕ) (e y : ℕ) : Type 0 where
   pub place : ℕ
   pub place-in : place < e
@@ -41,12 +41,12 @@ listing-none m q = record {
 pub few : {n : ℕ} {m : Trail} {q : ℕ → ℕ} {e : ℕ} → Listing n m q e → e ≤ n
 few l = omega (arith, l .count)
 
--- with a zone that is not reached there is room for one more
+-- if a zone is not reached, there is room for one more
 pub fewer : {n : ℕ} {m : Trail} {q : ℕ → ℕ} {e : ℕ} → Listing n m q e → (z : ℕ) → z < n → m .lab z ≡ 0 → e < n
 fewer {n} {m} l z h new =
     omega (arith, l .count, one-le-sum n z (λ y. only (eqb (m .lab y) 0) 1) h, ap (λ (b : Bool). only b 1) (eq-eqb (m .lab z) 0 new))
 
--- A ZONE MORE IS LOOKED AT, and not reached
+-- ONE MORE ZONE IS LOOKED AT, and not reached
 pub record Extended (n : ℕ) (m m' : Trail) : Type 0 where
   pub lab : m' .lab n ≡ 0
   pub lab-rest : (y : ℕ) → y < n → m' .lab y ≡ m .lab y
@@ -72,7 +72,7 @@ listing-extend n m m' q q' e l x same = record {
         let w = l .listed y d (omega (arith, x .lab-rest y d)) in record { place = w .place; place-in = w .place-in; is = same (w .place) (w .place-in) ∙ w .is }
     by-listed y p h (no d) = let w : y ≡ n = omega arith in absurd (omega (arith, ap (m' .lab) w, x .lab))
 
--- A ZONE IS REACHED: v can be brought to it, at depth d, by pair k, and it is the next in the order
+-- A ZONE IS REACHED: v can be brought to it, at depth d, by pair k, and it is next in the order
 pub record Marked (m m' : Trail) (z v d k : ℕ) : Type 0 where
   pub lab : m' .lab z ≡ v
   pub dep : m' .dep z ≡ d
@@ -97,7 +97,7 @@ listing-mark n m m' q q' e z v d k l mk new some zin shallow last same = record 
   );
 }
   where
-    -- what is listed is not z
+    -- a zone in the order is not z
     not-new : (i : ℕ) → i < e → q i ≡ z → ⊥
     not-new i p w = omega (arith, l .reached i p, ap (m .lab) w)
 

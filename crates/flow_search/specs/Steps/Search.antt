@@ -1,5 +1,6 @@
--- THE SEARCH, breadth first from the zones with export left. A zone is done when each pair that leaves it and counts, and each that enters it and carries
--- something, has its other zone reached. Once all are done and none has import left, no augmenting path is left. Assumes nothing.
+-- THE SEARCH, breadth first from the zones with export left. A zone is done when each counted pair that leaves it,
+-- and each pair that enters it and carries something, has its other zone reached. Once all reached zones are done
+-- and none has import left, there is no augmenting path. Assumes nothing.
 use mathlib.Core.Path.{_≡_, refl, sym, ap, _∙_}
 use mathlib.Core.Bool.{true}
 use Prim.Native.Nat.{ℕ, _+_, _-_, _≤_, _<_}
@@ -21,12 +22,12 @@ pub record DoneAt (c : Network) (b : Flow) (m : Trail) (y j : ℕ) : Type 0 wher
   pub on : c .from j ≡ y → c .counted j ≡ true → 0 < m .lab (c .to j)
   pub back : c .to j ≡ y → 0 < b .flow j → 0 < m .lab (c .from j)
 
--- what leads on from zone u to zone v
+-- the pairs that lead on from zone u to zone v
 pub record DoneTo (c : Network) (b : Flow) (m : Trail) (u v : ℕ) : Type 0 where
   pub on : (j : ℕ) → j < c .pairs → c .from j ≡ u → c .to j ≡ v → c .counted j ≡ true → 0 < m .lab v
   pub back : (j : ℕ) → j < c .pairs → c .to j ≡ u → c .from j ≡ v → 0 < b .flow j → 0 < m .lab v
 
--- the first h of the zones reached are done, and none that is reached has import left
+-- the first h of the reached zones are done, and no reached zone has import left
 pub record Searching (c : Network) (b : Flow) (m : Trail) (q : ℕ → ℕ) (e h : ℕ) : Type 0 where
   pub listing : Listing (c .zones) m q e
   pub links : (total : ℕ) → Low c b total → (n : ℕ) → Links c b total m n
@@ -34,14 +35,14 @@ pub record Searching (c : Network) (b : Flow) (m : Trail) (q : ℕ → ℕ) (e h
   pub idle : (y : ℕ) → y < c .zones → 0 < m .lab y → c .imports y ≤ b .import-used y
   pub done : (i : ℕ) → i < h → (j : ℕ) → j < c .pairs → DoneAt c b m (q i) j
 
--- and from zone u, which is at h in the order, what leads to the first w zones
+-- and from zone u, at h in the order, the pairs to the first w zones are done
 pub record Scanning (c : Network) (b : Flow) (m : Trail) (q : ℕ → ℕ) (e h u w : ℕ) : Type 0 where
   pub search : Searching c b m q e h
   pub here : h < e
   pub is : q h ≡ u
   pub part : (v : ℕ) → v < w → DoneTo c b m u v
 
--- a zone that is reached and has import left
+-- a reached zone with import left
 pub record Found (c : Network) (b : Flow) (m : Trail) (t : ℕ) : Type 0 where
   pub inside : t < c .zones
   pub reached : 0 < m .lab t
@@ -91,7 +92,7 @@ module _ (c : Network) (b : Flow) (m : Trail) (q : ℕ → ℕ) (e h u w : ℕ) 
 
   -- pair k reaches zone z, which is zone w
   module _ (m' : Trail) (q' : ℕ → ℕ) (z v k : ℕ) (at-w : z ≡ w) (mk : Marked m m' z v e k) (new : m .lab z ≡ 0) (some : 0 < v) (zin : z < c .zones) (kin : k < c .pairs) (last : q' e ≡ z) (same : (i : ℕ) → i < e → q' i ≡ q i) where
-    -- what was reached is not z, and stays
+    -- a reached zone is not z, and stays reached
     stays : (y : ℕ) → 0 < m .lab y → y ≡ z → ⊥
     stays y p w = omega (arith, ap (m .lab) w)
 
@@ -202,7 +203,7 @@ module _ (c : Network) (b : Flow) (m : Trail) (q : ℕ → ℕ) (e h u w : ℕ) 
           });
         }
 
--- AS THE SEARCH BEGINS: the zones with export left, none of which imports
+-- AS THE SEARCH BEGINS: the zones with export left are reached, and none of them imports
 pub search-start : (c : Network) (b : Flow) (m : Trail) (q : ℕ → ℕ) (e : ℕ) → Listing (c .zones) m q e → ((y : ℕ) → y < c .zones → m .lab y ≡ c .exports y - b .export-used y) → ((y : ℕ) → y < c .zones → 0 < m .lab y → m .dep y ≡ 0)
     → ((y : ℕ) → y < c .zones → 0 < c .exports y → c .imports y ≡ 0) → Searching c b m q e 0
 search-start c b m q e l left flat one-way = record {
@@ -218,7 +219,7 @@ search-start c b m q e l left flat one-way = record {
   done = λ i p. absurd (omega arith);
 }
 
--- AS IT ENDS: all that is reached is done
+-- AS IT ENDS: all reached zones are done
 pub saturated : (c : Network) → Placed c → (b : Flow) → Feasible c b → (m : Trail) (q : ℕ → ℕ) (e h : ℕ) → Searching c b m q e h → e ≤ h → Saturated c b (λ z. ltb 0 (m .lab z))
 saturated c ok b ca m q e h s all = record {
   closed = λ k p t r. lt-ltb 0 (m .lab (c .to k)) (done (c .from k) k p (ok .from-in k p) (ltb-true 0 (m .lab (c .from k)) r) .on refl t);

@@ -1,5 +1,5 @@
--- The search over the lent lists: zones are reached and gone on from in the order of the queue, until one has import
--- left. Assumes nothing.
+-- The search over the lent lists: zones are reached, and gone on from in the order of the queue, until one has
+-- import left. Assumes nothing.
 use mathlib.Core.Path.{_≡_, refl}
 use mathlib.Core.List.{List}
 use Prim.Native.Nat.{ℕ, _+_, _-_, _≤_, _<_}
@@ -22,8 +22,8 @@ use Rattle.flow_search.specs.Steps.Labelling.{queueOf, Wide, labelled, l
 use Rattle.flow_search.specs.Steps.Arcs.{NoArc, Residual, along, against, NextArc}
 use Rattle.flow_search.specs.Meaning.SearchAnswer.{SearchAnswer}
 
--- HOW FAR IT IS: the zones before h in the queue are done, of the zone at h what leads to the first w zones, and no
--- zone that is reached has import left
+-- HOW FAR IT IS: the zones before h in the queue are done, from the zone at h the arcs to the first w zones are
+-- done, and no reached zone has import left
 pub record Progress (netExports prices : List ℤ) (bytes : List ℕ) (s : List ℤ) (m : Labels) (h w : ℕ) : Type 0 where
   pub wide : Wide m
   pub no-sink : m .sink ≡ 16
@@ -144,7 +144,7 @@ module _ (netExports prices : List ℤ) (bytes : List ℕ) (s : List ℤ) (z : I
         none = λ g. absurd (omega arith);
       }
 
--- AS IT ENDS: all that is reached is done
+-- AS IT ENDS: all reached zones are done
 pub searched-none : (netExports prices : List ℤ) (bytes : List ℕ) (s : List ℤ) (m : Labels) (h w : ℕ) → InputsInRange netExports prices bytes → Progress netExports prices bytes s m h w → m .count ≤ h → SearchAnswer netExports prices bytes s m
 searched-none netExports prices bytes s m h w z p all = record {
   found = λ l. absurd (omega (arith, p .no-sink, z .zones));

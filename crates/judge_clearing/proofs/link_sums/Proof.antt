@@ -1,5 +1,6 @@
--- `judge_clearing::link_sums` meets its contract: after l turns every link passed has its flow within the LTA share of its capacity, and the first l flows are
--- taken off where they enter and put back where they leave. Assumes nothing.
+-- `judge_clearing::link_sums` meets its contract. After l turns, each of the first l links has its flow within the
+-- LTA share of its capacity; these flows are subtracted where they enter and added where they leave.
+-- Assumes nothing.
 use mathlib.Core.Path.{_≡_, refl, ap, sym, subst, _∙_}
 use mathlib.Core.Option.{none, Option·some-ne-none}
 use Prim.Native.Nat.{ℕ, _+_, _*_, _≤_, _<_, _-_}
@@ -14,7 +15,7 @@ use mir.Syntax.{w64}
 use Rattle.base_integers.specs.Meaning.Sums.{sumTo}
 use Rattle.base_integers.specs.Steps.Size.{Near, near-fits, near-sub, near-mul, near-pos, near-unsigned}
 use Rattle.base_integers.specs.Steps.Machine.{sfits-by}
-use Rattle.base_measures.specs.Meaning.Limits.{partsInOne}
+use Rattle.base_limits.specs.Meaning.Limits.{partsInOne}
 use Rattle.rules.specs.Meaning.Layout.{flowIn}
 use Rattle.rules.specs.Meaning.Hour.{Case, Plan, caseOf, planOf, linkUse, linkRoom, inflow, outflow, ltaPart, fbPart}
 use Rattle.base_causes.specs.Meaning.Causes.{firstBelow}
@@ -44,7 +45,7 @@ hour a = caseOf (now (a .args .«case»))
 abbrev plan : tie.Start Inv-loop μ-loop → Plan
 plan a = planOf (now (a .args .«case»)) (now (a .args .proposal))
 
--- where a turn's steps come from: the flow and the link that were read, the loop, the entry
+-- the steps of a turn: the flow and the link that were read, the loop, the entry
 abbrev entry : tie.At-loop Inv-loop μ-loop → tie.Start Inv-loop μ-loop
 entry l = l .before .before .before .before .before
 
@@ -75,7 +76,7 @@ link-at-requires c κs = (entry (c .before) .pre .0 .proposed .opened, c .loop-t
 flow-at-requires : tie.Need-flow-at-requires Inv-loop μ-loop
 flow-at-requires c κs = (entry (c .before .before) .pre .0 .proposed, c .before .loop-test .taken)
 
--- this link is one of the case's, and its zones
+-- this link is one of the case's, and so are its zones
 inside : (c : tie.After-link-at Inv-loop μ-loop) → loop c .loop .l < hour (from-link c) .links
 inside c = omega (arith, links-is (from-link c .pre .0), c .before .loop-test .taken)
 
@@ -136,7 +137,7 @@ returns c =
       λ n. absurd (Option·some-ne-none _ n),
     )
 
--- where it passes, it and those before it have no flow above 100,000 tenths, so the parts are far below 2 ^ 63
+-- where it passes, no flow so far is above 100,000 tenths, so the parts are far below 2 ^ 63
 passed : (c : tie.Else1 Inv-loop μ-loop) → firstBelow (loop (link (c .before)) .loop .l + 1) (λ j. (linkUse (hour (from-link (link (c .before)))) (plan (from-link (link (c .before)))) j) over (linkRoom (hour (from-link (link (c .before)))) (plan (from-link (link (c .before)))) j)) ≡ none
 passed c = let l = loop (link (c .before)) in first-later _ (l .loop .l) (l .loop .inv .1 .0) (sym (answered (c .before)) ∙ c .if1 .left)
 
@@ -167,11 +168,11 @@ minus-requires c κs =
     sfits-by w64 (λ j. l .loop .inv .1 .1 .each (k .link-at .result .to) (to-in k) j -ℤ (flow (e .before) .flow-at .ensures) j)
     (near-fits w64 (omega arith) (near-sub (near e (l .loop .l) (omega arith) (k .link-at .result .to)) (near-unsigned _ 100000 (flows-small e (l .loop .l) (omega arith)))))
 
--- the turn's test, from the step after the flow is taken off
+-- the turn's test, from the step that subtracts the flow
 abbrev else-of : tie.After-minus Inv-loop μ-loop → tie.Else1 Inv-loop μ-loop
 else-of c = c .before .before
 
--- once the flow is taken off where it enters
+-- after the flow is subtracted where it enters
 entered : (c : tie.After-minus Inv-loop μ-loop) → TenthsHold (partly (hour (from-link (link (else-of c .before)))) (plan (from-link (link (else-of c .before)))) (loop (link (else-of c .before)) .loop .l + 1) (loop (link (else-of c .before)) .loop .l)) (set (loop (link (else-of c .before)) .loop .parts) (link (else-of c .before) .link-at .result .to) (c .minus .result))
 unfolding planOf
 entered c =

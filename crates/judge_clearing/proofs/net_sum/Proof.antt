@@ -1,4 +1,4 @@
--- `judge_clearing::net_sum` meets its contract: after z turns the sum is that of the first z entries. Assumes nothing.
+-- `judge_clearing::net_sum` meets its contract: after z turns the sum is over the first z entries. Assumes nothing.
 use mathlib.Core.Path.{_≡_, refl, ap, _∙_}
 use Prim.Native.Nat.{ℕ, _≤_, _-_}
 use native.Mathlib.Omega.{arith}

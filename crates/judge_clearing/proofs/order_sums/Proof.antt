@@ -1,5 +1,5 @@
--- `judge_clearing::order_sums` meets its contract: after i turns no volume passed is above its quantity, each zone has the sum of its orders among the first i,
--- and the welfare is theirs. Assumes nothing.
+-- `judge_clearing::order_sums` meets its contract. After i turns, no volume so far is above its quantity, and the
+-- net positions and the welfare are those of the first i orders. Assumes nothing.
 use mathlib.Core.Path.{_≡_, refl, ap, sym, subst, _∙_}
 use mathlib.Core.Option.{none, Option·some-ne-none}
 use Prim.Native.Nat.{ℕ, _+_, _≤_, _<_, _-_}
@@ -15,7 +15,7 @@ use Rattle.base_integers.specs.Steps.Sums.{sum-scale-l}
 use Rattle.base_integers.specs.Steps.Size.{near-fits, near-mul, near-pos}
 use Rattle.base_integers.specs.Meaning.Machine.{SumsFit}
 use Rattle.base_integers.specs.Steps.Machine.{step, step-fits, sfits-by}
-use Rattle.base_measures.specs.Meaning.Limits.{partsInOne, grainsOf}
+use Rattle.base_limits.specs.Meaning.Limits.{partsInOne, grainsOf}
 use Rattle.rules.specs.Meaning.Hour.{Case, Plan, caseOf, planOf, signed, buys, orderNet, net, orderWelfare, welfare}
 use Rattle.base_causes.specs.Meaning.Causes.{firstBelow}
 use Rattle.base_causes.specs.Promised.CauseLaws.{first-here, first-later, first-nowhere, not-below}
@@ -78,7 +78,7 @@ returns c =
       (λ n. absurd (Option·some-ne-none _ n), λ n. absurd (Option·some-ne-none _ n)),
     )
 
--- where it passes, it and those before it are within their quantities, and the sums with it fit
+-- where it passes, all volumes so far are within their quantities, and the sums with it fit
 passed : (c : tie.Else1 Inv-loop μ-loop) → firstBelow (c .before .before .before .before .before .before .loop .i + 1) (λ j. (plan (entry (c .before .before .before .before .before .before)) .volume j) over (hour (entry (c .before .before .before .before .before .before)) .quantity j)) ≡ none
 passed c = first-later _ (c .before .before .before .before .before .before .loop .i) (c .before .before .before .before .before .before .loop .inv .1 .0) (sym (answered (c .before)) ∙ c .if1 .left)
 

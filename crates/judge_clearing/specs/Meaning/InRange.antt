@@ -1,4 +1,4 @@
--- Volumes and flows that earlier rows of the table have held to their limits.
+-- Volumes and flows within the limits that earlier rows of the table ask for.
 use Prim.Native.Nat.{ℕ, _≤_, _<_}
 use Rattle.rules.specs.Meaning.Hour.{Case, Plan}
 
@@ -6,6 +6,6 @@ use Rattle.rules.specs.Meaning.Hour.{Case, Plan}
 pub record VolumesInRange (c : Case) (p : Plan) : Type 0 where
   pub within : (i : ℕ) → i < c .orders → p .volume i ≤ c .quantity i
 
--- verdict 23 passed: no flow passes the greatest capacity
+-- verdict 23 passed: no flow is above the greatest capacity
 pub record FlowsInRange (c : Case) (p : Plan) : Type 0 where
   pub within : (l : ℕ) → l < c .links → p .flow l ≤ 100000

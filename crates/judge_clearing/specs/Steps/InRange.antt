@@ -1,4 +1,4 @@
--- What the verdicts before a stage leave, and that the sums of the stage fit. Assumes nothing.
+-- What the verdicts before a stage leave; from it the sums of the stage fit. Assumes nothing.
 use mathlib.Core.Path.{_≡_}
 use mathlib.Core.List.{List}
 use mathlib.Core.Option.{none}
@@ -26,7 +26,7 @@ volumes-in {c} {p} e = record { within = λ i h. nltb→le (c .quantity i) (p .v
 pub flows-in : {c : Case} {p : Plan} → CaseSound c → p .share ≤ 100000 → failing (overusedLink c p) ≡ none → FlowsInRange c p
 flows-in {c} {p} cs share e = record { within = λ l h. flow-in c cs p share l h (nltb→le (linkRoom c p l) (linkUse c p l) (not-below _ _ e l h)) }
 
--- an unsigned field of 32 bits, whose bytes are bytes
+-- an unsigned field of 32 bits, from bytes below 256
 pub record Bytes (s : List ℕ) : Type 0 where
   pub byte : (i : ℕ) → getD s i 0 < 256
 
@@ -34,7 +34,7 @@ pub word-small : (s : List ℕ) (k : ℕ) → Bytes s → u32At s k ≤ 42949672
 unfolding u32At
 word-small s k b = omega (arith, b .byte k, b .byte (k + 1), b .byte (k + 2), b .byte (k + 3))
 
--- sums that fit, of terms that are equal
+-- sums of equal terms fit alike
 pub fit-ext : (f g : ℕ → ℤ) (n : ℕ) → ((i : ℕ) → i < n → g i ≡ f i) → SumsFit f n → SumsFit g n
 fit-ext f g n e h = record {
   term = λ i l. sfits-by w64 (e i l) (h .term i l);

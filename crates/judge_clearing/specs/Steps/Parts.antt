@@ -1,5 +1,5 @@
--- The flow-based parts while the links are taken off the net positions one by one: first a link's flow at the zone that it enters, then at the zone that
--- it leaves. Assumes nothing.
+-- The flow-based parts while the links' flows are subtracted from the net positions, one link at a time: first at
+-- the zone that the flow enters, then at the zone that it leaves. Assumes nothing.
 use mathlib.Core.Path.{_≡_, sym, ap, _∙_}
 use mathlib.Core.List.{List}
 use Prim.Native.Nat.{ℕ, _+_, _<_}

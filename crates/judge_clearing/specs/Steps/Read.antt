@@ -1,5 +1,5 @@
--- What was read of an hour, rows 1 to 18 having passed: its counts and its opening are those of the files, and what the readers asked holds of them.
--- Every stage opens with these facts. Assumes nothing.
+-- What was read of an hour whose rows 1 to 18 passed: its counts and its opening are those of the files, within the
+-- readers' limits. Every stage starts from these facts. Assumes nothing.
 use mathlib.Core.Path.{_≡_, ap}
 use mathlib.Core.List.{List}
 use Prim.Native.Nat.{ℕ, _≤_, _<_}

@@ -1,4 +1,5 @@
--- Volumes by zone: an array of sixteen that holds a definition's values, one entry of it changed, and a gathered sum with one entry more. Assumes nothing.
+-- Volumes by zone: an array of sixteen that holds a definition's values; one entry changed; a sum by key with one
+-- entry more. Assumes nothing.
 use mathlib.Core.Path.{_≡_, refl, sym, ap, subst, _∙_}
 use mathlib.Core.Logic.{_≢_}
 use mathlib.Core.Bool.{Bool}
@@ -19,7 +20,7 @@ use Rattle.judge_clearing.specs.Meaning.TenthsHold.{noTenths, tenthsAt, 
 pub zeros-hold : (f : ℕ → ℤ) → ((z : ℕ) → f z ≡ pos 0) → TenthsHold f (replicate 16 noTenths)
 zeros-hold f h = record { long = refl; each = λ z l. ap (λ (t : Tenths). t .0) (getD-replicate 16 z noTenths noTenths l) ∙ sym (h z) }
 
--- the entry k changed, where the definitions differ at k alone
+-- entry k is changed, and the definitions differ only at k
 pub set-holds : (f g : ℕ → ℤ) (xs : List Tenths) (k : ℕ) (x : Tenths) → k < 16 → TenthsHold f xs → x .0 ≡ g k → ((z : ℕ) → z ≢ k → f z ≡ g z) → TenthsHold g (set xs k x)
 set-holds f g xs k x h a e o = record {
   long = length-set xs k x ∙ a .long;
@@ -29,11 +30,11 @@ set-holds f g xs k x h a e o = record {
   ];
 }
 
--- the sum of what has the key z among the first i entries
+-- the sum over those of the first i entries that have the key z
 abbrev pub keyed : (ℕ → ℕ) → (ℕ → ℤ) → ℕ → ℕ → ℤ
 keyed key x i z = sumTo i (λ j. only (eqb (key j) z) (x j))
 
--- with one entry more: its own key's sum grows by it, another's does not
+-- with one entry more, only the sum of its own key grows by it
 module _ (key : ℕ → ℕ) (x : ℕ → ℤ) (n : ℕ) where
   keyed-own : keyed key x (n + 1) (key n) ≡ keyed key x n (key n) +ℤ x n
   keyed-own = sum-more n (λ j. only (eqb (key j) (key n)) (x j)) ∙ ap (λ (b : Bool). keyed key x n (key n) +ℤ only b (x n)) (eq-eqb (key n) (key n) refl)
@@ -45,7 +46,7 @@ module _ (key : ℕ → ℕ) (x : ℕ → ℤ) (n : ℕ) where
   pub keyed-at : (z : ℕ) → z ≡ key n → keyed key x (n + 1) z ≡ keyed key x n z +ℤ x n
   keyed-at z e = subst (λ (k : ℕ). keyed key x (n + 1) k ≡ keyed key x n k +ℤ x n) (sym e) keyed-own
 
-  -- the sum as the array has it
+  -- the sum in the array
   pub keyed-next : (xs : List Tenths) (z : ℕ) → z ≡ key n → key n < 16 → TenthsHold (keyed key x n) xs → tenthsAt xs z +ℤ x n ≡ keyed key x (n + 1) z
   keyed-next xs z e l h = subst (λ (k : ℕ). tenthsAt xs k +ℤ x n ≡ keyed key x (n + 1) k) (sym e) (ap (λ (v : ℤ). v +ℤ x n) (h .each (key n) l) ∙ sym keyed-own)
 

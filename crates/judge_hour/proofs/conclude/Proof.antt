@@ -1,4 +1,4 @@
--- `judge_hour::conclude` meets its contract: the report is written where the hour is valued. Assumes nothing.
+-- `judge_hour::conclude` meets its contract: it writes the report where the hour is valued. Assumes nothing.
 use mathlib.Core.Path.{_≡_, refl, _∙_}
 use mathlib.Core.List.{_++_}
 use borrow.Author.Needs.{needs}

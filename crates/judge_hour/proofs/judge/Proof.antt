@@ -1,4 +1,4 @@
--- `judge_hour::judge` meets its contract: it is judged by the table without a list. Assumes nothing.
+-- `judge_hour::judge` meets its contract: it judges by the table without a list. Assumes nothing.
 use borrow.Author.Needs.{needs}
 use Rattle.judge_hour.specs.Steps.Judged.{hour-judged}
 use Rattle.judge_hour.proofs.judge.Statement.{statement}

@@ -1,4 +1,4 @@
--- `judge_hour::judge_families` meets its contract: it is judged by the table with the list. Assumes nothing.
+-- `judge_hour::judge_families` meets its contract: it judges by the table with the list. Assumes nothing.
 use borrow.Author.Needs.{needs}
 use Rattle.judge_hour.specs.Steps.Judged.{family-hour-judged}
 use Rattle.judge_hour.proofs.judge_families.Statement.{statement}

@@ -1,4 +1,5 @@
--- `judge_hour::judge_with_families` meets its contract: row 30, and what is found behind it. Assumes nothing.
+-- `judge_hour::judge_with_families` meets its contract: row 30, and what the driver finds after it.
+-- Assumes nothing.
 use mathlib.Core.Path.{_≡_, refl}
 use mathlib.Core.List.{List}
 use mathlib.Core.Option.{Option}

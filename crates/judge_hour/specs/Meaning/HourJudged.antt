@@ -1,5 +1,5 @@
--- THE JUDGEMENT of a case s and a proposal t with a report buffer b: the verdict r is the verdict table's, and the buffer b′ afterwards is the report's.
--- All that the entries promise follows from these two (`Promises`).
+-- THE JUDGEMENT of a case s and a proposal t with a report buffer b: the verdict r is the verdict table's, and the
+-- buffer b′ afterwards is the report's. All that the entries promise follows from these two (`Promises`).
 use mathlib.Core.Path.{_≡_}
 use mathlib.Core.List.{List}
 use Prim.Native.Nat.{ℕ}

@@ -1,4 +1,4 @@
--- What the judgement answers by a list of rows, and what is concluded from what the driver finds. Assumes nothing.
+-- What the judgement answers by a list of rows, and what it concludes from what the driver finds. Assumes nothing.
 use mathlib.Core.Path.{_≡_, refl, sym, ap, subst, _∙_}
 use mathlib.Core.Bool.{Bool, true, false, not, cond, _||_}
 use mathlib.Core.List.{List, _++_}
@@ -25,7 +25,7 @@ pub record Judged (rows : List Cause) (s t b : List ℕ) (r : Outcome) (b′ : L
   pub given : r ≡ answer (refusal rows)
   pub buffer : b′ ≡ written (answer (refusal rows)) (caseOf s) (planOf s t) (pricesOf s t) b
 
--- a row that refuses by a number that writes no report
+-- a row that refuses by a number without a report
 pub refused : (rows : List Cause) (s t b : List ℕ) (n k : ℕ) → reports n ≡ false → refusal rows ≡ some (verdict n k) → Judged rows s t b (verdict n k) b
 unfolding written
 refused rows s t b n k w e = record {
@@ -34,7 +34,7 @@ refused rows s t b n k w e = record {
       ∙ ap (λ (x : Bool). cond x (reportBytes n (caseOf s) (planOf s t) (pricesOf s t) ++ drop (reportSize (caseOf s)) b) b) w);
 }
 
--- rows that come to the same
+-- other rows with the same refusal
 pub same-rows : {qs rs : List Cause} {s t b : List ℕ} {r : Outcome} {b′ : List ℕ} → refusal qs ≡ refusal rs → Judged rs s t b r b′ → Judged qs s t b r b′
 same-rows {s = s} {t = t} {b = b} {r = r} {b′ = b′} e j = record {
   given = j .given ∙ ap (λ (o : Option Outcome). answer o) (sym e);
@@ -53,7 +53,7 @@ pub family-hour-judged : {s t f b : List ℕ} {r : Outcome} {b′ : List ℕ} �
 unfolding familyOutcome familyBufferAfter
 family-hour-judged j = record { verdict-is = j .given; buffer-is = j .buffer }
 
--- the report's bytes from values that are the hour's
+-- equal values give the same report
 price-ext : (n : ℕ) (f g : ℕ → ℤ) → ((z : ℕ) → z < n → f z ≡ g z) → priceBytes n f ≡ priceBytes n g
 unfolding priceBytes
 price-ext zero f g h = refl
@@ -66,14 +66,14 @@ same-report number zones x price c p d b e t h =
     ap (λ (n : ℕ). headerBytes number n ++ totalBytes x ++ priceBytes n price ++ drop (zonePriceAt n) b) e
     ∙ (λ j. headerBytes number (c .zones) ++ totalBytes (t j) ++ price-ext (c .zones) price (zonePrice c d) h j ++ drop (zonePriceAt (c .zones)) b)
 
--- WHAT IS CONCLUDED from what was found: the buffer afterwards
+-- THE BUFFER after what was found
 abbrev pub reportOf : Found → List ℕ → List ℕ
 reportOf r b = reportText (r .verdict .number) (r .hour .counts .zones) (totalsIn (r .totals)) (priceIn (r .prices)) ++ drop (zonePriceAt (r .hour .counts .zones)) b
 
 abbrev pub concluded : Found → List ℕ → List ℕ
 concluded r b = cond (r .valued) (reportOf r b) b
 
--- what is needed to write it
+-- what writing it needs
 pub record Reportable (r : Found) : Type 0 where
   pub valued-is : r .valued ≡ reports (r .verdict .number)
   pub few-zones : r .hour .counts .zones ≤ 16

@@ -1,5 +1,5 @@
--- From the judgement to the entries' clauses: the packed outcome, the buffer, and what is promised in the numbers that the report's bytes hold; without a
--- family list and with one. Assumes nothing.
+-- From the judgement to the entries' clauses: the packed outcome, the buffer, and the promises in the numbers of
+-- the report's bytes, without a family list and with one. Assumes nothing.
 use mathlib.Core.Path.{_≡_, sym, ap, subst, _∙_}
 use mathlib.Core.List.{List}
 use Prim.Native.Nat.{ℕ, _/_, _%_}
@@ -22,7 +22,8 @@ use Rattle.judge_hour.specs.Meaning.HourJudged.{HourJudged, FamilyHourJu
 use Rattle.judge_hour.specs.Meaning.Packed.{packed}
 use Rattle.judge_hour.specs.Steps.Packed.{packed-is, packed-number, packed-index, packed-zero}
 
--- WHAT IS PROMISED OF AN ACCEPTED HOUR, for the buffer b′ afterwards, with a list and without; A says that it is accepted
+-- WHAT IS PROMISED OF AN ACCEPTED HOUR, for the buffer b′ afterwards, with a list and without; A says that it is
+-- accepted
 abbrev pub DemandsIf : Type 0 → List ℕ → List ℕ → List ℕ → Type 0
 DemandsIf A s t b′ = (A → Allowed s t)
     × ((A → Accurate s b′)
@@ -41,7 +42,7 @@ demands-from s t b′ f d = (
 abbrev pub Demands : List ℕ → List ℕ → Outcome → List ℕ → Type 0
 Demands s t r b′ = DemandsIf (r .number ≡ 0) s t b′
 
--- from an hour that is accepted without a list, and whose buffer is the one of that
+-- where the hour is accepted without a list and the buffer is that one's
 module _ (s t b : List ℕ) (r : Outcome) (b′ : List ℕ) (accepted : r .number ≡ 0 → Accepted s t (length b)) (same : r .number ≡ 0 → b′ ≡ bufferAfter s t b) where
   kept : r .number ≡ 0 → Demand3 s t b′
   kept e = subst (λ (x : List ℕ). Demand3 s t x) (sym (same e)) (demand-3 s t b (accepted e))

@@ -1,5 +1,6 @@
--- `judge_network::branch_sums` meets its contract. After m turns no branch passed is overloaded, each price has the first m branches added, and the total is
--- theirs. After z turns of the inner loop the load is that of the first z zones, and their prices have branch m besides. Assumes nothing.
+-- `judge_network::branch_sums` meets its contract. After m turns no branch so far is overloaded, each price has the
+-- first m branches added, and the total is over them. After z turns of the inner loop the load is over the first z
+-- zones, and their prices also have branch m. Assumes nothing.
 use mathlib.Core.Path.{_≡_, refl, ap, sym, subst, _∙_}
 use mathlib.Core.List.{List, []}
 use mathlib.Core.Option.{none, Option·some-ne-none}
@@ -20,8 +21,8 @@ use Rattle.base_integers.specs.Steps.Sums.{sum-more, sum-scale-l}
 use Rattle.base_integers.specs.Steps.Size.{Near, near-fits, near-sub, near-mul, near-pos, near-unsigned, near-within}
 use Rattle.base_integers.specs.Meaning.Machine.{SumsFit}
 use Rattle.base_integers.specs.Steps.Machine.{step, step-fits, sfits-by}
-use Rattle.base_measures.specs.Meaning.Limits as limits
-use Rattle.base_measures.specs.Meaning.Limits.{partsInOne, grainsOf}
+use Rattle.base_limits.specs.Meaning.Limits as limits
+use Rattle.base_limits.specs.Meaning.Limits.{partsInOne, grainsOf}
 use Rattle.base_measures.specs.declared.Grains.{Grains}
 use Rattle.rules.specs.Meaning.Layout.{shadowIn}
 use Rattle.rules.specs.Meaning.Hour.{Case, Plan, Prices, caseOf, planOf, pricesOf, fbPart, branchUse, branchRoom, branchPrice, branchValue, branchTotal, zonePrice}
@@ -68,7 +69,7 @@ rates a = pricesOf (now (a .args .«case»)) (now (a .args .proposal))
 abbrev entry : tie.At-loop Inv-loop2 μ-loop2 Inv-loop μ-loop → tie.Start Inv-loop2 μ-loop2 Inv-loop μ-loop
 entry l = l .before .before .before .before .before .before .before .before
 
--- the sums that the two loops add up fit
+-- the sums of the two loops fit
 loads-fit : (a : tie.Start Inv-loop2 μ-loop2 Inv-loop μ-loop) (m : ℕ) → m < hour a .branches → SumsFit (λ z. hour a .ptdf m z *ℤ fbPart (hour a) (plan a) z) (hour a .zones)
 loads-fit a m h = branchUse-sums _ (sound (a .pre .0)) _ (a .pre .1 .0 .within) (a .pre .1 .1 .0 .within) m h
 
@@ -79,7 +80,7 @@ shadow-near : (a : tie.Start Inv-loop2 μ-loop2 Inv-loop μ-loop) (m : ℕ) → 
 unfolding pricesOf
 shadow-near a m h = near-unsigned _ 1000000 (shadow-in (a .pre .0) m h)
 
--- an entry of the table and a part, by the hour
+-- an entry of the table and a part are the hour's
 entry-is : (a : tie.Start Inv-loop2 μ-loop2 Inv-loop μ-loop) (m z : ℕ) → m < hour a .branches → z < hour a .zones → getD (getD (a .args .t4) m []) z (pos 0) ≡ hour a .ptdf m z
 unfolding caseOf
 entry-is a m z h l = ap (λ (t : List (List ℤ)). getD (getD t m []) z (pos 0)) (a .pre .1 .1 .1 .0) ∙ table-entry (case-opened (a .pre .0)) m z (omega (arith, branches-is (a .pre .0))) (omega (arith, zones-is (a .pre .0)))
@@ -156,7 +157,7 @@ index-1-of-entry c = row-in c
 index-2-of-entry : tie.Need-index-2-of-entry Inv-loop2 μ-loop2 Inv-loop μ-loop
 index-2-of-entry c = zone-in c
 
--- this entry as the machine reads it is the table's
+-- the entry that the machine reads is the table's
 abbrev read : tie.After-of-entry-arg Inv-loop2 μ-loop2 Inv-loop μ-loop → ℤ
 read c = getD (getD (entry (c .before .before .before .before .before .before) .args .t4) (c .before .before .before .before .before .before .loop .m) []) (c .before .before .loop2 .z) (pos 0)
 
@@ -170,7 +171,7 @@ of-entry-requires c κs =
     subst (λ (x : ℤ). Within limits.ptdf x) (sym (entry-read c ∙ ap t (a .pre .1 .1 .1 .0)))
     (entry-within (case-opened (a .pre .0)) _ _ (c .before .before .before .before .before .loop-test .taken) (c .before .loop2-test .taken))
 
--- and by the hour
+-- and the hour's
 read-is : (c : tie.After-of-entry Inv-loop2 μ-loop2 Inv-loop μ-loop) → c .of-entry .result .0 ≡ read (c .before)
 read-is c = c .of-entry .ensures ∙ entry-read (c .before)
 
@@ -334,7 +335,7 @@ add-m c = omega (arith, c .before .before .before .before .before .before .befor
 loop-less : tie.Need-loop-less Inv-loop2 μ-loop2 Inv-loop μ-loop
 loop-less c = omega (arith, c .before .before .before .before .before .before .before .before .before .before .loop-test .taken)
 
--- what this branch adds to a zone's price, as the table has it
+-- what this branch adds to a zone's price, from the table
 term-is : (c : tie.After-shadow-at Inv-loop2 μ-loop2 Inv-loop μ-loop) (z : ℕ) → z < hour (entry (c .before .before)) .zones
     → added (getD (entry (c .before .before) .args .t4) (c .before .before .loop .m) []) (c .shadow-at .result .0) z ≡ branchPrice (hour (entry (c .before .before))) (rates (entry (c .before .before))) z (c .before .before .loop .m)
 unfolding branchPrice pricesOf

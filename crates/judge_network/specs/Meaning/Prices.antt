@@ -5,7 +5,7 @@ use Prim.Native.Nat.{ℕ, _<_}
 use lib.ListN.{getD}
 use lib.IntN.{ℤ, pos}
 use Rattle.base_integers.specs.Meaning.Ranges.{Within}
-use Rattle.base_measures.specs.Meaning.Limits as limits
+use Rattle.base_limits.specs.Meaning.Limits as limits
 use Rattle.base_measures.specs.declared.Grains.{Grains}
 use Rattle.rules.specs.Meaning.Hour.{Case, Prices, zonePrice}
 

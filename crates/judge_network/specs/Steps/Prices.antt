@@ -9,7 +9,7 @@ use lib.Seq.{getD-set-same, getD-set-other}
 use lib.IntN.{ℤ, pos, _+ℤ_, _*ℤ_, +ℤ-assoc}
 use Rattle.base_integers.specs.Meaning.Sums.{sumTo}
 use Rattle.base_integers.specs.Steps.Sums.{sum-more}
-use Rattle.base_measures.specs.Meaning.Limits as limits
+use Rattle.base_limits.specs.Meaning.Limits as limits
 use Rattle.base_measures.specs.declared.Grains.{Grains}
 use Rattle.rules.specs.Meaning.Hour.{Case, Prices, branchPrice}
 use Rattle.judge_network.specs.Meaning.Prices.{noGrains, grainsAt}
@@ -18,7 +18,7 @@ use Rattle.judge_network.specs.Meaning.Prices.{noGrains, grainsAt}
 abbrev pub added : List ℤ → ℤ → ℕ → ℤ
 added row shadow z = getD row z (pos 0) *ℤ shadow
 
--- the first n of them added
+-- the first n zones done
 pub record AddedTo (before after : List Grains) (row : List ℤ) (shadow : ℤ) (n zones : ℕ) : Type 0 where
   pub long : length after ≡ 16
   pub done : (z : ℕ) → z < n → grainsAt after z ≡ grainsAt before z +ℤ added row shadow z

@@ -8,7 +8,7 @@ use borrow.Author.Needs.{needs}
 use denote.Ref.{now}
 use lib.IntN.{pos}
 use Rattle.base_integers.specs.Meaning.Ranges.{outside}
-use Rattle.base_measures.specs.Meaning.Limits as limits
+use Rattle.base_limits.specs.Meaning.Limits as limits
 use Rattle.base_measures.specs.Steps.Held.{microcents-outside, microcents-held, money-tests}
 use Rattle.rules.specs.Meaning.Hour.{Case}
 use Rattle.base_causes.specs.Meaning.Causes.{failing, answer}
@@ -36,7 +36,7 @@ enum-told c = search needs
 enum-told-2 : tie.Need-enum-told-2
 enum-told-2 c = search needs
 
--- asked in microcents, as the paper asks it in cents
+-- the test in microcents is the paper's in cents
 in-cents : (c : tie.After-accepted-tolerance) (h : Case) → Counted h (weighed c .args .k)
     → outside limits.acceptedToleranceMoney (weighed c .args .k .tolerance .0) ≡ outside limits.acceptedTolerance (pos (h .tolerance))
 in-cents c h q = ap (outside limits.acceptedToleranceMoney) (q .tolerance-is) ∙ money-tests 10000 (h .tolerance)

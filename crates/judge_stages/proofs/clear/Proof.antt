@@ -1,4 +1,5 @@
--- `judge_stages::clear` meets its contract: the rows of the orders, and where they pass those of the links. Assumes nothing.
+-- `judge_stages::clear` meets its contract: the rows of the orders and, where they pass, those of the links.
+-- Assumes nothing.
 use mathlib.Core.Path.{_≡_, sym, ap, subst, _∙_}
 use mathlib.Core.Bool.{not, _&&_}
 use mathlib.Core.List.{List}
@@ -69,7 +70,7 @@ returns c =
       λ z. absurd (omega (arith, c .before .if1 .taken, ap (λ (v : Outcome). v .number) is, z)),
     )
 
--- BOTH PASS: what the orders yield
+-- BOTH PASS: the sums over the orders
 abbrev orders : tie.Else1 → tie.After-order-verdict
 orders e = e .before .before
 
@@ -107,7 +108,7 @@ link-verdict-requires c κs =
       ),
     )
 
--- the verdict, as the machine adds and asks it
+-- the verdict, from the sum and the tests that the machine computes
 verdict-is : (c : tie.After-link-verdict) → let a = entry (past-orders (c .before)) in c .link-verdict .result ≡ answer (refusal (of-links a))
 unfolding netSum noLink
 verdict-is c =

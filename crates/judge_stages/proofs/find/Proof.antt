@@ -1,4 +1,4 @@
--- `judge_stages::find` meets its contract: the files are apart. Assumes nothing.
+-- `judge_stages::find` meets its contract: the files are lent apart. Assumes nothing.
 use borrow.Author.Needs.{needs}
 use Rattle.judge_stages.proofs.find.Statement.{statement}
 use Rattle.judge_stages.proofs.find.Tie as tie

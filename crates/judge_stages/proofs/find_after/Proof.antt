@@ -1,4 +1,5 @@
--- `judge_stages::find_after` meets its contract: the case is readable, and the stages in the table's order, past each that passes to the one that refuses. Assumes nothing.
+-- `judge_stages::find_after` meets its contract: the case is readable, and the stages are asked in the table's
+-- order until one refuses. Assumes nothing.
 use mathlib.Core.Path.{_≡_, ap}
 use mathlib.Core.List.{List, _++_}
 use mathlib.Core.Option.{Option}

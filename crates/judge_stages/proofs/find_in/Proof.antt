@@ -1,4 +1,5 @@
--- `judge_stages::find_in` meets its contract: a case that is refused, or the hour of the case that is cut and its proposal. Assumes nothing.
+-- `judge_stages::find_in` meets its contract: the case is refused, or it is cut from its proposal and the hour is
+-- judged. Assumes nothing.
 use mathlib.Core.Path.{_≡_, sym, ap, subst, _∙_}
 use mathlib.Core.List.{List, _++_}
 use mathlib.Core.Option.{Option, some}
@@ -23,7 +24,7 @@ use Rattle.judge_stages.specs.Steps.Found.{admittedCauses, readCauses, r
 use Rattle.judge_stages.proofs.find_in.Statement.{statement}
 use Rattle.judge_stages.proofs.find_in.Tie as tie
 
--- what is lent, and case and proposal in it
+-- what is lent, and where the case and the proposal are in it
 abbrev files : tie.Start → Files
 files a = a .args .files
 

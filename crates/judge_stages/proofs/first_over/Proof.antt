@@ -1,4 +1,5 @@
--- `judge_stages::first_over` meets its contract: the row's first place where there is a list, and none where there is not. Assumes nothing.
+-- `judge_stages::first_over` meets its contract: the row's first place where there is a list, else none.
+-- Assumes nothing.
 use mathlib.Core.Path.{sym, ap, _∙_}
 use mathlib.Core.Option.{Option}
 use Prim.Native.Nat.{ℕ}

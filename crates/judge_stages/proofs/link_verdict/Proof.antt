@@ -26,17 +26,14 @@ abbrev place : tie.Start → Option ℕ
 place a = placeOf (a .args .overused)
 
 -- 22
-net-sum-requires : tie.Need-net-sum-requires
-net-sum-requires c κs = let a = c .before .before in (a .pre .0, a .pre .1 .0)
+is-unbalanced-requires : tie.Need-is-unbalanced-requires
+is-unbalanced-requires c κs = let a = c .before .before in (a .pre .0, a .pre .1 .0)
 
-is-zero-requires : tie.Need-is-zero-requires
-is-zero-requires c κs = search needs
+abbrev start : tie.After-is-unbalanced → tie.Start
+start c = c .before .before .before
 
-abbrev start : tie.After-is-zero → tie.Start
-start c = c .before .before .before .before
-
-balance-is : (c : tie.After-is-zero) → unbalanced (start c) ≡ not (c .is-zero .result)
-balance-is c = sym (ap not (c .is-zero .ensures ∙ ap isZero (c .before .net-sum .ensures)))
+balance-is : (c : tie.After-is-unbalanced) → unbalanced (start c) ≡ c .is-unbalanced .result
+balance-is c = sym (c .is-unbalanced .ensures)
 
 outcome-requires : tie.Need-outcome-requires
 outcome-requires c κs = search needs
@@ -93,8 +90,7 @@ pub link-verdict-spec : {M : Type 1} → statement M
 link-verdict-spec =
     tie.close
     (tie.spec
-    net-sum-requires
-    is-zero-requires
+    is-unbalanced-requires
     share-without-link-requires
     outcome-requires
     returns

@@ -45,7 +45,7 @@ list a = listOf (a .args .list) (now (a .args .families))
 abbrev of-lists : tie.Start → List Cause
 of-lists a = admittedCauses (list a) (caseOf (file a))
 
--- A REFUSAL, whose number is not 0
+-- A REFUSAL: its number is not 0
 module _ (s t f : List ℕ) (list : FamilyList) {o : Outcome} (q : refusal (readCauses (listOf list f) s t) ≡ some o) where
   never : {X : Type 0} {v : Outcome} → v ≡ o → v .number ≡ 0 → X
   never e z = absurd (not-refused 0 (readCauses (listOf list f) s t) ((read-silent (listOf list f) s t) .not-0) o q (sym (ap (λ (x : Outcome). x .number) e) ∙ z))
@@ -54,7 +54,6 @@ module _ (s t f : List ℕ) (list : FamilyList) {o : Outcome} (q : refusal (read
       × ((r .verdict .number ≡ 0 → HourReadFrom s t (r .hour)) × (r .verdict .number ≡ 0 → list ≡ Given → FamiliesReadable f (r .hour .counts .orders)))
   refused e = let v = ap (λ (f : Reading). f .verdict) e in (v ∙ sym (ap answer q), (never v, never v))
 
--- past the case
 past-case : (a : tie.Start) → refusal (readCauses (list a) (file a) (plan a)) ≡ refusal (of-proposal a ++ of-lists a)
 unfolding caseRefusal
 past-case a = first-passes (of-case a) (of-proposal a ++ of-lists a) (a .pre .readable .none-holds)

@@ -1,4 +1,4 @@
--- `judge_stages::read_with_families` meets its contract: the list's answer where there is one. Assumes nothing.
+-- `judge_stages::read_with_families` meets its contract: the list's answer where there is a list. Assumes nothing.
 use mathlib.Core.Path.{sym, ap, _∙_}
 use borrow.Author.Needs.{needs}
 use denote.Ref.{now}

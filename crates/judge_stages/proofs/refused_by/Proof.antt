@@ -1,4 +1,4 @@
--- `judge_stages::refused_by` meets its contract: nothing is read and nothing is cleared. Assumes nothing.
+-- `judge_stages::refused_by` meets its contract: nothing was read or cleared. Assumes nothing.
 use mathlib.Core.Path.{ap}
 use borrow.Author.Needs.{needs}
 use Rattle.judge_stages.specs.Steps.Found.{refusedWith}

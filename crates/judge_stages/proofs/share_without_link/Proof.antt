@@ -1,4 +1,5 @@
--- `judge_stages::share_without_link` meets its contract: the count of links is asked, then the share. Assumes nothing.
+-- `judge_stages::share_without_link` meets its contract: it asks the count of links, then the share.
+-- Assumes nothing.
 use mathlib.Core.Path.{sym, ap, _∙_}
 use mathlib.Core.Bool.{Bool, _&&_}
 use borrow.Author.Needs.{needs}

@@ -1,5 +1,6 @@
--- `judge_stages::value` meets its contract: a row of the table for each stage, in the table's order, past each that passes to the one that fails.
--- A stage reaches what it rests on through the stage before it, so that a row put between two others is met by the one that follows it. Assumes nothing.
+-- `judge_stages::value` meets its contract: one row of the table per stage, in the table's order, until one fails.
+-- Each stage takes its facts from the stage before it, so a new row between two others concerns only the stage
+-- after it. Assumes nothing.
 use mathlib.Core.Path.{_≡_, refl, ap, sym, subst, _∙_}
 use mathlib.Core.Bool.{Bool, not, cond}
 use mathlib.Core.Option.{Option, none, some}
@@ -14,8 +15,8 @@ use Rattle.base_integers.specs.Meaning.Ranges.{outside}
 use Rattle.base_integers.specs.Steps.Ranges.{within}
 use Rattle.base_integers.specs.Meaning.Sums.{sumTo}
 use Rattle.base_integers.specs.Steps.Sums.{sum-ext}
-use Rattle.base_measures.specs.Meaning.Limits as limits
-use Rattle.base_measures.specs.Meaning.Limits.{microcentsOf}
+use Rattle.base_limits.specs.Meaning.Limits as limits
+use Rattle.base_limits.specs.Meaning.Limits.{microcentsOf}
 use Rattle.rules.specs.Meaning.Hour.{Case, Plan, Prices, caseOf, planOf, pricesOf, net, zonePrice, gap, rent}
 use Rattle.base_causes.specs.declared.Outcome.{Outcome}
 use Rattle.base_causes.specs.Meaning.Causes.{verdict, failing, firstBelow, answer}
@@ -128,7 +129,7 @@ zone-sums-requires c κs =
       },
     )
 
--- the search over the computed prices is the table's over the zone prices
+-- the search over the computed prices is the table's search over the zone prices
 searched : (c : tie.After-zone-sums)
     → firstBelow (prices-asked c .args .hour .counts .zones) (λ z. outside limits.zonePrice (grainsAt (branches (before-prices c) .branch-sums .result .prices) z)) ≡ failing (priceOutside (hour (prices-asked c)) (rates (prices-asked c)))
 searched c =

@@ -1,4 +1,4 @@
--- What the driver finds in an hour: the verdict, and of an hour that is valued all that the entries use.
+-- What the driver finds in an hour: the verdict and, for a valued hour, all that the entries use.
 use mathlib.Core.Path.{_≡_}
 use mathlib.Core.Bool.{true}
 use mathlib.Core.List.{List, _++_}
@@ -20,12 +20,12 @@ use Rattle.judge_stages.specs.declared.FamilyList.the-variants.{Given, A
 use Rattle.judge_stages.specs.declared.Cleared.{Cleared}
 use Rattle.judge_stages.specs.declared.Found.{Found}
 
--- the family list that is given (S-11), or none
+-- the family list (S-11), if there is one
 abbrev pub listOf : FamilyList → List ℕ → Option (List ℕ)
 listOf Given f = some f
 listOf Absent f = none
 
--- the table from row 1 to row 26, of a case s and a proposal t, with a family list or without
+-- rows 1 to 26 of the table for a case s and a proposal t, with a family list or without
 abbrev pub hourCauses : Option (List ℕ) → List ℕ → List ℕ → List Cause
 hourCauses fs s t = caseCauses s (caseOf s) ++ (proposalCauses s t (caseOf s) (planOf s t) (pricesOf s t) ++ judgementCauses fs (caseOf s) (planOf s t) (pricesOf s t))
 
@@ -37,7 +37,7 @@ pub record HourCleared (c : Case) (p : Plan) (r : Cleared) : Type 0 where
   pub parts-are : TenthsHold (fbPart c p) (r .parts)
   pub welfare-is : r .welfare .0 ≡ welfare c p
 
--- FOUND: the verdict, and what holds of an hour that is valued
+-- FOUND: the verdict, and what holds of a valued hour
 pub record Finds (rows : List Cause) (s t : List ℕ) (r : Found) : Type 0 where
   pub verdict-is : r .verdict ≡ answer (refusal rows)
   pub valued-is : r .valued ≡ reports (r .verdict .number)
@@ -48,6 +48,6 @@ pub record Finds (rows : List Cause) (s t : List ℕ) (r : Found) : Type 0 where
   pub prices-are : r .valued ≡ true → PricesHold (caseOf s) (pricesOf s t) (r .prices)
   pub totals-are : r .valued ≡ true → totalsIn (r .totals) ≡ totalsOf (caseOf s) (planOf s t) (pricesOf s t)
 
--- of what is lent: the case and the proposal as two files, or the desk's input lent as both
+-- what is lent: the case and the proposal as two files, or the desk's input lent as both
 abbrev pub FindsIn : Files → Option (List ℕ) → List ℕ → List ℕ → Found → Type 0
 FindsIn files fs s t r = Finds (hourCauses fs (caseIn files s) (proposalIn files t)) (caseIn files s) (proposalIn files t) r

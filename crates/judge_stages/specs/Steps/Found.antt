@@ -1,4 +1,5 @@
--- What the driver finds in an hour by a list of rows: the verdict, and of an hour that is valued what the report holds, with its net positions. Assumes nothing.
+-- What the driver finds in an hour by a list of rows: the verdict and, for a valued hour, what the report holds and
+-- its net positions. Assumes nothing.
 use mathlib.Core.Path.{_≡_, refl, sym, ap, subst, _∙_}
 use mathlib.Core.Bool.{Bool, true, false, not, cond, _&&_, _||_}
 use mathlib.Core.List.{List, [], _∷_, _++_, append-assoc}
@@ -24,8 +25,8 @@ use Rattle.judge_stages.specs.declared.Cleared.{Cleared}
 use Rattle.judge_stages.specs.declared.Found.{Found}
 use Rattle.judge_stages.specs.Meaning.Found.{hourCauses, Finds}
 
--- THE STAGES of it, in its order: 1 to 18, `read_case` and `read`; 21 and 28, of the orders, with 22, 27 and 23, of the
--- links, `clear`; all that stands behind 23, `value`
+-- THE STAGES, in order: `read_case` and `read`, 1 to 18; `clear`, 21 and 28 of the orders and 22, 27 and 23 of the
+-- links; `value`, all after 23
 abbrev pub admittedCauses : Option (List ℕ) → Case → List Cause
 admittedCauses fs c = wideTolerance c ∷ familyCauses fs c
 
@@ -101,7 +102,7 @@ module _ {rows : List Cause} {s t : List ℕ} where
     totals-are = λ f. false-true f;
   })
 
-  -- rows that come to the same
+  -- other rows with the same refusal
   pub same-rows : {qs : List Cause} {r : Found} → refusal qs ≡ refusal rows → Finds rows s t r → Finds qs s t r
   same-rows e f = record {
     verdict-is = f .verdict-is ∙ ap answer (sym e);
@@ -114,14 +115,14 @@ module _ {rows : List Cause} {s t : List ℕ} where
     totals-are = f .totals-are;
   }
 
--- two lists of rows: the first refuses, or it passes and the second is asked
+-- two lists of rows: the first refuses, or it passes and the second decides
 pub first-refuses : (qs rs : List Cause) (o : Outcome) → refusal qs ≡ some o → refusal (qs ++ rs) ≡ some o
 first-refuses qs rs o e = refusal-append qs rs ∙ ap (λ (x : Option Outcome). else-refusal x (refusal rs)) e
 
 pub first-passes : (qs rs : List Cause) → refusal qs ≡ none → refusal (qs ++ rs) ≡ refusal rs
 first-passes qs rs e = refusal-append qs rs ∙ ap (λ (x : Option Outcome). else-refusal x (refusal rs)) e
 
--- rows that lack 0 and 26 write no report
+-- rows without 0 and 26 write no report
 not-by : (b : Bool) → (T b → ⊥) → b ≡ false
 not-by true f = absurd (f tt)
 not-by false f = refl
@@ -132,7 +133,7 @@ writes-no-report rows o a b e = λ j.
     not-by (eqb (o .number) 0) (λ t. not-refused 0 rows a o e (eqb→eq (o .number) 0 t)) j
     || not-by (eqb (o .number) 26) (λ t. not-refused 26 rows b o e (eqb→eq (o .number) 26 t)) j
 
--- A STAGE, whose rows lack 0 and 26: it refuses by its verdict, or its verdict is 0 and the rows behind it are asked
+-- A STAGE, whose rows lack 0 and 26: it refuses by its verdict, or its verdict is 0 and the rows after it are asked
 pub record Silent (qs : List Cause) : Type 0 where
   pub not-0 : T (lacks 0 qs)
   pub not-26 : T (lacks 26 qs)
@@ -148,7 +149,7 @@ module _ {qs : List Cause} (rs : List Cause) {v : Outcome} (l : Silent qs) (e : 
   passes : v .number ≡ 0 → refusal (qs ++ rs) ≡ refusal rs
   passes h = first-passes qs rs (zero-none qs (l .not-0) (sym (ap (λ (o : Outcome). o .number) e) ∙ h))
 
-  -- of the verdict, and of what is found
+  -- for the verdict, and for what is found
   pub verdict-refuses : 0 < v .number → v ≡ answer (refusal (qs ++ rs))
   verdict-refuses h = sym (ap answer (first-refuses qs rs v (refuses h)))
 

@@ -1,4 +1,4 @@
--- What the driver asks of a family list, where there is one (S-11), and what it comes to in the table's rows. Assumes nothing.
+-- What the driver asks of a family list, where there is one (S-11), in terms of the table's rows. Assumes nothing.
 use mathlib.Core.Path.{_≡_, refl, subst}
 use mathlib.Core.Bool.{Bool, true, false}
 use mathlib.Core.List.{List, []}
@@ -7,7 +7,7 @@ use Prim.Native.Nat.{ℕ, _≤_, _<_}
 use native.Mathlib.Omega.{arith}
 use lib.Dec.{T}
 use lib.IntN.{pos}
-use Rattle.base_measures.specs.Meaning.Limits as limits
+use Rattle.base_limits.specs.Meaning.Limits as limits
 use Rattle.rules.specs.Meaning.Hour.{Case, Plan}
 use Rattle.base_causes.specs.declared.Outcome.{Outcome}
 use Rattle.base_causes.specs.Meaning.Causes.{verdict, failing, refusal, answer}
@@ -47,7 +47,7 @@ module _ (f : List ℕ) (c : Case) {orders : ℕ} (count : c .orders ≡ orders)
   families-known Given h e q = known-of f c count h e
   families-known Absent h e q = absurd (subst (λ (l : FamilyList). T (absent l)) q tt)
 
--- ROWS 15 TO 18, of every case with these counts: the verdict, and where they pass a list that is known
+-- ROWS 15 TO 18, for every case with these counts: the verdict and, where they pass, a good list
 pub record Counted (c : Case) (k : Counts) : Type 0 where
   pub tolerance-is : k .tolerance .0 ≡ limits.microcentsOf (pos (c .tolerance))
   pub orders-is : c .orders ≡ k .orders

@@ -1,4 +1,5 @@
--- `judge_totals::link_totals` meets its contract: after l turns each sum is that of the first l links. Assumes nothing.
+-- `judge_totals::link_totals` meets its contract: after l turns each sum is over the first l links.
+-- Assumes nothing.
 use mathlib.Core.Path.{_≡_, refl, ap, sym, _∙_}
 use Prim.Native.Nat.{ℕ, _*_, _≤_, _<_, _-_}
 use native.Mathlib.Omega.{arith}
@@ -129,7 +130,7 @@ volume-fits c {x} {n} e h =
     sfits-by w64 (λ j. e j *ℤ spread-is c j) (near-fits w64 (omega arith) (near-mul (near-unsigned n 100000 h)
     (apart-prices _ _ (a .pre .1 .1 .within _ (to-known (link c))) (a .pre .1 .1 .within _ (from-known (link c))))))
 
--- its product, held at zero
+-- its product, or zero where that is negative
 volume-term : (c : tie.After-minus Inv-loop μ-loop) {x y z : ℤ} {n : ℕ} → x ≡ pos n → y ≡ x *ℤ c .minus .result .0 → z ≡ positive y → let a = start (of-link c) in z ≡ pos n *ℤ positive (spread (hour a) (prices a) (turn (of-link c)))
 volume-term c {n = n} e f g =
     let a = start (of-link c) in

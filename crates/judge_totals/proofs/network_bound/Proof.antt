@@ -1,4 +1,5 @@
--- `judge_totals::network_bound` meets its contract: without links the branch total, with one the larger of both. Assumes nothing.
+-- `judge_totals::network_bound` meets its contract: without links the branch total, with one the larger of both.
+-- Assumes nothing.
 use mathlib.Core.Path.{sym, ap, _∙_}
 use mathlib.Core.Bool.{Bool, cond}
 use borrow.Author.Needs.{needs}

@@ -1,4 +1,4 @@
--- `judge_totals::surpluses` meets its contract: after i turns the sum is that of the first i orders. Assumes nothing.
+-- `judge_totals::surpluses` meets its contract: after i turns the sum is over the first i orders. Assumes nothing.
 use mathlib.Core.Path.{_≡_, refl, ap, sym, subst, _∙_}
 use Prim.Native.Nat.{ℕ, _≤_, _<_, _-_}
 use native.Mathlib.Omega.{arith}
@@ -9,7 +9,7 @@ use Rattle.base_integers.specs.Meaning.Machine.{SumsFit}
 use Rattle.base_integers.specs.Steps.Machine.{step, step-fits}
 use Rattle.judge_clearing.specs.Steps.Read.{case-opened, sound, orders-is, shadow-in}
 use Rattle.base_integers.specs.Meaning.Ranges.{Within}
-use Rattle.base_measures.specs.Meaning.Limits as limits
+use Rattle.base_limits.specs.Meaning.Limits as limits
 use Rattle.rules.specs.Meaning.Hour.{caseOf, pricesOf, buys, zonePrice, surplusOf, orderSurplus, surplus}
 use Rattle.rules.specs.Promised.Fits.{system-near, surplus-sums}
 use Rattle.book_order.specs.declared.Order.{Order}

@@ -1,4 +1,4 @@
--- `judge_totals::totals` meets its contract: each total is its rule's, and none leaves 64 bits. Assumes nothing.
+-- `judge_totals::totals` meets its contract: each total is its rule's, and all fit 64 bits. Assumes nothing.
 use mathlib.Core.Path.{_≡_, ap, _∙_}
 use mathlib.Core.Bool.{cond}
 use Prim.Native.Nat.{ℕ}

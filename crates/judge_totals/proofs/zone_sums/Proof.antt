@@ -1,4 +1,5 @@
--- `judge_totals::zone_sums` meets its contract: every zone passed has its price within the limits, and the sum is that of the zones passed. Assumes nothing.
+-- `judge_totals::zone_sums` meets its contract: every zone so far has its price within the limits, and the sum is
+-- over these zones. Assumes nothing.
 use mathlib.Core.Path.{_≡_, refl, ap, sym, _∙_}
 use mathlib.Core.Option.{none, Option·some-ne-none}
 use Prim.Native.Nat.{ℕ, _+_, _≤_, _-_}
@@ -9,7 +10,7 @@ use Rattle.base_integers.specs.Meaning.Ranges.{outside}
 use Rattle.base_integers.specs.Meaning.Sums.{sumTo}
 use Rattle.base_integers.specs.Meaning.Machine.{SumsFit}
 use Rattle.base_integers.specs.Steps.Machine.{step, step-fits}
-use Rattle.base_measures.specs.Meaning.Limits as limits
+use Rattle.base_limits.specs.Meaning.Limits as limits
 use Rattle.base_measures.specs.Steps.Held.{grains-outside, grains-held}
 use Rattle.base_causes.specs.Meaning.Causes.{firstBelow}
 use Rattle.base_causes.specs.Promised.CauseLaws.{first-here, first-later, first-nowhere}
@@ -52,7 +53,7 @@ returns c =
       λ n. absurd (Option·some-ne-none _ n),
     )
 
--- this zone passed with those before it, so that the sum with it fits
+-- this zone passed with all before it, so the sum with it fits
 passed : (c : tie.After-enum-told Inv-loop μ-loop) → firstBelow (c .before .before .before .before .before .loop .z + 1) (λ k. outside limits.zonePrice (grainsAt (c .before .before .before .before .before .before .args .t2) k)) ≡ none
 passed c =
     let p = c .before .before in

@@ -1,4 +1,4 @@
--- The rent fits as far as the prices lie within their limits. Assumes nothing.
+-- The rent fits as long as the prices are within their limits. Assumes nothing.
 use mathlib.Core.Path.{_≡_}
 use mathlib.Core.List.{List}
 use mathlib.Core.Option.{none}
@@ -6,13 +6,13 @@ use Prim.Native.Nat.{ℕ, _≤_}
 use lib.IntN.{_*ℤ_}
 use Rattle.base_integers.specs.Meaning.Ranges.{outside}
 use Rattle.base_integers.specs.Meaning.Machine.{SumsFit}
-use Rattle.base_measures.specs.Meaning.Limits as limits
+use Rattle.base_limits.specs.Meaning.Limits as limits
 use Rattle.base_measures.specs.declared.Tenths.{Tenths}
 use Rattle.base_measures.specs.declared.Grains.{Grains}
 use Rattle.base_causes.specs.Meaning.Causes.{firstBelow}
 use Rattle.judge_clearing.specs.Meaning.TenthsHold.{tenthsAt}
 use Rattle.judge_network.specs.Meaning.Prices.{grainsAt}
 
--- of the first n zones, where none of their prices lies outside its limits
+-- for the first n zones, where none of their prices is outside its limits
 pub record RentFits (nets : List Tenths) (prices : List Grains) (zones : ℕ) : Type 0 where
   pub sums : (n : ℕ) → n ≤ zones → firstBelow n (λ z. outside limits.zonePrice (grainsAt prices z)) ≡ none → SumsFit (λ z. tenthsAt nets z *ℤ grainsAt prices z) n

@@ -1,4 +1,5 @@
--- `prog_common::numbers_there` meets its contract: of numbers that are too few the first are all. Assumes nothing.
+-- `prog_common::numbers_there` meets its contract: where there are too few numbers, the first ones are all.
+-- Assumes nothing.
 use mathlib.Core.Path.{refl, sym, _∙_}
 use native.Mathlib.Omega.{arith}
 use lib.Seq.{length-take-le, take-all, take-length}

@@ -1,4 +1,5 @@
--- `prog_common::print_hex` is safe and ends: the place stays in the bytes. The measure is the bytes left. Assumes nothing.
+-- `prog_common::print_hex` is safe and ends: the place stays in the bytes. The measure is the bytes left.
+-- Assumes nothing.
 use Prim.Native.Nat.{_-_, _≤_}
 use lib.ListN.{length}
 use borrow.Author.Needs.{needs}

@@ -1,4 +1,4 @@
--- `prog_common::there` meets its contract: of bytes that are too few the first n are all. Assumes nothing.
+-- `prog_common::there` meets its contract: where there are too few bytes, the first n are all. Assumes nothing.
 use mathlib.Core.Path.{refl, sym, _∙_}
 use native.Mathlib.Omega.{arith}
 use lib.Seq.{length-take-le, take-all, take-length}

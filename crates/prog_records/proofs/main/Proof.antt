@@ -1,4 +1,4 @@
--- `prog_records::main` is safe and ends: nothing has to hold from turn to turn; the measure is the turns left. Assumes nothing.
+-- `prog_records::main` is safe and ends: it needs no invariant; the measure is the turns left. Assumes nothing.
 use Prim.Native.Nat.{_-_}
 use borrow.Author.Needs.{needs}
 use Rattle.prog_records.proofs.main.Statement.{statement}

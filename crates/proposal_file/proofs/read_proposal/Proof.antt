@@ -1,4 +1,5 @@
--- `proposal_file::read_proposal` meets its contract: row 9 by the walk over the header, the others by its fields. Assumes nothing.
+-- `proposal_file::read_proposal` meets its contract: row 9 by the walk over the header, the others by its fields.
+-- Assumes nothing.
 use mathlib.Core.Path.{sym, ap, _∙_}
 use borrow.Author.Needs.{needs}
 use Rattle.base_causes.specs.Promised.CauseLaws.{field-fails, behind}

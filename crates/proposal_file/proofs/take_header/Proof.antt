@@ -1,4 +1,5 @@
--- `proposal_file::take_header` meets its contract: each field stands where the one before it ended, and the last ends at byte 13. Assumes nothing.
+-- `proposal_file::take_header` meets its contract: each field stands where the one before it ended, and the last
+-- ends at byte 13. Assumes nothing.
 use mathlib.Core.Path.{_≡_, sym, ap, _∙_}
 use mathlib.Core.Bool.{true, true≢false}
 use mathlib.Core.List.{List}
@@ -8,7 +9,7 @@ use borrow.Author.Needs.{needs}
 use borrow.Author.Tests.{lt-ltb, le-ltb}
 use lib.ListN.{length}
 use Rattle.base_integers.specs.Meaning.Ranges.{outside}
-use Rattle.base_measures.specs.Meaning.Limits as limits
+use Rattle.base_limits.specs.Meaning.Limits as limits
 use Rattle.base_measures.specs.Meaning.Held.{centsIn}
 use Rattle.base_measures.specs.Steps.Held.{cents-outside, cents-held}
 use Rattle.base_measures.specs.declared.Raw.{Raw}

@@ -1,4 +1,5 @@
--- `proposal_file::walk_number` meets its contract: the number stands within the file, so that it is not missing. Assumes nothing.
+-- `proposal_file::walk_number` meets its contract: the number is within the file, so it is not missing.
+-- Assumes nothing.
 use mathlib.Core.Path.{_≡_, ap, _∙_}
 use Prim.Native.Nat.{ℕ, _+_}
 use native.Mathlib.Omega.{arith}

@@ -1,5 +1,5 @@
--- `proposal_file::walk_numbers` meets its contract. The loop's invariant: the cursor stands past one number for each turn. The measure is what is left of
--- them. Assumes nothing.
+-- `proposal_file::walk_numbers` meets its contract. The loop's invariant: the cursor stands past one number for
+-- each turn. The measure is the numbers left. Assumes nothing.
 use mathlib.Core.Path.{_≡_, sym, ap, _∙_}
 use Prim.Native.Nat.{ℕ, _+_, _*_, _-_, _≤_, _<_}
 use native.Mathlib.Omega.{arith}

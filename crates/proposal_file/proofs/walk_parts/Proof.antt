@@ -1,4 +1,5 @@
--- `proposal_file::walk_parts` meets its contract: the shadow prices are walked from where the flows end. Assumes nothing.
+-- `proposal_file::walk_parts` meets its contract: the shadow prices are walked from where the flows end.
+-- Assumes nothing.
 use mathlib.Core.Path.{_≡_, sym, ap, _∙_}
 use Prim.Native.Nat.{ℕ, _+_, _*_}
 use native.Mathlib.Omega.{arith}

@@ -1,4 +1,5 @@
--- What reading a proposal for a readable case answers: the refusal by rows 9 to 14 of the verdict table, or the proposal's opening. Assumes nothing.
+-- What reading a proposal for a readable case answers: the refusal by rows 9 to 14 of the verdict table, or the
+-- proposal's opening. Assumes nothing.
 use mathlib.Core.Bool.{Bool, true, false}
 use mathlib.Core.List.{List}
 use mathlib.Core.Option.{Option, none, some}
@@ -28,7 +29,7 @@ proposalBy p none = answer.Sound p
 abbrev pub proposalAnswer : List ℕ → List ℕ → ProposalAnswer
 proposalAnswer s t = proposalBy (openingOf t) (proposalRefusal s t)
 
--- the header's fields as they stand in the file, and the cursor past them
+-- the header's fields in the file, and the cursor past them
 abbrev pub headerIn : List ℕ → Header
 headerIn t = record { mark = markAt t 0; version = proposalVersion t; share = shareIn t; system = record { 0 = systemIn t }; past = cursor proposalHeader }
 

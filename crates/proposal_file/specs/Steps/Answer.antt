@@ -1,4 +1,4 @@
--- A proposal's header read back, and that every 32 signed bits are a system price. Assumes nothing.
+-- What a proposal's header implies; any 32 signed bits are a system price. Assumes nothing.
 use mathlib.Core.Path.{_≡_, refl, ap}
 use mathlib.Core.Bool.{Bool, true, false, _||_}
 use mathlib.Core.List.{List}
@@ -11,7 +11,7 @@ use lib.IntN.{pos, negsuc}
 use mir.Syntax.{w32}
 use mir.Val.{sel, toZ}
 use Rattle.base_integers.specs.Meaning.Ranges.{outside}
-use Rattle.base_measures.specs.Meaning.Limits as limits
+use Rattle.base_limits.specs.Meaning.Limits as limits
 use Rattle.rules.specs.Meaning.Layout.{proposalHeader}
 use Rattle.base_causes.specs.declared.Outcome.{Outcome}
 use Rattle.base_causes.specs.Meaning.Causes.{verdict}
@@ -20,7 +20,7 @@ use Rattle.proposal_file.specs.declared.Header.{Header}
 use Rattle.proposal_file.specs.declared.HeaderField.the-variants as taken
 use Rattle.proposal_file.specs.Meaning.Answer.{headerIn, takenBy, headerTaken}
 
--- A HEADER READ BACK: taken where row 9 passes
+-- A HEADER IS TAKEN where row 9 passes
 pub header-taken : (t : List ℕ) {h : Header} → headerTaken t ≡ taken.Taken h → (proposalHeader ≤ length t) × (h ≡ headerIn t)
 header-taken t {h} e = by (length t under proposalHeader) refl e
   where
@@ -35,7 +35,7 @@ header-refused t {r} e = by (length t under proposalHeader) refl e
     by true q e = (q, cc)
     by false q e = (cc, cc)
 
--- EVERY 32 SIGNED BITS are a system price
+-- ANY 32 SIGNED BITS are a system price
 pub none-outside : (n : ℕ) → outside limits.systemPrice (toZ w32 n) ≡ false
 unfolding outside
 none-outside n = by (ltb n (2 ^ 31)) refl

@@ -1,5 +1,5 @@
--- A proposal that rows 9 to 14 pass, for a readable case: what the stages after reading require, and that its fields stand within the file.
--- Assumes nothing.
+-- A proposal that passes rows 9 to 14, for a readable case: what the stages after reading require; its fields are
+-- within the file. Assumes nothing.
 use mathlib.Core.Path.{_≡_, refl, ap, _∙_}
 use mathlib.Core.Bool.{Bool}
 use mathlib.Core.List.{List, [], _∷_}
@@ -10,7 +10,7 @@ use lib.ListN.{length}
 use lib.IntN.{pos}
 use Rattle.base_integers.specs.Meaning.Ranges.{outside, Within}
 use Rattle.base_integers.specs.Steps.Ranges.{within, nat-inside}
-use Rattle.base_measures.specs.Meaning.Limits as limits
+use Rattle.base_limits.specs.Meaning.Limits as limits
 use Rattle.rules.specs.Meaning.Layout.{u32At, proposalHeader, proposalVersion, proposalLength, branchesIn, shareIn, flowIn, shadowAt, shadowIn}
 use Rattle.rules.specs.Meaning.Hour.{caseOf, planOf, pricesOf}
 use Rattle.base_causes.specs.declared.Outcome.{Outcome}
@@ -25,7 +25,7 @@ use Rattle.proposal_file.specs.declared.ProposalAnswer.the-variants as a
 use Rattle.proposal_file.specs.Meaning.Answer.{openingOf, proposalBy, proposalAnswer}
 use Rattle.proposal_file.specs.Meaning.ProposalValid.{ProposalValid}
 
--- where the n-th number after the header stands, and the length demanded, by the case's counts
+-- where number n after the header stands, and the length demanded, from the case's counts
 abbrev pub numberStart : ℕ → ℕ
 numberStart n = proposalHeader + 4 * n
 
@@ -39,7 +39,7 @@ badShadow s t m = outside limits.shadowPrice (pos (shadowIn s t m))
 abbrev pub shadowCause : List ℕ → List ℕ → Cause
 shadowCause s t = eachAt 14 (branchesIn s) (badShadow s t) (shadowAt s)
 
--- AN ANSWER READ BACK
+-- WHAT AN ANSWER IMPLIES
 pub opening-is : (s t : List ℕ) {p : ProposalOpening} → proposalAnswer s t ≡ answer.Sound p → p ≡ openingOf t
 opening-is s t {p} e = by (proposalRefusal s t) e
   where
@@ -76,7 +76,7 @@ pub rows-are : (s t : List ℕ) → proposalRefusal s t ≡ refusal (rowsOf s t)
 unfolding proposalRefusal proposalCauses caseOf planOf pricesOf
 rows-are s t = refl
 
--- WHERE SHADOW PRICES STAND: one begins where the one before ends, and the proposal ends where the last ends
+-- WHERE SHADOW PRICES STAND: each begins where the one before ends, and the proposal ends where the last ends
 pub shadow-next : (s : List ℕ) (m : ℕ) → shadowAt s m + 4 ≡ shadowAt s (m + 1)
 unfolding shadowAt
 shadow-next s m = omega arith

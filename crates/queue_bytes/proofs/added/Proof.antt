@@ -1,4 +1,4 @@
--- `queue_bytes::added` meets its contract: hours that may be added to are fewer than 25. Assumes nothing.
+-- `queue_bytes::added` meets its contract: where an hour may be added there are fewer than 25. Assumes nothing.
 use native.Mathlib.Omega.{arith}
 use Rattle.queue_bytes.specs.Steps.Cells.{addable-room, added-is}
 use Rattle.queue_bytes.proofs.added.Statement.{statement}

@@ -1,4 +1,5 @@
--- `queue_bytes::counts` meets its contract: the cell is free, over 25, or looked for among the others. Assumes nothing.
+-- `queue_bytes::counts` meets its contract: the cell is free, over 25, or looked up among the others.
+-- Assumes nothing.
 use mathlib.Core.Path.{ap, _∙_}
 use mathlib.Core.Bool.{not}
 use native.Mathlib.Omega.{arith}

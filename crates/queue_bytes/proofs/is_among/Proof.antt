@@ -1,5 +1,5 @@
--- `queue_bytes::is_among` meets its contract. The loop's invariant: the cell is among the cells just when it was found or is among those from `i` on.
--- Assumes nothing.
+-- `queue_bytes::is_among` meets its contract. The loop's invariant: the cell is among the cells if and only if it
+-- was found or is among those from `i` on. Assumes nothing.
 use mathlib.Core.Path.{_≡_, refl, sym, ap, _∙_}
 use mathlib.Core.Bool.{Bool, _||_, or-assoc, or-false}
 use Prim.Native.Nat.{_≤_, _-_, _+_}

@@ -1,4 +1,5 @@
--- `queue_bytes::moved_up` meets its contract. The loop's invariant: the first `i` cells are those from 1 on, the others are free. Assumes nothing.
+-- `queue_bytes::moved_up` meets its contract. The loop's invariant: the first `i` cells are those from 1 on, the
+-- others are free. Assumes nothing.
 use mathlib.Core.Path.{_≡_, _∙_}
 use Prim.Native.Nat.{_≤_, _-_}
 use native.Mathlib.Omega.{arith}

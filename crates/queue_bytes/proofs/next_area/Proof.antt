@@ -1,4 +1,5 @@
--- `queue_bytes::next_area` meets its contract. The loop's invariant: the next serve takes what is found from the k-th area in turn on. Assumes nothing.
+-- `queue_bytes::next_area` meets its contract. The loop's invariant: the next serve takes what is found from area k
+-- in turn on. Assumes nothing.
 use mathlib.Core.Path.{subst}
 use Prim.Native.Nat.{_≤_, _<_, _-_}
 use native.Mathlib.Omega.{arith}

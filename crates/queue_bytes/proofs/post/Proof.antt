@@ -1,4 +1,5 @@
--- `queue_bytes::post` meets its contract: a refused post leaves the bytes, and the bytes afterwards mean the queue afterwards. Assumes nothing.
+-- `queue_bytes::post` meets its contract: a refused post leaves the bytes, and the bytes afterwards mean the queue
+-- afterwards. Assumes nothing.
 use mathlib.Core.Path.{ap, _∙_, subst}
 use Prim.Native.Nat.{ℕ, _<_}
 use borrow.Author.Needs.{needs}

@@ -1,4 +1,4 @@
--- `queue_bytes::post_bytes` meets its contract: each refusal in its order, and else the hour added. Assumes nothing.
+-- `queue_bytes::post_bytes` meets its contract: each refusal in its order, else the hour is added. Assumes nothing.
 use mathlib.Core.Path.{_≡_, sym, _∙_}
 use borrow.Author.Needs.{needs}
 use borrow.Kind.Array.{eInt, good-length}
@@ -14,7 +14,7 @@ use Rattle.queue_bytes.proofs.post_bytes.Tie as tie
 size : (s : tie.Start) → length (s .args .bytes) ≡ 101
 size s = good-length (eInt w8) 101 (s .args .bytes) _ (s .good .0)
 
--- whether the hour waits already, as the cells say it
+-- whether the hour waits already, by the cells
 waits : (c : tie.After-is-among) → let w = c .before .before in let a = w .before .before .before .args in among (a .hour) (hoursAt (a .bytes) (a .area)) ≡ c .is-among .result
 waits c =
     let w = c .before .before in

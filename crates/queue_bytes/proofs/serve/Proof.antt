@@ -1,4 +1,5 @@
--- `queue_bytes::serve` meets its contract: a serve that finds nothing leaves the bytes, and the bytes afterwards mean the queue afterwards. Assumes nothing.
+-- `queue_bytes::serve` meets its contract: a serve that finds nothing leaves the bytes, and the bytes afterwards
+-- mean the queue afterwards. Assumes nothing.
 use mathlib.Core.Path.{ap, _∙_, subst}
 use Prim.Native.Nat.{_<_}
 use borrow.Author.Needs.{needs}

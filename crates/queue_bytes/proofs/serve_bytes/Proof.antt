@@ -1,4 +1,5 @@
--- `queue_bytes::serve_bytes` meets its contract: nothing found, or the first hour of the area found taken out. Assumes nothing.
+-- `queue_bytes::serve_bytes` meets its contract: nothing is found, or the first hour of the found area is taken
+-- out. Assumes nothing.
 use mathlib.Core.Path.{_∙_}
 use native.Mathlib.Omega.{arith}
 use lib.ListN.{getD}

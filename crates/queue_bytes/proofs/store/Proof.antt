@@ -1,4 +1,5 @@
--- `queue_bytes::store` meets its contract. The loop's invariant: the area's first `i` cells are replaced. Assumes nothing.
+-- `queue_bytes::store` meets its contract. The loop's invariant: the area's first `i` cells are replaced.
+-- Assumes nothing.
 use mathlib.Core.Path.{_≡_, ap, _∙_}
 use mathlib.Core.List.{List}
 use Prim.Native.Nat.{ℕ, _+_, _≤_, _*_, _-_}

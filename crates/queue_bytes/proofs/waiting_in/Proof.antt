@@ -1,4 +1,5 @@
--- `queue_bytes::waiting_in` meets its contract. The loop's invariant: `cells` and `count` hold the hours in the area's first `i` cells. Assumes nothing.
+-- `queue_bytes::waiting_in` meets its contract. The loop's invariant: `cells` and `count` hold the hours in the
+-- area's first `i` cells. Assumes nothing.
 use mathlib.Core.Path.{_≡_, sym, ap, _∙_}
 use Prim.Native.Nat.{_≤_, _-_}
 use native.Mathlib.Omega.{arith}

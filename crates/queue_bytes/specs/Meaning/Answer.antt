@@ -1,4 +1,4 @@
--- What a serve answers, in the fields that the host is given. Assumes nothing.
+-- What a serve answers, in the fields that the host gets. Assumes nothing.
 use Rattle.queue_turns.specs.Meaning.Queue.{ServeAnswer}
 use Rattle.queue_bytes.specs.declared.Served.{Served}
 

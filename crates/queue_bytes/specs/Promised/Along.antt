@@ -1,6 +1,6 @@
--- WHAT THE CALLS ANSWER along any run of posts and serves on 101 zero bytes. An area with more hours taken than served
--- is answered by one of the next four serves, and an hour that was taken by one of the next hundred, whatever else is
--- posted. `fair` at the end is the theorem. Assumes nothing.
+-- WHAT THE CALLS ANSWER along any run of posts and serves on 101 zero bytes. If an area has more hours taken than
+-- served, one of the next four serves answers with it; if an hour was taken, one of the next hundred serves answers
+-- with it, whatever else is posted. `fair` at the end is the theorem. Assumes nothing.
 use mathlib.Core.Path.{_≡_, refl, sym, ap, _∙_, subst}
 use mathlib.Core.Bool.{Bool, true, false, cond, _&&_}
 use mathlib.Core.List.{List, [], _∷_, _++_, map}
@@ -21,8 +21,8 @@ use Rattle.queue_bytes.specs.Meaning.Bytes.{hoursIn, cellsAt, hoursAt, q
 use Rattle.queue_bytes.specs.Promised.Calls.{from-zeros}
 use Rattle.queue_bytes.specs.Steps.ReadBack.{post-means, serve-means, length-post, length-serve, zeros-empty}
 
--- THE ANSWERS of the serves among some calls: each as the clause [answer] of `lta_queue_serve` says, with the bytes
--- changed as the clauses [bytes] of both entries say
+-- THE ANSWERS of the serves among some calls: each by the clause [answer] of `lta_queue_serve`, with the bytes
+-- changed by the clauses [bytes] of both entries
 unfoldable pub answers : List Event → List ℕ → List Served
 answers [] bytes = []
 answers (post a h ∷ run) bytes = answers run (bytesAfterPost a h bytes)
@@ -37,7 +37,7 @@ nothing = record { number = 64; index = 0; area = 0; hour = 0 }
 abbrev pub zeros : List ℕ
 zeros = replicate 101 0
 
--- of area a: the posts that were answered 0, and the serves that answered with it
+-- for area a: the posts that were answered 0, and the serves that answered with it
 abbrev pub one : Bool → ℕ
 one true = 1
 one false = 0
@@ -117,7 +117,7 @@ module _ (earlier later : List Event) where
   full : length bytes ≡ 101
   full = length-after earlier zeros refl
 
-  -- what waits is what was taken and not served
+  -- the hours that wait are those taken and not served
   pub taken-less-served : (a : ℕ) → takenOf a earlier zeros ≡ servedOf a (answers earlier zeros) + length (queueOf bytes .waiting a)
   unfolding servedIn
   taken-less-served a =
@@ -158,7 +158,7 @@ later-answers [] later bytes = refl
 later-answers (post a h ∷ earlier) later bytes = later-answers earlier later (bytesAfterPost a h bytes)
 later-answers (serve ∷ earlier) later bytes = later-answers earlier later (bytesAfterServe bytes)
 
--- THE THEOREM, of the answers of one run of calls on zeros: earlier calls, and later ones
+-- THE THEOREM on the answers of one run of calls on zeros: earlier calls, and later ones
 pub record Fair (earlier later : List Event) : Type 0 where
   pub within-four : (a : ℕ) → servedOf a (answers earlier zeros) < takenOf a earlier zeros → 4 ≤ serves later → AreaAnsweredWithin 4 a (drop (serves earlier) (answers (earlier ++ later) zeros))
   pub within-hundred : (a h : ℕ) → postNumber a h (queueOf (bytesAfter earlier zeros)) ≡ 0 → 100 ≤ serves later → AnsweredWithin 100 a h (drop (serves earlier) (answers (earlier ++ (post a h ∷ later)) zeros))

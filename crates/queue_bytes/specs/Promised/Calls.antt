@@ -1,6 +1,7 @@
--- CALLS ON THE BYTES, one after the other as the host makes them. Bytes that are all zero, changed by the two entries alone as their clauses [bytes] say, mean
--- the queue that the run leads to, so that what `queue_turns` promises of runs holds of the host's calls. Both bounds hold from any 101 bytes too, also such
--- as no call left. Assumes nothing.
+-- CALLS ON THE BYTES, in the order in which the host makes them. Bytes that are all zero, changed only by the two
+-- entries as their clauses [bytes] say, mean the queue that the run leads to. So what `queue_turns` promises of
+-- runs holds of the host's calls. Both bounds also hold from any 101 bytes, even such as no call left.
+-- Assumes nothing.
 use mathlib.Core.Path.{_≡_, refl, ap, _∙_}
 use mathlib.Core.Logic.{_⊎_, ⊎-elim}
 use mathlib.Core.List.{List, [], _∷_, _++_}
@@ -15,14 +16,14 @@ use Rattle.queue_turns.specs.Steps.Fairness.{area-served, hour-served}
 use Rattle.queue_bytes.specs.Meaning.Bytes.{hoursAt, queueOf, bytesUnless, bytesAfterPost, bytesAfterServe, bytesAfter}
 use Rattle.queue_bytes.specs.Steps.ReadBack.{outside, post-means, serve-means, length-post, length-serve, zeros-empty, good-bytes}
 
--- the queue that the bytes are after some calls
+-- the queue of the bytes after some calls
 pub calls-mean : (run : List Event) (bytes : List ℕ) → length bytes ≡ 101 → queueOf (bytesAfter run bytes) ≡ after run (queueOf bytes)
 unfolding bytesAfter after step
 calls-mean [] bytes len = refl
 calls-mean (post a h ∷ run) bytes len = calls-mean run (bytesAfterPost a h bytes) (length-post a h bytes len) ∙ ap (after run) (post-means a h bytes len)
 calls-mean (serve ∷ run) bytes len = calls-mean run (bytesAfterServe bytes) (length-serve bytes len) ∙ ap (after run) (serve-means bytes len)
 
--- and from zeros on: the queue, what a further post and a further serve answer
+-- from zeros on: the queue, and what a further post and a further serve answer
 pub from-zeros : (run : List Event) → queueOf (bytesAfter run (replicate 101 0)) ≡ after run empty
 from-zeros run = calls-mean run (replicate 101 0) refl ∙ ap (after run) zeros-empty
 
@@ -32,7 +33,7 @@ posts-answer run a h = ap (postNumber a h) (from-zeros run)
 pub serves-answer : (run : List Event) → serveAnswer (queueOf (bytesAfter run (replicate 101 0))) ≡ serveAnswer (after run empty)
 serves-answer run = ap serveAnswer (from-zeros run)
 
--- a post changes no byte but its area's
+-- a post changes no byte outside its area
 pub post-elsewhere : (a h : ℕ) (b : List ℕ) → length b ≡ 101 → (i : ℕ) → (i < 25 * a) ⊎ (25 * a + 25 ≤ i) → getD (bytesAfterPost a h b) i 0 ≡ getD b i 0
 unfolding bytesAfterPost
 post-elsewhere a h b len i out = ⊎-elim

@@ -1,6 +1,6 @@
--- S-8 IN PLAIN BYTES, both ways and of any bytes: what a post answers, and what a serve answers. A byte is
--- `getD bytes k 0`, the number at place k of the 101, counted from 0. Area a has the 25 bytes from 25 a on, and an hour
--- stands there as the hour plus 1; byte 100 says whose turn it is. Assumes nothing.
+-- S-8 IN PLAIN BYTES, both ways and for any bytes: what a post answers, and what a serve answers. `getD bytes k 0`
+-- is the byte at place k of the 101, counted from 0. Area a has the 25 bytes from 25 a on, and an hour stands there
+-- as the hour plus 1; byte 100 says whose turn it is. Assumes nothing.
 use mathlib.Core.Path.{_≡_, refl, sym, ap, subst, _∙_}
 use mathlib.Core.Logic.{_↔_, _⊎_, ⊎-elim, inl, inr}
 use mathlib.Core.Bool.{Bool, true, false, cond, true≢false}
@@ -34,7 +34,7 @@ pub record PostNumbers (bytes : List ℕ) (a h n : ℕ) : Type 0 where
   pub gives-63 : (n ≡ 63) ↔ ((a ≤ 3) × (h ≤ 24) × Waits bytes a h)
   pub gives-0 : (n ≡ 0) ↔ ((a ≤ 3) × (h ≤ 24) × (Waits bytes a h → ⊥))
 
--- a byte of an area that says nothing: 0, or over 25
+-- a free byte of an area: 0, or over 25
 abbrev pub Free : ℕ → Type 0
 Free byte = (byte ≡ 0) ⊎ (25 < byte)
 
@@ -46,7 +46,7 @@ pub record FirstHour (bytes : List ℕ) (a h : ℕ) : Type 0 where
   pub hour-in : h ≤ 24
   pub free-before : (k : ℕ) → k < place → Free (getD bytes (25 * a + k) 0)
 
--- WHAT A SERVE TAKES: in turn from the area that byte 100 names, modulo 4, the first that has an hour, and its first
+-- WHAT A SERVE TAKES: the first area with an hour, in turn from the area in byte 100, modulo 4, and its first hour
 pub record Takes (bytes : List ℕ) (a h : ℕ) : Type 0 where
   pub ahead : ℕ
   pub ahead-in : ahead < 4
@@ -54,7 +54,7 @@ pub record Takes (bytes : List ℕ) (a h : ℕ) : Type 0 where
   pub none-before : (j : ℕ) → j < ahead → (k : ℕ) → k < 25 → Free (getD bytes (25 * ((getD bytes 100 0 + j) % 4) + k) 0)
   pub first-hour : FirstHour bytes a h
 
--- AND WHAT IT ANSWERS: 64 if and only if the 100 bytes of the areas are free
+-- WHAT IT ANSWERS: 64 if and only if the 100 bytes of the areas are free
 pub record ServeAnswers (bytes : List ℕ) (r : Served) : Type 0 where
   pub gives-64 : (r .number ≡ 64) ↔ ((k : ℕ) → k < 100 → Free (getD bytes k 0))
   pub gives-0 : (a h : ℕ) → (r ≡ served a h) ↔ Takes bytes a h

@@ -1,5 +1,5 @@
--- WHICH BYTE HOLDS WHAT, after any calls on 101 zeros: the hours that wait in area a stand from byte 25 a on in the
--- order posted, each plus 1, and zeros behind them; byte 100 is the area whose turn it is. Assumes nothing.
+-- WHICH BYTE HOLDS WHAT, after any calls on 101 zeros. The hours that wait in area a stand from byte 25 a on in the
+-- order posted, each plus 1, then zeros. Byte 100 is the area whose turn it is. Assumes nothing.
 use mathlib.Core.Path.{_≡_, sym, ap, subst, _∙_}
 use mathlib.Core.List.{List}
 use Prim.Native.Nat.{ℕ, _+_, _*_, _≤_, _<_}

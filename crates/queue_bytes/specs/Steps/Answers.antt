@@ -1,5 +1,5 @@
--- What the code answers and leaves, against the definitions: a refused post, one that is taken, a serve that finds nothing, and one that takes an hour.
--- Assumes nothing.
+-- What the code answers and leaves, against the definitions: a refused post, one that is taken, a serve that finds
+-- nothing, and one that takes an hour. Assumes nothing.
 use mathlib.Core.Path.{_≡_, refl, sym, ap, _∙_, subst}
 use mathlib.Core.Bool.{true, false}
 use mathlib.Core.Logic.{⊎-elim}
@@ -29,7 +29,7 @@ module _ (a h : ℕ) (b : List ℕ) where
   unfolding bytesAfterPost
   bytes-by o e = sym (ap (λ (x : Option Outcome). bytesUnless x a h b) e)
 
-  -- WHAT A POST LEAVES of 101 bytes, and its number
+  -- THE 101 BYTES AFTER A POST, and its number
   pub record PostStep (r : AfterPost) : Type 0 where
     pub number-is : r .number ≡ postNumber a h (queueOf b)
     pub bytes-are : r .bytes ≡ bytesAfterPost a h b
@@ -68,7 +68,7 @@ module _ (b : List ℕ) where
   unfolding queueOf
   first-of p e = next-heads (queueOf b) p e
 
-  -- WHAT A SERVE LEAVES of 101 bytes, and its answer
+  -- THE 101 BYTES AFTER A SERVE, and its answer
   pub record ServeStep (r : AfterServe) : Type 0 where
     pub answer-is : r .answer ≡ given (serveAnswer (queueOf b))
     pub bytes-are : r .bytes ≡ bytesAfterServe b
@@ -81,7 +81,7 @@ module _ (b : List ℕ) where
       by none e = let r = serving-by none e in record { answer-is = r .0; bytes-are = r .1; size = size }
       by (some p) e = absurd (area-none (next (queueOf b)) (subst (λ (x : ℕ). 3 < x) f l) p (first-of p e .area-in) e)
 
-  -- what the area found has waiting, and what it then leaves
+  -- what waits in the found area, and what then is left
   pub record Taking (a : ℕ) : Type 0 where
     pub hour : ℕ
     pub rest : List ℕ

@@ -1,4 +1,5 @@
--- One area's hours as the code holds them: 25 cells and how many are taken. What adding an hour and removing the first do to the cells. Assumes nothing.
+-- One area's hours in the code: 25 cells and how many are taken. What adding an hour and removing the first do to
+-- the cells. Assumes nothing.
 use mathlib.Core.Path.{_≡_, refl, sym, ap, _∙_, subst}
 use mathlib.Core.Bool.{Bool, true, false, cond, not, _&&_, _||_}
 use mathlib.Core.List.{List, [], _∷_, _++_, map, append-assoc}
@@ -76,7 +77,7 @@ cells-less h l few =
     more : suc (25 - suc (length l)) ≡ 25 - length l
     more = omega arith
 
--- a cell is among the cells just when its hour is among the hours
+-- a cell is among the cells if and only if its hour is among the hours
 pub among-cells : (l : List ℕ) (c : ℕ) → 0 < c → among c (cellsOf l) ≡ among (c - 1) l
 unfolding cellsOf among
 among-cells l c above = go l (25 - length l)
@@ -125,7 +126,7 @@ added-is w c hours p e =
     ap (λ (v : Waiting). record { cells = set (v .cells) (v .count) c; count = v .count + 1 }) e
     ∙ (λ i. record { cells = cells-more hours c few (p .new .above) i; count = longer i })
 
--- whether a cell counts behind others: it holds an hour, and none of them the same
+-- whether a cell counts after others: it holds an hour, and none of them holds the same
 unfoldable pub countsBehind : List ℕ → ℕ → Bool
 countsBehind cells c = ltb 0 c && (ltb c 26 && not (among c cells))
 
@@ -146,7 +147,7 @@ module _ (cells : List ℕ) (c : ℕ) where
       (ap (λ (b : Bool). b && (ltb c 26 && not (among c cells))) (lt-ltb 0 c p)
       ∙ ap (λ (b : Bool). b && not (among c cells)) (lt-ltb c 26 (omega arith)))
 
--- behind the cells of some hours, a cell counts just when its hour is new to them
+-- after the cells of some hours, a cell counts if and only if its hour is new
 pub counts-new : (hours : List ℕ) (c : ℕ) → countsBehind (cellsOf hours) c ≡ isNew hours c
 unfolding countsBehind isNew
 counts-new hours c = by (decLt 0 c)
@@ -157,7 +158,7 @@ counts-new hours c = by (decLt 0 c)
         let free : ltb 0 c ≡ false = le-ltb 0 c (omega arith) in
         ap (λ (b : Bool). b && (ltb c 26 && not (among c (cellsOf hours)))) free ∙ sym (ap (λ (b : Bool). b && (ltb c 26 && not (among (c - 1) hours))) free)
 
--- the hours with what one more cell says, where it counts and where it does not
+-- the hours with one more cell, where it counts and where it does not
 module _ (w : Waiting) (c : ℕ) (hours : List ℕ) (good : Hours hours) (e : w ≡ waitingOf hours) where
   is-new-by : (x : Bool) → countsBehind (w .cells) c ≡ x → isNew hours c ≡ x
   is-new-by x f = sym (ap (λ (v : Waiting). countsBehind (v .cells) c) e ∙ counts-new hours c) ∙ f
@@ -172,7 +173,7 @@ module _ (w : Waiting) (c : ℕ) (hours : List ℕ) (good : Hours hours) (e : w 
   pub kept-same : countsBehind (w .cells) c ≡ false → w ≡ waitingOf (keep hours c)
   kept-same f = e ∙ ap (λ (b : Bool). waitingOf (cond b (hours ++ ((c - 1) ∷ [])) hours)) (sym (is-new-by false f))
 
--- whether a cell is among the cells of hours, as the hour that it stands for
+-- whether a cell is among the cells of hours, by the hour that it stands for
 pub among-of : (w : Waiting) (c : ℕ) (hours : List ℕ) → 0 < c → w ≡ waitingOf hours → among c (w .cells) ≡ among (c - 1) hours
 among-of w c hours p e = ap (λ (v : Waiting). among c (v .cells)) e ∙ among-cells hours c p
 

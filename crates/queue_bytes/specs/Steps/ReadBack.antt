@@ -1,4 +1,5 @@
--- WHAT IS WRITTEN IS READ BACK. What the bytes afterwards mean: the queue after the post or the serve. And any bytes mean a good queue. Assumes nothing.
+-- WHAT IS WRITTEN IS READ BACK: the bytes afterwards mean the queue after the post or the serve. And any bytes mean
+-- a good queue. Assumes nothing.
 use mathlib.Core.Path.{_≡_, refl, sym, ap, _∙_, subst, fun-ext}
 use mathlib.Core.Bool.{Bool, true, false, cond, not, _&&_, _||_, false≢true}
 use mathlib.Core.Logic.{_⊎_, inl, inr, ⊎-elim, _≢_}
@@ -68,13 +69,12 @@ good-bytes bytes = record { turn-in = omega arith; hours = λ a. by a (ltb a 4) 
     by a true = hours-in (cellsAt bytes a)
     by a false = nothing
 
--- one cell more
 pub keep-more : (cells hours : List ℕ) (c : ℕ) → keepAll hours (cells ++ (c ∷ [])) ≡ keep (keepAll hours cells) c
 unfolding keepAll
 keep-more [] hours c = refl
 keep-more (d ∷ cells) hours c = keep-more cells (keep hours d) c
 
--- free cells say nothing
+-- free cells add nothing
 keep-free : (n : ℕ) (hours : List ℕ) → keepAll hours (replicate n 0) ≡ hours
 unfolding keepAll isNew
 keep-free zero hours = refl

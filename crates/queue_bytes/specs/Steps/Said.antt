@@ -1,4 +1,4 @@
--- WHAT SOME CELLS SAY: which hours, and which first; and what a walk over areas in turn finds. Assumes nothing.
+-- THE HOURS OF SOME CELLS: which, and which is first; and what a walk over areas in turn finds. Assumes nothing.
 use mathlib.Core.Path.{_≡_, refl, sym, ap, _∙_}
 use mathlib.Core.Logic.{_⊎_, inl, inr, ⊎-elim}
 use mathlib.Core.Bool.{Bool, true, false, cond, _&&_, _||_, true≢false}
@@ -26,7 +26,7 @@ or-assoc : (a b c : Bool) → ((a || b) || c) ≡ (a || (b || c))
 or-assoc true b c = refl
 or-assoc false b c = refl
 
--- ---- an hour is among those that some cells say if and only if a cell says it
+-- ---- an hour is among those of some cells if and only if a cell holds it
 among-append : (x h : ℕ) (l : List ℕ) → among x (l ++ (h ∷ [])) ≡ (among x l || eqb h x)
 unfolding among
 among-append x h [] = or-false (eqb h x)
@@ -68,7 +68,7 @@ keep-all-among h (c ∷ cells) hours small =
     ∙ ap (λ (b : Bool). b || among (h + 1) cells) (keep-among h c hours small)
     ∙ or-assoc (among h hours) (eqb c (h + 1)) (among (h + 1) cells)
 
--- a number among some is at a place of theirs, and back
+-- a number is among some if and only if it is at one of their places
 pub among-place : (x : ℕ) (l : List ℕ) → among x l ≡ true → (k : ℕ) × (k < length l) × (getD l k 0 ≡ x)
 unfolding among
 among-place x [] e = absurd (true≢false (sym e))
@@ -84,7 +84,7 @@ place-among x [] k p e = absurd (omega (arith, p, e))
 place-among x (y ∷ l) zero p e = ap (λ (b : Bool). b || among x l) (eq-eqb y x e)
 place-among x (y ∷ l) (suc k) p e = ap (λ (b : Bool). eqb y x || b) (place-among x l k p e) ∙ or-true (eqb y x)
 
--- ---- the first hour that some cells say. A cell that says nothing: 0, or over 25
+-- ---- the first hour of some cells. A free cell: 0, or over 25
 abbrev pub Free : ℕ → Type 0
 Free byte = (byte ≡ 0) ⊎ (25 < byte)
 
@@ -139,7 +139,7 @@ say : (h : ℕ) → h ≤ 24 → keep [] (h + 1) ≡ h ∷ []
 unfolding among
 say h l = ap (λ (b : Bool). cond b ((h + 1 - 1) ∷ []) []) (is-new [] (h + 1) (record { above = omega arith; below = omega (arith, l); new = refl })) ∙ ap (λ (k : ℕ). k ∷ []) (omega arith)
 
--- what was said first stays first
+-- the first hour stays first
 stays : (cells l : List ℕ) (x : ℕ) → (rest : List ℕ) × (keepAll (x ∷ l) cells ≡ x ∷ rest)
 unfolding keepAll
 stays [] l x = (l, refl)

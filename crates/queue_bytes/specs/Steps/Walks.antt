@@ -48,12 +48,12 @@ module _ (bytes : List ℕ) (area : ℕ) where
       ∙ ap hoursIn (take-all 25 (cellsAt bytes area) (omega (arith, length-cells-at bytes area len l)))
       ∙ sym (ap (λ (x : Bool). cond x (hoursIn (cellsAt bytes area)) []) (lt-ltb area 4 l))
 
--- the area of what a serve takes, 4 where it finds nothing
+-- the area that a serve takes, 4 where it finds nothing
 abbrev pub areaOf : Option Pair → ℕ
 areaOf none = 4
 areaOf (some p) = p .area
 
--- ---- the areas in turn: the next serve takes what is found from the k-th on
+-- ---- the areas in turn: the next serve takes what is found from area k in turn on
 
 module _ (bytes : List ℕ) where
   unfoldable pub NextFrom : ℕ → Type 0

@@ -1,4 +1,5 @@
--- THE DESK QUEUE of request S-8: four areas post hours, and a serve takes one. What a post and a serve answer, and what they leave. Assumes nothing.
+-- THE DESK QUEUE of request S-8: four areas post hours, and a serve takes one. What a post and a serve answer, and
+-- the queue after them. Assumes nothing.
 use mathlib.Core.Bool.{Bool, true, false, cond, _||_}
 use mathlib.Core.List.{List, [], _∷_, _++_, tail}
 use mathlib.Core.Option.{Option, none, some}
@@ -7,7 +8,8 @@ use lib.Dec.{eqb, ltb}
 use Rattle.base_causes.specs.declared.Outcome.{Outcome}
 use Rattle.base_causes.specs.Meaning.Causes.{Cause, once, refusal, answer}
 
--- the hours that wait in each area, the earliest posted first; and the area whose turn it is: the one after the area last served, 0 before any was served
+-- the hours that wait in each area, the earliest posted first; and the area whose turn it is: the one after the
+-- area last served, 0 before any was served
 pub record Queue : Type 0 where
   pub waiting : ℕ → List ℕ
   pub turn : ℕ
@@ -20,11 +22,12 @@ unfoldable pub among : ℕ → List ℕ → Bool
 among h [] = false
 among h (x ∷ xs) = eqb x h || among h xs
 
--- every area's hours, with area a given these
+-- the hours of every area, with these for area a
 abbrev pub put : ℕ → List ℕ → (ℕ → List ℕ) → ℕ → List ℕ
 put a hours w b = cond (eqb b a) hours (w b)
 
--- A POST of an area and an hour: "61 when the area is over 3, 62 when the hour is over 24, 63 when that area has it waiting already", in that order
+-- A POST of an area and an hour: "61 when the area is over 3, 62 when the hour is over 24, 63 when that area has it
+-- waiting already", in that order
 unfoldable pub postCauses : ℕ → ℕ → Queue → List Cause
 postCauses a h q = once 61 (ltb 3 a) ∷ once 62 (ltb 24 h) ∷ once 63 (among h (q .waiting a)) ∷ []
 
@@ -63,7 +66,8 @@ unfoldable pub firstWaiting : (ℕ → List ℕ) → List ℕ → Option Pair
 firstWaiting w [] = none
 firstWaiting w (a ∷ areas) = earliestElse a (w a) (firstWaiting w areas)
 
--- A SERVE "takes the next area in turn after the one last served (area 0 first of all) that has an hour waiting, and its earliest posted"
+-- A SERVE "takes the next area in turn after the one last served (area 0 first of all) that has an hour waiting,
+-- and its earliest posted"
 unfoldable pub next : Queue → Option Pair
 next q = firstWaiting (q .waiting) (inTurn 4 (q .turn))
 

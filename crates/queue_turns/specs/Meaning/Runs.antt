@@ -1,4 +1,4 @@
--- RUNS: posts and serves one after the other, refused ones too, and what is said of them. Assumes nothing.
+-- RUNS: sequences of posts and serves, including refused ones, and notions about them. Assumes nothing.
 use mathlib.Core.Path.{_≡_}
 use mathlib.Core.Bool.{cond, _&&_}
 use mathlib.Core.List.{List, [], _∷_}
@@ -33,7 +33,7 @@ servings [] q = []
 servings (post a h ∷ run) q = servings run (step (post a h) q)
 servings (serve ∷ run) q = next q ∷ servings run (step serve q)
 
--- the area whose turn it is after some serves, t before them: the one after the area last served
+-- the area whose turn it is after some serves, with t before them: the one after the area last served
 unfoldable pub turnAfter : ℕ → List (Option Pair) → ℕ
 turnAfter t [] = t
 turnAfter t (none ∷ rest) = turnAfter t rest

@@ -1,5 +1,5 @@
--- The numbers in the order asked, that a refusal is given for its cause and for no other and leaves the queue unchanged, and each number in plain words; of
--- any queue, reached by a run or not. Assumes nothing.
+-- The numbers in the order asked; a refusal is given for its own cause and no other and leaves the queue unchanged;
+-- each number in plain terms. All this holds for any queue, reached by a run or not. Assumes nothing.
 use mathlib.Core.Path.{_≡_, refl}
 use mathlib.Core.Bool.{true, false}
 use mathlib.Core.Logic.{⊎-elim}
@@ -29,11 +29,11 @@ module _ (a h : ℕ) (q : Queue) where
   unfolding postCauses lacks
   post-answers = answered rows tt
 
-  -- a cause that holds, in row j, is not asked before the answer's
+  -- if a cause holds, in row j, it is not asked before the answer's
   pub post-first : (j k : ℕ) → k < (getD rows j empty) .places → T ((getD rows j empty) .fails k) → Soonest rows (answer (refusal rows)) j k
   post-first j k l f = soonest rows j k l f
 
-  -- in plain words: one of these four holds of every post
+  -- in plain terms: exactly one of these four applies to a post
   pub is-61 : 3 < a → postNumber a h q ≡ 61
   is-61 p = number-by a h q (some (verdict 61 0)) (refused-61 a h q p)
 
@@ -62,7 +62,7 @@ module _ (q : Queue) where
   unfolding serveAnswer serveCauses lacks
   serve-answers = answered (serveCauses q) tt
 
-  -- what a serve finds is what it answers
+  -- a serve answers what it finds
   pub serve-finds : (p : Pair) → next q ≡ some p → serveAnswer q ≡ record { number = 0; index = 0; area = p .area; hour = p .hour }
   serve-finds p e = answer-by q (some p) e
 

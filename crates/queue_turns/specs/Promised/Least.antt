@@ -1,5 +1,5 @@
--- THE BOUNDS ARE THE LEAST that hold: a run after which an area waits for its fourth serve, and one after which an hour waits for its hundredth; and 25 hours do
--- wait in an area. The runs are literal, and computed. Assumes nothing.
+-- THE BOUNDS ARE TIGHT: one run after which an area waits for its fourth serve, and one after which an hour waits
+-- for its hundredth; and 25 hours do wait in an area. The runs are literal, and computed. Assumes nothing.
 use mathlib.Core.Path.{_≡_, refl, sym, subst}
 use mathlib.Core.Bool.{Bool, false, _&&_, _||_}
 use mathlib.Core.List.{List, [], _∷_, _++_}
@@ -18,7 +18,7 @@ unfoldable pub posts : ℕ → ℕ → List Event
 posts a zero = []
 posts a (suc n) = posts a n ++ (post a n ∷ [])
 
--- n hours of each area; and all of a long day, but the last hour of the last area
+-- n hours of each area; and all hours of a long day except the last hour of the last area
 abbrev pub hoursOfEach : ℕ → List Event
 hoursOfEach n = posts 0 n ++ posts 1 n ++ posts 2 n ++ posts 3 n
 
@@ -41,7 +41,7 @@ any-served (suc n) k f [] h e t = absurd (subst (λ (b : Bool). T b) e t)
 any-served (suc n) zero f (s ∷ l) h e t = or-left (f s) (anyServed n f l) t
 any-served (suc n) (suc k) f (s ∷ l) h e t = or-right (f s) (anyServed n f l) (any-served n k f l (omega arith) e t)
 
--- FOUR SERVES ARE NEEDED: where each area has an hour waiting, area 3 is served by none of the first three
+-- FOUR SERVES ARE NEEDED: if each area has an hour waiting, none of the first three serves area 3
 ofArea3 : Option Pair → Bool
 ofArea3 none = false
 ofArea3 (some p) = eqb (p .area) 3
@@ -57,7 +57,7 @@ area-needs-four n l w =
     any-served 3 (s .place) ofArea3 (servings (replicate 4 serve) (after (hoursOfEach 1) empty)) (omega (arith, s .within)) refl
     (subst (λ (o : Option Pair). T (ofArea3 o)) (sym (s .serving)) tt)
 
--- ONE HUNDRED ARE NEEDED: where all 99 other hours wait, hour 24 of area 3 is posted, and served by none of the first 99
+-- ONE HUNDRED ARE NEEDED: all 99 other hours wait, hour 24 of area 3 is posted, and none of the first 99 serves it
 lastHour : Option Pair → Bool
 lastHour none = false
 lastHour (some p) = eqb (p .area) 3 && eqb (p .hour) 24

@@ -1,5 +1,5 @@
--- WHAT REQUEST S-8 PROMISES, sentence by sentence, of every run of posts and serves from the empty queue; refused posts and serves are part of a run.
--- `after run empty` is the queue that a run leads to. Assumes nothing.
+-- WHAT REQUEST S-8 PROMISES, sentence by sentence, for every run of posts and serves from the empty queue; a run
+-- may have refused posts and serves. `after run empty` is the queue after a run. Assumes nothing.
 use mathlib.Core.Path.{_≡_, refl, sym, ap, _∙_, subst}
 use mathlib.Core.Logic.{_⊎_, ⊎-elim}
 use mathlib.Core.List.{List, [], _∷_, _++_, List·Memᴰ, Memᴰ·append-left}
@@ -16,14 +16,14 @@ use Rattle.queue_turns.specs.Steps.Account as kept
 pub reached : (run : List Event) → QueueValid (after run empty)
 reached run = good-after run empty good-empty
 
--- "A waiting area is served within four serves": after any run, if area a has an hour waiting, then of any later events with four serves among them one of the
--- first four serves serves area a
+-- "A waiting area is served within four serves": after any run, if area a has an hour waiting, one of the first
+-- four serves of any later events serves area a
 pub waiting-area-within-four : (earlier later : List Event) (a : ℕ) → a < 4 → 0 < length (after earlier empty .waiting a) → 4 ≤ serves later
     → AreaServedWithin 4 a later (after earlier empty)
 waiting-area-within-four earlier later a l waits m = area-served later a (after earlier empty) (reached earlier) l waits m
 
--- "and a posted hour within one hundred after its posting, whatever else is posted." While it waits, a second post of it is refused by 63: the first serve of
--- the pair is of this posting.
+-- "and a posted hour within one hundred after its posting, whatever else is posted." While it waits, a second post
+-- of it is refused by 63, so the first serve of the pair is of this posting.
 pub posted-hour-within-hundred : (earlier later : List Event) (a h : ℕ) → postNumber a h (after earlier empty) ≡ 0 → 100 ≤ serves later
     → ServedWithin 100 (pair a h) later (step (post a h) (after earlier empty))
 unfolding step
@@ -36,7 +36,8 @@ at-most-25-wait run a = at-most-25 (reached run .hours a)
 pub always-room : (run : List Event) (a h : ℕ) → postNumber a h (after run empty) ≡ 0 → length (after run empty .waiting a) < 25
 always-room run a h e = let t = taken-of a h (after run empty) e in room h (t .hour-in) (t .new) (reached run .hours a)
 
--- "the next area in turn after the one last served (area 0 first of all)": whose turn it is follows from what was served
+-- "the next area in turn after the one last served (area 0 first of all)": what was served determines whose turn it
+-- is
 turn-from : (run : List Event) (q : Queue) → after run q .turn ≡ turnAfter (q .turn) (servings run q)
 unfolding after servings step turnAfter
 turn-from [] q = refl
@@ -53,8 +54,8 @@ turn-from (serve ∷ run) q = turn-from run (afterServe q) ∙ by (next q) refl
 pub turn-is : (run : List Event) → after run empty .turn ≡ turnAfter 0 (servings run empty)
 turn-is run = turn-from run empty
 
--- "and its earliest posted": what an area posted is what was served from it and then what waits there, all in the order posted. So nothing posted is lost,
--- and nothing is served that was not posted.
+-- "and its earliest posted": what an area posted is what was served from it followed by what waits there, in the
+-- order posted. So nothing posted is lost, and nothing is served that was not posted.
 pub served-in-order : (run : List Event) (a : ℕ) → postedIn a run empty ≡ servedIn a run empty ++ after run empty .waiting a
 served-in-order run a = kept.account a run empty
 

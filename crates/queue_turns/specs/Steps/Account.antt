@@ -1,5 +1,5 @@
--- NOTHING IS LOST, MADE UP OR OVERTAKEN: an area's hours at the start and those posted are those served and those waiting at the end, in one order. And a
--- served hour may be posted again at once. Assumes nothing.
+-- NOTHING IS LOST, MADE UP OR OVERTAKEN: an area's hours at the start and those posted are those served and those
+-- waiting at the end, in one order. A served hour may be posted again at once. Assumes nothing.
 use mathlib.Core.Path.{_≡_, refl, sym, ap, _∙_, subst}
 use mathlib.Core.Bool.{Bool, true, false, cond, _&&_, and-false}
 use mathlib.Core.Logic.{⊎-elim}
@@ -83,7 +83,8 @@ of-area-append a (some p) l m = by (eqb (p .area) a)
     by true = refl
     by false = refl
 
--- what a run leaves of an area's hours, wherever it starts: those waiting and those posted are those served and those waiting then
+-- an area's hours after a run from any queue: those waiting and those posted are those served and those waiting
+-- then
 pub account : (a : ℕ) (run : List Event) (q : Queue) → q .waiting a ++ postedIn a run q ≡ servedIn a run q ++ after run q .waiting a
 unfolding postedIn servedIn hoursOf servings after step adds
 account a [] q = append-nil (q .waiting a)

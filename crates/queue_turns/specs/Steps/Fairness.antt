@@ -1,5 +1,6 @@
--- FAIRNESS. An hour with p hours before it, in an area that is d areas from its turn, is served within 4p + d + 1 serves, whatever else is posted: a serve of
--- another area takes from d, and one of this area from p. Assumes nothing.
+-- FAIRNESS. An hour with p hours before it, in an area that is d areas from its turn, is served within 4p + d + 1
+-- serves, whatever else is posted. A serve of another area lowers d, and one of this area lowers p.
+-- Assumes nothing.
 use mathlib.Core.Path.{_≡_, refl, sym, ap, _∙_, subst}
 use mathlib.Core.Logic.{_⊎_, inl, inr, ⊎-elim}
 use mathlib.Core.List.{List, [], _∷_, _++_, tail, append-assoc, head-eq-of-cons-eq}
@@ -12,7 +13,8 @@ use Rattle.queue_turns.specs.Meaning.Queue.{Queue, put, postNumber, afte
 use Rattle.queue_turns.specs.Meaning.Runs.{Event, post, serve, step, serves, servings, ServedWithin, AreaServedWithin}
 use Rattle.queue_turns.specs.Steps.Invariant.{QueueValid, PostTaken, PostRefused, posting, taken-of, room, put-here, put-other, taken-last, answer-by, after-next, found-none, good-post, good-serve}
 
--- ---- what the next serve takes, when an area that is d areas from its turn has an hour waiting: an area at most as far from its turn
+-- ---- if an area that is d areas from its turn has an hour waiting, the next serve takes an area at most as far
+-- from its turn
 
 pub record Found (w : ℕ → List ℕ) (n t d : ℕ) : Type 0 where
   pub ahead : ℕ
@@ -87,7 +89,7 @@ distance t a = (a + 4 - t) % 4
 
 -- ---- the account
 
--- what stands in an area's list behind some hours, after one event
+-- an hour in an area's list behind some hours, after one event
 pub record Stands (a h : ℕ) (before behind : List ℕ) (q : Queue) : Type 0 where
   pub good : QueueValid q
   pub area-in : a < 4
@@ -147,7 +149,7 @@ apart t a e p q l r = omega arith
 turned-by : (x : ℕ) → x < 8 → ((x % 4 ≡ x) × (x < 4)) ⊎ ((x % 4 + 4 ≡ x) × (4 ≤ x))
 turned-by x l = elim (decLt x 4) [ yes p ↦ inl (omega arith, p) | no p ↦ inr (omega arith, omega arith) ]
 
--- the distance is what takes the turn to the area, perhaps past area 3
+-- the distance takes the turn to the area, perhaps past area 3
 distance-is : (t a : ℕ) → t < 4 → a < 4 → (t + distance t a ≡ a) ⊎ (t + distance t a ≡ a + 4)
 distance-is t a p q = elim (decLt a t) [ yes l ↦ inr (omega arith) | no l ↦ inl (omega arith) ]
 
@@ -184,7 +186,7 @@ nearer t a e p q l = by (distance t a) refl
         fewer : (d : ℕ) → e < d → d - e - 1 < d
         fewer d less = omega arith
 
--- how many serves an hour may have to wait for, besides its own
+-- how many serves an hour may have to wait for, not counting its own
 abbrev pub wait : ℕ → List ℕ → Queue → ℕ
 wait a before q = 4 * length before + distance (q .turn) a
 
@@ -252,7 +254,8 @@ serve-step a h before behind q s = by (found (q .waiting) 4 (q .turn) d (omega (
             let own : (q .turn + f .ahead) % 4 ≡ a = ap (λ (k : ℕ). (q .turn + k) % 4) same ∙ there in
             step-own a h before behind q s (f .hour) (f .rest) (sym (ap (q .waiting) own) ∙ f .first) (is ∙ ap (λ (b : ℕ). some (pair b (f .hour))) own)
 
--- AN HOUR IS SERVED IN TIME: with p hours before it, d areas from its turn, within any n serves above 4p + d, whatever else the run does
+-- AN HOUR IS SERVED IN TIME: with p hours before it, d areas from its turn, within any n serves above 4p + d,
+-- whatever else the run does
 pub due : (run : List Event) (n a h : ℕ) (before behind : List ℕ) (q : Queue) → Stands a h before behind q → wait a before q < n → n ≤ serves run
     → ServedWithin n (pair a h) run q
 unfolding serves servings step

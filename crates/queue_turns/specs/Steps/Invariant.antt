@@ -1,5 +1,5 @@
--- THE INVARIANT of the queue: an area's waiting hours are from 0 to 24 and differ, so that there are at most 25 of them and a post that is not refused always
--- finds room. Assumes nothing.
+-- THE INVARIANT of the queue: an area's waiting hours are from 0 to 24 and differ. So there are at most 25 of them,
+-- and a post that is not refused always finds room. Assumes nothing.
 use mathlib.Core.Path.{_≡_, refl, sym, ap, _∙_, subst}
 use mathlib.Core.Bool.{Bool, true, false, cond, _||_, true≢false}
 use mathlib.Core.List.{List, [], _∷_, _++_, tail}
@@ -28,7 +28,7 @@ pub record QueueValid (q : Queue) : Type 0 where
   pub turn-in : q .turn < 4
   pub hours : (a : ℕ) → Hours (q .waiting a)
 
--- a list of different hours has as many as there are numbers below 25 in it
+-- a list of different hours is as long as the count of numbers below 25 in it
 counted : {l : List ℕ} → Hours l → sumNat 25 (λ k. only (among k l) 1) ≡ length l
 unfolding among
 counted nothing = sum-zero 25
@@ -98,7 +98,6 @@ module _ (a h : ℕ) (q : Queue) where
   unfolding postCauses
   not-refused p r s = field-passes 61 0 _ (le-ltb _ a (omega arith)) ∙ field-passes 62 0 _ (le-ltb _ h (omega arith)) ∙ field-passes 63 0 _ s ∙ row-end
 
-  -- the number of a post by its refusal
   pub number-by : (o : Option Outcome) → refusal (postCauses a h q) ≡ o → postNumber a h q ≡ (answer o) .number
   unfolding postNumber
   number-by o e = ap (λ (x : Option Outcome). (answer x) .number) e
@@ -137,7 +136,7 @@ posting a h q = by (decLt 3 a) (decLt 24 h) (among h (q .waiting a)) refl
         let e = not-refused a h q (omega arith) (omega arith) s in
         inl (record { area-in = omega arith; hour-in = omega arith; new = s; passes = e; number-is = number-by a h q none e; leaves = after-by a h q none e })
 
--- the number 0 is answered only to a post that is taken
+-- the number 0 is only for a post that is taken
 pub taken-of : (a h : ℕ) (q : Queue) → postNumber a h q ≡ 0 → PostTaken a h q
 taken-of a h q e = ⊎-elim (λ (t : PostTaken a h q). t) (λ (r : PostRefused a h q). absurd (never (r .some-number))) (posting a h q)
   where
@@ -185,7 +184,7 @@ pub after-next : (q : Queue) (o : Option Pair) → next q ≡ o → afterServe q
 unfolding afterServe
 after-next q o e = ap (λ (x : Option Pair). without x q) e
 
--- the number 64 is answered where nothing is found, and nowhere else
+-- the number 64 means that nothing is found, and conversely
 pub found-none : (q : Queue) → serveAnswer q .number ≡ 64 → next q ≡ none
 found-none q e = by (next q) refl
   where

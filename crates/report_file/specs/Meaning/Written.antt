@@ -7,7 +7,7 @@ use Rattle.base_measures.specs.declared.Grains.{Grains}
 use Rattle.rules.specs.Meaning.Report as rules
 use Rattle.report_file.specs.declared.Totals.{Totals}
 
--- the totals and the prices as the rules read them
+-- the totals and the prices in the terms of the rules
 abbrev pub totalsIn : Totals → rules.Totals
 totalsIn x = record { welfare = x .welfare .0; bound = x .bound .0; gap = x .gap .0; rent = x .rent .0; owed = x .owed .0 }
 

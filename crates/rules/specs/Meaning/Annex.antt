@@ -1,14 +1,20 @@
--- The extended formulation of Annex 14.29, appendix A, equation by equation: variables, objective and constraints (59) to (72), prices (73) to (78),
--- both sides of (81), and of appendix B the two domains and their combinations, (87) to (96). `Extended` shows that (60) to (72) allow exactly the
--- clearings of document 01. l and k are zones, i is an order, j a link, m a branch. Assumes nothing.
--- What document 01 changes against the Annex:
---   units: PTDFs and weights are hundred-thousandths, so (65), (67), (70), (74) and (91) stand multiplied by 100,000, and (59) is in microcents;
---   fractions: all variables are whole numbers over one common positive denominator, all multipliers whole cents or grains;
---   orders: a side and an unsigned quantity for the signed Q^i, and for x_i the accepted volume |Q^i| x_i, so x_i is `accepted i` over den times quantity;
---   capacities: of links, each an ordered pair of zones that occurs once, and zero for a pair without a link; contracted volumes (S-4) do not enter;
---   no link: section 3.3 takes an empty LTA domain for none, and so does S-6: an hour without links is the formulation without its LTA part, (65) with
---   α₂ = 0, and the LTA domain of appendix B then has no point;
---   misprints: two, both before the appendix; a note says where each would fall. (62) is an empty line.
+-- The extended formulation of Annex 14.29, equation by equation. Appendix A: variables, objective and constraints
+-- (59) to (72), prices (73) to (78), both sides of (81). Appendix B: the two domains and their combinations, (87)
+-- to (96). `Extended` shows that (60) to (72) allow exactly the clearings of document 01. l and k are zones, i is
+-- an order, j a link, m a branch. Assumes nothing.
+-- What document 01 changes:
+--   units: PTDFs and weights are hundred-thousandths. So (65), (67), (70), (74) and (91) are multiplied by 100,000,
+--   and (59) is in microcents.
+--   fractions: all variables are whole numbers over one common positive denominator; all multipliers are whole
+--   cents or grains.
+--   orders: an order has a side and an unsigned quantity instead of the signed Q^i. For x_i stands the accepted
+--   volume |Q^i| x_i, so x_i is `accepted i` over den times quantity.
+--   capacities: a link is an ordered pair of zones that occurs once; a pair without a link has capacity zero.
+--   Contracted volumes (S-4) do not enter.
+--   no link: section 3.3 takes an empty LTA domain for none, and so does S-6. An hour without links is the
+--   formulation without its LTA part: (65) has α₂ = 0, and the LTA domain of appendix B has no point.
+--   misprints: the Annex has two, both before the appendix; a note says where each would stand. (62) is an empty
+--   line.
 use mathlib.Core.Path.{_≡_}
 use mathlib.Core.Bool.{Bool, not, _&&_}
 use Prim.Native.Nat.{ℕ, _+_, _*_, _<_}
@@ -17,7 +23,7 @@ use lib.IntN.{ℤ, pos, _+ℤ_, _-ℤ_, _*ℤ_}
 use lib.Signed.{_≤ℤ_, _<ℤ_}
 use Rattle.base_integers.specs.Meaning.Order.{positive}
 use Rattle.base_integers.specs.Meaning.Sums.{sumTo, only}
-use Rattle.base_measures.specs.Meaning.Limits.{partsInOne}
+use Rattle.base_limits.specs.Meaning.Limits.{partsInOne}
 use Rattle.rules.specs.Meaning.Hour.{Case, signed, buys}
 
 -- VARIABLES: whole numbers over the common positive denominator `den`
@@ -28,7 +34,7 @@ pub record Solution : Type 0 where
   pub netpos : ℕ → ℤ
   pub netposFB : ℕ → ℤ
   pub netposLTA : ℕ → ℤ
-  -- of an ordered pair, from its first zone to its second; a zone's flow to itself is in no sum
+  -- from the first zone of an ordered pair to the second; no sum has a zone's flow to itself
   pub flow : ℕ → ℕ → ℤ
   pub flowFB : ℕ → ℕ → ℤ
   pub flowLTA : ℕ → ℕ → ℤ
@@ -36,7 +42,6 @@ pub record Solution : Type 0 where
   pub alpha1 : ℤ
   pub alpha2 : ℤ
 
--- link j leads from zone l to zone k
 unfoldable pub joins : Case → ℕ → ℕ → ℕ → Bool
 joins c j l k = eqb (c .from j) l && eqb (c .to j) k
 
@@ -44,7 +49,7 @@ joins c j l k = eqb (c .from j) l && eqb (c .to j) k
 pub record PairsOnce (c : Case) : Type 0 where
   pub once : (i j : ℕ) → i < c .links → j < c .links → c .from i ≡ c .from j → c .to i ≡ c .to j → i ≡ j
 
--- an amount of each link, by ordered pair: that of the pair's link, zero where there is none
+-- an amount per link as an amount per ordered pair; zero for a pair without a link
 unfoldable pub byPair : Case → (ℕ → ℤ) → ℕ → ℕ → ℤ
 byPair c f l k = sumTo (c .links) (λ j. only (joins c j l k) (f j))
 
@@ -52,8 +57,8 @@ byPair c f l k = sumTo (c .links) (λ j. only (joins c j l k) (f j))
 unfoldable pub capacityLTA : Case → ℕ → ℕ → ℤ
 capacityLTA c l k = byPair c (λ j. pos (c .capacity j)) l k
 
--- Σ_{k ≠ l} (flow_{k,l} - flow_{l,k}), over n zones. The example's (9), (22), (39) and (46) misprint it for zone B: they name the flow from A to C
--- where the flow from C to B belongs.
+-- Σ_{k ≠ l} (flow_{k,l} - flow_{l,k}), over n zones. The example's (9), (22), (39) and (46) misprint it for zone B:
+-- they name the flow from A to C instead of the flow from C to B.
 unfoldable pub netFlow : ℕ → (ℕ → ℕ → ℤ) → ℕ → ℤ
 netFlow n f l = sumTo n (λ k. only (not (eqb k l)) (f k l -ℤ f l k))
 
@@ -88,16 +93,17 @@ pub record Network (c : Case) (x : Solution) : Type 0 where
   -- (72) flow^LTA ≥ 0
   pub flowLTA-in : (l k : ℕ) → l < c .zones → k < c .zones → pos 0 ≤ℤ x .flowLTA l k
 
--- and of the orders, (60) and (61)
+-- the constraints of the orders, (60) and (61), and of the network
 pub record Feasible (c : Case) (x : Solution) : Type 0 where
-  -- (60) Σ_{i ∈ Orders(l)} Q^i x_i = netpos_l. The example's (2) and (31) misprint it for zone A: they name its first supply order twice.
+  -- (60) Σ_{i ∈ Orders(l)} Q^i x_i = netpos_l. The example's (2) and (31) misprint it for zone A: they name its
+  -- first supply order twice.
   pub orders-net : (l : ℕ) → l < c .zones → sumTo (c .orders) (λ i. only (eqb (c .zone i) l) (signed (buys c i) (x .accepted i))) ≡ x .netpos l
   -- (61) 0 ≤ x_i ≤ 1
   pub accepted-in : (i : ℕ) → i < c .orders → (pos 0 ≤ℤ x .accepted i) × (x .accepted i ≤ℤ pos (x .den * c .quantity i))
   pub network : Network c x
 
--- LINES. The Annex lets commercial flow go between any two zones, and assumes for its prices only that the zones are connected. `line l k` says that
--- commercial flow may go from zone l to zone k; a route goes along lines.
+-- LINES. The Annex lets commercial flow go between any two zones; for its prices it assumes only that the zones are
+-- connected. `line l k` says that commercial flow may go from zone l to zone k. A route goes along lines.
 pub data Route (n : ℕ) (line : ℕ → ℕ → Bool) : ℕ → ℕ → Type 0 where
   here : {a : ℕ} → Route n line a a
   onward : {a b e : ℕ} → Route n line a b → b < n → e < n → T (line b e) → Route n line a e
@@ -107,7 +113,7 @@ pub record Connected (n : ℕ) (line : ℕ → ℕ → Bool) : Type 0 where
   pub from-first : (z : ℕ) → z < n → Route n line 0 z
   pub to-first : (z : ℕ) → z < n → Route n line z 0
 
--- commercial flow goes along lines only
+-- commercial flow goes only along lines
 pub record AlongLines (c : Case) (line : ℕ → ℕ → Bool) (x : Solution) : Type 0 where
   pub elsewhere : (l k : ℕ) → l < c .zones → k < c .zones → T (not (line l k)) → x .flowFB l k ≡ pos 0
 
@@ -115,14 +121,15 @@ pub record AlongLines (c : Case) (line : ℕ → ℕ → Bool) (x : Solution) : 
 unfoldable pub everyPair : ℕ → ℕ → Bool
 everyPair l k = not (eqb l k)
 
--- PRICES: the multipliers of (60), (63), (67), (68), (70) and (71), in grains; but price^FB, as the system price, and shadow prices are in cents.
+-- PRICES: the multipliers of (60), (63), (67), (68), (70) and (71), in grains. Only price^FB (the system price) and
+-- the shadow prices are in cents.
 pub record Multipliers : Type 0 where
   pub price : ℕ → ℤ
   -- price with a tilde, of (63)
   pub priceSplit : ℕ → ℤ
   pub priceFB : ℕ → ℤ
   pub priceLTA : ℕ → ℤ
-  -- of an inequality, so not negative: ShadowPrice_m, and w^LTA_{l,k}
+  -- multipliers of inequalities, so not negative: ShadowPrice_m and w^LTA_{l,k}
   pub shadow : ℕ → ℕ
   pub w : ℕ → ℕ → ℤ
 
@@ -139,7 +146,8 @@ pub record PriceConditions (c : Case) (line : ℕ → ℕ → Bool) (y : Multipl
   -- (78) 0 ≥ price^FB_k - price^FB_l
   pub no-spread : (l k : ℕ) → l < c .zones → k < c .zones → T (line l k) → (y .priceFB k -ℤ y .priceFB l) ≤ℤ pos 0
 
--- (77) flow^LTA_{l,k} > 0 ⇒ price^LTA_k - price^LTA_l = w^LTA_{l,k}, of a solution and its multipliers at the optimum; that it is not negative is `w-in`
+-- (77) flow^LTA_{l,k} > 0 ⇒ price^LTA_k - price^LTA_l = w^LTA_{l,k}, for a solution and its multipliers at the
+-- optimum; `w-in` says that it is not negative
 pub record Complementary (c : Case) (x : Solution) (y : Multipliers) : Type 0 where
   pub w-is : (l k : ℕ) → l < c .zones → k < c .zones → pos 0 <ℤ x .flowLTA l k → y .priceLTA k -ℤ y .priceLTA l ≡ y .w l k
 
@@ -147,7 +155,8 @@ pub record Complementary (c : Case) (x : Solution) (y : Multipliers) : Type 0 wh
 unfoldable pub congestionRent : Case → Solution → (ℕ → ℤ) → ℤ
 congestionRent c x price = sumTo (c .zones) (λ l. x .netpos l *ℤ price l)
 
--- what (67) and (70) leave at their multipliers: Σ_m RAM_m ShadowPrice_m and Σ_{l,k} capacity^LTA_{l,k} w^LTA_{l,k}
+-- the right sides of (67) and (70) at their multipliers: Σ_m RAM_m ShadowPrice_m and Σ_{l,k} capacity^LTA_{l,k}
+-- w^LTA_{l,k}
 unfoldable pub marginValue : Case → Multipliers → ℤ
 marginValue c y = sumTo (c .branches) (λ m. c .ram m *ℤ pos (y .shadow m))
 
@@ -158,8 +167,8 @@ capacityValue c y = sumTo (c .zones) (λ l. sumTo (c .zones) (λ k. capacityLTA 
 unfoldable pub liabilities : Case → (ℕ → ℤ) → ℤ
 liabilities c price = sumTo (c .zones) (λ l. sumTo (c .zones) (λ k. capacityLTA c l k *ℤ positive (price k -ℤ price l)))
 
--- APPENDIX B: the two domains that are combined, each at its full weight: where the weight is positive, its factor on both sides of (91) to (96)
--- cancels. A point of the flow-based domain, (91) to (93), over a denominator
+-- APPENDIX B: the two domains that are combined, each at its full weight. Where the weight is positive, it cancels
+-- on both sides of (91) to (96). First a point of the flow-based domain, (91) to (93), over a denominator
 pub record FBDomain (c : Case) (den : ℕ) (netpos : ℕ → ℤ) (flow : ℕ → ℕ → ℤ) : Type 0 where
   pub branch : (m : ℕ) → m < c .branches → sumTo (c .zones) (λ l. c .ptdf m l *ℤ netpos l) ≤ℤ (pos (partsInOne * den) *ℤ c .ram m)
   pub netpos-is : (l : ℕ) → l < c .zones → netpos l ≡ netFlow (c .zones) flow l
@@ -172,7 +181,8 @@ pub record LTADomain (c : Case) (den : ℕ) (netpos : ℕ → ℤ) (flow : ℕ �
   pub netpos-is : (l : ℕ) → l < c .zones → netpos l ≡ netFlow (c .zones) flow l
   pub flow-in : (l k : ℕ) → l < c .zones → k < c .zones → pos 0 ≤ℤ flow l k
 
--- and two such points over one denominator, with weights a₁ and a₂ over their sum, (89) and (90); at weight 0 (91) to (93), or (94) to (96), ask nothing
+-- two such points over one denominator, with weights a₁ and a₂ over their sum, (89) and (90). At weight 0 the
+-- domain's constraints, (91) to (93) or (94) to (96), do not apply.
 pub record TwoPoints (c : Case) : Type 0 where
   pub den : ℕ
   pub netposFB : ℕ → ℤ
@@ -186,7 +196,7 @@ pub record TwoPoints (c : Case) : Type 0 where
   pub flow-based : 0 < a1 → FBDomain c den netposFB flowFB
   pub long-term : 0 < a2 → LTADomain c den netposLTA flowLTA
 
--- x is their convex combination, (87) and (88): multiplied by both denominators
+-- x is their convex combination: (87) and (88) multiplied by both denominators
 pub record Combines (c : Case) (y : TwoPoints c) (x : Solution) : Type 0 where
   pub netpos-is : (l : ℕ) → l < c .zones
       → pos ((y .a1 + y .a2) * y .den) *ℤ x .netpos l ≡ pos (x .den) *ℤ (pos (y .a1) *ℤ y .netposFB l +ℤ pos (y .a2) *ℤ y .netposLTA l)

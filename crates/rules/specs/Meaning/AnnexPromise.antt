@@ -1,5 +1,5 @@
--- WHAT IS PROMISED IN THE ANNEX'S TERMS: when a clearing and a solution of (60) to (72) are the same, the multipliers that a proposal's prices are, and
--- demand 3 of an accepted hour. Assumes nothing.
+-- WHAT IS PROMISED IN THE ANNEX'S TERMS: when a clearing and a solution of (60) to (72) are the same, which
+-- multipliers a proposal's prices are, and demand 3 of an accepted hour. Assumes nothing.
 use mathlib.Core.Path.{_≡_}
 use mathlib.Core.Bool.{Bool}
 use mathlib.Core.List.{List}
@@ -20,7 +20,7 @@ pub record Same (c : Case) (p : Plan) (x : Solution) : Type 0 where
   pub volume : (i : ℕ) → i < c .orders → pos (p .volume i) ≡ x .accepted i
   pub flow : (j : ℕ) → j < c .links → pos (p .flow j) ≡ x .flowLTA (c .from j) (c .to j)
 
--- and then welfare, net positions and their two parts agree
+-- then welfare, net positions and their two parts agree
 pub record Agree (c : Case) (p : Plan) (x : Solution) : Type 0 where
   pub welfare-is : welfare c p ≡ objective c x
   pub net-is : (l : ℕ) → l < c .zones → net c p l ≡ x .netpos l
@@ -53,21 +53,23 @@ multipliersOf c d = record {
   w = λ l k. positive (zonePrice c d k -ℤ zonePrice c d l);
 }
 
--- DEMAND 3 IN THE ANNEX'S TERMS, of what stands in the report of an accepted hour
+-- DEMAND 3 IN THE ANNEX'S TERMS, in the numbers of an accepted hour's report
 pub record AnnexDemand3 (s t : List ℕ) (report : List ℕ) : Type 0 where
   -- the proposal solves (60) to (72), with commercial flows between any two zones
   pub is-feasible : IsFeasible (caseOf s) everyPair (planOf s t)
   pub welfare-is : objective (caseOf s) (is-feasible .solution) ≡ reportedWelfare report
-  -- (59): no solution does better than welfare and gap together
+  -- (59): no solution has more than welfare and gap together
   pub is-accurate : (x : Solution) → Feasible (caseOf s) x → objective (caseOf s) x ≤ℤ (pos (x .den) *ℤ (reportedWelfare report +ℤ reportedGap report))
-  -- (73) to (79): the reported prices are multipliers, with the proposal's system and shadow prices; (77), which holds of an optimum, at a gap of zero
+  -- (73) to (79): the reported prices are multipliers, with the proposal's system and shadow prices. (77) holds at
+  -- an optimum, so at a gap of zero.
   pub is-priced : PriceConditions (caseOf s) everyPair (multipliersOf (caseOf s) (pricesOf s t))
   pub price-is : (l : ℕ) → l < (caseOf s) .zones → reportedPrice report l ≡ (multipliersOf (caseOf s) (pricesOf s t)) .price l
   pub is-complementary : reportedGap report ≡ pos 0 → Complementary (caseOf s) (is-feasible .solution) (multipliersOf (caseOf s) (pricesOf s t))
-  -- (82): at these prices no import and export that the network allows earns more than rent and gap together
+  -- (82): at these prices no exchange that the network allows earns more than rent and gap together
   pub is-network-best : (x : Solution) → Network (caseOf s) x → congestionRent (caseOf s) x (reportedPrice report) ≤ℤ (pos (x .den) *ℤ (reportedRent report +ℤ reportedGap report))
-  -- (81): its left side is the rent, its right side that of the capacities; their order up to the gap, of an hour with a link (S-6). Owed, on the contracted
-  -- volumes, is at most the right side (S-4), and is that where each contracted volume is its link's capacity
+  -- (81): its left side is the rent, its right side is over the capacities. The rent covers the right side up to
+  -- the gap in an hour with a link (S-6). Owed, on the contracted volumes, is at most the right side (S-4), and
+  -- equal to it where each contracted volume is its link's capacity.
   pub rent-is : congestionRent (caseOf s) (is-feasible .solution) (reportedPrice report) ≡ reportedRent report
   pub owed-within : reportedOwed report ≤ℤ liabilities (caseOf s) (reportedPrice report)
   pub owed-all : ((l : ℕ) → l < (caseOf s) .links → (caseOf s) .contracted l ≡ (caseOf s) .capacity l) → reportedOwed report ≡ liabilities (caseOf s) (reportedPrice report)

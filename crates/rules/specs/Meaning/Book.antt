@@ -1,5 +1,5 @@
--- The order book lent in memory: rows with zone, side, quantity and price, beside zone prices in grains. Its refusal, as a table of the same form, and
--- its sum of rule 8. Assumes nothing.
+-- An order book lent in memory: rows with zone, side, quantity and price, and zone prices in grains. Its refusals
+-- as a table of causes, and its sum of rule 8. Assumes nothing.
 use mathlib.Core.Bool.{Bool}
 use mathlib.Core.List.{List, [], _∷_}
 use mathlib.Core.Option.{Option, none, some}
@@ -9,7 +9,7 @@ use lib.Dec.{eqb}
 use lib.IntN.{ℤ, pos}
 use Rattle.base_integers.specs.Meaning.Ranges.{outside}
 use Rattle.base_integers.specs.Meaning.Sums.{sumTo}
-use Rattle.base_measures.specs.Meaning.Limits as limits
+use Rattle.base_limits.specs.Meaning.Limits as limits
 use Rattle.rules.specs.Meaning.Layout.{zoneCounts, orderCounts}
 use Rattle.rules.specs.Meaning.Hour.{surplusOf}
 use Rattle.base_causes.specs.declared.Outcome.{Outcome}
@@ -22,7 +22,7 @@ pub record BookRow : Type 0 where
   pub quantity : ℕ
   pub price : ℤ
 
--- what stands for a row past the last; nothing reads it
+-- the row past the last; nothing reads it
 abbrev pub noRow : BookRow
 noRow = record { zone = 0; side = 0; quantity = 0; price = pos 0 }
 
@@ -35,7 +35,8 @@ priceAt prices z = getD prices z (pos 0)
 unfoldable pub badBookRow : List BookRow → List ℤ → ℕ → Bool
 badBookRow rows prices i = badRow (length prices) ((rowAt rows i) .zone) ((rowAt rows i) .side) ((rowAt rows i) .quantity) ((rowAt rows i) .price)
 
--- 4 index 5 for no prices or over 16, 4 index 8 for over 512 rows, then 8 with the row (also after S-2), then 25 with the zone
+-- 4 index 5 for no price or over 16 prices, 4 index 8 for over 512 rows, then 8 with the row (also after S-2), then
+-- 25 with the zone
 unfoldable pub bookCauses : List BookRow → List ℤ → List Cause
 bookCauses rows prices =
     field 4 5 (outside zoneCounts (pos (length prices)))

@@ -1,4 +1,4 @@
--- Where the desk cuts its input: the case, and at once the proposal. Assumes nothing.
+-- Where the desk cuts its input, a case directly followed by its proposal. Assumes nothing.
 use mathlib.Core.Bool.{Bool, true, false, cond, _&&_}
 use mathlib.Core.List.{List}
 use mathlib.Core.Option.{Option, none, some}
@@ -14,8 +14,8 @@ abbrev pub good : Option Outcome → Bool
 good (some o) = false
 good none = true
 
--- once the header is good and enough bytes are there, the case is cut at its demanded length and the rest is the
--- proposal; else all is the case
+-- Where the header is good and there are enough bytes, the case ends at the length that the header demands and the
+-- proposal follows; else all is the case.
 unfoldable pub caseEnd : List ℕ → ℕ
 caseEnd input = cond (good (headerRefusal input) && leb (caseLength input) (length input)) (caseLength input) (length input)
 

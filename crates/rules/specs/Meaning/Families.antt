@@ -1,6 +1,6 @@
--- FAMILIES (S-11): the list of parents that may travel beside a case, as bytes, and what its rows ask: a parent that does not exist, an order that leads back to
--- itself, a child accepted in a larger fraction than its parent.
--- Every test has a value on any bytes; its value counts only where the rows before it passed. Assumes nothing.
+-- FAMILIES (S-11): the list of parents that may come with a case, as bytes. Its rows ask whether a parent does not
+-- exist, whether an order leads back to itself, and whether a child is accepted in a larger fraction than its
+-- parent. Every test has a value on any bytes; it counts only where the rows before it passed. Assumes nothing.
 use mathlib.Core.Path.{_≡_}
 use mathlib.Core.Bool.{Bool, false, cond}
 use mathlib.Core.List.{List}
@@ -24,7 +24,7 @@ familyVersion f = u16At f 3
 unfoldable pub parentIn : List ℕ → ℕ → ℕ
 parentIn f i = u16At f (familyHeader + 2 * i)
 
--- the length that so many orders demand
+-- the length of a list for this many orders
 unfoldable pub familyLength : ℕ → ℕ
 familyLength orders = familyHeader + 2 * orders
 
@@ -35,12 +35,12 @@ named v = cond (eqb v noParent) none (some v)
 unfoldable pub parentOf : List ℕ → ℕ → Option ℕ
 parentOf f i = named (parentIn f i)
 
--- A PARENT DOES NOT EXIST: it is none of so many orders
+-- A PARENT DOES NOT EXIST: its number is not below the count of orders
 abbrev pub missing : ℕ → Option ℕ → Bool
 missing orders none = false
 missing orders (some j) = leb orders j
 
--- STEPS UP: the order that so many steps lead to from order i, where each goes to the parent
+-- STEPS UP: the order that k steps lead to from order i, each step to the parent
 abbrev pub onward : (ℕ → Option ℕ) → Option ℕ → Option ℕ
 onward parent none = none
 onward parent (some j) = parent j
@@ -49,13 +49,14 @@ unfoldable pub ancestor : (ℕ → Option ℕ) → ℕ → ℕ → Option ℕ
 ancestor parent zero i = some i
 ancestor parent (suc steps) i = onward parent (ancestor parent steps i)
 
--- AN ORDER LEADS BACK TO ITSELF: some number of steps up from it, and at least one, ends where it began
+-- AN ORDER LEADS BACK TO ITSELF: one or more steps up from it end at the order itself
 pub record LeadsBack (parent : ℕ → Option ℕ) (i : ℕ) : Type 0 where
   pub steps : ℕ
   pub one-or-more : 1 ≤ steps
   pub back : ancestor parent steps i ≡ some i
 
--- the same as a test: within as many steps as there are orders. Where every parent exists the two agree (`family_list`: `Circle.leads-back`)
+-- the same as a test: within as many steps as there are orders. Where every parent exists the two agree
+-- (`Circle.leads-back` of `family_list`).
 abbrev pub isOrder : ℕ → Option ℕ → Bool
 isOrder i none = false
 isOrder i (some j) = eqb j i
@@ -63,7 +64,8 @@ isOrder i (some j) = eqb j i
 unfoldable pub leadsBack : ℕ → (ℕ → Option ℕ) → ℕ → Bool
 leadsBack orders parent i = anyBelow orders (λ k. isOrder i (ancestor parent (suc k) i))
 
--- THE FRACTION in which an order is accepted: its volume of its quantity, which is positive. One fraction is at most another, both multiplied by both quantities
+-- THE FRACTION in which an order is accepted: its volume over its quantity, which is positive. Two fractions are
+-- compared after multiplying both by both quantities.
 pub record Fraction : Type 0 where
   pub part : ℕ
   pub whole : ℕ

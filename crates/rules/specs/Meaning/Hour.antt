@@ -1,7 +1,7 @@
--- The hour: case, plan and prices, and rules 1 to 11 of the sums. Equation numbers are those of Annex 14.29, appendix A. Import is positive.
--- Volumes are in tenths of a MWh, order, system and shadow prices in cents, zone prices in grains, money in microcents.
--- What is unsigned in the files is a ℕ, what is signed a ℤ. A table is a function of the index and means nothing at or above its count.
--- Assumes nothing.
+-- The hour: case, plan and prices, and the sums of rules 1 to 11. Equation numbers are those of Annex 14.29,
+-- appendix A. Import is positive. Volumes are in tenths of a MWh; order, system and shadow prices in cents; zone
+-- prices in grains; money in microcents. An unsigned field is a ℕ, a signed one a ℤ. A table is a function of the
+-- index; its values at or above its count mean nothing. Assumes nothing.
 use mathlib.Core.Bool.{Bool, true, false, cond}
 use mathlib.Core.List.{List}
 use Prim.Native.Nat.{ℕ, _*_, _≤_}
@@ -10,7 +10,7 @@ use lib.IntN.{ℤ, pos, negℤ, _+ℤ_, _-ℤ_, _*ℤ_}
 use lib.Signed.{_≤ℤ_, ltZ}
 use Rattle.base_integers.specs.Meaning.Order.{larger, positive}
 use Rattle.base_integers.specs.Meaning.Sums.{sumTo, only}
-use Rattle.base_measures.specs.Meaning.Limits.{partsInOne}
+use Rattle.base_limits.specs.Meaning.Limits.{partsInOne}
 use Rattle.rules.specs.Meaning.Layout.{zonesIn, branchesIn, linksIn, ordersIn, toleranceIn, ramIn, ptdfIn, fromIn, toIn, capacityIn, contractedIn, zoneIn, sideIn, quantityIn, priceIn, shareIn, systemIn, volumeIn, flowIn, shadowIn}
 
 pub record Case : Type 0 where
@@ -26,7 +26,7 @@ pub record Case : Type 0 where
   pub from : ℕ → ℕ
   pub to : ℕ → ℕ
   pub capacity : ℕ → ℕ
-  -- of the capacity, what was bought (S-4)
+  -- the part of the capacity that was bought (S-4)
   pub contracted : ℕ → ℕ
   pub zone : ℕ → ℕ
   -- 0 buys, 1 sells
@@ -34,7 +34,8 @@ pub record Case : Type 0 where
   pub quantity : ℕ → ℕ
   pub price : ℕ → ℤ
 
--- volumes, flows and LTA share, all read over one denominator; a proposal's is 1. A share of 100,000 over the denominator 1 is 1.
+-- Volumes, flows and LTA share, all over one denominator; a proposal's is 1. A share of 100,000 over the
+-- denominator 1 is 1.
 pub record Plan : Type 0 where
   pub den : ℕ
   pub share : ℕ
@@ -83,18 +84,19 @@ signed false x = negℤ x
 unfoldable pub orderNet : Case → Plan → ℕ → ℤ
 orderNet c p i = signed (buys c i) (pos (p .volume i))
 
--- each order counts once, where the Annex's (2) is misprinted
+-- each order counts once; the Annex's (2) has a misprint here
 unfoldable pub net : Case → Plan → ℕ → ℤ
 net c p z = sumTo (c .orders) (λ i. only (eqb (c .zone i) z) (orderNet c p i))
 
--- RULE 2, (71) and (63): LTA part of a zone = flows in minus flows out over the links; flow-based part = net position minus LTA part
+-- RULE 2, (71) and (63): LTA part of a zone = flows in minus flows out over the links; flow-based part = net
+-- position minus LTA part
 unfoldable pub inflow : Case → Plan → ℕ → ℤ
 inflow c p z = sumTo (c .links) (λ l. only (eqb (c .to l) z) (pos (p .flow l)))
 
 unfoldable pub outflow : Case → Plan → ℕ → ℤ
 outflow c p z = sumTo (c .links) (λ l. only (eqb (c .from l) z) (pos (p .flow l)))
 
--- a flow is in at its "to" and out at its "from", where the Annex's (9) is misprinted
+-- a flow is in at its "to" and out at its "from"; the Annex's (9) has a misprint here
 unfoldable pub ltaPart : Case → Plan → ℕ → ℤ
 ltaPart c p z = inflow c p z -ℤ outflow c p z
 
@@ -105,7 +107,8 @@ fbPart c p z = net c p z -ℤ ltaPart c p z
 unfoldable pub netSum : Case → Plan → ℤ
 netSum c p = sumTo (c .zones) (λ z. net c p z)
 
--- AN INEQUALITY, of which the verdict table asks whether it is broken, and a clearing that it is kept: an amount at most the room for it
+-- AN INEQUALITY: an amount is at most the room for it. The verdict table asks whether it is broken, a clearing
+-- whether it is kept.
 pub record AtMost (A : Type 0) : Type 0 where
   pub amount : A
   pub room : A
@@ -156,7 +159,8 @@ orderWelfare c p i = signed (buys c i) (pos (p .volume i) *ℤ c .price i)
 unfoldable pub welfare : Case → Plan → ℤ
 welfare c p = pos partsInOne *ℤ sumTo (c .orders) (λ i. orderWelfare c p i)
 
--- RULE 8: order surplus = quantity times the order price (in grains) above the zone price for a buy, the zone price above the order price for a sell; never below zero
+-- RULE 8: order surplus = quantity times the order price (in grains) above the zone price for a buy, the zone price
+-- above the order price for a sell; never below zero
 abbrev pub above : Bool → ℤ → ℤ → ℤ
 above true order zone = order -ℤ zone
 above false order zone = zone -ℤ order
@@ -177,7 +181,8 @@ branchValue c d m = c .ram m *ℤ pos (d .shadow m)
 unfoldable pub branchTotal : Case → Prices → ℤ
 branchTotal c d = pos partsInOne *ℤ sumTo (c .branches) (λ m. branchValue c d m)
 
--- (81), right side: link total = sum over links of capacity times (price at "to" minus price at "from"), where positive, else zero
+-- (81), right side: link total = sum over links of capacity times (price at "to" minus price at "from"), where
+-- positive, else zero
 unfoldable pub spread : Case → Prices → ℕ → ℤ
 spread c d l = zonePrice c d (c .to l) -ℤ zonePrice c d (c .from l)
 
@@ -198,8 +203,9 @@ owed c d = sumTo (c .links) (λ l. linkOwed c d l)
 unfoldable pub noLink : Case → Bool
 noLink c = eqb (c .links) 0
 
--- RULE 10: bound = all order surpluses plus the larger of branch total and link total (S-4: the larger-of in the bound keeps using capacities); without links
--- plus the branch total alone, even a negative one (S-6). No import and export that the network allows earns more at these prices, (82).
+-- RULE 10: bound = all order surpluses plus the larger of branch total and link total (S-4: the larger-of in the
+-- bound keeps using capacities); without links plus the branch total alone, even a negative one (S-6). By (82) no
+-- exchange that the network allows earns more at these prices.
 unfoldable pub networkBound : Case → Prices → ℤ
 networkBound c d = cond (noLink c) (branchTotal c d) (larger (branchTotal c d) (linkTotal c d))
 

@@ -3,8 +3,8 @@ use mathlib.Core.Bool.{cond}
 use mathlib.Core.List.{List, [], _++_}
 use Prim.Native.Nat.{ℕ, zero, suc}
 use lib.IntN.{ℤ}
-use Rattle.text_decimal.specs.Meaning.Ascii.{ascii}
-use Rattle.text_decimal.specs.Meaning.Text.{countText, amountText}
+use Rattle.text_rules.specs.Meaning.Ascii.{ascii}
+use Rattle.text_rules.specs.Meaning.Text.{countText, amountText}
 use Rattle.base_causes.specs.declared.Outcome.{Outcome}
 use Rattle.rules.specs.Meaning.Layout.{reportRoom}
 use Rattle.rules.specs.Meaning.Hour.{caseOf, planOf, pricesOf, zonePrice}

@@ -1,4 +1,5 @@
--- What is promised of a judgement, a definition for each clause: of the case s, the proposal t and the report that is written. Assumes nothing.
+-- What is promised of a judgement of the case s and the proposal t and of the report that it writes, a definition
+-- for each clause. Assumes nothing.
 use mathlib.Core.Path.{_≡_}
 use mathlib.Core.List.{List}
 use mathlib.Core.Option.{some}
@@ -12,21 +13,22 @@ use Rattle.rules.specs.Meaning.Families.{Fraction, parentOf, LeadsBack, 
 use Rattle.rules.specs.Meaning.Verdict.{outcome, familyOutcome}
 use Rattle.rules.specs.Meaning.Report.{Reported, reports, reportedWelfare, reportedGap, reportedRent, reportedOwed}
 
--- OF 0 AND 26: each total and each zone price that the report's bytes hold is the integer that its rule gives
+-- FOR 0 AND 26: each total and each zone price in the report's bytes is the integer that its rule gives
 abbrev pub TotalsReported : List ℕ → List ℕ → ℕ → List ℕ → Type 0
 TotalsReported s t room report = T (reports ((outcome s t room) .number)) → Reported ((outcome s t room) .number) (caseOf s) (planOf s t) (pricesOf s t) report
 
--- OF AN ACCEPTED HOUR, in the numbers that the report's bytes hold. It is itself an allowed clearing
+-- FOR AN ACCEPTED HOUR, in the numbers of the report's bytes. It is itself an allowed clearing
 abbrev pub Allowed : List ℕ → List ℕ → Type 0
 Allowed s t = Clearing (caseOf s) (planOf s t)
 
--- THE ACCURACY RULE: every clearing, over any denominator, has a welfare of at most the reported welfare plus the reported gap. S-6: of an hour without links
--- these are the flow-based clearings alone, those of LTA share 0 (`Clearing`)
+-- THE ACCURACY RULE: every clearing, over any denominator, has a welfare of at most the reported welfare plus the
+-- reported gap. In an hour without links these are the flow-based clearings, those of LTA share 0 (S-6;
+-- `Clearing`).
 abbrev pub Accurate : List ℕ → List ℕ → Type 0
 Accurate s report = (q : Plan) → Clearing (caseOf s) q → welfare (caseOf s) q ≤ℤ (pos (q .den) *ℤ (reportedWelfare report +ℤ reportedGap report))
 
--- 0 <= gap <= tolerance, in microcents, of which a cent has a million; and the tolerance is at most 10,000 cents (S-12), so that the accuracy and coverage rules
--- speak of such hours. Both numbers are the paper's own, whatever the limits say
+-- 0 <= gap <= tolerance, in microcents; a cent has a million. The tolerance is at most 10,000 cents (S-12), so the
+-- accuracy and coverage rules speak of such hours only. Both numbers are the paper's own, whatever the limits say.
 abbrev pub GapWithin : List ℕ → List ℕ → Type 0
 GapWithin s report = (pos 0 ≤ℤ reportedGap report) × ((reportedGap report ≤ℤ (pos 1000000 *ℤ pos ((caseOf s) .tolerance))) × ((caseOf s) .tolerance ≤ 10000))
 
@@ -34,7 +36,8 @@ GapWithin s report = (pos 0 ≤ℤ reportedGap report) × ((reportedGap report �
 abbrev pub HasLink : List ℕ → Type 0
 HasLink s = 0 < (caseOf s) .links
 
--- THE COVERAGE RULE: rent >= owed - gap. S-4: it speaks of the new owed, on the contracted volumes; the accuracy rule is unchanged
+-- THE COVERAGE RULE: rent >= owed - gap. It speaks of the new owed, on the contracted volumes (S-4); the accuracy
+-- rule is unchanged.
 abbrev pub Covered : List ℕ → Type 0
 Covered report = (reportedOwed report -ℤ reportedGap report) ≤ℤ reportedRent report
 
@@ -45,18 +48,20 @@ Best s report = reportedGap report ≡ pos 0 → (q : Plan) → Clearing (caseOf
 abbrev pub CoveredInFull : List ℕ → Type 0
 CoveredInFull report = reportedGap report ≡ pos 0 → reportedOwed report ≤ℤ reportedRent report
 
--- S-11, OF A JUDGEMENT WITH THE FAMILY LIST f. The accuracy rule still compares with clearings free of families, and the coverage rule is untouched: of what
--- stands above only the totals are of another outcome
+-- S-11, A JUDGEMENT WITH THE FAMILY LIST f. The accuracy rule still compares with clearings free of families, and
+-- the coverage rule is untouched. Only the totals belong to another outcome.
 abbrev pub FamilyTotalsReported : List ℕ → List ℕ → List ℕ → ℕ → List ℕ → Type 0
 FamilyTotalsReported s t f room report = T (reports ((familyOutcome s t f room) .number)) → Reported ((familyOutcome s t f room) .number) (caseOf s) (planOf s t) (pricesOf s t) report
 
--- OF AN ACCEPTED HOUR: one fraction is at most another, in whole numbers: child volume times parent quantity is at most parent volume times child quantity
+-- FOR AN ACCEPTED HOUR: one fraction is at most another, in whole numbers: child volume times parent quantity is at
+-- most parent volume times child quantity
 pub record FractionAtMost (a b : Fraction) : Type 0 where
   pub whole-positive : 0 < a .whole
   pub other-positive : 0 < b .whole
   pub at-most : a .part * b .whole ≤ b .part * a .whole
 
--- every parent that the list names is an order, no order leads back to itself, and each child is accepted in at most the fraction of its parent
+-- every parent in the list is an order, no order leads back to itself, and each child is accepted in at most the
+-- fraction of its parent
 pub record FamiliesKept (s t f : List ℕ) : Type 0 where
   pub parent-exists : (i j : ℕ) → i < (caseOf s) .orders → parentOf f i ≡ some j → j < (caseOf s) .orders
   pub none-leads-back : (i : ℕ) → i < (caseOf s) .orders → LeadsBack (parentOf f) i → ⊥

@@ -64,7 +64,7 @@ reportedOwed b = i64At b owedAt
 abbrev pub reportedPrice : List ℕ → ℕ → ℤ
 reportedPrice b z = i64At b (zonePriceAt z)
 
--- VERDICT 0 OR 26: what stands in the report, each total and price as the integer that its rule gives
+-- VERDICT 0 OR 26: each total and price in the report is the integer that its rule gives
 pub record Reported (number : ℕ) (c : Case) (p : Plan) (d : Prices) (buffer : List ℕ) : Type 0 where
   pub mark-at : take 3 buffer ≡ 76 ∷ 84 ∷ 82 ∷ []
   pub version-at : getD buffer reportVersionAt 0 + 256 * getD buffer (reportVersionAt + 1) 0 ≡ 1
@@ -82,13 +82,13 @@ pub record Reported (number : ℕ) (c : Case) (p : Plan) (d : Prices) (buffer : 
 unfoldable pub reports : ℕ → Bool
 reports number = eqb number 0 || eqb number 26
 
--- the buffer afterwards: the report and then what stood past it, or all as it was
+-- the buffer after the judgement: the report, then the old bytes past it; or all old bytes
 unfoldable pub written : Outcome → Case → Plan → Prices → List ℕ → List ℕ
 written o c p d buffer = cond (reports (o .number)) (reportBytes (o .number) c p d ++ drop (reportSize c) buffer) buffer
 
 unfoldable pub bufferAfter : List ℕ → List ℕ → List ℕ → List ℕ
 bufferAfter s t buffer = written (outcome s t (length buffer)) (caseOf s) (planOf s t) (pricesOf s t) buffer
 
--- and with the family list f (S-11)
+-- with the family list f (S-11)
 unfoldable pub familyBufferAfter : List ℕ → List ℕ → List ℕ → List ℕ → List ℕ
 familyBufferAfter s t f buffer = written (familyOutcome s t f (length buffer)) (caseOf s) (planOf s t) (pricesOf s t) buffer

@@ -1,5 +1,6 @@
--- The verdict table of document 01, as requests S-2, S-4, S-6, S-11 and S-12 amend it: a row for each cause, in the table's own order, and the judgement's outcome.
--- Every test has a value on any bytes; its value counts only where the rows before it passed. Assumes nothing.
+-- The verdict table of document 01, as requests S-2, S-4, S-6, S-11 and S-12 amend it: a row for each cause, in the
+-- table's own order, and the outcome of the judgement. Every test has a value on any bytes; it counts only where
+-- the rows before it passed. Assumes nothing.
 use mathlib.Core.Path.{_≡_}
 use mathlib.Core.Bool.{Bool, false, not, _&&_, _||_}
 use mathlib.Core.List.{List, [], _∷_, _++_}
@@ -10,7 +11,7 @@ use lib.Dec.{eqb, leb, ltb}
 use lib.IntN.{ℤ, pos}
 use lib.Signed.{ltZ}
 use Rattle.base_integers.specs.Meaning.Ranges.{outside, isZero}
-use Rattle.base_measures.specs.Meaning.Limits as limits
+use Rattle.base_limits.specs.Meaning.Limits as limits
 use Rattle.rules.specs.Meaning.Layout.{u8At, caseHeader, caseVersion, caseLength, proposalHeader, proposalVersion, proposalLength, zoneCounts, branchCounts, linkCounts, orderCounts, reportRoom, branchFieldAt, linkFields, linkFieldAt, orderFields, orderFieldAt, shadowAt}
 use Rattle.rules.specs.Meaning.Hour.{Case, Plan, Prices, caseOf, planOf, pricesOf, netSum, broken, brokenZ, linkRule, branchRule, zonePrice, noLink, gap}
 use Rattle.rules.specs.Meaning.Families.{familyVersion, familyLength, parentOf, missing, leadsBack, accepted, fractionRule}
@@ -34,7 +35,6 @@ differ x y = not (eqb x y)
 unfoldable pub notMark : ℕ → ℕ → ℕ → List ℕ → Bool
 notMark a b e s = not (eqb (u8At s 0) a && eqb (u8At s 1) b && eqb (u8At s 2) e)
 
--- no zone below n
 abbrev pub unknown : ℕ → ℕ → Bool
 unknown n zone = leb n zone
 
@@ -48,7 +48,8 @@ branchFault c m (suc z) = outside limits.ptdf (c .ptdf m z)
 unfoldable pub repeated : Case → ℕ → Bool
 repeated c l = anyBelow l (λ k. eqb (c .from k) (c .from l) && eqb (c .to k) (c .to l))
 
--- link l: from (unknown zone, repeated pair), to (unknown zone, equal zones), capacity, contracted volume (S-4: exceeds capacity)
+-- link l: from (unknown zone, repeated pair), to (unknown zone, equal zones), capacity, contracted volume (S-4:
+-- exceeds capacity)
 unfoldable pub linkFault : Case → ℕ → ℕ → Bool
 linkFault c l zero = unknown (c .zones) (c .from l) || repeated c l
 linkFault c l (suc zero) = unknown (c .zones) (c .to l) || eqb (c .from l) (c .to l)
@@ -65,13 +66,14 @@ rowFault n zone side quantity price (suc (suc (suc k))) = outside limits.orderPr
 unfoldable pub orderFault : Case → ℕ → ℕ → Bool
 orderFault c i = rowFault (c .zones) (c .zone i) (c .side i) (c .quantity i) (c .price i)
 
--- a row of a lent book is refused where a field of it is at fault
+-- a row of a lent book is refused where one of its fields is at fault
 unfoldable pub badRow : ℕ → ℕ → ℕ → ℕ → ℤ → Bool
 badRow n zone side quantity price = anyBelow orderFields (rowFault n zone side quantity price)
 
--- THE TABLE, for a case s, a proposal t and a report buffer of `room` bytes; c, p and d are what s and t hold. Beside the case there may be a family list
--- (S-11): without one the rows 16 to 18 and 28 are not asked. Each row has a name, and the lists of the names are the order in which they are asked.
--- 30 is asked first of all: report buffer under 176 bytes
+-- THE TABLE, for a case s, a proposal t and a report buffer of `room` bytes; c, p and d are what s and t hold. A
+-- case may come with a family list (S-11); without one, rows 16 to 18 and 28 are not asked. Each row has a name,
+-- and the lists of names give the order in which the rows are asked.
+-- 30 is asked first: report buffer under 176 bytes
 abbrev pub smallBuffer : ℕ → Cause
 smallBuffer room = once 30 (room under reportRoom)
 
@@ -108,8 +110,8 @@ badTolerance c = field 4 10 (outside limits.tolerance (pos (c .tolerance)))
 abbrev pub wrongCaseLength : List ℕ → Cause
 wrongCaseLength s = once 5 (differ (length s) (caseLength s))
 
--- 6: branch field out of range. 7: link: unknown zone, equal zones, capacity, repeated pair, contracted volume (S-4). 8: order field out of
--- range. The first such field's offset (S-2)
+-- 6: branch field out of range. 7: link: unknown zone, equal zones, capacity, repeated pair, contracted volume
+-- (S-4). 8: order field out of range. Each names the offset of the first such field (S-2)
 abbrev pub badBranchField : List ℕ → Case → Cause
 badBranchField s c = eachField 6 (c .branches) (1 + c .zones) (branchFault c) (branchFieldAt s)
 
@@ -119,7 +121,7 @@ badLinkField s c = eachField 7 (c .links) linkFields (linkFault c) (linkFieldAt 
 abbrev pub badOrderField : List ℕ → Case → Cause
 badOrderField s c = eachField 8 (c .orders) orderFields (orderFault c) (orderFieldAt s)
 
--- the header's rows, and those of what stands after it
+-- the rows of the header, and those of what follows it
 abbrev pub caseHeaderCauses : List ℕ → Case → List Cause
 caseHeaderCauses s c =
     shortCase s
@@ -138,7 +140,8 @@ caseBodyCauses s c = wrongCaseLength s ∷ badBranchField s c ∷ badLinkField s
 unfoldable pub caseCauses : List ℕ → Case → List Cause
 caseCauses s c = caseHeaderCauses s c ++ caseBodyCauses s c
 
--- 9: proposal shorter than 13 bytes. 10: mark is not LTP. 11: proposal version is not 1. 12: proposal length wrong for this case
+-- 9: proposal shorter than 13 bytes. 10: mark is not LTP. 11: proposal version is not 1. 12: proposal length wrong
+-- for this case
 abbrev pub shortProposal : List ℕ → Cause
 shortProposal t = once 9 (length t under proposalHeader)
 
@@ -172,8 +175,9 @@ proposalCauses s t c p d =
 abbrev pub wideTolerance : Case → Cause
 wideTolerance c = once 15 (outside limits.acceptedTolerance (pos (c .tolerance)))
 
--- ROWS OF A FAMILY LIST f (S-11), asked after 14. 16: mark is not LTF, version is not 1, or length is wrong for this case. 17: a parent does not exist: the
--- order that names it. 18: an order leads back to itself
+-- ROWS OF A FAMILY LIST f (S-11), asked after 15.
+-- 16: mark is not LTF, version is not 1, or length is wrong for this case.
+-- 17: a parent does not exist; the index is the order that names it. 18: an order leads back to itself
 abbrev pub wrongFamilyList : List ℕ → Case → Cause
 wrongFamilyList f c = once 16 (notMark 76 84 70 f || differ (familyVersion f) 1 || differ (length f) (familyLength (c .orders)))
 
@@ -191,7 +195,7 @@ familyCauses (some f) c = wrongFamilyList f c ∷ missingParent f c ∷ ownAnces
 abbrev pub excessVolume : Case → Plan → Cause
 excessVolume c p = each 21 (c .orders) (λ i. p .volume i over c .quantity i)
 
--- 28 (S-11), asked after 21: a child's fraction exceeds its parent's: the child
+-- 28 (S-11), asked after 21: a child's fraction exceeds its parent's; the index is the child
 abbrev pub exceedsParent : Case → Plan → ℕ → Option ℕ → Bool
 exceedsParent c p child none = false
 exceedsParent c p child (some parent) = broken (fractionRule (accepted c p child) (accepted c p parent))
@@ -203,7 +207,8 @@ abbrev pub fractionCauses : Option (List ℕ) → Case → Plan → List Cause
 fractionCauses none c p = []
 fractionCauses (some f) c p = excessFraction f c p ∷ []
 
--- 22: balance (rule 3) fails. 27, asked between 22 and 23: no link, and the LTA share above 0 (S-6). 23: link rule (4) fails. 24: branch rule (5) fails
+-- 22: balance (rule 3) fails. 27, asked between 22 and 23: no link, and the LTA share above 0 (S-6). 23: link rule
+-- (4) fails. 24: branch rule (5) fails
 abbrev pub unbalanced : Case → Plan → Cause
 unbalanced c p = once 22 (not (isZero (netSum c p)))
 
@@ -224,7 +229,7 @@ priceOutside c d = each 25 (c .zones) (λ z. outside limits.zonePrice (zonePrice
 abbrev pub wideGap : Case → Plan → Prices → Cause
 wideGap c p d = once 26 (gap c p d overZ (limits.microcentsOf (pos (c .tolerance))))
 
--- behind the volumes, which 21 and 28 ask
+-- the rows after the volumes, which 21 and 28 ask
 abbrev pub exchangeCauses : Case → Plan → Prices → List Cause
 exchangeCauses c p d =
     unbalanced c p
@@ -238,7 +243,7 @@ exchangeCauses c p d =
 unfoldable pub clearingCauses : Option (List ℕ) → Case → Plan → Prices → List Cause
 clearingCauses fs c p d = excessVolume c p ∷ (fractionCauses fs c p ++ exchangeCauses c p d)
 
--- of files that were read: the tolerance, the family list, the clearing
+-- the rows once both files are read: the tolerance, the family list, the clearing
 abbrev pub judgementCauses : Option (List ℕ) → Case → Plan → Prices → List Cause
 judgementCauses fs c p d = wideTolerance c ∷ (familyCauses fs c ++ clearingCauses fs c p d)
 
@@ -249,7 +254,7 @@ table fs s t room c p d = roomCauses room ++ (caseCauses s c ++ (proposalCauses 
 unfoldable pub outcome : List ℕ → List ℕ → ℕ → Outcome
 outcome s t room = answer (refusal (table none s t room (caseOf s) (planOf s t) (pricesOf s t)))
 
--- and with the family list f (S-11)
+-- with the family list f (S-11)
 unfoldable pub familyOutcome : List ℕ → List ℕ → List ℕ → ℕ → Outcome
 familyOutcome s t f room = answer (refusal (table (some f) s t room (caseOf s) (planOf s t) (pricesOf s t)))
 

@@ -1,5 +1,5 @@
--- The verdict table: its numbers in the order asked, that a refusal is given for its cause and for no other, and that no cause asked earlier holds.
--- Assumes nothing.
+-- The verdict table: the order in which its numbers are asked; a refusal is given for its own cause and no other;
+-- no cause asked earlier holds. Assumes nothing.
 use mathlib.Core.Path.{_≡_, refl}
 use mathlib.Core.Bool.{not, cond}
 use mathlib.Core.List.{List, [], _∷_, _++_, map}
@@ -10,7 +10,7 @@ use lib.ListN.{getD, drop}
 use lib.Dec.{T, eqb}
 use lib.Signed.{_<ℤ_, ltZ-yes}
 use lib.IntN.{ℤ, pos}
-use Rattle.base_measures.specs.Meaning.Limits as limits
+use Rattle.base_limits.specs.Meaning.Limits as limits
 use Rattle.rules.specs.Meaning.Hour.{Case, Plan, Prices, caseOf, planOf, pricesOf, gap}
 use Rattle.base_causes.specs.declared.Outcome.{Outcome}
 use Rattle.base_causes.specs.Promised.Asked.{unnamed, at-offset, the-place, a-field, Asked, ask, Asks, asks, ascending}
@@ -19,7 +19,8 @@ use Rattle.base_causes.specs.Promised.CauseLaws.{empty, Answered, answered, Soo
 use Rattle.rules.specs.Meaning.Book.{BookRow, bookCauses, bookRefusal, bookSurplus, bookAnswer, bookAnswerBy}
 use Rattle.rules.specs.Meaning.Verdict.{roomCauses, caseCauses, proposalCauses, clearingCauses, table, outcome, familyOutcome}
 
--- 30 is asked first of all, then the others from the smallest number, and of one number from the smallest offset; but 27 between 22 and 23 (S-6)
+-- 30 is asked first. Then the numbers ascend, and within a number the offsets; only 27 is out of turn, between 22
+-- and 23 (S-6)
 unfoldable pub asked : List Asked
 asked =
     ask 30 unnamed
@@ -64,8 +65,8 @@ unfoldable pub from : ℕ → List Asked → List Asked
 from n [] = []
 from n (a ∷ rest) = cond (eqb (a .number) n) (a ∷ rest) (from n rest)
 
--- THE ORDER: behind 30, 27 is the one number out of turn. Without it the others ascend, with it they do not, and it
--- stands between 22 and 23
+-- THE ORDER: after 30, only 27 is out of turn. Without it the numbers ascend, with it they do not; it stands
+-- between 22 and 23
 pub others-ascending : T (ascending (without 27 (drop 1 asked)))
 unfolding asked without ascending
 others-ascending = tt
@@ -97,12 +98,14 @@ module _ (s t : List ℕ) (room : ℕ) where
   abbrev rows : List Cause
   rows = table none s t room (caseOf s) (planOf s t) (pricesOf s t)
 
-  -- 0 IF AND ONLY IF EVERY ROW PASSES at every place; else the first row that fails, at its first place. So nothing is returned for another cause.
+  -- 0 IF AND ONLY IF EVERY ROW PASSES at every place; else the first row that fails, at its first place. So no
+  -- other cause gives an answer.
   pub outcome-answered : Answered rows (outcome s t room)
   unfolding outcome
   outcome-answered = answered rows (no-zero none s t room (caseOf s) (planOf s t) (pricesOf s t))
 
-  -- a cause that holds, in row j at place k, is not asked before the outcome's: rows by their position in `asked`, then places from the first
+  -- if a cause holds, in row j at place k, then it is not asked before the outcome's cause: rows in the order of
+  -- `asked`, then places from the first
   pub outcome-first : (j k : ℕ) → k < (getD rows j empty) .places → T ((getD rows j empty) .fails k) → Soonest rows (outcome s t room) j k
   unfolding outcome
   outcome-first j k h f = soonest rows j k h f
@@ -111,7 +114,7 @@ module _ (s t : List ℕ) (room : ℕ) where
   pub accepted-is : (outcome s t room) .number ≡ 0 → outcome s t room ≡ verdict 0 0
   accepted-is e = outcome-answered .passes-zero (outcome-answered .zero-passes e)
 
-  -- a number is below 256, so number + 256 * index has both
+  -- a number is below 256, so number + 256 * index determines both
   pub outcome-below : (outcome s t room) .number < 256
   unfolding outcome
   outcome-below = number-below 256 rows (omega arith) (small-numbers none s t room (caseOf s) (planOf s t) (pricesOf s t))
@@ -121,7 +124,8 @@ module _ (s t : List ℕ) (room : ℕ) where
   unfolding outcome table roomCauses caseCauses proposalCauses clearingCauses lacks before causeNumbered
   over-tolerance e = ltZ-yes ((row-by-number 26 rows (omega arith) tt tt e) .first-place .holds)
 
--- WITH A FAMILY LIST (S-11): 16 to 18 after 14 and 15, and 28 after 21. In this order too 27 and 28 alone are out of turn
+-- WITH A FAMILY LIST (S-11): 16 to 18 after 14 and 15, and 28 after 21. In this order only 27 and 28 are out of
+-- turn
 unfoldable pub familyAsked : List Asked
 familyAsked = until 21 asked ++ (ask 16 unnamed ∷ ask 17 the-place ∷ ask 18 the-place ∷ []) ++ until 22 (from 21 asked) ++ (ask 28 the-place ∷ from 22 asked)
 
@@ -169,7 +173,7 @@ pub book-answered : (rows : List BookRow) (prices : List ℤ) → Answered (book
 unfolding bookRefusal bookCauses lacks
 book-answered rows prices = answered (bookCauses rows prices) tt
 
--- and the answer is that outcome, with the sum of rule 8 where nothing refuses, and zero where something does
+-- the answer is that outcome, with the sum of rule 8 where no row refuses, and zero where one does
 pub book-outcome : (rows : List BookRow) (prices : List ℤ) → verdict ((bookAnswer rows prices) .number) ((bookAnswer rows prices) .index) ≡ answer (bookRefusal rows prices)
 unfolding bookAnswer
 book-outcome rows prices = by (bookRefusal rows prices)

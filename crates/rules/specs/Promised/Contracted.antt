@@ -1,6 +1,6 @@
--- S-4: WHAT CONTRACTED VOLUMES CHANGE. Of one case with other contracted volumes: the clearings, welfare, bound, gap and rent are the same, so that the
--- accuracy rule does not speak of them; owed is the link total where every capacity is contracted, nothing where none is, and not less where more is.
--- Assumes nothing.
+-- S-4: WHAT CONTRACTED VOLUMES CHANGE. Change the contracted volumes of a case: clearings, welfare, bound, gap and
+-- rent stay, so the accuracy rule does not depend on them. Owed is the link total where every capacity is
+-- contracted, zero where nothing is, and never less where more is contracted. Assumes nothing.
 use mathlib.Core.Path.{_≡_, refl, _∙_}
 use Prim.Native.Nat.{ℕ, _≤_, _<_}
 use native.Mathlib.Omega.{arith}
@@ -63,7 +63,7 @@ module _ (f : ℕ → ℕ) (c : Case) where
     branch = cl .branch;
   }
 
-  -- what is owed
+  -- what changes: owed
   pub all-owed : (d : Prices) → ((l : ℕ) → l < c .links → f l ≡ c .capacity l) → owed (contracting f c) d ≡ linkTotal c d
   unfolding contracting owed linkOwed linkTotal linkValue spread zonePrice branchPrice
   all-owed d h = sum-ext (c .links) _ _ (λ l k. λ j. pos (h l k j) *ℤ positive (spread c d l))

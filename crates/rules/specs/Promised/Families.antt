@@ -1,4 +1,5 @@
--- What a family list changes (S-11): without one nothing, and with one an hour that is valued is valued as without. Assumes nothing.
+-- What a family list changes (S-11). Without one: nothing. With one: an hour that gets a report gets the same
+-- report as without. Assumes nothing.
 use mathlib.Core.Path.{_≡_, refl, sym, ap, subst, _∙_}
 use mathlib.Core.Bool.{Bool, true, false, not, cond, _&&_, _||_}
 use mathlib.Core.List.{List, [], _∷_, _++_}
@@ -20,7 +21,7 @@ use Rattle.rules.specs.Promised.Guarantee.{Accepted, accepted-sound}
 use Rattle.rules.specs.Promised.Reported.{reported}
 use Rattle.rules.specs.Promised.PlainFacts.{case-facts}
 
--- WITHOUT A LIST the table is the one that it was before S-11, but for row 15 (S-12): no row of it is a family's
+-- WITHOUT A LIST the table is the table before S-11, except for row 15 (S-12): it has no family rows
 pub without-a-list : (s t : List ℕ) (room : ℕ) (c : Case) (p : Plan) (d : Prices)
     → table none s t room c p d ≡ roomCauses room ++ (caseCauses s c ++ (proposalCauses s t c p d ++ (wideTolerance c ∷ (excessVolume c p ∷ exchangeCauses c p d))))
 unfolding table clearingCauses
@@ -46,7 +47,7 @@ module _ (s t f : List ℕ) (room : ℕ) where
   abbrev d : Prices
   d = pricesOf s t
 
-  -- with a number that no row of a family has, the families' rows are left out
+  -- for a number that no family row has, the family rows can be left out
   others : (n : ℕ) → T (lacks n (familyCauses (some f) c)) → T (lacks n (fractionCauses (some f) c p)) → (familyOutcome s t f room) .number ≡ n → familyOutcome s t f room ≡ outcome s t room
   unfolding familyOutcome outcome table roomCauses caseCauses proposalCauses clearingCauses
   others n h k e =
@@ -55,7 +56,7 @@ module _ (s t f : List ℕ) (room : ℕ) where
       let second = left-out n (front ++ (excessVolume c p ∷ [])) (fractionCauses (some f) c p) (exchangeCauses c p d) k (ap (λ (o : Option Outcome). (answer o) .number) (sym first) ∙ e) in
       ap answer (first ∙ second)
 
-  -- THE LIST REFUSES NOTHING: where the answer is by none of its rows, it is the answer without it
+  -- THE LIST REFUSES NOTHING: where none of its rows gives the answer, the answer is the one without it
   pub alike-unless : ((familyOutcome s t f room) .number ≡ 16 → ⊥) → ((familyOutcome s t f room) .number ≡ 17 → ⊥) → ((familyOutcome s t f room) .number ≡ 18 → ⊥) → ((familyOutcome s t f room) .number ≡ 28 → ⊥)
       → familyOutcome s t f room ≡ outcome s t room
   unfolding lacks
@@ -65,7 +66,7 @@ module _ (s t f : List ℕ) (room : ℕ) where
       (and-both (not (eqb 16 n)) (not (eqb 17 n) && (not (eqb 18 n) && true)) (other 16 n a) (and-both (not (eqb 17 n)) (not (eqb 18 n) && true) (other 17 n b) (and-both (not (eqb 18 n)) true (other 18 n e) tt)))
       (and-both (not (eqb 28 n)) true (other 28 n g) tt) refl
 
-  -- A LIST ONLY REFUSES: where the answer with it is 0 or 26, it is the answer without it
+  -- A LIST ONLY REFUSES: where the answer with it is 0 or 26, the answer without it is the same
   pub valued-alike : T (reports ((familyOutcome s t f room) .number)) → familyOutcome s t f room ≡ outcome s t room
   unfolding reports lacks
   valued-alike r = either (eqb ((familyOutcome s t f room) .number) 0) (eqb ((familyOutcome s t f room) .number) 26) r
@@ -90,7 +91,7 @@ module _ (s t f : List ℕ) (room : ℕ) where
       quantity-positive : (i : ℕ) → i < c .orders → 0 < c .quantity i
       quantity-positive i h = omega (arith, (case-facts s ((accepted-sound s t room (accepted-without e)) .readable)) .quantity-in i h .0)
 
-  -- A LIST OF WHICH 16 TO 18 AND 28 PASS judges as no list does
+  -- IF 16 TO 18 AND 28 PASS, the answer is the one without a list
   pub passed-alike : refusal (familyCauses (some f) c) ≡ none → Pass (excessFraction f c p) → familyOutcome s t f room ≡ outcome s t room
   unfolding familyOutcome outcome table clearingCauses
   passed-alike passed no-child =
@@ -98,11 +99,11 @@ module _ (s t f : List ℕ) (room : ℕ) where
       let families = refusal-append (familyCauses (some f) c) _ ∙ ap (λ (x : Option Outcome). else-refusal x (refusal (clearingCauses (some f) c p d))) passed in
       ap answer (after (roomCauses room) _ _ (after (caseCauses s c) _ _ (after (proposalCauses s t c p d) _ _ (after (wideTolerance c ∷ []) _ _ (families ∙ volumes)))))
 
-  -- so one that names no parent, and that 16 passes
+  -- so a list that names no parent and passes 16 changes nothing
   pub no-parents : refusal (familyCauses (some f) c) ≡ none → ((i : ℕ) → i < c .orders → parentOf f i ≡ none) → familyOutcome s t f room ≡ outcome s t room
   no-parents passed none-named = passed-alike passed (record { pass = λ k l. subst (λ (o : Option ℕ). T (not (exceedsParent c p k o))) (sym (none-named k l)) tt })
 
--- EVERY BYTE OF THE BUFFER afterwards: that of the judgement without the list where the hour is valued with it, else as it was
+-- EVERY BYTE OF THE BUFFER afterwards: where the answer is 0 or 26, as without the list; else unchanged
 module _ (s t f buffer : List ℕ) where
   pub same-answer-same-buffer : familyOutcome s t f (length buffer) ≡ outcome s t (length buffer) → familyBufferAfter s t f buffer ≡ bufferAfter s t buffer
   unfolding familyBufferAfter bufferAfter
@@ -115,13 +116,14 @@ module _ (s t f buffer : List ℕ) where
   unfolding familyBufferAfter written
   family-unchanged r = ap (λ (b : Bool). cond b (reportBytes ((familyOutcome s t f (length buffer)) .number) (caseOf s) (planOf s t) (pricesOf s t) ++ drop (reportSize (caseOf s)) buffer) buffer) (not-is (reports ((familyOutcome s t f (length buffer)) .number)) r)
 
-  -- each total and each price that the report's bytes then hold
+  -- each total and each price in the report's bytes
   pub family-reported : FamilyTotalsReported s t f (length buffer) (familyBufferAfter s t f buffer)
   family-reported r =
       let same = valued-alike s t f (length buffer) r in
       rw (family-buffer r, same) (reported s t buffer (subst (λ (o : Outcome). T (reports (o .number))) same r))
 
--- AN ORDER WITHOUT A PARENT never leads back to itself, by the sentence and by the row's test: at least one step is taken
+-- AN ORDER WITHOUT A PARENT never leads back to itself, by the definition and by the row's test: one step at least
+-- is taken
 no-way-up : (parent : ℕ → Option ℕ) (i k : ℕ) → parent i ≡ none → ancestor parent (suc k) i ≡ none
 unfolding ancestor
 no-way-up parent i zero e = e

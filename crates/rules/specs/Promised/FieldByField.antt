@@ -1,4 +1,5 @@
--- Rows 6, 7 and 8 of a case (S-2) are rows over the fields of their part in file order: the n-th field, with its test and its offset. Assumes nothing.
+-- Rows 6, 7 and 8 of a case (S-2) are rows over the fields of their part in file order: field n, with its test and
+-- its offset. Assumes nothing.
 use mathlib.Core.Path.{_≡_, sym, ap, _∙_}
 use mathlib.Core.List.{List, [], _∷_, _++_}
 use Prim.Native.Nat.{ℕ, _+_}

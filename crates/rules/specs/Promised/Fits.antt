@@ -1,6 +1,8 @@
--- Every total, every zone price, and every sum on the way to one in the order in which it is added up, fits signed 64 bits. Each stage names what the rows before it leave.
--- Sizes: welfare and rent within 2.048e18, surpluses 2.304e18, branch total 3.2e18, link total and owed 2.88e17, so bound within 5.504e18 and gap 7.552e18, below 9.22e18.
--- The rent is bounded order by order: zone by zone it would be 3.3e19. Assumes nothing.
+-- Every total, every zone price, and every partial sum of one, in the order of addition, fits signed 64 bits. Each
+-- stage names what the rows before it leave.
+-- Sizes: welfare and rent within 2.048e18, surpluses 2.304e18, branch total 3.2e18, link total and owed 2.88e17, so
+-- bound within 5.504e18 and gap 7.552e18, below 9.22e18. The rent is bounded order by order; zone by zone it would
+-- be 3.3e19. Assumes nothing.
 use mathlib.Core.Path.{_≡_, refl, ap}
 use mathlib.Core.Bool.{Bool, true, false}
 use mathlib.Core.List.{List}
@@ -19,8 +21,8 @@ use Rattle.base_integers.specs.Meaning.Sums.{sumTo, only}
 use Rattle.base_integers.specs.Steps.Size.{Near, near-le, near-pos, near-add, near-neg, near-sub, near-mul, near-sum, near-fits, near-within, near-gathered, apart, near-larger, near-positive, near-only, near-unsigned, near-32}
 use Rattle.base_integers.specs.Meaning.Machine.{SumsFit}
 use Rattle.base_integers.specs.Steps.Machine.{small-sums}
-use Rattle.base_measures.specs.Meaning.Limits as limits
-use Rattle.base_measures.specs.Meaning.Limits.{partsInOne}
+use Rattle.base_limits.specs.Meaning.Limits as limits
+use Rattle.base_limits.specs.Meaning.Limits.{partsInOne}
 use Rattle.rules.specs.Meaning.Layout.{u32At, i32At, systemIn}
 use Rattle.rules.specs.Meaning.Hour.{Case, Plan, Prices, caseOf, planOf, pricesOf, signed, buys, above, orderNet, net, inflow, outflow, ltaPart, fbPart, linkUse, linkRoom, branchPrice, zonePrice, orderWelfare, welfare, surplusOf, orderSurplus, surplus, branchValue, branchTotal, spread, linkValue, linkTotal, linkOwed, owed, noLink, networkBound, bound, gap, rent}
 use Rattle.rules.specs.Meaning.Clearing.{Clearing}
@@ -32,7 +34,7 @@ near-signed : (b : Bool) (k : ℕ) (x : ℤ) → Near k x → Near k (signed b x
 near-signed true k x h = h
 near-signed false k x h = near-neg h
 
--- an order price in grains lies where a zone price may lie
+-- an order price in grains is within the limits of a zone price
 pub in-grains : (x : ℤ) → Within limits.orderPrice x → Within limits.zonePrice (limits.grainsOf x)
 in-grains x h = record {
   least-le = le-by (at (limits.zonePrice .least)) (at (pos partsInOne) ⊗ at x) (omega (arith, le-fact (at (minus 50000)) (at x) (h .least-le)));
@@ -52,7 +54,7 @@ near-order-price x w = near-within 400000 limits.orderPrice x (omega arith) (ome
 pub near-zone-price : (x : ℤ) → Within limits.zonePrice x → Near 40000000000 x
 near-zone-price x w = near-within 40000000000 limits.zonePrice x (omega arith) (omega arith) w
 
--- RULE 8, of one order: also of a row of a lent book
+-- RULE 8 for one order, or for a row of a lent book
 pub surplus-near : (buy : Bool) (quantity : ℕ) (price zone : ℤ) → quantity ≤ 100000 → Within limits.orderPrice price → Within limits.zonePrice zone
     → Near 4500000000000000 (surplusOf buy quantity price zone)
 unfolding surplusOf
@@ -60,7 +62,7 @@ surplus-near buy quantity price zone q p z =
     near-positive 4500000000000000 _ (near-mul (near-unsigned quantity 100000 q) (near-above buy (limits.grainsOf price) zone (in-grains price p) z))
 
 module _ (c : Case) (cs : CaseSound c) where
-  -- while row 21 is asked: of the first n orders, no volume above its order's quantity
+  -- while row 21 is asked: the first n orders have no volume above their quantity
   module _ (p : Plan) (n : ℕ) (few : n ≤ c .orders) (volumes : (i : ℕ) → i < n → p .volume i ≤ c .quantity i) where
     volume-near : (i : ℕ) → i < n → Near 100000 (pos (p .volume i))
     volume-near i h = near-unsigned (p .volume i) 100000 (omega (arith, cs .quantity-in i (omega arith), volumes i h))
@@ -79,7 +81,7 @@ module _ (c : Case) (cs : CaseSound c) where
     unfolding orderWelfare
     welfare-term-near i h = near-signed (buys c i) 40000000000 _ (near-mul (volume-near i h) (near-order-price (c .price i) (cs .price-in i (omega arith))))
 
-    -- in microcents, as they are added up
+    -- in microcents, in the order of addition
     pub welfare-sums : SumsFit (λ i. pos partsInOne *ℤ orderWelfare c p i) n
     welfare-sums = small-sums _ 4000000000000000 n (λ i h. near-mul (near-pos partsInOne) (welfare-term-near i h)) (omega (arith, cs .orders-in))
 
@@ -99,7 +101,8 @@ module _ (c : Case) (cs : CaseSound c) where
     flow-near : (b : Bool) (l : ℕ) → p .flow l ≤ 100000 → Near 100000 (only b (pos (p .flow l)))
     flow-near b l h = near-only b 100000 _ (near-unsigned (p .flow l) 100000 h)
 
-    -- the flow-based part while the first n links are taken off, as row 23 is asked: no flow of theirs above 100,000 tenths
+    -- the flow-based part after subtracting the first n links, while row 23 is asked: none of their flows is above
+    -- 100,000 tenths
     pub partial-near : (n : ℕ) → n ≤ c .links → ((l : ℕ) → l < n → p .flow l ≤ 100000) → (z : ℕ)
         → Near 64000000 (net c p z -ℤ (sumTo n (λ l. only (eqb (c .to l) z) (pos (p .flow l))) -ℤ sumTo n (λ l. only (eqb (c .from l) z) (pos (p .flow l)))))
     partial-near n h flows z = near-le (omega (arith, cs .links-in)) (near-sub (net-near z)
@@ -136,7 +139,7 @@ module _ (c : Case) (cs : CaseSound c) where
     unfolding branchValue
     branch-term-near m h = near-mul (near-within 500000 limits.margin (c .ram m) (omega arith) (omega arith) (cs .ram-in m h)) (near-unsigned (d .shadow m) 1000000 (shadows m h))
 
-    -- in microcents, as they are added up
+    -- in microcents, in the order of addition
     pub branchTotal-sums : SumsFit (λ m. pos partsInOne *ℤ branchValue c d m) (c .branches)
     branchTotal-sums = small-sums _ 50000000000000000 (c .branches) (λ m h. near-mul (near-pos partsInOne) (branch-term-near m h)) (omega (arith, cs .branches-in))
 
@@ -144,9 +147,9 @@ module _ (c : Case) (cs : CaseSound c) where
     unfolding branchTotal
     branchTotal-near = near-le (omega (arith, cs .branches-in)) (near-mul (near-pos partsInOne) (near-sum (c .branches) 500000000000 _ branch-term-near))
 
-    -- while row 25 is asked: of the first n zones, no price outside its limits
+    -- while row 25 is asked: the first n zones have no price outside its limits
     module _ (p : Plan) (volumes : (i : ℕ) → i < c .orders → p .volume i ≤ c .quantity i) (n : ℕ) (few : n ≤ c .zones) (prices : (z : ℕ) → z < n → Within limits.zonePrice (zonePrice c d z)) where
-      -- the net positions of the first m of these at their prices: no more than the volumes at theirs
+      -- the net positions of the first m of these zones at their prices are at most the volumes at those prices
       rent-partial-near : (m : ℕ) → m ≤ n → Near 2048000000000000000 (sumTo m (λ z. net c p z *ℤ zonePrice c d z))
       unfolding net
       rent-partial-near m h = near-le (omega (arith, cs .orders-in))
@@ -172,7 +175,8 @@ module _ (c : Case) (cs : CaseSound c) where
       unfolding surplus
       surpluses-near = near-le (omega (arith, cs .orders-in)) (near-sum (c .orders) 4500000000000000 _ surplus-term-near)
 
-      -- a volume of each link at its positive spread: capacities for the link total, contracted volumes for what is owed (S-4)
+      -- a volume of each link at its positive spread: capacities give the link total, contracted volumes give owed
+      -- (S-4)
       module _ (f : ℕ → ℕ) (volumes : (l : ℕ) → l < c .links → f l ≤ 100000) where
         link-term-near : (l : ℕ) → l < c .links → Near 4500000000000000 (pos (f l) *ℤ positive (spread c d l))
         unfolding spread

@@ -1,4 +1,5 @@
--- The gap, taken apart exactly: what each order, branch and link falls short, and what the network's bound leaves. Assumes nothing.
+-- The gap, taken apart exactly: the shortfall of each order, branch and link, and the slack in the network's bound.
+-- Assumes nothing.
 use mathlib.Core.Path.{_≡_, ap}
 use Prim.Native.Nat.{ℕ, _+_, _*_, _-_, _<_}
 use native.Mathlib.Nat.{mul-le-mul-right}
@@ -10,7 +11,7 @@ use Rattle.base_integers.specs.Steps.Difference.{at, _⊕_, _⊖_, _⊗_, le-by
 use Rattle.base_integers.specs.Steps.Order.{le-trans, le-antisym, diff-nonneg, add-nonneg, times-nonneg}
 use Rattle.base_integers.specs.Meaning.Sums.{sumTo}
 use Rattle.base_integers.specs.Steps.Sums.{sum-sub, sum-scale-l, sum-nonneg, one-le-sum}
-use Rattle.base_measures.specs.Meaning.Limits.{partsInOne}
+use Rattle.base_limits.specs.Meaning.Limits.{partsInOne}
 use Rattle.rules.specs.Meaning.Hour.{Case, Plan, Prices, buys, orderNet, linkUse, linkRoom, branchUse, branchRoom, zonePrice, orderWelfare, welfare, surplusOf, orderSurplus, surplus, branchValue, branchTotal, spread, linkValue, linkTotal, networkBound, bound, rent}
 use Rattle.rules.specs.Meaning.Clearing.{Placed, Clearing}
 use Rattle.rules.specs.Steps.Duality.{branches-within, share-within, order-le, link-le, rest, by-orders, rent-is, rent-split, over-links, over-branches, branches-are, in-cents}
@@ -27,7 +28,7 @@ unfoldable pub linkShort : Case → Prices → Plan → ℕ → ℤ
 linkShort c d p l = pos (p .share) *ℤ (linkValue c d l)
     -ℤ pos partsInOne *ℤ (pos (p .flow l) *ℤ (spread c d l))
 
--- what is left since each total, weighed by its share, is at most the network's bound
+-- the slack: each total, weighed by its share, is at most the network's bound
 unfoldable pub slack : Case → Prices → Plan → ℤ
 slack c d p = pos (partsInOne * p .den - p .share) *ℤ (networkBound c d -ℤ branchTotal c d) +ℤ pos (p .share) *ℤ (networkBound c d -ℤ linkTotal c d)
 
@@ -75,7 +76,7 @@ module _ (c : Case) (ok : Placed c) (d : Prices) (p : Plan) (cl : Clearing c p) 
       )
       (sum-sub (c .links) _ _)
 
-  -- the exact account, in hundred-thousandths of a microcent
+  -- the exact decomposition, in hundred-thousandths of a microcent
   pub gap-is : pos partsInOne *ℤ (pos (p .den) *ℤ bound c d -ℤ welfare c p)
       ≡ pos partsInOne *ℤ (sumTo (c .orders) (λ i. orderShort c d p i) +ℤ sumTo (c .branches) (λ m. branchShort c d p m)) +ℤ sumTo (c .links) (λ l. linkShort c d p l) +ℤ slack c d p
   unfolding bound slack branchTotal in-cents
@@ -83,7 +84,7 @@ module _ (c : Case) (ok : Placed c) (d : Prices) (p : Plan) (cl : Clearing c p) 
       (sumTo (c .orders) (λ i. orderShort c d p i)) (sumTo (c .branches) (λ m. branchShort c d p m)) (sumTo (c .links) (λ l. linkShort c d p l))
       (p .den) (p .share) (partsInOne * p .den - p .share) (omega (arith, cl .share-in)) (rent-split c ok d p cl) orders-sum branches-sum links-sum
 
-  -- none of it is negative
+  -- no part is negative
   pub order-short : (i : ℕ) → i < c .orders → pos 0 ≤ℤ orderShort c d p i
   unfolding orderShort surplusOf orderSurplus orderWelfare orderNet
   order-short i h = diff-nonneg (order-le (buys c i) (p .volume i) (c .quantity i) (p .den) (c .price i) (zonePrice c d (c .zone i)) (cl .volume-in i h))

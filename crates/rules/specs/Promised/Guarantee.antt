@@ -1,4 +1,5 @@
--- DEMAND 3: that every accepted hour keeps what `Promise` promises, for every case s and proposal t as bytes. Assumes nothing.
+-- DEMAND 3: every accepted hour keeps what `Promise` promises, for every case s and proposal t as bytes.
+-- Assumes nothing.
 use mathlib.Core.Path.{_≡_, refl, sym, ap, subst, _∙_}
 use mathlib.Core.List.{List}
 use Prim.Native.Nat.{ℕ, _*_}
@@ -9,7 +10,7 @@ use lib.IntN.{ℤ, pos, _+ℤ_, _-ℤ_, _*ℤ_}
 use lib.Signed.{_≤ℤ_}
 use Rattle.base_integers.specs.Meaning.Difference.{up, dn}
 use Rattle.base_integers.specs.Steps.Difference.{at, _⊕_, _⊖_, _⊗_, le-by, le-fact, eq-fact}
-use Rattle.base_measures.specs.Meaning.Limits.{microcentsOf}
+use Rattle.base_limits.specs.Meaning.Limits.{microcentsOf}
 use Rattle.rules.specs.Meaning.Hour.{Plan, Prices, caseOf, planOf, pricesOf, welfare, linkTotal, owed, bound, gap, rent}
 use Rattle.rules.specs.Meaning.Clearing.{Clearing}
 use Rattle.rules.specs.Meaning.Verdict.{outcome, Readable}
@@ -49,17 +50,17 @@ gap-range s t room a = (
   within-tolerance s t room (a .answer),
 )
 
--- of an hour with a link (S-6) the rent covers the link total, that of the capacities, up to the gap
+-- in an hour with a link (S-6) the rent covers the link total, which is over the capacities, up to the gap
 pub links-covered : (s t : List ℕ) (room : ℕ) → Accepted s t room → HasLink s
     → (linkTotal (caseOf s) (pricesOf s t) -ℤ gap (caseOf s) (planOf s t) (pricesOf s t)) ≤ℤ rent (caseOf s) (planOf s t) (pricesOf s t)
 unfolding planOf
 links-covered s t room a linked = Duality.links-covered (caseOf s) linked ((case-sound s ((accepted-sound s t room a) .readable)) .placed) (pricesOf s t) (planOf s t) (allowed s t room a) refl
 
--- of a readable case no more is owed, on the contracted volumes, than the link total (S-4)
+-- in a readable case owed, on the contracted volumes, is at most the link total (S-4)
 pub owed-within : (s : List ℕ) → Readable s → (d : Prices) → owed (caseOf s) d ≤ℤ linkTotal (caseOf s) d
 owed-within s r d = Duality.owed-le (caseOf s) ((case-sound s r) .contracted-in) d
 
--- so the rent covers what is owed, up to the gap
+-- so the rent covers owed, up to the gap
 pub coverage : (s t : List ℕ) (room : ℕ) → Accepted s t room → HasLink s
     → (owed (caseOf s) (pricesOf s t) -ℤ gap (caseOf s) (planOf s t) (pricesOf s t)) ≤ℤ rent (caseOf s) (planOf s t) (pricesOf s t)
 unfolding planOf
@@ -80,7 +81,7 @@ best-at-zero-gap s t room a z q cl = no-gap (welfare (caseOf s) q) (welfare (cas
           ap (λ (k : ℕ). e * k) (eq-fact (at g) (at (pos 0)) z),
         ))
 
--- and the rent covers all that is owed
+-- at a gap of zero the rent covers all of owed
 pub covered-at-zero-gap : (s t : List ℕ) (room : ℕ) → Accepted s t room → HasLink s → gap (caseOf s) (planOf s t) (pricesOf s t) ≡ pos 0
     → owed (caseOf s) (pricesOf s t) ≤ℤ rent (caseOf s) (planOf s t) (pricesOf s t)
 covered-at-zero-gap s t room a linked z = whole (owed (caseOf s) (pricesOf s t)) (gap (caseOf s) (planOf s t) (pricesOf s t)) (rent (caseOf s) (planOf s t) (pricesOf s t)) z (coverage s t room a linked)
@@ -88,7 +89,7 @@ covered-at-zero-gap s t room a linked z = whole (owed (caseOf s) (pricesOf s t))
     whole : (o g r : ℤ) → g ≡ pos 0 → (o -ℤ g) ≤ℤ r → o ≤ℤ r
     whole o g r z h = le-by (at o) (at r) (omega (arith, le-fact (at o ⊖ at g) (at r) h, eq-fact (at g) (at (pos 0)) z))
 
--- DEMAND 3 of what stands in the report, where the buffer lent is `buffer`
+-- DEMAND 3 in the numbers of the report, for the lent buffer `buffer`
 pub record Demand3 (s t : List ℕ) (report : List ℕ) : Type 0 where
   pub is-allowed : Allowed s t
   pub is-accurate : Accurate s report

@@ -1,5 +1,5 @@
--- What S-2 changed: against the verdict table with its rows 6, 7, 8 and 14 as they were before that request, every number is the same, and every index but
--- those of these four. Assumes nothing.
+-- What S-2 changed. Against the verdict table with the earlier rows 6, 7, 8 and 14, every number is the same, and
+-- so is every index except those of these four. Assumes nothing.
 use mathlib.Core.Path.{_≡_, refl, sym, ap, _∙_, subst}
 use mathlib.Core.Bool.{Bool, true, false, not, _||_, or-false, or-assoc}
 use mathlib.Core.List.{List, [], _∷_, _++_}
@@ -9,7 +9,7 @@ use native.Mathlib.Omega.{arith}
 use lib.Dec.{T, eqb}
 use lib.IntN.{ℤ, pos}
 use Rattle.base_integers.specs.Meaning.Ranges.{outside}
-use Rattle.base_measures.specs.Meaning.Limits as limits
+use Rattle.base_limits.specs.Meaning.Limits as limits
 use Rattle.rules.specs.Meaning.Layout.{linkFields, orderFields}
 use Rattle.rules.specs.Meaning.Hour.{Case, Plan, Prices, caseOf, planOf, pricesOf}
 use Rattle.base_causes.specs.declared.Outcome.{Outcome}
@@ -17,7 +17,8 @@ use Rattle.base_causes.specs.Meaning.Causes.{Cause, verdict, firstBelow, anyBel
 use Rattle.rules.specs.Meaning.Verdict.{_over_, unknown, badRow, branchFault, repeated, linkFault, rowFault, orderFault, roomCauses, caseCauses, proposalCauses, judgementCauses, table, outcome, badBranchField, shadowAbove}
 use Rattle.base_causes.specs.Promised.CauseLaws.{before, behind}
 
--- THE TABLE BEFORE, with S-4's contracted volumes among what a link is refused for: rows 6, 7, 8 and 14 named the branch, the link and the order
+-- THE EARLIER TABLE, with S-4's contracted volumes among the causes of a link: rows 6, 7, 8 and 14 named the
+-- branch, the link and the order
 unfoldable pub badBranch : Case → ℕ → Bool
 badBranch c m = outside limits.margin (c .ram m) || anyBelow (c .zones) (λ z. outside limits.ptdf (c .ptdf m z))
 
@@ -48,11 +49,11 @@ outcomeBefore s t room =
     let d = pricesOf s t in
     answer (refusal (roomCauses room ++ (caseCausesBefore s c ++ (proposalCausesBefore s t c p d ++ judgementCauses none c p d))))
 
--- the numbers whose index is another
+-- the numbers with a changed index
 abbrev pub indexed : ℕ → Bool
 indexed n = eqb n 6 || eqb n 7 || eqb n 8 || eqb n 14
 
--- ALIKE: the same number, and the same index but for those
+-- ALIKE: the same number, and the same index unless the number is one of those
 pub record Alike (o p : Outcome) : Type 0 where
   pub number-same : o .number ≡ p .number
   pub index-same : T (not (indexed (o .number))) → o ≡ p
@@ -97,7 +98,7 @@ refusals (r ∷ rs) (q ∷ qs) a = subst (λ (x : Option ℕ). Alike (answer (ca
     by (some k) rest = record { number-same = a .0 .number-same; index-same = λ h. λ j. verdict (a .0 .number-same j) (a .0 .index-same h k j) }
     by none rest = rest
 
--- A ROW FAILED where a field of it is at fault
+-- A ROW FAILED where one of its fields is at fault
 first-apart : (n : ℕ) (f : ℕ → Bool) → anyBelow (suc n) f ≡ (f 0 || anyBelow n (λ z. f (suc z)))
 unfolding anyBelow
 first-apart zero f = sym (or-false (f 0))
@@ -131,12 +132,12 @@ order-fails : (c : Case) (i : ℕ) → anyBelow orderFields (orderFault c i) ≡
 unfolding anyBelow orderFault rowFault badOrder
 order-fails c i = refl
 
--- the lent book's test of a row is the one that it was
+-- the lent book's test of a row has not changed
 pub book-row-same : (n zone side quantity : ℕ) (price : ℤ) → badRow n zone side quantity price ≡ (unknown n zone || side over 1 || outside limits.quantity (pos quantity) || outside limits.orderPrice price)
 unfolding badRow anyBelow rowFault
 book-row-same n zone side quantity price = refl
 
--- THE TABLE: every row but those four is as it was
+-- THE TABLE: every row except those four is unchanged
 module _ (s t : List ℕ) (c : Case) (p : Plan) (d : Prices) where
   case-alike : AllAlike (caseCauses s c) (caseCausesBefore s c)
   unfolding caseCauses caseCausesBefore before

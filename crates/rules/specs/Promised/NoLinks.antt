@@ -1,6 +1,7 @@
--- S-6: HOURS WITHOUT LINKS. Their clearings are the flow-based ones, both ways: LTA share 0, and the net positions load each branch by at most its whole
--- margin. Their bound is all surpluses and the branch total alone, and nothing is owed. At a gap of zero their rent is the branch total; so where that is
--- negative the rent is below what is owed, and the coverage rule would be false of them. With a link the bound is the larger-of as before. Assumes nothing.
+-- S-6: HOURS WITHOUT LINKS. Their clearings are exactly the flow-based ones: LTA share 0, and the net positions
+-- load each branch by at most its whole margin. Their bound is all surpluses plus the branch total alone, and
+-- nothing is owed. At a gap of zero their rent is the branch total; where that is negative the rent is below owed,
+-- so the coverage rule would be false for them. With a link the bound is the larger-of as before. Assumes nothing.
 use mathlib.Core.Path.{_≡_, sym, ap, subst, _∙_}
 use Prim.Native.Nat.{ℕ, _+_, _*_, _≤_, _<_}
 use native.Mathlib.Omega.{arith}
@@ -12,12 +13,12 @@ use Rattle.base_integers.specs.Meaning.Order.{larger}
 use Rattle.base_integers.specs.Steps.Order.{le-antisym}
 use Rattle.base_integers.specs.Meaning.Sums.{sumTo}
 use Rattle.base_integers.specs.Steps.Sums.{sum-ext}
-use Rattle.base_measures.specs.Meaning.Limits.{partsInOne}
+use Rattle.base_limits.specs.Meaning.Limits.{partsInOne}
 use Rattle.rules.specs.Meaning.Hour.{Case, Plan, Prices, net, inflow, outflow, ltaPart, fbPart, netSum, branchUse, branchRoom, welfare, surplus, branchTotal, linkTotal, owed, networkBound, bound, gap, rent}
 use Rattle.rules.specs.Meaning.Clearing.{Placed, Clearing}
 use Rattle.rules.specs.Steps.Duality.{without-links-is, with-links-is, welfare-le, rent-le}
 
--- A FLOW-BASED CLEARING: rules 3 and 5 of the net positions, and no LTA share
+-- A FLOW-BASED CLEARING: rules 3 and 5 for the net positions, and LTA share 0
 pub record FlowBased (c : Case) (p : Plan) : Type 0 where
   pub den-positive : 0 < p .den
   pub volume-in : (i : ℕ) → i < c .orders → p .volume i ≤ p .den * c .quantity i
@@ -30,7 +31,7 @@ module _ (c : Case) (none : c .links ≡ 0) where
   unfolding sumTo
   over-none f = ap (λ (n : ℕ). sumTo n f) none
 
-  -- over no link no flow goes in or out
+  -- without links no flow goes in or out
   all-flow-based : (p : Plan) (z : ℕ) → fbPart c p z ≡ net c p z
   unfolding fbPart ltaPart inflow outflow
   all-flow-based p z = less (net c p z) _ _ (over-none _) (over-none _)
@@ -79,7 +80,7 @@ module _ (c : Case) (none : c .links ≡ 0) where
   unfolding owed
   nothing-owed d = over-none _
 
-  -- THE RENT at a gap of zero, and so that it covers nothing owed where the branch total is negative
+  -- THE RENT at a gap of zero; it does not cover owed where the branch total is negative
   module _ (ok : Placed c) (d : Prices) (q : Plan) (cl : Clearing c q) (one : q .den ≡ 1) (exact : gap c q d ≡ pos 0) where
     pub rent-is : rent c q d ≡ branchTotal c d
     unfolding gap

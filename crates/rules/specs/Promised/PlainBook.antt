@@ -1,6 +1,6 @@
--- THE LENT BOOK IN PLAIN NUMBERS, both ways: a book is answered, with the sum of rule 8, if and only if its counts,
--- rows and prices are these. A refusal, number and index, is given if and only if its cause holds and no cause asked
--- before it does; its sum is 0. Assumes nothing.
+-- THE LENT BOOK IN PLAIN NUMBERS, both ways: a book is answered with the sum of rule 8 if and only if its counts,
+-- rows and prices are within these limits. A refusal, number and index, is given if and only if its cause holds and
+-- no cause asked before it does; its sum is 0. Assumes nothing.
 use mathlib.Core.Path.{_≡_, refl, sym, ap, subst}
 use mathlib.Core.Bool.{Bool, true, false, not}
 use mathlib.Core.List.{List}
@@ -16,7 +16,7 @@ use Rattle.base_integers.specs.Meaning.Ranges.{outside}
 use Rattle.base_integers.specs.Steps.Ranges.{within, inside, nat-within, nat-inside, is-false}
 use Rattle.base_integers.specs.Meaning.Order.{positive}
 use Rattle.base_integers.specs.Meaning.Sums.{sumTo}
-use Rattle.base_measures.specs.Meaning.Limits as limits
+use Rattle.base_limits.specs.Meaning.Limits as limits
 use Rattle.rules.specs.Meaning.Layout.{zoneCounts, orderCounts, orderFields}
 use Rattle.rules.specs.Meaning.Hour.{surplusOf}
 use Rattle.base_causes.specs.declared.Outcome.{Outcome}
@@ -50,7 +50,7 @@ pub record BookFacts (rows : List BookRow) (prices : List ℤ) : Type 0 where
   pub rows-good : GoodRows rows prices
   pub prices-good : (z : ℕ) → z < length prices → GoodPrice prices z
 
--- the first row that is not good, and the first price
+-- the first bad row, and the first bad price
 pub record FirstBadRow (rows : List BookRow) (prices : List ℤ) (i : ℕ) : Type 0 where
   pub is-row : i < length rows
   pub not-good : GoodRow rows prices i → ⊥
@@ -61,8 +61,8 @@ pub record FirstBadPrice (prices : List ℤ) (z : ℕ) : Type 0 where
   pub not-good : GoodPrice prices z → ⊥
   pub good-before : (y : ℕ) → y < z → GoodPrice prices y
 
--- WHAT IS REFUSED, number and index: 4 index 5 for no price or over 16 prices; else 4 index 8 for over 512 rows; else 8
--- with the first bad row; else 25 with the first bad price
+-- WHAT IS REFUSED, number and index: 4 index 5 for no price or over 16 prices; else 4 index 8 for over 512 rows;
+-- else 8 with the first bad row; else 25 with the first bad price
 pub data Refused (rows : List BookRow) (prices : List ℤ) : ℕ → ℕ → Type 0 where
   miscounted-prices : (PricesCounted prices → ⊥) → Refused rows prices 4 5
   many-rows : PricesCounted prices → 512 < length rows → Refused rows prices 4 8
@@ -84,7 +84,8 @@ within-nltb m n h = not-T (ltb m n) (λ t. never (ltb→lt m n t))
     never : m < n → ⊥
     never l = omega arith
 
--- a test that passes only where P holds fails where P does not; one that passes wherever P holds fails only there
+-- a test that passes only where P holds fails where P does not; a test that passes wherever P holds fails only
+-- where P does not
 fails-of : {P : Type 0} (b : Bool) → (T (not b) → P) → (P → ⊥) → T b
 fails-of true f n = tt
 fails-of false f n = absurd (n (f tt))
@@ -93,7 +94,7 @@ of-fails : {P : Type 0} (b : Bool) → (P → T (not b)) → T b → P → ⊥
 of-fails b f t p = T-not b (f p) t
 
 module _ (rows : List BookRow) (prices : List ℤ) where
-  -- EACH TEST passes if and only if what it asks for holds
+  -- EACH TEST passes if and only if its fact holds
   abbrev pub wrongCount : Bool
   wrongCount = outside zoneCounts (pos (length prices))
 
@@ -147,7 +148,7 @@ module _ (rows : List BookRow) (prices : List ℤ) where
   pub passes-price : (z : ℕ) → T (not (wrongPrice z)) → GoodPrice prices z
   passes-price z t = let w = within limits.zonePrice (priceAt prices z) t in (w .least-le, w .le-greatest)
 
-  -- THE ROWS OF THE TABLE, from the first: each passes where what it asks for holds
+  -- THE ROWS OF THE TABLE, from the first: each passes where its fact holds
   abbrev asked : List Cause
   asked = bookCauses rows prices
 
@@ -178,7 +179,7 @@ module _ (rows : List BookRow) (prices : List ℤ) where
   unfolding bookAnswer
   book-answers f = ap (bookAnswerBy (bookSurplus rows prices)) (facts-none f)
 
-  -- and for no other book: with number 0 the facts hold, and with any other the sum is 0
+  -- only such a book is answered 0; with any other number the sum is 0
   pub book-answered-facts : (bookAnswer rows prices) .number ≡ 0 → BookFacts rows prices
   unfolding bookAnswer bookRefusal bookCauses lacks
   book-answered-facts e = none-facts (by (refusal (bookCauses rows prices)) refl e)
@@ -221,7 +222,7 @@ module _ (rows : List BookRow) (prices : List ℤ) where
           subst (λ (y : Outcome). Refused rows prices (y .number) (y .index)) (sym (w .is)) (at-row (w .position) (w .place) (w .position-in) (w .earlier-pass) (w .first-place))
       by none q l = absurd (no-less 0 l)
 
-  -- and where the cause holds, with sum 0
+  -- where the cause holds the book is refused, with sum 0
   by-cause : (o : Outcome) → CausedBy asked o → bookAnswer rows prices ≡ refusedBook (o .number) (o .index)
   unfolding bookAnswer bookRefusal
   by-cause o w = ap (bookAnswerBy (bookSurplus rows prices)) (cause-refuses asked o w)
@@ -261,8 +262,8 @@ module _ (rows : List BookRow) (prices : List ℤ) where
     first-place = record { place-in = b .is-price; holds = fails-of (wrongPrice z) (passes-price z) (b .not-good); none-before = λ y l. price-passes y (b .good-before y l) };
   })
 
-  -- RULE 8 OF A ROW, side 0 buying and side 1 selling: quantity times the order price, of 100,000 grains to the cent,
-  -- above the zone price, or the zone price above it; never below zero. The sum is over all rows
+  -- RULE 8 FOR A ROW, side 0 buying and side 1 selling: quantity times the order price (100,000 grains to the cent)
+  -- above the zone price for a buy, below it for a sell; never below zero. The sum is over all rows
   pub bought-row : (i : ℕ) → (rowAt rows i) .side ≡ 0
       → rowSurplus rows prices i ≡ positive (pos ((rowAt rows i) .quantity) *ℤ (pos 100000 *ℤ (rowAt rows i) .price -ℤ priceAt prices ((rowAt rows i) .zone)))
   unfolding rowSurplus surplusOf

@@ -1,5 +1,5 @@
--- WHERE THE DESK'S INPUT IS CUT, in plain bytes and both ways: a byte is `getD s k 0`, the number at place k, counted
--- from 0. The numbers are the paper's own. Assumes nothing.
+-- WHERE THE DESK'S INPUT IS CUT, in plain bytes and both ways. `getD s k 0` is the byte at place k, counted from 0.
+-- The numbers are the paper's own. Assumes nothing.
 use mathlib.Core.Path.{_≡_, refl, sym, ap, subst, _∙_}
 use mathlib.Core.List.{List, [], _++_}
 use mathlib.Core.Option.{Option, none, some}
@@ -74,7 +74,7 @@ pub record Demands (s : List ℕ) (n : ℕ) : Type 0 where
 demanded : (s : List ℕ) (n : ℕ) → Demands s n → caseLength s ≡ n
 demanded s n d = case-length-is s (d .width) (d .width-is) ∙ sym (d .length-is)
 
--- AN INPUT CUT into the case s and the proposal t, whose text the desk then prints
+-- AN INPUT CUT into the case s and the proposal t; the desk prints the text of these two
 pub record CutInto (input s t : List ℕ) : Type 0 where
   pub case-is : casePart input ≡ s
   pub proposal-is : proposalPart input ≡ t
@@ -96,7 +96,7 @@ module _ (input : List ℕ) where
   all-case : caseEnd input ≡ length input → CutInto input input []
   all-case e = cut-by (length input) e (take-length input) (drop-length input)
 
-  -- THE HEADER IS GOOD AND ENOUGH BYTES ARE THERE: the first n are the case
+  -- THE HEADER IS GOOD AND THERE ARE ENOUGH BYTES: the first n are the case
   pub cut-there : HeaderFacts input → (n : ℕ) → Demands input n → n ≤ length input → CutInto input (take n input) (drop n input)
   cut-there f n d h = cut-by n (end-good input (facts-header input f) (omega (arith, demanded input n d, h)) ∙ demanded input n d) refl refl
 
@@ -111,7 +111,7 @@ module _ (input : List ℕ) where
       by (some o) e = end-refused input o e
       by none e = absurd (g (header-facts input e))
 
--- A CASE AND AT ONCE ITS PROPOSAL are cut into the two again
+-- A CASE DIRECTLY FOLLOWED BY ITS PROPOSAL is cut into the two again
 module _ (s t : List ℕ) (f : HeaderFacts s) (d : Demands s (length s)) where
   same-header : SameHeader (s ++ t) s
   same-header = record {

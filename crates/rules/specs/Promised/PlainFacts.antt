@@ -1,5 +1,6 @@
--- READABLE IN PLAIN FACTS, both ways and in the paper's own numbers: a case is readable if and only if its lengths, ranges and links are these, and a proposal passes 9 to 14 for it if and
--- only if its are. A link's reverse pair is free: nothing here forbids it. Assumes nothing.
+-- READABLE IN PLAIN FACTS, both ways and in the paper's own numbers. A case is readable if and only if its lengths,
+-- ranges and links are as these facts say; a proposal passes 9 to 14 for it if and only if its own are. A link's
+-- reverse pair is free: nothing here forbids it. Assumes nothing.
 use mathlib.Core.Path.{_≡_, refl}
 use mathlib.Core.Logic.{_≢_}
 use mathlib.Core.Bool.{Bool, true, false, not, _&&_}
@@ -12,7 +13,7 @@ use lib.Dec.{T, eqb, leb, ltb, eqb→eq, eqb-refl, leb→le, ltb→lt, nltb→le
 use lib.IntN.{pos, negℤ}
 use lib.Signed.{_≤ℤ_}
 use Rattle.base_integers.specs.Steps.Ranges.{inside, nat-within, nat-inside, nor-right, nor-both, and-both, and-left, and-right, is-true, is-false}
-use Rattle.base_measures.specs.Meaning.Limits as limits
+use Rattle.base_limits.specs.Meaning.Limits as limits
 use Rattle.rules.specs.Meaning.Layout.{u8At, caseVersion, zonesIn, branchesIn, linksIn, ordersIn, toleranceIn, ramIn, ptdfIn, fromIn, toIn, capacityIn, contractedIn, zoneIn, sideIn, quantityIn, priceIn, caseLength, proposalVersion, shareIn, shadowIn, proposalLength, linkFields, orderFields}
 use Rattle.rules.specs.Meaning.Hour.{caseOf, planOf, pricesOf}
 use Rattle.base_causes.specs.Meaning.Causes.{anyBelow, Pass}
@@ -139,7 +140,7 @@ case-facts s r =
     differ : (k l : ℕ) → k < l → k ≡ l → ⊥
     differ k l h e = omega arith
 
--- no field of a row at fault, where none of its tests holds
+-- no field of a row is at fault where none of its tests holds
 none-at-fault : (w : ℕ) (f : ℕ → Bool) → ((n : ℕ) → n < w → T (not (f n))) → T (not (anyBelow w f))
 none-at-fault w f h = is-false (any-none w f h)
 

@@ -1,6 +1,7 @@
--- FAMILY LISTS IN PLAIN BYTES (S-11), both ways: what the bytes of a list are, and when the judgement with a list answers 16, 17, 18 and 28, its number and its
--- index. A byte is `getD f k 0`, the number at place k of the list, counted from 0. 18 is told here by rounds of at most as many steps as there are orders;
--- `PlainCircles` of `family_list` has it by rounds of any number of steps. Assumes nothing.
+-- FAMILY LISTS IN PLAIN BYTES (S-11), both ways: what the bytes of a list are, and when the judgement with a list
+-- answers 16, 17, 18 and 28, number and index. `getD f k 0` is the byte at place k of the list, counted from 0.
+-- Here 18 is given by rounds of at most as many steps as there are orders; `PlainCircles` of `family_list` gives it
+-- by rounds of any length. Assumes nothing.
 use mathlib.Core.Path.{_≡_, refl, sym, ap, subst, _∙_}
 use mathlib.Core.Logic.{_↔_, _≢_}
 use mathlib.Core.Bool.{Bool, true, false, not, cond, _||_}
@@ -26,13 +27,13 @@ use Rattle.rules.specs.Meaning.Report.{reports}
 use Rattle.rules.specs.Promised.PlainVerdicts.{ReadFacts, ClearedFacts, readCauses, read-passes, passes-read, valued-facts, refused-26, accepted-0}
 use Rattle.rules.specs.Promised.Families.{valued-alike, passed-alike}
 
--- A FAMILY LIST beside so many orders: LTF, version 1, and 16 bits for each order
+-- A FAMILY LIST for this many orders: LTF, version 1, and 16 bits for each order
 pub record ListFacts (f : List ℕ) (orders : ℕ) : Type 0 where
   pub mark-is : (getD f 0 0 ≡ 76) × ((getD f 1 0 ≡ 84) × (getD f 2 0 ≡ 70))
   pub version-is : (getD f 3 0 ≡ 1) × (getD f 4 0 ≡ 0)
   pub length-is : length f ≡ 5 + 2 * orders
 
--- the number that order i gives: the byte at 5 + 2 i, and 256 times the next. 65,535 is none
+-- the number of order i: the byte at 5 + 2 i, and 256 times the next. 65,535 is none
 abbrev pub parentAt : List ℕ → ℕ → ℕ
 parentAt f i = getD f (5 + 2 * i) 0 + 256 * getD f (6 + 2 * i) 0
 
@@ -96,7 +97,7 @@ passes-list f c p =
         by true e u = eqb→eq a b (is-true e)
         by false e u = absurd u
 
--- A TEST OF A PARENT, which passes where there is none: it holds of an order that names one, of whom it holds
+-- A TEST OF A PARENT that passes where there is none: it fails only for an order that names a parent
 holds-of : (f : List ℕ) (Q : Option ℕ → Bool) → Q none ≡ false → (i : ℕ) → T (Q (parentOf f i)) ↔ ((parentAt f i ≢ 65535) × T (Q (some (parentAt f i))))
 holds-of f Q z i = subst (λ (o : Option ℕ). T (Q o) ↔ ((parentAt f i ≢ 65535) × T (Q (some (parentAt f i))))) (sym (parent-of f i))
     (by-number (λ (o : Option ℕ). T (Q o) ↔ ((parentAt f i ≢ 65535) × T (Q (some (parentAt f i))))) (parentAt f i)
@@ -113,14 +114,14 @@ passes-of f Q z i = subst (λ (o : Option ℕ). T (not (Q o)) ↔ (parentAt f i 
 abbrev pub ParentsExist : List ℕ → ℕ → Type 0
 ParentsExist f orders = (i : ℕ) → i < orders → parentAt f i ≢ 65535 → parentAt f i < orders
 
--- the first order whose parent does not: it names one, at or above the count of orders
+-- the first order whose parent does not exist: it names one at or above the count of orders
 pub record NoSuchParent (f : List ℕ) (orders i : ℕ) : Type 0 where
   pub is-order : i < orders
   pub names-one : parentAt f i ≢ 65535
   pub not-there : orders ≤ parentAt f i
   pub first-one : (j : ℕ) → j < i → parentAt f j ≢ 65535 → parentAt f j < orders
 
--- THE FIRST CHILD ACCEPTED IN A LARGER FRACTION than its parent, both fractions multiplied by both quantities
+-- THE FIRST CHILD ACCEPTED IN A LARGER FRACTION than its parent, with both fractions multiplied by both quantities
 pub record ExceedsParent (s t f : List ℕ) (i : ℕ) : Type 0 where
   pub is-order : i < ordersIn s
   pub names-one : parentAt f i ≢ 65535
@@ -141,7 +142,7 @@ le-nltb m n h = not-T (ltb m n) (λ t. never (ltb→lt m n t))
     never l = omega arith
 
 module _ (s t f : List ℕ) (room : ℕ) where
-  -- 16 IF AND ONLY IF what is asked before passes and the bytes are no list for this case; its index is 0
+  -- 16 IF AND ONLY IF the rows before pass and the bytes are no list for this case; its index is 0
   pub refused-16 : (familyOutcome s t f room) .number ≡ 16 → (familyOutcome s t f room ≡ verdict 16 0) × (ReadFacts s t room × (ListFacts f (ordersIn s) → ⊥))
   unfolding familyOutcome table roomCauses caseCauses proposalCauses clearingCauses lacks before causeNumbered caseOf
   refused-16 e =
@@ -160,7 +161,8 @@ module _ (s t f : List ℕ) (room : ℕ) where
       by true e = is-true e
       by false e = absurd (n (passes-list f (caseOf s) (record { pass = λ k h. is-false e })))
 
-  -- 17 IF AND ONLY IF the bytes are a list and a parent is not there; its index is the first order that names such a one
+  -- 17 IF AND ONLY IF the rows before pass, the bytes are a list and a parent does not exist; its index is the
+  -- first order that names such a parent
   pub refused-17 : (familyOutcome s t f room) .number ≡ 17 → ReadFacts s t room × (ListFacts f (ordersIn s) × NoSuchParent f (ordersIn s) ((familyOutcome s t f room) .index))
   unfolding familyOutcome table roomCauses caseCauses proposalCauses clearingCauses lacks before causeNumbered caseOf
   refused-17 e =
@@ -202,7 +204,8 @@ module _ (s t f : List ℕ) (room : ℕ) where
       none-there : length f ≡ 5 + 2 * ordersIn s → ⊥
       none-there q = omega (arith, q, ap length e)
 
-  -- 28: the child named is accepted in a larger fraction than its parent, which is an order, and no child before it is
+  -- 28: the child named is accepted in a larger fraction than its parent, which is an order, and no earlier child
+  -- is
   pub refused-28 : (familyOutcome s t f room) .number ≡ 28
       → ReadFacts s t room × (ListFacts f (ordersIn s) × (ParentsExist f (ordersIn s) × (VolumesWithin s t × ExceedsParent s t f ((familyOutcome s t f room) .index))))
   unfolding familyOutcome table roomCauses caseCauses proposalCauses clearingCauses lacks before causeNumbered caseOf planOf
@@ -230,7 +233,7 @@ module _ (s t f : List ℕ) (room : ℕ) where
         ),
       )
 
-  -- and back, where 16 to 18 pass
+  -- and conversely, where 16 to 18 pass
   pub is-28 : ReadFacts s t room → refusal (familyCauses (some f) (caseOf s)) ≡ none → VolumesWithin s t → (i : ℕ) → ExceedsParent s t f i → familyOutcome s t f room ≡ verdict 28 i
   unfolding familyOutcome table roomCauses caseCauses proposalCauses clearingCauses lacks before causeNumbered refusal caseOf planOf
   is-28 r l v i w = row-answers 28 (table (some f) s t room (caseOf s) (planOf s t) (pricesOf s t)) tt
@@ -254,7 +257,7 @@ module _ (s t f : List ℕ) (room : ℕ) where
         ),
       )
 
-  -- and it is read and valued as without the list (`PlainVerdicts.accepted-0`, `refused-26`)
+  -- the hour is read and valued as without the list (`PlainVerdicts.accepted-0`, `refused-26`)
   pub valued-families : T (reports ((familyOutcome s t f room) .number)) → ReadFacts s t room × ClearedFacts s t
   valued-families r = valued-facts s t room (subst (λ (o : Outcome). T (reports (o .number))) (valued-alike s t f room r) r)
 
@@ -267,12 +270,12 @@ module _ (s t f : List ℕ) (room : ℕ) where
   unfolding reports
   families-0 e = (accepted-0 s t room (ap (λ (o : Outcome). o .number) (sym (valued-alike s t f room (subst (λ (n : ℕ). T (reports n)) (sym e) tt))) ∙ e)) .1 .1
 
-  -- A LIST OF WHICH 16 TO 18 PASS, with no child's fraction above its parent's, judges as no list does
+  -- IF 16 TO 18 PASS and no child's fraction is above its parent's, the answer is the one without a list
   pub within-alike : refusal (familyCauses (some f) (caseOf s)) ≡ none → ChildrenWithin s t f → familyOutcome s t f room ≡ outcome s t room
   unfolding caseOf planOf
   within-alike l w = passed-alike s t f room l (record { pass = λ k h. passes-of f (exceedsParent (caseOf s) (planOf s t) k) refl k .1 (λ n. le-nltb _ _ (w k h n)) })
 
--- 16 AND 17 AS ROWS, for what stands above: both pass if and only if the bytes are a list whose parents exist
+-- 16 AND 17 AS ROWS: both pass if and only if the bytes are a list whose parents exist
 module _ (f : List ℕ) (c : Case) where
   pub list-facts : Pass (wrongFamilyList f c) ↔ ListFacts f (c .orders)
   list-facts = (passes-list f c, list-passes f c)
@@ -289,7 +292,8 @@ module _ (f : List ℕ) (c : Case) where
           never : m ≤ n → ⊥
           never l = omega arith
 
--- AN ORDER LEADS BACK TO ITSELF, as a round of orders: the first and the last of them are it, and each names the next as its parent
+-- AN ORDER LEADS BACK TO ITSELF, as a round of orders: it is the first and the last of them, and each names the
+-- next as its parent
 pub record Round (f : List ℕ) (i : ℕ) : Type 0 where
   pub steps : ℕ
   pub one-or-more : 1 ≤ steps
@@ -347,7 +351,8 @@ module _ (f : List ℕ) (i : ℕ) where
   pub leads-back-is : LeadsBack (parentOf f) i ↔ Round f i
   leads-back-is = (λ b. to-round b .0, λ r. record { steps = r .steps; one-or-more = r .one-or-more; back = reached r (r .steps) (omega arith) ∙ ap some (r .ends) })
 
--- ROW 18'S TEST: a round of at most as many steps as there are orders. That any round has such a one of its order is shown in `family_list`
+-- ROW 18'S TEST: a round of at most as many steps as there are orders. `family_list` shows that an order with a
+-- round has one this short
 abbrev pub ShortRound : List ℕ → ℕ → ℕ → Type 0
 ShortRound f orders i = (r : Round f i) × (r .steps ≤ orders)
 

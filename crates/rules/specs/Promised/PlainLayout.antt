@@ -1,5 +1,5 @@
--- EVERY FIELD OF CASE AND PROPOSAL IN PLAIN BYTES, of any bytes. A byte is `getD s k 0`, the number at place k of the
--- file, counted from 0. A field of 16 or 32 bits is the sum of its bytes with their powers of 256; a signed one is that
+-- EVERY FIELD OF CASE AND PROPOSAL IN PLAIN BYTES, for any bytes. `getD s k 0` is the byte at place k of the file,
+-- counted from 0. A field of 16 or 32 bits is the sum of its bytes with their powers of 256; a signed one is that
 -- sum or, from 2 ^ 31 on, 2 ^ 32 less. Offsets are the paper's own numbers. Assumes nothing.
 use mathlib.Core.Path.{_≡_, refl, sym, ap, subst, _∙_}
 use mathlib.Core.Logic.{_⊎_, inl, inr}
@@ -130,7 +130,7 @@ module _ (s : List ℕ) (width : ℕ) (is : LinkBytes s width) where
   unfolding capacityIn
   capacity-bytes l = four-at s _ _ (ap (λ (k : ℕ). k + 2) (link-start l))
 
-  -- S-4: in version 2 the four bytes behind the capacity, in version 1 the capacity's own
+  -- S-4: in version 2 the four bytes after the capacity, in version 1 the capacity's own
   pub contracted-bytes : (l : ℕ) → (two s 3 ≡ 2 → contractedIn s l ≡ four s (linkStart s width l + 6)) × (two s 3 ≡ 1 → contractedIn s l ≡ four s (linkStart s width l + 2))
   unfolding contractedIn contracts caseVersion u16At
   contracted-bytes l = (
@@ -174,7 +174,7 @@ module _ (s t : List ℕ) where
   unfolding systemIn
   system-bytes = signed-at t 9 9 refl
 
-  -- EVERY SYSTEM PRICE IS ALLOWED: it is one of 32 signed bits, whatever the bytes
+  -- EVERY SYSTEM PRICE IS ALLOWED: any four bytes are a signed number of 32 bits
   pub system-any : (negℤ (pos 2147483648) ≤ℤ systemIn t) × (systemIn t ≤ℤ pos 2147483647)
   unfolding systemIn i32At
   system-any = signed-any (u32At t 9)

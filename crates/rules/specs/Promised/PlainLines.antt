@@ -1,5 +1,5 @@
--- THE DESK'S LINES IN PLAIN BYTES: their names and order, which lines a number has, and what each line says when it is
--- read back (`ReadsCount` and `ReadsAmount` of `text_decimal`). A line ends with byte 10. Assumes nothing.
+-- THE DESK'S LINES IN PLAIN BYTES: their names and order, which lines a number has, and what each line says when it
+-- is read back (`ReadsCount` and `ReadsAmount` of `text_decimal`). A line ends with byte 10. Assumes nothing.
 use mathlib.Core.Path.{_≡_, refl, sym, ap, subst, _∙_}
 use mathlib.Core.Logic.{_⊎_, inl, inr, _≢_}
 use mathlib.Core.Bool.{Bool, true, false, cond}
@@ -9,8 +9,8 @@ use native.Mathlib.Omega.{arith}
 use lib.ListN.{length, getD, length-append, List·getD-append}
 use lib.Dec.{T, eqb, eqb→eq, T-not}
 use lib.IntN.{ℤ}
-use Rattle.text_decimal.specs.Meaning.Text.{countText, amountText}
-use Rattle.text_decimal.specs.Promised.PlainAmounts.{AllDigits, ReadsCount, ReadsAmount, count-reads, amount-reads}
+use Rattle.text_rules.specs.Meaning.Text.{countText, amountText}
+use Rattle.text_rules.specs.Promised.PlainAmounts.{AllDigits, ReadsCount, ReadsAmount, count-reads, amount-reads}
 use Rattle.base_integers.specs.Steps.Ranges.{is-true, is-false, not-is}
 use Rattle.base_causes.specs.declared.Outcome.{Outcome}
 use Rattle.rules.specs.Meaning.Layout.{u8At, zonesIn}
@@ -52,7 +52,7 @@ abbrev pub eachZone : ℕ → (ℕ → List ℕ) → List ℕ
 eachZone zero line = []
 eachZone (suc n) line = eachZone n line ++ line n
 
--- ALL LINES of the case s and the proposal t. The zones are byte 5 of the case
+-- ALL LINES for the case s and the proposal t. Byte 5 of the case is the count of zones
 pub record AllLines (s t text : List ℕ) : Type 0 where
   pub first-line : List ℕ
   pub welfare-line : List ℕ
@@ -71,7 +71,7 @@ pub record AllLines (s t text : List ℕ) : Type 0 where
   pub owed-is : TotalLine (111 ∷ 119 ∷ 101 ∷ 100 ∷ 32 ∷ []) (owed (caseOf s) (pricesOf s t)) owed-line
   pub price-is : (z : ℕ) → z < getD s 5 0 → PriceLine z (zonePrice (caseOf s) (pricesOf s t) z) (price-line z)
 
--- EACH LINE reads so
+-- EACH LINE reads as its record says
 verdict-reads : (o : Outcome) → VerdictLine (o .number) (o .index) (verdictLine o)
 unfolding verdictLine
 verdict-reads o = record {
@@ -113,7 +113,7 @@ above-at [] h k l = absurd (omega arith)
 above-at (x ∷ a) h zero l = h .0
 above-at (x ∷ a) h (suc k) l = above-at a (h .1) k (omega arith)
 
--- a line with no newline but its last byte
+-- a line whose only newline is its last byte
 last-only : (a line : List ℕ) → line ≡ a ++ (10 ∷ []) → Above a → (k : ℕ) → getD line k 0 ≡ 10 → k + 1 < length line → ⊥
 last-only a line is h k e l =
     let inside : k < length a = omega (arith, l, ap length is, length-append a (10 ∷ [])) in
@@ -168,7 +168,7 @@ module _ (s t : List ℕ) where
   one-line a b = subst (λ (l : List ℕ). VerdictLine (answered .number) (answered .index) l)
       (sym (text-by false (not-is (reports (answered .number)) (leaves-of (answered .number) a b)) ∙ append-nil (verdictLine answered))) (verdict-reads answered)
 
-  -- and so back: a newline stands before the end of the text only for 0 and 26
+  -- conversely, a newline before the end of the text means 0 or 26
   pub newline-inside : (k : ℕ) → getD (hourText s t) k 0 ≡ 10 → k + 1 < length (hourText s t) → ((outcome s t 176) .number ≡ 0) ⊎ ((outcome s t 176) .number ≡ 26)
   newline-inside k e l = by (eqb (answered .number) 0) (eqb (answered .number) 26) refl refl
     where

@@ -1,5 +1,5 @@
--- WHAT IS PROMISED, SPELT OUT in the places of the report's bytes and of the case's: each clause of `Promise` says what stands here. `i64At b k` is the signed
--- number of the eight bytes from place k on. Assumes nothing.
+-- WHAT IS PROMISED, SPELT OUT in offsets of the report and of the case: each clause of `Promise` is equivalent to
+-- its line here. `i64At b k` is the signed number in the eight bytes from place k on. Assumes nothing.
 use mathlib.Core.Path.{_≡_, refl}
 use mathlib.Core.Logic.{_↔_, _⊎_}
 use mathlib.Core.List.{List, [], _∷_}
@@ -21,7 +21,7 @@ module _ (s t b : List ℕ) where
   pub allowed-is : Allowed s t ↔ Clearing (caseOf s) (planOf s t)
   allowed-is = (λ h. h, λ h. h)
 
-  -- no clearing, over any denominator, has more than welfare, at 8, and gap, at 24, together
+  -- no clearing, over any denominator, has more than welfare (at 8) and gap (at 24) together
   pub accurate-is : Accurate s b ↔ ((q : Plan) → Clearing (caseOf s) q → welfare (caseOf s) q ≤ℤ (pos (q .den) *ℤ (i64At b 8 +ℤ i64At b 24)))
   accurate-is = (λ h. h, λ h. h)
 
@@ -33,7 +33,7 @@ module _ (s t b : List ℕ) where
   unfolding caseOf linksIn u8At
   has-link-is = (λ h. h, λ h. h)
 
-  -- owed, at 40, less the gap is at most the rent, at 32
+  -- owed (at 40) less the gap is at most the rent (at 32)
   pub covered-is : Covered b ↔ ((i64At b 40 -ℤ i64At b 24) ≤ℤ i64At b 32)
   covered-is = (λ h. h, λ h. h)
 
@@ -43,7 +43,7 @@ module _ (s t b : List ℕ) where
   pub covered-in-full-is : CoveredInFull b ↔ (i64At b 24 ≡ pos 0 → i64At b 40 ≤ℤ i64At b 32)
   covered-in-full-is = (λ h. h, λ h. h)
 
--- WHAT A REPORT HOLDS for 0 and 26, read back from its bytes
+-- WHAT A REPORT HOLDS for 0 and 26, read from its bytes
 pub record ReportRead (number : ℕ) (s t b : List ℕ) : Type 0 where
   pub mark-is : take 3 b ≡ 76 ∷ 84 ∷ 82 ∷ []
   pub version-is : getD b 3 0 + 256 * getD b 4 0 ≡ 1
@@ -81,7 +81,8 @@ pub family-totals-reported-are : (s t f : List ℕ) (room : ℕ) (b : List ℕ) 
     → ((familyOutcome s t f room) .number ≡ 0) ⊎ ((familyOutcome s t f room) .number ≡ 26) → ReportRead ((familyOutcome s t f room) .number) s t b
 family-totals-reported-are s t f room b h n = reported-is ((familyOutcome s t f room) .number) s t b (h (reports-of ((familyOutcome s t f room) .number) n))
 
--- WITH A FAMILY LIST: every parent exists, no order leads back to itself, and child volume times parent quantity is at most parent volume times child quantity
+-- WITH A FAMILY LIST: every parent exists, no order leads back to itself, and child volume times parent quantity is
+-- at most parent volume times child quantity
 pub families-kept-are : (s t f : List ℕ) → FamiliesKept s t f → ParentsExist f (ordersIn s) × (((i : ℕ) → i < ordersIn s → Round f i → ⊥) × ChildrenWithin s t f)
 unfolding caseOf planOf
 families-kept-are s t f k = (

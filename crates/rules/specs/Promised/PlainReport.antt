@@ -1,5 +1,6 @@
--- THE REPORT IN PLAIN BYTES: what stands at each place of the buffer after an hour that is answered 0 or 26, and that every other answer leaves it. A byte is
--- `getD b k 0`, the number at place k of the buffer, counted from 0. Offsets are the paper's own numbers. Assumes nothing.
+-- THE REPORT IN PLAIN BYTES: what each byte of the buffer is after the answers 0 and 26, and that every other
+-- answer leaves the buffer unchanged. `getD b k 0` is the byte at place k of the buffer, counted from 0. Offsets
+-- are the paper's own numbers. Assumes nothing.
 use mathlib.Core.Path.{_≡_, refl, sym, ap, subst, _∙_}
 use mathlib.Core.Logic.{_⊎_, inl, inr, _≢_}
 use mathlib.Core.Bool.{Bool, true, false, not, _||_}
@@ -23,7 +24,7 @@ use Rattle.rules.specs.Promised.Fits.{Fit, fits}
 use Rattle.rules.specs.Promised.Reported as Reported
 use Rattle.rules.specs.Promised.Families.{valued-alike, family-buffer, family-unchanged}
 
--- a value modulo 2 ^ 64, as two's complement has it: -1 is 2 ^ 64 - 1
+-- a value modulo 2 ^ 64 (two's complement): -1 is 2 ^ 64 - 1
 abbrev pub modulo64 : ℤ → ℕ
 modulo64 (pos n) = n % 18446744073709551616
 modulo64 (negsuc n) = 18446744073709551615 - n % 18446744073709551616
@@ -42,7 +43,7 @@ eight b k z f e i h =
     sym (getD-drop k b i 0) ∙ sym (getD-take 8 (drop k b) i 0 h) ∙ ap (λ (l : List ℕ). getD l i 0) e
     ∙ byte-at 8 (ofZ w64 z) i h ∙ ap (λ (n : ℕ). n / 256 ^ i % 256) (modulo-is z f)
 
--- WHAT STANDS in a buffer after the judgement of the case s and the proposal t, where `before` stood in it
+-- THE BYTES `after` the judgement of the case s and the proposal t, in a buffer that held `before`
 pub record ReportBytes (number : ℕ) (s t before after : List ℕ) : Type 0 where
   -- LTR, version 1, number, zones, a zero byte
   pub mark-at : (getD after 0 0 ≡ 76) × ((getD after 1 0 ≡ 84) × (getD after 2 0 ≡ 82))
@@ -57,7 +58,7 @@ pub record ReportBytes (number : ℕ) (s t before after : List ℕ) : Type 0 whe
   pub rent-at : Stands after 32 (rent (caseOf s) (planOf s t) (pricesOf s t))
   pub owed-at : Stands after 40 (owed (caseOf s) (pricesOf s t))
   pub price-at : (z : ℕ) → z < getD s 5 0 → Stands after (48 + 8 * z) (zonePrice (caseOf s) (pricesOf s t) z)
-  -- all past the report is as it was
+  -- all past the report is unchanged
   pub past-it : (k : ℕ) → 48 + 8 * getD s 5 0 ≤ k → getD after k 0 ≡ getD before k 0
   pub same-length : length after ≡ length before
 
@@ -100,7 +101,7 @@ module _ (s t buffer : List ℕ) where
           let there : n + (k - n) ≡ k = omega (arith, h) in
           ap (λ (j : ℕ). getD after j 0) (sym there) ∙ sym (getD-drop n after (k - n) 0) ∙ ap (λ (b : List ℕ). getD b (k - n) 0) q ∙ getD-drop n buffer (k - n) 0 ∙ ap (λ (j : ℕ). getD buffer j 0) there
 
-  -- 0 AND 26 WRITE THE REPORT, both alike but for the number
+  -- 0 AND 26 WRITE THE REPORT; it differs in the number alone
   pub report-written : ((outcome s t (length buffer)) .number ≡ 0) ⊎ ((outcome s t (length buffer)) .number ≡ 26)
       → ReportBytes ((outcome s t (length buffer)) .number) s t buffer (bufferAfter s t buffer)
   report-written h =
@@ -108,11 +109,11 @@ module _ (s t buffer : List ℕ) where
       report-stands ((outcome s t (length buffer)) .number) (drop (reportSize (caseOf s)) buffer) (fits s t (length buffer) r) (bufferAfter s t buffer)
       (Reported.writes s t buffer r) (Reported.past-report s t buffer r) (Reported.same-length s t buffer)
 
-  -- EVERY OTHER ANSWER leaves every byte
+  -- EVERY OTHER ANSWER leaves every byte unchanged
   pub report-left : (outcome s t (length buffer)) .number ≢ 0 → (outcome s t (length buffer)) .number ≢ 26 → bufferAfter s t buffer ≡ buffer
   report-left a b = Reported.unchanged s t buffer (leaves-of ((outcome s t (length buffer)) .number) a b)
 
-  -- and so with a family list
+  -- the same with a family list
   pub family-report-written : (f : List ℕ) → ((familyOutcome s t f (length buffer)) .number ≡ 0) ⊎ ((familyOutcome s t f (length buffer)) .number ≡ 26)
       → ReportBytes ((familyOutcome s t f (length buffer)) .number) s t buffer (familyBufferAfter s t f buffer)
   family-report-written f h =
@@ -123,7 +124,7 @@ module _ (s t buffer : List ℕ) where
   pub family-report-left : (f : List ℕ) → (familyOutcome s t f (length buffer)) .number ≢ 0 → (familyOutcome s t f (length buffer)) .number ≢ 26 → familyBufferAfter s t f buffer ≡ buffer
   family-report-left f a b = family-unchanged s t f buffer (leaves-of ((familyOutcome s t f (length buffer)) .number) a b)
 
--- THE BUFFER of an answer with this number, before and after: written for 0 and 26, and left as it was for any other
+-- THE BUFFER of an answer with this number, before and after: written for 0 and 26, unchanged for any other
 pub record ReportOf (number : ℕ) (s t before after : List ℕ) : Type 0 where
   pub written : (number ≡ 0) ⊎ (number ≡ 26) → ReportBytes number s t before after
   pub left : number ≢ 0 → number ≢ 26 → after ≡ before

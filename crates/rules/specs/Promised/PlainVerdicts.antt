@@ -1,5 +1,6 @@
--- VERDICTS IN PLAIN NUMBERS, both ways: which hours are 30, which come past 15, which are valued, and which of those are 0 and which 26. The numbers are the
--- paper's own and cite no limit: 176 bytes, 10,000 cents, a million microcents to the cent, zone prices in grains. Assumes nothing.
+-- VERDICTS IN PLAIN NUMBERS, both ways: which hours are 30, which pass 15, which are valued, and which of those are
+-- 0 and which 26. The numbers are the paper's own and cite no limit: 176 bytes, 10,000 cents, a million microcents
+-- to the cent, zone prices in grains. Assumes nothing.
 use mathlib.Core.Path.{_≡_, refl, sym, ap, subst}
 use mathlib.Core.Bool.{Bool, true, false, not, _&&_, _||_}
 use mathlib.Core.List.{List, [], _∷_, _++_}
@@ -11,7 +12,7 @@ use lib.IntN.{ℤ, pos, negℤ, _*ℤ_}
 use lib.Signed.{_≤ℤ_, _<ℤ_, ltZ, ltZ-yes, ltZ-no, clashℤ}
 use Rattle.base_integers.specs.Meaning.Ranges.{outside, isZero}
 use Rattle.base_integers.specs.Steps.Ranges.{inside, nat-within, nat-inside}
-use Rattle.base_measures.specs.Meaning.Limits as limits
+use Rattle.base_limits.specs.Meaning.Limits as limits
 use Rattle.rules.specs.Meaning.Layout.{zonesIn, toleranceIn}
 use Rattle.rules.specs.Meaning.Hour.{Case, Plan, Prices, caseOf, planOf, pricesOf, netSum, linkUse, linkRoom, branchUse, branchRoom, zonePrice, noLink, gap}
 use Rattle.rules.specs.Meaning.Clearing.{Clearing}
@@ -22,7 +23,7 @@ use Rattle.rules.specs.Meaning.Report.{reports}
 use Rattle.rules.specs.Steps.Passed.{sound}
 use Rattle.rules.specs.Promised.PlainFacts.{CaseFacts, ProposalFacts, case-facts, facts-readable, proposal-facts, facts-pass}
 
--- 30: the report buffer has less than 176 bytes, whatever else holds, without a family list and with one
+-- 30: the report buffer has less than 176 bytes, whatever else holds, with and without a family list
 module _ (s t : List ℕ) (room : ℕ) where
   pub small-buffer : room < 176 → outcome s t room ≡ verdict 30 0
   unfolding outcome table roomCauses caseCauses proposalCauses clearingCauses lacks before causeNumbered refusal
@@ -84,7 +85,8 @@ module _ (s t : List ℕ) (room : ℕ) where
         tolerance-narrow = (nat-within 0 10000 (toleranceIn s) ((number-passes (wideTolerance (caseOf s) ∷ []) (f .1) 15) .pass 0 (omega arith))) .1;
       }
 
--- VALUED: none of 21 to 25 and 27 either: the proposal is a clearing of the case, and every zone price lies from -50,000 to 400,000 cents, in grains
+-- VALUED: none of 21 to 25 and 27 either. The proposal is a clearing of the case, and every zone price is from
+-- -50,000 to 400,000 cents, in grains
 pub record ClearedFacts (s t : List ℕ) : Type 0 where
   pub is-clearing : Clearing (caseOf s) (planOf s t)
   pub price-in : (z : ℕ) → z < zonesIn s → (negℤ (pos 5000000000) ≤ℤ zonePrice (caseOf s) (pricesOf s t) z) × (zonePrice (caseOf s) (pricesOf s t) z ≤ℤ pos 40000000000)

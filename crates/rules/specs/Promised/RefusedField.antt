@@ -1,5 +1,6 @@
--- What a refusal by 6, 7, 8 or 14 names (S-2): the offset at which a field of its part stands, within the file; that field is at fault, and no field of the
--- part that stands before it in the file is. What each field's test is of stands at its offset. Assumes nothing.
+-- What a refusal by 6, 7, 8 or 14 names (S-2): the offset, within the file, of a field of its part. That field is
+-- at fault, and no earlier field of the part is. Each field's test is of the value at its own offset.
+-- Assumes nothing.
 use mathlib.Core.Path.{_≡_, refl, sym, ap, _∙_, subst}
 use mathlib.Core.Bool.{Bool, true, false, not, cond, _&&_, _||_}
 use mathlib.Core.List.{List, _∷_}
@@ -14,7 +15,7 @@ use lib.ListN.{length}
 use lib.IntN.{pos}
 use Rattle.base_integers.specs.Meaning.Ranges.{outside}
 use Rattle.base_integers.specs.Steps.Ranges.{is-true, is-false, and-both, and-left, and-right, or-right}
-use Rattle.base_measures.specs.Meaning.Limits as limits
+use Rattle.base_limits.specs.Meaning.Limits as limits
 use Rattle.rules.specs.Meaning.Layout.{zonesIn, branchesIn, linksIn, ordersIn, branchSize, branchAt, branchFieldAt, linkAt, linkFields, linkFieldAt, linkFieldSize, contracts, caseVersion, fromIn, toIn, orderAt, orderFields, orderFieldAt, orderFieldSize, shadowAt, caseLength, proposalLength, u8At, u32At, i32At, ramIn, ptdfIn, capacityIn, contractedIn, zoneIn, sideIn, quantityIn, priceIn}
 use Rattle.rules.specs.Meaning.Hour.{caseOf, planOf, pricesOf}
 use Rattle.base_causes.specs.declared.Outcome.{Outcome}
@@ -31,7 +32,7 @@ pub record Part : Type 0 where
   pub width : ℕ → ℕ
   pub fault : ℕ → ℕ → Bool
 
--- an outcome names a field of a part of a file of so many bytes
+-- an outcome names a field of a part of a file of `size` bytes
 pub record FieldNamed (number : ℕ) (part : Part) (size : ℕ) (o : Outcome) : Type 0 where
   pub row : ℕ
   pub field : ℕ
@@ -42,7 +43,8 @@ pub record FieldNamed (number : ℕ) (part : Part) (size : ℕ) (o : Outcome) : 
   pub at-fault : T (part .fault row field)
   pub none-before : (i j : ℕ) → i < part .rows → j < part .fields → part .offset i j < part .offset row field → T (not (part .fault i j))
 
--- ONE FIELD BEGINS WHERE THE ONE BEFORE ENDS, and a row where the last field of the row before ends; the last row ends within the file
+-- FIELDS ARE ADJACENT: a field begins where the one before ends, and a row where the last field of the row before
+-- ends; the last row ends within the file
 pub record Adjacent (part : Part) (size : ℕ) : Type 0 where
   pub some-field : 0 < part .fields
   pub next-field : (i j : ℕ) → suc j < part .fields → part .offset i (suc j) ≡ part .offset i j + part .width j
@@ -223,7 +225,8 @@ module _ (s t : List ℕ) (room : ℕ) where
       let whole = eqb→eq (length t) (proposalLength s) (not-not (eqb (length t) (proposalLength s)) ((number-passes (before 14 rows) (r .earlier) 12) .pass 0 (omega arith))) in
       named 14 (shadowPart s t) (length t) (outcome s t room) (subst (λ (n : ℕ). Adjacent (shadowPart s t) n) (sym whole) (shadows-adjacent s t)) (r .place) (r .first-place) (r .is)
 
--- S-2'S OWN WORDS OF LINKS, for link l of a case whose rows before 7 pass and whose links before l have no field at fault
+-- S-2'S OWN SENTENCES ON LINKS, for link l of a case whose rows before 7 pass and whose links before l have no
+-- field at fault
 module _ (s : List ℕ) (l : ℕ) (rows-before : refusal (before 7 (caseCauses s (caseOf s))) ≡ none) (l-in : l < linksIn s)
     (links-before : (i n : ℕ) → i < l → n < linkFields → T (not (linkFault (caseOf s) i n))) where
   -- its first field at fault is named
@@ -241,7 +244,7 @@ module _ (s : List ℕ) (l : ℕ) (rows-before : refusal (before 7 (caseCauses s
       })
       ∙ ap (λ (o : Option ℕ). some (verdict 7 (linkFieldAt s l (placeElse o)))) (first-some linkFields (linkFault (caseOf s) l) n f)
 
-  -- a repeated pair names the later link's first byte, also where its capacity is out of range
+  -- a repeated pair names the later link's first byte, even where its capacity is out of range
   pub repeated-pair-named : (k : ℕ) → k < l → fromIn s k ≡ fromIn s l → toIn s k ≡ toIn s l → caseRefusal s ≡ some (verdict 7 (linkAt s l))
   unfolding linkFault repeated caseOf
   repeated-pair-named k h e f = first-named 0 (record {
@@ -259,7 +262,7 @@ module _ (s : List ℕ) (l : ℕ) (rows-before : refusal (before 7 (caseCauses s
     none-before = λ i b. first-passes i (omega arith);
   })
     where
-      -- an earlier link of the same pair would have equal zones too
+      -- if an earlier link had the same pair, its zones would be equal too
       equal-too : (k : ℕ) → T (eqb (fromIn s k) (fromIn s l) && eqb (toIn s k) (toIn s l)) → fromIn s k ≡ toIn s k
       equal-too k t = eqb→eq (fromIn s k) (fromIn s l) (and-left (eqb (fromIn s k) (fromIn s l)) (eqb (toIn s k) (toIn s l)) t)
           ∙ e ∙ sym (eqb→eq (toIn s k) (toIn s l) (and-right (eqb (fromIn s k) (fromIn s l)) (eqb (toIn s k) (toIn s l)) t))
@@ -273,7 +276,8 @@ module _ (s : List ℕ) (l : ℕ) (rows-before : refusal (before 7 (caseCauses s
       first-passes i z = subst (λ (i : ℕ). T (not (linkFault (caseOf s) l i))) (sym z)
           (is-false (λ j. lt-leb (zonesIn s) (fromIn s l) known j || any-none l (λ k. eqb (fromIn s k) (fromIn s l) && eqb (toIn s k) (toIn s l)) (λ k h. no-earlier k h _ refl) j))
 
-  -- S-4'S OWN WORDS: a contracted volume that exceeds the capacity names its own field; a capacity out of range in the same link is named first
+  -- S-4'S OWN SENTENCE: a contracted volume that exceeds the capacity names its own field; a capacity out of range
+  -- in the same link is named first
   module _ (zones-good : (n : ℕ) → n < 2 → T (not (linkFault (caseOf s) l n))) where
     pub capacity-named : T (outside limits.capacity (pos (capacityIn s l))) → caseRefusal s ≡ some (verdict 7 (linkAt s l + 2))
     unfolding linkFault caseOf
@@ -293,7 +297,8 @@ module _ (s : List ℕ) (l : ℕ) (rows-before : refusal (before 7 (caseCauses s
         three-good (suc (suc zero)) k = good
         three-good (suc (suc (suc n))) k = absurd (omega arith)
 
--- S-4: A CONTRACTED VOLUME IS NAMED in a case of version 2 alone, where it has bytes of its own; with it the fields before it are all right
+-- S-4: A CONTRACTED VOLUME IS NAMED only in a case of version 2, where it has bytes of its own; then the fields
+-- before it are good
 contracted-apart : (s : List ℕ) (l : ℕ) (b : Bool) → contracts (caseVersion s) ≡ b → T (linkFault (caseOf s) l 3) → T b
 unfolding linkFault caseOf contractedIn
 contracted-apart s l true q t = tt
@@ -310,7 +315,7 @@ contracted-named s l t =
     true-is true t = refl
     true-is false t = absurd t
 
--- WHAT EACH FIELD'S TEST IS OF: the value that stands at the field's own offset
+-- WHAT EACH FIELD'S TEST IS OF: the value at the field's own offset
 module _ (s : List ℕ) where
   pub margin-tested : (m : ℕ) → branchFault (caseOf s) m 0 ≡ outside limits.margin (i32At s (branchFieldAt s m 0))
   unfolding branchFault caseOf ramIn

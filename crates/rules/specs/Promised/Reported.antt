@@ -1,4 +1,4 @@
--- The report buffer after a judgement: what stands in the report, and what is left as it was. Assumes nothing.
+-- The report buffer after a judgement: what the report holds, and what is unchanged. Assumes nothing.
 use mathlib.Core.Path.{_≡_, refl, sym, ap, _∙_}
 use mathlib.Core.Bool.{Bool, true, false, not, cond}
 use mathlib.Core.List.{List, _++_, append-assoc}
@@ -25,12 +25,12 @@ unfolding priceBytes signed64
 prices-length zero price = refl
 prices-length (suc n) price = length-append (priceBytes n price) (signed64 (price n)) ∙ omega (arith, prices-length n price, bytes-length 8 (ofZ w64 (price n)))
 
--- it has 48 plus 8 times zones bytes
+-- a report has 48 plus 8 times zones bytes
 pub report-length : (n : ℕ) (c : Case) (p : Plan) (d : Prices) → length (reportBytes n c p d) ≡ reportSize c
 unfolding reportBytes reportText totalsOf headerBytes totalBytes reportSize signed64 bytesOf
 report-length n c p d = omega (arith, prices-length (c .zones) (zonePrice c d))
 
--- the z-th price
+-- the price of zone z
 last-price : (n : ℕ) (price : ℕ → ℤ) (rest : List ℕ) (z : ℕ) → z ≡ n → take 8 (drop (8 * z) (priceBytes n price ++ (signed64 (price n) ++ rest))) ≡ signed64 (price z)
 unfolding signed64 bytesOf
 last-price n price rest z e =
@@ -98,7 +98,7 @@ module _ (s t buffer : List ℕ) where
   unfolding number
   reported r = rw (writes r) (stands number (caseOf s) (planOf s t) (pricesOf s t) (drop (reportSize (caseOf s)) buffer) (fits s t (length buffer) r))
 
-  -- all past the report is as it was
+  -- all past the report is unchanged
   pub past-report : T (reports ((outcome s t (length buffer)) .number)) → drop (reportSize (caseOf s)) (bufferAfter s t buffer) ≡ drop (reportSize (caseOf s)) buffer
   unfolding number
   past-report r =
@@ -109,7 +109,7 @@ module _ (s t buffer : List ℕ) where
       report : List ℕ
       report = reportBytes number (caseOf s) (planOf s t) (pricesOf s t)
 
-  -- any other verdict: all of it is as it was
+  -- any other verdict: all of it is unchanged
   pub unchanged : T (not (reports ((outcome s t (length buffer)) .number))) → bufferAfter s t buffer ≡ buffer
   unfolding bufferAfter written
   unchanged r = off (reports ((outcome s t (length buffer)) .number)) _ _ r

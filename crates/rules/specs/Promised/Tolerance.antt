@@ -11,7 +11,7 @@ use lib.Dec.{T, T-not}
 use lib.IntN.{pos}
 use Rattle.base_integers.specs.Meaning.Ranges.{outside}
 use Rattle.base_integers.specs.Steps.Ranges.{is-false, nat-within, nat-inside}
-use Rattle.base_measures.specs.Meaning.Limits as limits
+use Rattle.base_limits.specs.Meaning.Limits as limits
 use Rattle.rules.specs.Meaning.Layout.{reportRoom}
 use Rattle.rules.specs.Meaning.Hour.{Case, Plan, Prices, caseOf, planOf, pricesOf}
 use Rattle.base_causes.specs.declared.Outcome.{Outcome}
@@ -19,14 +19,14 @@ use Rattle.base_causes.specs.Meaning.Causes.{Cause, Pass, verdict, refusal, ans
 use Rattle.base_causes.specs.Promised.CauseLaws.{else-refusal, refusal-append, row-found, field-passes, once-fails, lacks, before, causeNumbered, row-by-number}
 use Rattle.rules.specs.Meaning.Verdict.{roomCauses, caseCauses, proposalCauses, wideTolerance, clearingCauses, judgementCauses, table, outcome, familyOutcome, Readable, caseRefusal, proposalRefusal}
 
--- above 10,000 cents, the paper's number, and no lower: 10,000 itself passes
+-- above 10,000 cents, the paper's number; 10,000 itself passes
 above : (cents : ℕ) → T (outside limits.acceptedTolerance (pos cents)) → 10000 < cents
 above cents t = elim (decLt 10000 cents) [ yes h ↦ h | no g ↦ absurd (T-not (outside limits.acceptedTolerance (pos cents)) (nat-inside 0 10000 cents (omega arith) (omega arith)) t) ]
 
 pub narrow-passes : (c : Case) → c .tolerance ≤ 10000 → Pass (wideTolerance c)
 narrow-passes c h = record { pass = λ k l. nat-inside 0 10000 (c .tolerance) (omega arith) h }
 
--- 15 IS ANSWERED for a tolerance above 10,000 cents and for no other, without a family list and with one
+-- 15 IS ANSWERED only for a tolerance above 10,000 cents, with and without a family list
 pub only-wide : (s t : List ℕ) (room : ℕ) → (outcome s t room) .number ≡ 15 → 10000 < (caseOf s) .tolerance
 unfolding outcome table roomCauses caseCauses proposalCauses clearingCauses lacks before causeNumbered
 only-wide s t room e = above ((caseOf s) .tolerance) ((row-by-number 15 (table none s t room (caseOf s) (planOf s t) (pricesOf s t)) (omega arith) tt tt e) .first-place .holds)
@@ -35,7 +35,7 @@ pub only-wide-family : (s t f : List ℕ) (room : ℕ) → (familyOutcome s t f 
 unfolding familyOutcome table roomCauses caseCauses proposalCauses clearingCauses lacks before causeNumbered
 only-wide-family s t f room e = above ((caseOf s) .tolerance) ((row-by-number 15 (table (some f) s t room (caseOf s) (planOf s t) (pricesOf s t)) (omega arith) tt tt e) .first-place .holds)
 
--- and such a tolerance is 15, with room for a report, where case and proposal are read
+-- conversely, such a tolerance is 15 where the report has room and case and proposal are read
 wide-fails : (cents : ℕ) → 10000 < cents → outside limits.acceptedTolerance (pos cents) ≡ true
 wide-fails cents h = by (outside limits.acceptedTolerance (pos cents)) refl
   where
@@ -66,7 +66,8 @@ module _ (s t : List ℕ) (room : ℕ) (enough : reportRoom ≤ room) (readable 
   unfolding familyOutcome
   wide-is-15-family f = ap answer (by-15 (some f))
 
--- NO READER ASKS IT: such a case is readable as before, and its proposal is read; so it is columned and restored, its book summed, its dump turned into a proposal
+-- NO READER ASKS IT: such a case is readable as before, and so is its proposal. It can be columned and restored,
+-- its book summed, and its dump turned into a proposal
 pub readers-never-15 : (s t : List ℕ) (c : Case) (p : Plan) (d : Prices) → T (lacks 15 (caseCauses s c)) × T (lacks 15 (proposalCauses s t c p d))
 unfolding caseCauses proposalCauses lacks
 readers-never-15 s t c p d = (tt, tt)

@@ -1,6 +1,6 @@
--- THE UNITS OF THE HOUR, in the paper's numbers. A bought MWh is ten tenths; it is worth its price in cents per MWh times
--- the million microcents that a cent has. A sold one costs as much. The gap of an accepted hour is at most as many such
--- cents as the tolerance has. Assumes nothing.
+-- THE UNITS OF THE HOUR, in the paper's numbers. A MWh is ten tenths. Bought, it is worth its price in cents per
+-- MWh times a million microcents; sold, it costs as much. The gap of an accepted hour is at most the tolerance, in
+-- cents of a million microcents. Assumes nothing.
 use mathlib.Core.Path.{_≡_, ap, _∙_}
 use mathlib.Core.Bool.{Bool, true, false}
 use mathlib.Core.List.{List}
@@ -33,7 +33,7 @@ module _ (c : Case) (p : Plan) (one : c .orders ≡ 1) (ten : p .volume 0 ≡ 10
   unfolding buys
   sold-mwh side = one-order false (ap (λ (n : ℕ). eqb n 0) side) ∙ eq-by (at (pos 100000) ⊗ (at (pos 0) ⊕ ⊝_ (at (pos 10) ⊗ at (c .price 0)))) (⊝_ (at (pos 1000000) ⊗ at (c .price 0))) (omega arith)
 
--- THE GAP OF AN ACCEPTED HOUR, as the report's bytes have it
+-- THE GAP OF AN ACCEPTED HOUR, from the report's bytes
 pub gap-in-cents : (s t buffer : List ℕ) → (outcome s t (length buffer)) .number ≡ 0
     → (pos 0 ≤ℤ reportedGap (bufferAfter s t buffer)) × ((reportedGap (bufferAfter s t buffer) ≤ℤ (pos 1000000 *ℤ pos (toleranceIn s))) × (toleranceIn s ≤ 10000))
 unfolding caseOf

@@ -1,6 +1,7 @@
--- S-4: VERSION 1 IS READ WITH CONTRACTED EQUAL TO CAPACITY. A case of version 1 and the case of version 2 that has each link's capacity once more as its
--- contracted volume are judged alike, whatever the proposal and the buffer: number, totals, prices and every byte of the report are the same, and so is the
--- index, but that an offset of 7 or 8 moves with its field. Of every file of version 1, readable or not. Assumes nothing.
+-- S-4: VERSION 1 IS READ WITH CONTRACTED EQUAL TO CAPACITY. Take any case of version 1, readable or not, and the
+-- case of version 2 that repeats each link's capacity as its contracted volume. Both are judged alike, whatever the
+-- proposal and the buffer: number, totals, prices and every byte of the report are the same. The index is the same
+-- too, except that an offset of 7 or 8 moves with its field. Assumes nothing.
 use mathlib.Core.Path.{_≡_, refl, sym, ap, _∙_, subst}
 use mathlib.Core.Bool.{Bool, true, false, not, cond}
 use mathlib.Core.List.{List, [], _∷_, _++_}
@@ -15,7 +16,7 @@ use lib.IntN.{ℤ, pos}
 use Rattle.base_integers.specs.Meaning.Bytes.{signed64}
 use Rattle.base_integers.specs.Meaning.Ranges.{outside, isZero}
 use Rattle.base_integers.specs.Steps.Ranges.{is-true, is-false}
-use Rattle.base_measures.specs.Meaning.Limits as limits
+use Rattle.base_limits.specs.Meaning.Limits as limits
 use Rattle.rules.specs.Meaning.Layout.{u32At, caseVersion, linksIn, contracts, capacityIn, contractedIn, branchFieldAt, linkFields, linkFieldAt, orderFields, orderFieldAt, zoneCounts, branchCounts, linkCounts, orderCounts, caseLength, flowIn, shadowAt, shadowIn, shareIn, systemIn, volumeIn, proposalLength}
 use Rattle.rules.specs.Meaning.Hour.{Case, Plan, Prices, caseOf, planOf, pricesOf, zonePrice, noLink}
 use Rattle.base_causes.specs.declared.Outcome.{Outcome}
@@ -32,7 +33,7 @@ use Rattle.rules.specs.Promised.Reported.{unchanged}
 use Rattle.rules.specs.Meaning.Versions.{upgraded, movedIndex, moved}
 use Rattle.rules.specs.Steps.Upgraded as bytes
 
--- A TABLE WHOSE OUTCOMES ARE MAPPED: the same places and tests, row by row
+-- A TABLE WITH MAPPED OUTCOMES: the same places and tests, row by row
 abbrev mapped : (Outcome → Outcome) → Option Outcome → Option Outcome
 mapped f (some o) = some (f o)
 mapped f none = none
@@ -49,7 +50,7 @@ row-mapped f r q rs qs places fails index rest = by (firstBelow (r .places) (r .
     by (some k) x = row-found q qs k (other ∙ x) ∙ ap some (index k (first-is (r .places) (r .fails) k x)) ∙ ap (mapped f) (sym (row-found r rs k x))
     by none x = row-clear q qs (other ∙ x) ∙ rest ∙ ap (mapped f) (sym (row-clear r rs x))
 
--- rows that come out mapped, and one row more
+-- rows with mapped outcomes, and one row more
 record Maps (f : Outcome → Outcome) (rs qs : List Cause) : Type 0 where
   is : refusal qs ≡ mapped f (refusal rs)
 
@@ -78,7 +79,7 @@ unfolding movedIndex
 answer-mapped s (some o) = refl
 answer-mapped s none = refl
 
--- the first field at fault, of tests that agree
+-- the first field at fault, where the tests agree
 field-same : (w : ℕ) (f g : ℕ → Bool) → ((k : ℕ) → k < w → f k ≡ g k) → firstField w f ≡ firstField w g
 unfolding firstField
 field-same w f g h = ap placeElse (first-ext w f g h)
@@ -97,7 +98,7 @@ module _ (s : List ℕ) (version-1 : caseVersion s ≡ 1) (long : 14 ≤ length 
     same : SameTables (caseOf s) (caseOf v)
     same = bytes.same s version-1 long whole
 
-    -- THE ROWS, of the second case under the first one's counts
+    -- THE ROWS of the second case under the first one's counts
     abbrev c : Case
     c = caseOf s
 
@@ -210,7 +211,7 @@ module _ (s : List ℕ) (version-1 : caseVersion s ≡ 1) (long : 14 ≤ length 
       case-is : caseOf v ≡ e
       case-is = sym (counted-is c (caseOf v) same)
 
-      -- THE OUTCOME
+      -- Up to here binary64 holds every whole number and a half exactly.
       whole-outcome : (room : ℕ) → outcome v t room ≡ moved s (outcome s t room)
       unfolding outcome table roomCauses movedIndex
       whole-outcome room =
@@ -224,7 +225,7 @@ module _ (s : List ℕ) (version-1 : caseVersion s ≡ 1) (long : 14 ≤ length 
           room-mapped : refusal (roomCauses room) ≡ mapped f (refusal (roomCauses room))
           room-mapped = let rows : Maps f (roomCauses room) (roomCauses room) = more refl (λ k h. refl) (λ k x. refl) no-rows in rows .is
 
-      -- THE REPORT BUFFER, every byte of it
+      -- EVERY BYTE OF THE REPORT BUFFER
       report-same : (number : ℕ) → Placed c → reportBytes number e p d ≡ reportBytes number c p d
       unfolding reportBytes reportText counted
       report-same number ok = sym (λ j. headerBytes number (c .zones) ++ totalBytes (totals-same c (caseOf v) same d ok p j) ++ prices-same (c .zones) (zonePrice c d) (zonePrice e d) (zone-price c (caseOf v) same d) j)
@@ -267,7 +268,7 @@ module _ (s : List ℕ) (version-1 : caseVersion s ≡ 1) (long : 14 ≤ length 
         field-fails 5 0 (behind 5 (caseBodyCauses w (caseOf w))) (ap not (ne-eqb (length w) (caseLength w) (bytes.other-too s version-1 long other)))
         ∙ ap (mapped (moved s)) (sym (field-fails 5 0 (behind 5 (caseBodyCauses s (caseOf s))) (ap not (ne-eqb (length s) (caseLength s) other)))))
 
--- A FILE OF UNDER 14 BYTES is refused by 1, and so is the other
+-- A FILE OF UNDER 14 BYTES is refused by 1, in both versions
 module _ (s : List ℕ) (short : length s < 14) where
   short-refusal : refusal (caseCauses (upgraded s) (caseOf (upgraded s))) ≡ mapped (moved s) (refusal (caseCauses s (caseOf s)))
   unfolding caseCauses movedIndex
@@ -283,7 +284,7 @@ decEq a b = elim (decLt a b) [
 ]
 
 module _ (s : List ℕ) (version-1 : caseVersion s ≡ 1) where
-  -- each link of it contracts its capacity, and so does each of the other, which is of version 2
+  -- each link contracts its capacity, in this case and in the one of version 2
   pub contracted-is : (l : ℕ) → contractedIn s l ≡ capacityIn s l
   unfolding contractedIn contracts
   contracted-is l = ap (λ (n : ℕ). cond (eqb n 2) (u32At s (linkFieldAt s l 3)) (capacityIn s l)) version-1

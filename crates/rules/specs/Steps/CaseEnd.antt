@@ -1,5 +1,5 @@
--- Where the case of the desk's input ends, by what is known of its header and its length; and two files with the same
--- header. Assumes nothing.
+-- Where the case ends in the desk's input, from its header and its length; and two files with the same header.
+-- Assumes nothing.
 use mathlib.Core.Path.{_≡_, refl, sym, ap, _∙_}
 use mathlib.Core.Bool.{Bool, true, false, cond, not, _&&_}
 use mathlib.Core.List.{List, [], _∷_}
@@ -11,7 +11,7 @@ use lib.ListN.{length, getD}
 use lib.Dec.{eqb, leb}
 use lib.IntN.{pos}
 use Rattle.base_integers.specs.Meaning.Ranges.{outside}
-use Rattle.base_measures.specs.Meaning.Limits as limits
+use Rattle.base_limits.specs.Meaning.Limits as limits
 use Rattle.base_causes.specs.declared.Outcome.{Outcome}
 use Rattle.base_causes.specs.Meaning.Causes.{Cause, refusal, once, field}
 use Rattle.rules.specs.Meaning.Layout.{u8At, u16At, u32At, caseVersion, zonesIn, branchesIn, linksIn, ordersIn, toleranceIn, branchSize, linkSize, caseLength, zoneCounts, branchCounts, linkCounts, orderCounts}
@@ -32,7 +32,7 @@ module _ (s : List ℕ) where
   unfolding caseEnd
   end-good e h = λ i. cond (good (e i) && le-leb (caseLength s) (length s) h i) (caseLength s) (length s)
 
-  -- within the input, whatever it holds
+  -- within the input, for any bytes
   pub end-within : caseEnd s ≤ length s
   unfolding caseEnd
   end-within = by (good (headerRefusal s)) (leb (caseLength s) (length s)) refl

@@ -1,5 +1,5 @@
--- Weak duality of the clearing: no clearing's welfare passes the bound (accuracy), and where there is a link the rent covers the link total, and so what is
--- owed, up to the gap (coverage). Assumes nothing.
+-- Weak duality of the clearing: no clearing's welfare exceeds the bound (accuracy), and where there is a link the
+-- rent covers the link total, and so owed, up to the gap (coverage). Assumes nothing.
 use mathlib.Core.Path.{_≡_, refl, sym, ap, _∙_}
 use mathlib.Core.Bool.{Bool, true, false, cond}
 use Prim.Native.Nat.{ℕ, _+_, _*_, _-_, _≤_, _<_}
@@ -16,7 +16,7 @@ use Rattle.base_integers.specs.Meaning.Order.{larger, positive}
 use Rattle.base_integers.specs.Steps.Order.{cond-ind, diff-nonneg, mul-nonneg, larger-left, larger-right, scaled}
 use Rattle.base_integers.specs.Meaning.Sums.{sumTo, only}
 use Rattle.base_integers.specs.Steps.Sums.{sum-ext, sum-le, sum-zero, sum-add, sum-sub, sum-scale, sum-scale-l, gather, sum-weights}
-use Rattle.base_measures.specs.Meaning.Limits.{partsInOne, grainsOf}
+use Rattle.base_limits.specs.Meaning.Limits.{partsInOne, grainsOf}
 use Rattle.rules.specs.Meaning.Hour.{Case, Plan, Prices, signed, buys, above, orderNet, net, inflow, outflow, ltaPart, fbPart, netSum, linkUse, linkRoom, branchUse, branchRoom, branchPrice, zonePrice, orderWelfare, welfare, surplusOf, orderSurplus, surplus, branchValue, branchTotal, spread, linkValue, linkTotal, linkOwed, owed, noLink, networkBound, bound, gap, rent}
 use Rattle.rules.specs.Meaning.Clearing.{Placed, Clearing}
 
@@ -45,14 +45,14 @@ branches-within c d = cond-ind (noLink c) (branchTotal c d) (larger (branchTotal
 pub links-within : (c : Case) (d : Prices) → 0 < c .links → linkTotal c d ≤ℤ networkBound c d
 links-within c d h = rw (with-links-is c d h) (larger-right (branchTotal c d) (linkTotal c d))
 
--- weighed by an LTA share, which is 0 without links, the link total is within it in every hour
+-- weighed by an LTA share, which is 0 without links, the link total is at most this part in every hour
 pub weighed-within : (c : Case) (d : Prices) (a : ℤ) → pos 0 ≤ℤ a → (c .links ≡ 0 → a ≡ pos 0) → pos 0 ≤ℤ (a *ℤ (networkBound c d -ℤ linkTotal c d))
 weighed-within c d a h none = elim (decLt 0 (c .links)) [ yes l ↦ mul-nonneg a (networkBound c d -ℤ linkTotal c d) h (diff-nonneg (links-within c d l)) | no g ↦ nothing (networkBound c d -ℤ linkTotal c d) (none (omega arith)) ]
   where
     nothing : (x : ℤ) → a ≡ pos 0 → pos 0 ≤ℤ (a *ℤ x)
     nothing x e = rw e (le-by (at (pos 0)) (at (pos 0) ⊗ at x) (omega arith))
 
--- v of at most e q units at t each: no more than e times what q units bring, where that is positive
+-- at most e q units at t each bring at most e times what q units bring, where that is positive
 pub at-most : (v q e : ℕ) (t : ℤ) → v ≤ e * q → (pos v *ℤ t) ≤ℤ (pos e *ℤ positive (pos q *ℤ t))
 at-most v q e (pos k) h = le-by (at (pos v) ⊗ at (pos k)) (at (pos e) ⊗ at (positive (pos q *ℤ pos k)))
     (omega (
@@ -71,11 +71,11 @@ pub signed-times : (b : Bool) (x y : ℤ) → signed b (x *ℤ y) ≡ signed b x
 signed-times true x y = refl
 signed-times false x y = eq-by (⊝_ (at x ⊗ at y)) ((⊝_ (at x)) ⊗ at y) (omega arith)
 
--- at a price in grains it is 100,000 times what it is at the price in cents
+-- at a price in grains it is 100,000 times its value at the price in cents
 pub times-grains : (x y : ℤ) → x *ℤ grainsOf y ≡ pos partsInOne *ℤ (x *ℤ y)
 times-grains x y = eq-by (at x ⊗ (at (pos partsInOne) ⊗ at y)) (at (pos partsInOne) ⊗ (at x ⊗ at y)) (omega arith)
 
--- one order: what it adds to the welfare, less its volume at the zone's price, is at most `e` times its surplus
+-- one order: its welfare less its volume at the zone's price is at most `e` times its surplus
 pub order-le : (b : Bool) (v q e : ℕ) (a z : ℤ) → v ≤ e * q
     → (pos partsInOne *ℤ signed b (pos v *ℤ a) -ℤ signed b (pos v) *ℤ z) ≤ℤ (pos e *ℤ positive (pos q *ℤ above b (pos partsInOne *ℤ a) z))
 order-le true v q e a z h =
@@ -85,14 +85,14 @@ order-le false v q e a z h =
     rw (eq-by (at (pos partsInOne) ⊗ (⊝_ (at (pos v) ⊗ at a)) ⊖ (⊝_ (at (pos v))) ⊗ at z) (at (pos v) ⊗ (at z ⊖ at (pos partsInOne) ⊗ at a)) (omega arith))
     (at-most v q e (z -ℤ pos partsInOne *ℤ a) h)
 
--- one link
 pub link-le : (f k a : ℕ) (t : ℤ) → f * partsInOne ≤ a * k → (pos partsInOne *ℤ (pos f *ℤ t)) ≤ℤ (pos a *ℤ (pos k *ℤ positive t))
 link-le f k a (pos n) h = le-by (at (pos partsInOne) ⊗ (at (pos f) ⊗ at (pos n))) (at (pos a) ⊗ (at (pos k) ⊗ at (positive (pos n))))
     (omega (arith, mul-le-mul-right n h, mul-le-mul-left (a * k) (le-fact (at (pos n)) (at (positive (pos n))) (larger-right (pos 0) (pos n)))))
 link-le f k a (negsuc n) h = le-by (at (pos partsInOne) ⊗ (at (pos f) ⊗ at (negsuc n))) (at (pos a) ⊗ (at (pos k) ⊗ at (positive (negsuc n))))
     (omega (arith, mul-le-mul-left (a * k) (le-fact (at (pos 0)) (at (positive (negsuc n))) (larger-left (pos 0) (negsuc n)))))
 
--- the last step: r is the rent, split in what the branches and the links bound; g is the branches' total in cents, o the links', m the network's bound
+-- the last step: r is the rent, split into what the branches and the links bound; g is the branches' total in
+-- cents, o the links', m the network's bound
 weighed : (r x y g o m : ℤ) (e a k : ℕ) → k + a ≡ partsInOne * e → r ≡ x +ℤ y
     → x ≤ℤ (pos k *ℤ g) → (pos partsInOne *ℤ y) ≤ℤ (pos a *ℤ o) → (pos partsInOne *ℤ g) ≤ℤ m → pos 0 ≤ℤ (pos a *ℤ (m -ℤ o)) → r ≤ℤ (pos e *ℤ m)
 weighed r x y g o m e a k hk hr hx hy hg ho =
@@ -184,7 +184,7 @@ module _ (c : Case) (ok : Placed c) (d : Prices) (p : Plan) (cl : Clearing c p) 
       no-flow : sumTo (c .links) (λ l. pos (p .flow l) *ℤ (k -ℤ k)) ≡ pos 0
       no-flow = sum-ext (c .links) _ _ (λ l h. eq-by (at (pos (p .flow l)) ⊗ (at k ⊖ at k)) (at (pos 0)) (omega arith)) ∙ sum-zero (c .links)
 
-  -- the parts at the zones' prices are the branches' branchUses at the shadow prices
+  -- the parts at the zones' prices are the uses of the branches at the shadow prices
   pub branches-are : over-branches ≡ sumTo (c .branches) (λ m. branchUse c p m *ℤ pos (d .shadow m))
   unfolding over-branches zonePrice branchPrice branchUse c0
   branches-are =
@@ -238,7 +238,8 @@ pub accuracy : (c : Case) → Placed c → (d : Prices) (q p : Plan) → Clearin
 unfolding gap
 accuracy c ok d q p cl = rw (eq-by (at (welfare c q) ⊕ (at (bound c d) ⊖ at (welfare c q))) (at (bound c d)) (omega arith)) (welfare-bound c ok d p cl)
 
--- COVERAGE: where there is a link (S-6), the rent of a clearing over denominator 1 is at least the link total, less the gap
+-- COVERAGE: where there is a link (S-6), the rent of a clearing over denominator 1 is at least the link total less
+-- the gap
 pub links-covered : (c : Case) → 0 < c .links → Placed c → (d : Prices) (q : Plan) → Clearing c q → q .den ≡ 1 → (linkTotal c d -ℤ gap c q d) ≤ℤ rent c q d
 unfolding gap bound
 links-covered c linked ok d q cl one = le-by (at oo ⊖ (at ss ⊕ at mm ⊖ at ww)) (at rr)
@@ -273,7 +274,7 @@ more-le v k t h = by (k - v) (positive t) (omega arith) (larger-left (pos 0) t)
     by e t h n = le-by (at (pos v) ⊗ at t) (at (pos k) ⊗ at t)
         (omega (arith, le-fact (at (pos e) ⊗ at (pos 0)) (at (pos e) ⊗ at t) (scaled e n), ap (λ (j : ℕ). j * up t) h, ap (λ (j : ℕ). j * dn t) h))
 
--- and so at least what is owed, where no contracted volume is above its capacity (S-4)
+-- so it covers owed too, where no contracted volume is above its capacity (S-4)
 pub owed-le : (c : Case) → ((l : ℕ) → l < c .links → c .contracted l ≤ c .capacity l) → (d : Prices) → owed c d ≤ℤ linkTotal c d
 unfolding owed linkOwed linkTotal linkValue
 owed-le c within d = sum-le (c .links) _ _ (λ l h. more-le (c .contracted l) (c .capacity l) (spread c d l) (within l h))

@@ -1,4 +1,4 @@
--- Fields that were written are read: 32 bits, unsigned and signed, by the bytes that stand at their offset. Assumes nothing.
+-- Written fields are read back: 32 bits, unsigned and signed, by the bytes at their offset. Assumes nothing.
 use mathlib.Core.Path.{_≡_, sym, ap, _∙_}
 use mathlib.Core.List.{List}
 use Prim.Native.Nat.{ℕ, _+_, _<_}

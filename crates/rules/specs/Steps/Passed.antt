@@ -1,4 +1,5 @@
--- What the rows of the table leave where they pass: every limit of a readable case, of a proposal, and a clearing of the case. Assumes nothing.
+-- What the rows of the table leave where they pass: every limit of a readable case and of a proposal, and a
+-- clearing of the case. Assumes nothing.
 use mathlib.Core.Path.{_≡_, refl, sym, ap, subst}
 use mathlib.Core.Bool.{Bool, true, false, not, _&&_, _||_}
 use mathlib.Core.List.{List, [], _∷_}
@@ -12,8 +13,8 @@ use lib.IntN.{pos}
 use lib.Signed.{_≤ℤ_, ltZ-no}
 use Rattle.base_integers.specs.Meaning.Ranges.{Within, isZero}
 use Rattle.base_integers.specs.Steps.Ranges.{within, nat-within, nor-left, nor-right, and-both, zero-is}
-use Rattle.base_measures.specs.Meaning.Limits as limits
-use Rattle.base_measures.specs.Meaning.Limits.{partsInOne}
+use Rattle.base_limits.specs.Meaning.Limits as limits
+use Rattle.base_limits.specs.Meaning.Limits.{partsInOne}
 use Rattle.rules.specs.Meaning.Layout.{reportRoom, linkFields, orderFields, caseLength, proposalLength}
 use Rattle.rules.specs.Meaning.Hour.{Case, Plan, Prices, caseOf, planOf, pricesOf, netSum, linkUse, linkRoom, zonePrice, noLink, gap}
 use Rattle.rules.specs.Meaning.Clearing.{Placed, Clearing}
@@ -207,7 +208,7 @@ module _ (s t : List ℕ) (room : ℕ) where
   d : Prices
   d = pricesOf s t
 
-  -- with a number n that no row before the clearing's has
+  -- for a number n that no row before the clearing's has
   parts : (n : ℕ) → T (lacks n (roomCauses room)) → T (lacks n (caseCauses s c)) → T (lacks n (proposalCauses s t c p d)) → T (lacks n (wideTolerance c ∷ [])) → (outcome s t room) .number ≡ n
       → ((i k : ℕ) → T (hasCause i k (before 26 (clearingCauses none c p d))) → T (hasCause i k (before n (clearingCauses none c p d)))) → Sound s t room
   unfolding outcome table caseRefusal proposalRefusal roomCauses before hasCause rowOf isCause planOf c p d

@@ -1,5 +1,5 @@
--- Two cases with the same counts, and the same fields below them: rules 1 to 11 give the same numbers, and row 6 to 8's and 21 to 26's tests the same
--- answers. What stands past the counts is never read. Assumes nothing.
+-- Two cases with the same counts, and the same fields below them: rules 1 to 11 give the same numbers, and the
+-- tests of rows 6 to 8 and 21 to 26 the same answers. Nothing past the counts is read. Assumes nothing.
 use mathlib.Core.Path.{_≡_, refl, ap, _∙_}
 use mathlib.Core.Bool.{Bool, cond, _&&_, _||_}
 use Prim.Native.Nat.{ℕ, zero, suc, _+_, _*_, _<_}
@@ -11,8 +11,8 @@ use Rattle.base_integers.specs.Meaning.Order.{larger, positive}
 use Rattle.base_integers.specs.Meaning.Ranges.{outside}
 use Rattle.base_integers.specs.Meaning.Sums.{only}
 use Rattle.base_integers.specs.Steps.Sums.{sum-ext}
-use Rattle.base_measures.specs.Meaning.Limits as limits
-use Rattle.base_measures.specs.Meaning.Limits.{partsInOne}
+use Rattle.base_limits.specs.Meaning.Limits as limits
+use Rattle.base_limits.specs.Meaning.Limits.{partsInOne}
 use Rattle.rules.specs.Meaning.Hour.{Case, Plan, Prices, signed, buys, orderNet, net, inflow, outflow, ltaPart, fbPart, netSum, broken, brokenZ, linkUse, linkRoom, linkRule, branchUse, branchRoom, branchRule, branchPrice, zonePrice, orderWelfare, welfare, surplusOf, orderSurplus, surplus, branchValue, branchTotal, spread, linkValue, linkTotal, linkOwed, owed, noLink, networkBound, bound, gap, rent}
 use Rattle.base_causes.specs.Meaning.Causes.{anyBelow}
 use Rattle.rules.specs.Meaning.Verdict.{_over_, unknown, branchFault, repeated, linkFault, rowFault, orderFault}

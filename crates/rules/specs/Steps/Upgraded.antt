@@ -1,5 +1,5 @@
--- The case of version 2 that `upgraded` makes of a case of version 1: its length, its fields, each the same as the first one's, and where they stand.
--- Assumes nothing.
+-- The case of version 2 that `upgraded` makes of a case of version 1: its length, and its fields with their
+-- offsets; each value is the same. Assumes nothing.
 use mathlib.Core.Path.{_≡_, refl, sym, ap, _∙_, subst}
 use mathlib.Core.Bool.{not, cond, _&&_}
 use mathlib.Core.List.{List, _++_, append-assoc}
@@ -371,7 +371,8 @@ module _ (s : List ℕ) (version-1 : caseVersion s ≡ 1) (long : 14 ≤ length 
       price-same = λ i h. sym (ap (toZ w32) (order-word i 6));
     }
 
-  -- A CASE OF ANOTHER LENGTH is refused by its header or by 5, and so is the case of version 2: some part of it is as much too short or too long
+  -- A CASE OF ANOTHER LENGTH is refused by its header or by 5. So is the case of version 2: one of its parts is also
+  -- too short or too long
   module _ (other : length s ≡ caseLength s → ⊥) where
     links-most : (m : ℕ) → length (contractedLinks s m) ≤ 10 * m
     unfolding contractedLinks contractedLink
@@ -385,7 +386,7 @@ module _ (s : List ℕ) (version-1 : caseVersion s ≡ 1) (long : 14 ≤ length 
       take-most 4 (drop (linkAt s l + 2) s),
     )
 
-    -- where the file ends before the link after l does
+    -- where the file ends before the link after l ends
     links-less : (l : ℕ) → length s < linkAt s l + 6 → length (contractedLinks s (suc l)) < 10 * suc l
     unfolding contractedLinks contractedLink
     links-less l h = omega (
@@ -414,7 +415,7 @@ module _ (s : List ℕ) (version-1 : caseVersion s ≡ 1) (long : 14 ≤ length 
           other (size ∙ sym size-1)
     ]
 
--- A FILE OF UNDER 14 BYTES is refused by 1, and so is the other
+-- A FILE OF UNDER 14 BYTES is refused by 1, in both versions
 module _ (s : List ℕ) (short : length s < 14) where
   no-links : (m : ℕ) → length (contractedLinks s m) ≡ 0
   unfolding contractedLinks contractedLink linkAt

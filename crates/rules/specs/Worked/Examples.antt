@@ -1,5 +1,5 @@
 -- P1 to P12: the worked hours, each a case and a proposal as bytes with the verdict and the values that the paper
--- names; P1 and P3 with the text that the desk prints. Assumes nothing.
+-- names; P1 and P3 also have the text that the desk prints. Assumes nothing.
 use mathlib.Core.Path.{_≡_, refl}
 use mathlib.Core.List.{List, [], _∷_, _++_, map}
 use Prim.Native.Nat.{ℕ, _*_}
@@ -10,8 +10,8 @@ use mir.Val.{ofZ}
 use Rattle.base_integers.specs.Meaning.Sums.{sumTo}
 use Rattle.base_integers.specs.Meaning.Bytes.{bytesOf, signed64}
 use Rattle.base_integers.specs.Meaning.Ranges.{minus, outside, isZero}
-use Rattle.text_decimal.specs.Meaning.Ascii.{ascii}
-use Rattle.text_decimal.specs.Meaning.Text.{placesIn, places, lastDigits, countText, sizeText, amountText}
+use Rattle.text_rules.specs.Meaning.Ascii.{ascii}
+use Rattle.text_rules.specs.Meaning.Text.{placesIn, places, lastDigits, countText, sizeText, amountText}
 use Rattle.rules.specs.Meaning.Layout.{u8At, u16At, u32At, i32At, caseVersion, zonesIn, branchesIn, linksIn, ordersIn, toleranceIn, branchSize, branchAt, ramIn, ptdfIn, linkAt, fromIn, toIn, capacityIn, contracts, contractedSize, contractedIn, orderAt, zoneIn, sideIn, quantityIn, priceIn, caseLength, proposalVersion, shareIn, systemIn, volumeIn, flowIn, shadowAt, shadowIn, proposalLength}
 use Rattle.rules.specs.Meaning.Hour.{caseOf, planOf, pricesOf, buys, orderNet, net, inflow, outflow, ltaPart, fbPart, netSum, linkUse, linkRoom, branchUse, branchRoom, branchPrice, zonePrice, orderWelfare, welfare, surplusOf, orderSurplus, surplus, branchValue, branchTotal, spread, linkValue, linkTotal, linkOwed, owed, noLink, networkBound, bound, gap, rent}
 use Rattle.rules.specs.Meaning.Verdict.{outcome, notMark, branchFault, repeated, linkFault, rowFault, orderFault, roomCauses, caseCauses, proposalCauses, clearingCauses, table, headerRefusal}
@@ -21,7 +21,7 @@ use Rattle.rules.specs.Meaning.Lines.{verdictLine, totalLine, totalLines
 use Rattle.base_causes.specs.declared.Outcome.{Outcome}
 use Rattle.base_causes.specs.Meaning.Causes.{verdict, firstBelow, anyBelow, firstField, refusal}
 
--- the fields of a case and a proposal, to be written as bytes
+-- the fields of a case and a proposal, from which the bytes are made
 pub record Branch : Type 0 where
   pub ram : ℤ
   pub ptdfs : List ℤ
@@ -129,7 +129,8 @@ oneZone branches = record { zones = 1; tolerance = 0; branches = branches; links
 unfoldable pub noOrders : ℕ → ℕ → List ℕ → ProposalFields
 noOrders share system shadows = record { share = share; system = pos system; volumes = []; flows = []; shadows = shadows }
 
--- a value that is named with an example: which total, and what it is. A euro is 100,000,000 microcents, a euro per MWh 10,000,000 grains.
+-- a value that the paper names with an example: which total, and its amount. A euro is 100,000,000 microcents, a
+-- euro per MWh 10,000,000 grains.
 pub record Named : Type 0 where
   pub total : List ℕ → List ℕ → ℤ
   pub value : ℤ
@@ -155,13 +156,13 @@ owedIs v = record { total = λ s t. owed (caseOf s) (pricesOf s t); value = v }
 abbrev priceIs : ℕ → ℤ → Named
 priceIs z v = record { total = λ s t. zonePrice (caseOf s) (pricesOf s t) z; value = v }
 
--- an example's files byte by byte, with the report buffer that the judgement leaves where 176 sevens stood in it
+-- an example's files byte by byte, and the report buffer after the judgement; before it the buffer held 176 sevens
 pub record Stored : Type 0 where
   pub caseFile : List ℕ
   pub proposalFile : List ℕ
   pub buffer : List ℕ
 
--- P1's: 102 bytes, 45 bytes, and 72 bytes of report. They are written out and by no function of these specs
+-- P1's: 102 bytes, 45 bytes, and 72 bytes of report. They are written out; no function of these specs makes them
 unfoldable pub stored1 : Stored
 stored1 = record {
   caseFile =
@@ -225,7 +226,7 @@ pub record Example : Type 0 where
   pub proposal : ProposalFields
   pub expected : Outcome
   pub named : List Named
-  -- the files byte by byte, and the text, of those that have them here
+  -- the files byte by byte, and the text, where an example has them
   pub stored : List Stored
   pub text : List (List ℕ)
 
@@ -241,13 +242,14 @@ printedAs l e = record { case = e .case; proposal = e .proposal; expected = e .e
 
 unfoldable pub examples : List Example
 examples =
-    -- P1: 0, the totals and prices that the desk program prints, every byte of its files and its report, and its text
+    -- P1: 0, the totals and prices that the desk program prints, every byte of its files and its report, and its
+    -- text
     printedAs text1 (storedAs stored1 (example (threeZones linkAB 0) (proposal1 87500 1375 4375 3500) (verdict 0 0)
     (welfareIs (euros 22125) ∷ boundIs (euros 22125) ∷ gapIs (euros 0) ∷ rentIs (euros 17500) ∷ owedIs (euros 17500)
     ∷ priceIs 0 (pos 200000000) ∷ priceIs 1 (pos 637500000) ∷ priceIs 2 (pos 500000000) ∷ [])))
     -- P2: no link
     ∷ example (threeZones [] 0) (proposal2 []) (verdict 0 0) (welfareIs (euros 19500) ∷ rentIs (euros 15000) ∷ owedIs (euros 0) ∷ [])
-    -- P3: P2's proposal with the link and flow 0. With tolerance 299,999 cents, and P4, tolerance 300,000: 15 since S-12
+    -- P3: P2's proposal with the link and flow 0. With tolerance 299,999 cents, and P4 with 300,000: 15 since S-12
     ∷ printedAs text3 (example (threeZones linkAB 0) (proposal2 (0 ∷ [])) (verdict 26 0) (gapIs (euros 3000) ∷ owedIs (euros 18000) ∷ []))
     ∷ example (threeZones linkAB 299999) (proposal2 (0 ∷ [])) (verdict 15 0) []
     ∷ example (threeZones linkAB 300000) (proposal2 (0 ∷ [])) (verdict 15 0) []
@@ -274,7 +276,7 @@ pub record Answer : Type 0 where
   pub files : List Stored
   pub printed : List (List ℕ)
 
--- the desk takes the case and at once the proposal
+-- the desk takes the case directly followed by the proposal
 unfoldable pub judged : List ℕ → List ℕ → List Named → List Stored → List (List ℕ) → Answer
 judged s t vs fs ls = record {
   answered = outcome s t 176;

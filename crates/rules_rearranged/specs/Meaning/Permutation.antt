@@ -2,7 +2,8 @@
 use mathlib.Core.Path.{_≡_, refl}
 use Prim.Native.Nat.{ℕ, _<_}
 
--- a bijection on the indices below n, with its inverse: place i takes what stood at `source i`, and what stood at i goes to `target i`
+-- a bijection on the indices below n, with its inverse: place i gets the item from `source i`, and the item at i
+-- goes to `target i`
 pub record Permutation (n : ℕ) : Type 0 where
   pub source : ℕ → ℕ
   pub target : ℕ → ℕ

@@ -1,5 +1,6 @@
--- The order of orders does not matter (request S-9): with the orders of a readable case, and likewise the volumes of a proposal of the right length,
--- rearranged, the verdict is the same but for the index of 21, and so is every total, every zone price and every byte of the report buffer. Assumes nothing.
+-- The order of orders does not matter (request S-9). Rearrange the orders of a readable case, and in the same way
+-- the volumes of a proposal of the right length. The verdict is the same, except for the index of 21. So is every
+-- total, every zone price and every byte of the report buffer. Assumes nothing.
 use mathlib.Core.Path.{_≡_, refl, sym, ap, subst, _∙_}
 use mathlib.Core.Bool.{Bool, not, cond, _&&_}
 use mathlib.Core.List.{List, _++_}
@@ -12,7 +13,7 @@ use lib.IntN.{ℤ, pos}
 use Rattle.base_integers.specs.Meaning.Bytes.{signed64}
 use Rattle.base_integers.specs.Meaning.Ranges.{outside, isZero}
 use Rattle.rules_rearranged.specs.Meaning.Permutation.{Permutation}
-use Rattle.base_measures.specs.Meaning.Limits as limits
+use Rattle.base_limits.specs.Meaning.Limits as limits
 use Rattle.rules.specs.Meaning.Layout.{toleranceIn, ordersIn, volumeIn, caseLength, proposalLength, caseHeader, proposalHeader, branchFieldAt, linkFields, linkFieldAt, orderFields, shadowAt, zonePriceAt}
 use Rattle.rules.specs.Meaning.Hour.{Case, Plan, Prices, caseOf, planOf, pricesOf, linkUse, linkRoom, branchRoom, branchPrice, zonePrice, noLink}
 use Rattle.base_causes.specs.declared.Outcome.{Outcome}
@@ -42,7 +43,8 @@ module _ (s : List ℕ) (π : Permutation (ordersIn s)) (r : Readable s) where
   abbrev s′ : List ℕ
   s′ = rearrangedCase s π
 
-  -- the rearranged case under the first one's counts, below which its fields are those of the case with its orders moved
+  -- the rearranged case under the first one's counts; below them its fields are those of the case with its orders
+  -- moved
   abbrev moved : Case
   moved = movedCase (caseOf s) (π .source)
 
@@ -62,7 +64,7 @@ module _ (s : List ℕ) (π : Permutation (ordersIn s)) (r : Readable s) where
   unfolding caseOf
   placed = still-placed c π (case-sound s r .placed)
 
-  -- no order is at fault before, so none is after
+  -- no order was at fault, so none is now
   abbrev atFault : Case → ℕ → Bool
   atFault x i = anyBelow orderFields (orderFault x i)
 
@@ -135,7 +137,7 @@ module _ (s : List ℕ) (π : Permutation (ordersIn s)) (r : Readable s) where
         (and-row (same-each-at 14 _ _ (shadowAt s) (shadowAt s′) (λ b h. refl) (shadow-at-same s π whole))
         no-row)))))
 
-    -- the orders whose volume is above their quantity are the same orders, at their new places
+    -- the orders with a volume above their quantity are the same, at their new places
     pub excess-moved : (i : ℕ) → i < ordersIn s → excess (caseOf s′) (planOf s′ t′) i ≡ excess c p (π .source i)
     unfolding caseOf planOf excess movedCase
     excess-moved i h = λ j. volume-moved s π whole t right i h j over sym (m .quantity-same i h) j
@@ -153,13 +155,13 @@ module _ (s : List ℕ) (π : Permutation (ordersIn s)) (r : Readable s) where
         (and-row (same-row (λ j. once 26 (((sym (gap-same moved (caseOf s′) m d placed p′) ∙ gap-moved c π p (volumeIn s′ t′) x d) j) overZ (limits.microcentsOf (pos (c .tolerance))))))
         no-row))))))
 
-    -- THE VERDICT IS THE SAME, but for the index of 21
+    -- THE VERDICT IS THE SAME, except for the index of 21
     pub same-verdict : (room : ℕ) → SameVerdict (outcome s t room) (outcome s′ t′ room)
     unfolding outcome table roomCauses counted caseOf movedCase toleranceIn
     same-verdict room = subst (λ (x : Outcome). SameVerdict (outcome s t room) x) (λ j. answer (refusal (table none s′ t′ room (sym case-is j) (sym plan-is j) (sym prices-are j))))
         (same-answer (after-rows (and-row (same-row refl) no-row) (after-rows case-rows (after-rows proposal-rows (after-rows (and-row (same-row refl) no-row) clearing-rows))) .same))
 
-    -- THE INDEX OF 21 is the first place to which an order at fault has gone
+    -- THE INDEX OF 21 is the first new place of an order at fault
     pub index-of-21 : (room : ℕ) → (outcome s t room) .number ≡ 21 → First (ordersIn s) (λ i. excess c p (π .source i)) ((outcome s′ t′ room) .index)
     unfolding outcome table roomCauses caseCauses proposalCauses clearingCauses lacks causeNumbered caseOf excess movedCase
     index-of-21 room e =

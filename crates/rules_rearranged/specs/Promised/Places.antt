@@ -1,5 +1,6 @@
--- EVERY BYTE AT ITS PLACE: the rearranged case has the ten bytes of each order at its new place and every other byte where it stood, the rearranged proposal
--- likewise the four bytes of each volume; and no other file is that. Assumes nothing.
+-- EVERY BYTE AT ITS PLACE: the rearranged case has the ten bytes of each order at its new place and every other
+-- byte where it was; the rearranged proposal has the same for the four bytes of each volume. No other file has
+-- this. Assumes nothing.
 use mathlib.Core.Path.{_≡_}
 use mathlib.Core.List.{List}
 use Prim.Native.Nat.{ℕ}

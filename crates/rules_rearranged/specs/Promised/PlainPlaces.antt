@@ -1,5 +1,5 @@
--- S-9 IN PLAIN BYTES: where each byte of a rearranged case and of a rearranged proposal comes from, with offsets and
--- sizes as numbers. A byte is `getD s k 0`, the number at place k of the file, counted from 0. Assumes nothing.
+-- S-9 IN PLAIN BYTES: where each byte of a rearranged case and of a rearranged proposal comes from, with offsets
+-- and sizes as numbers. `getD s k 0` is the byte at place k of the file, counted from 0. Assumes nothing.
 use mathlib.Core.Path.{_≡_, sym, subst, _∙_}
 use mathlib.Core.List.{List}
 use Prim.Native.Nat.{ℕ, _+_, _*_, _≤_, _<_}
@@ -19,14 +19,14 @@ start s width = 14 + getD s 6 0 * (4 + 4 * getD s 5 0) + getD s 7 0 * width
 abbrev pub orders : List ℕ → ℕ
 orders s = getD s 8 0 + 256 * getD s 9 0
 
--- THE CASE s′: ten bytes to an order, order i from where order `source i` stood; every other byte as it was. A link
--- has 6 bytes in version 1, 10 in version 2
+-- THE CASE s′: ten bytes to an order, order i from where order `source i` stood; every other byte is unchanged. A
+-- link has 6 bytes in version 1, 10 in version 2
 pub record OrdersMoved (s s′ : List ℕ) (width : ℕ) (source : ℕ → ℕ) : Type 0 where
   pub long : length s′ ≡ length s
   pub before : (k : ℕ) → k < start s width → getD s′ k 0 ≡ getD s k 0
   pub order : (i k : ℕ) → i < orders s → k < 10 → getD s′ (start s width + i * 10 + k) 0 ≡ getD s (start s width + source i * 10 + k) 0
 
--- THE PROPOSAL t′: four bytes to a volume, from byte 13 on; flows and shadow prices behind them stay
+-- THE PROPOSAL t′: four bytes to a volume, from byte 13 on; flows and shadow prices after them stay
 pub record VolumesMoved (s t t′ : List ℕ) (source : ℕ → ℕ) : Type 0 where
   pub long : length t′ ≡ length t
   pub before : (k : ℕ) → k < 13 → getD t′ k 0 ≡ getD t k 0
@@ -43,7 +43,7 @@ module _ (s : List ℕ) (f : CaseFacts s) (π : Permutation (ordersIn s)) where
     unfolding ordersIn u16At
     orders-stand = let m = subst (λ (p : ℕ). Reordered p 10 (orders s) (π .source) s (rearrangedCase s π)) (start-is s width v) (orders-moved s (facts-readable s f) π) in record { long = m .long; before = m .before; order = m .row }
 
-    -- and no other file is that
+    -- no other file has this
     pub no-other : (other : List ℕ) → OrdersMoved s other width (π .source) → other ≡ rearrangedCase s π
     unfolding ordersIn u16At
     no-other other m =

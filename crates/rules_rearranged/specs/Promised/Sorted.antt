@@ -1,5 +1,6 @@
--- A CASE WHOSE ORDERS ARE SORTED IS JUDGED AS THE CASE (request S-9): by any key of their fields the orders of a readable case can be sorted by a
--- rearrangement, and with the volumes of a proposal of the right length moved likewise the hour is the same. Assumes nothing.
+-- A CASE WITH SORTED ORDERS IS JUDGED AS THE CASE (request S-9): for any key of its fields, a rearrangement sorts
+-- the orders of a readable case. With the volumes of a proposal of the right length moved alike, the hour is the
+-- same. Assumes nothing.
 use mathlib.Core.Path.{_≡_, sym, subst}
 use mathlib.Core.List.{List}
 use Prim.Native.Nat.{ℕ, _≤_, _<_}

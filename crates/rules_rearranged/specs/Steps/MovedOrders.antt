@@ -1,12 +1,12 @@
--- A case whose orders, and a plan whose volumes, are rearranged: each sum of rules 1 to 11 is the same. What stands past the counts of the rearranged files
--- is left to `SameTables` of `rules`. Assumes nothing.
+-- A case with its orders rearranged and a plan with its volumes rearranged: each sum of rules 1 to 11 is the same.
+-- `SameTables` of `rules` deals with what stands past the counts of the rearranged files. Assumes nothing.
 use mathlib.Core.Path.{_≡_, refl, ap, _∙_}
 use Prim.Native.Nat.{ℕ, zero, suc, _<_}
 use lib.Dec.{eqb}
 use lib.IntN.{ℤ, pos, _+ℤ_, _-ℤ_, _*ℤ_}
 use Rattle.base_integers.specs.Meaning.Sums.{only}
 use Rattle.base_integers.specs.Steps.Sums.{sum-ext}
-use Rattle.base_measures.specs.Meaning.Limits.{partsInOne}
+use Rattle.base_limits.specs.Meaning.Limits.{partsInOne}
 use Rattle.rules.specs.Meaning.Hour.{Case, Plan, Prices, buys, signed, orderNet, net, inflow, outflow, ltaPart, fbPart, netSum, branchUse, branchPrice, zonePrice, orderWelfare, welfare, orderSurplus, surplus, branchValue, branchTotal, spread, linkValue, linkTotal, linkOwed, owed, noLink, networkBound, bound, gap, rent}
 use Rattle.rules.specs.Meaning.Verdict.{branchFault, repeated, linkFault}
 use Rattle.rules.specs.Meaning.Report.{totalsOf}
@@ -46,7 +46,7 @@ module _ (c : Case) (π : Permutation (c .orders)) where
   unfolding movedCase
   still-placed ok = record { from-in = ok .from-in; to-in = ok .to-in; zone-in = λ i h. ok .zone-in (π .source i) (π .source-in i h) }
 
-  -- rows 6 and 7 ask no order
+  -- rows 6 and 7 do not ask about orders
   pub branch-fault-is : (m n : ℕ) → branchFault (movedCase c (π .source)) m n ≡ branchFault c m n
   unfolding branchFault movedCase
   branch-fault-is m zero = refl
@@ -68,7 +68,7 @@ module _ (c : Case) (π : Permutation (c .orders)) where
   unfolding bound networkBound noLink branchTotal branchValue linkTotal linkValue spread zonePrice branchPrice movedCase
   bound-moved d = ap (λ (x : ℤ). x +ℤ networkBound c d) (surplus-moved d)
 
-  -- with volumes that are rearranged likewise
+  -- with volumes rearranged alike
   module _ (p : Plan) (v : ℕ → ℕ) (v-is : (i : ℕ) → i < c .orders → v i ≡ p .volume (π .source i)) where
     abbrev x : Plan
     x = withVolumes p v

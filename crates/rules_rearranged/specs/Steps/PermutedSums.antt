@@ -1,4 +1,4 @@
--- No sum over the indices below a count changes where they are rearranged. Assumes nothing.
+-- Rearranging the indices below a count changes no sum over them. Assumes nothing.
 use mathlib.Core.Path.{_≡_, sym, ap, _∙_}
 use mathlib.Core.Bool.{Bool}
 use Prim.Native.Nat.{ℕ, _<_}

@@ -1,4 +1,5 @@
--- What a rearranged case and a rearranged proposal hold: the case with its orders, and the plan with its volumes, rearranged. Assumes nothing.
+-- What a rearranged case and a rearranged proposal hold: the case with its orders rearranged, the plan with its
+-- volumes rearranged. Assumes nothing.
 use mathlib.Core.Path.{_≡_, refl, sym, ap, _∙_}
 use mathlib.Core.Bool.{Bool, true, false, not, cond, _&&_}
 use mathlib.Core.List.{List}
@@ -16,7 +17,7 @@ use Rattle.rules_rearranged.specs.Meaning.Rearranged.{Reordered, rearran
 use Rattle.rules_rearranged.specs.Steps.ReorderedBytes.{is-reordered, u8-before, u16-before, u32-before, i32-before, u32-after, u8-row, u32-row, i32-row}
 use Rattle.rules_rearranged.specs.Steps.MovedOrders.{movedCase, withVolumes}
 
--- where the orders start, and where order i stands
+-- where the orders begin, and where order i begins
 abbrev start : List ℕ → ℕ
 start s = orderAt s 0
 
@@ -115,7 +116,7 @@ module _ (s : List ℕ) (π : Permutation (ordersIn s)) (whole : length s ≡ ca
   unfolding capacityIn
   capacity-same l h = ap (u32At s′) (link-field-same l 2) ∙ u32-before moved (linkAt s l + 2) (omega (arith, link-in l h))
 
-  -- in version 2 the contracted volume stands before the orders, and in version 1 it is the capacity
+  -- in version 2 the contracted volume stands before the orders; in version 1 it is the capacity
   contracted-same : (l : ℕ) → l < linksIn s → contractedIn s′ l ≡ contractedIn s l
   unfolding contractedIn contractedSize
   contracted-same l h = (λ j. cond (contracts (version-same j)) (u32At s′ (link-field-same l 3 j)) (capacity-same l h j)) ∙ by (contracts (caseVersion s)) refl
@@ -180,7 +181,8 @@ module _ (s : List ℕ) (π : Permutation (ordersIn s)) (whole : length s ≡ ca
     unfolding volumeIn
     volume-moved i h = ap (u32At t′) (volume-at i) ∙ u32-row volumes-moved i h 0 (omega arith) ∙ ap (u32At t) (sym (volume-at (π .source i)))
 
-    -- all else of the plan, and the prices, are the same: what stands after the volumes has stayed, to the end of the file and past it
+    -- all else of the plan, and the prices, are the same: the bytes after the volumes have stayed, up to the end of
+    -- the file and past it
     pub plan-moved : planOf (rearrangedCase s π) (rearrangedProposal s π t) ≡ withVolumes (planOf s t) (volumeIn (rearrangedCase s π) (rearrangedProposal s π t))
     unfolding planOf withVolumes shareIn flowIn
     plan-moved = λ j. record {

@@ -1,5 +1,5 @@
--- Every byte of a file whose rows stand in another order, and from it the fields: a rearranged case's orders and a rearranged proposal's volumes have
--- moved, all else stands as it stood. Assumes nothing.
+-- Every byte of a file with its rows in another order, and from it the fields: the orders of a rearranged case and
+-- the volumes of a rearranged proposal have moved, all else stands where it was. Assumes nothing.
 use mathlib.Core.Path.{_≡_, sym, ap, _∙_}
 use mathlib.Core.List.{List, _++_}
 use Prim.Native.Nat.{ℕ, zero, suc, _+_, _*_, _-_, _/_, _%_, _≤_, _<_}
@@ -76,7 +76,7 @@ module _ (start size n : ℕ) (source : ℕ → ℕ) (s : List ℕ) (fits : star
         ∙ getD-append-add rows rest (k - (start + n * size)) 0 ∙ getD-drop (start + n * size) s (k - (start + n * size)) 0 ∙ ap (λ (x : ℕ). getD s x 0) f;
   }
 
--- and no other file is that
+-- no other file has this
 pub only-reordered : (start size n : ℕ) (source : ℕ → ℕ) (s a b : List ℕ) → 0 < size → Reordered start size n source s a → Reordered start size n source s b → a ≡ b
 only-reordered start size n source s a b positive x y = ext-getD 0 a b (x .long ∙ sym (y .long)) (λ k l. at k)
   where

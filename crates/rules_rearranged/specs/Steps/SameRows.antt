@@ -1,4 +1,4 @@
--- Two tables whose rows fail alike give the same refusal. Assumes nothing.
+-- Two tables with rows that fail alike give the same refusal. Assumes nothing.
 use mathlib.Core.Path.{_≡_, refl, sym, ap, subst, _∙_}
 use mathlib.Core.Bool.{Bool, not}
 use mathlib.Core.List.{List, [], _∷_, _++_}
@@ -12,7 +12,7 @@ use Rattle.base_causes.specs.Promised.CauseLaws.{first-is, first-none, first-ex
 use Rattle.rules.specs.Steps.SameTables.{any-ext}
 use Rattle.rules_rearranged.specs.Meaning.Rearranged.{SameVerdict}
 
--- tests whose places are rearranged: they hold somewhere, or nowhere, alike
+-- tests with their places rearranged hold somewhere, or nowhere, alike
 module _ {n : ℕ} (π : Permutation n) (f f′ : ℕ → Bool) (h : (k : ℕ) → k < n → f′ k ≡ f (π .source k)) where
   pub nowhere-after : firstBelow n f ≡ none → firstBelow n f′ ≡ none
   nowhere-after e = first-none n f′ (λ i l. subst (λ (b : Bool). T (not b)) (sym (h i l)) (not-below n f e (π .source i) (π .source-in i l)))
@@ -30,11 +30,10 @@ pub data SameRows : List Cause → List Cause → Type 0 where
   no-row : SameRows [] []
   and-row : {r r′ : Cause} {rs rs′ : List Cause} → SameRow r r′ → SameRows rs rs′ → SameRows (r ∷ rs) (r′ ∷ rs′)
 
--- equal rows; rows with as many places, whose tests agree
+-- equal rows; rows with the same number of places and tests that agree
 pub same-row : {r r′ : Cause} → r′ ≡ r → SameRow r r′
 same-row e = record { number-is = λ j. e j .number; first-place = λ j. firstBelow (e j .places) (e j .fails); index-is = λ k l j. e j .index k }
 
--- rows that fail nowhere
 pub nowhere-row : (r r′ : Cause) → r′ .number ≡ r .number → firstBelow (r .places) (r .fails) ≡ none → firstBelow (r′ .places) (r′ .fails) ≡ none → SameRow r r′
 nowhere-row r r′ e before after = record { number-is = e; first-place = after ∙ sym before; index-is = λ k l. absurd (Option·some-ne-none k (sym l ∙ before)) }
 
@@ -45,7 +44,7 @@ same-each-at number {n} f f′ offset offset′ h o = record { number-is = refl;
 pub same-each : (number : ℕ) {n : ℕ} (f f′ : ℕ → Bool) → ((k : ℕ) → k < n → f′ k ≡ f k) → SameRow (each number n f) (each number n f′)
 same-each number f f′ h = same-each-at number f f′ (λ k. k) (λ k. k) h (λ k. refl)
 
--- rows of a part, whose fields are tested alike and stand at the same offsets
+-- rows of a part, with fields tested alike and at the same offsets
 pub same-each-field : (number : ℕ) {n w : ℕ} (f f′ : ℕ → ℕ → Bool) (offset offset′ : ℕ → ℕ → ℕ) → ((k i : ℕ) → k < n → i < w → f′ k i ≡ f k i)
     → ((k i : ℕ) → offset′ k i ≡ offset k i) → SameRow (eachField number n w f offset) (eachField number n w f′ offset′)
 unfolding firstField
@@ -64,7 +63,7 @@ refusal-same (and-row {r} {r′} {rs} {rs′} q qs) = by (firstBelow (r .places)
         row-found r′ rs′ k (q .first-place ∙ e) ∙ (λ j. some (verdict (q .number-is j) (q .index-is k e j))) ∙ sym (row-found r rs k e)
     by none e ih = row-clear r′ rs′ (q .first-place ∙ e) ∙ ih ∙ sym (row-clear r rs e)
 
--- THE SAME REFUSAL, but for the index of 21
+-- THE SAME REFUSAL, except for the index of 21
 pub data SameRefusal : Option Outcome → Option Outcome → Type 0 where
   neither : SameRefusal none none
   both : {o o′ : Outcome} → SameVerdict o o′ → SameRefusal (some o) (some o′)
@@ -86,7 +85,7 @@ same-else x {x′} {y} {y′} e q = subst (λ (z : Option Outcome). SameRefusal 
     by none = q
     by (some o) = same-self (some o)
 
--- two tables that give it, and rows that fail alike before them
+-- two tables that give it, after rows that fail alike
 pub record SameTable (rs rs′ : List Cause) : Type 0 where
   pub same : SameRefusal (refusal rs) (refusal rs′)
 

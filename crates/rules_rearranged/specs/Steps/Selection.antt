@@ -1,4 +1,5 @@
--- Numbers below a count can be sorted: the greatest goes to the last place, and the others are sorted before it (selection sort). Assumes nothing.
+-- Numbers below a count can be sorted by selection: the greatest goes to the last place, and the others are sorted
+-- before it. Assumes nothing.
 use mathlib.Core.Path.{_≡_, refl, sym, ap, subst, _∙_}
 use mathlib.Core.Bool.{Bool, cond}
 use Prim.Native.Nat.{ℕ, zero, suc, _≤_, _<_}
@@ -84,7 +85,7 @@ module _ (m : ℕ) (f : ℕ → ℕ) where
   unfolding withLast
   at-last i h = ap (λ (x : Bool). cond x (f i) m) (le-ltb i m h)
 
--- a rearrangement of the first m indices, the last one of m + 1 left at its place
+-- a rearrangement of the first m indices that leaves the last of m + 1 at its place
 module _ {m : ℕ} (π : Permutation m) where
   last-in : (f : ℕ → ℕ) → ((i : ℕ) → i < m → f i < m) → (i : ℕ) → i < suc m → withLast m f i < suc m
   last-in f inside i h = elim (decLt i m) [ yes l ↦ omega (arith, below-last m f i l, inside i l) | no g ↦ omega (arith, at-last m f i (omega arith)) ]
@@ -95,7 +96,7 @@ module _ {m : ℕ} (π : Permutation m) where
     | no n ↦ ap (withLast m g) (at-last m f i (omega arith)) ∙ at-last m g m (omega arith) ∙ omega arith
   ]
 
-  -- and then place k exchanged with it
+  -- and then exchanges place k with it
   then-exchanged : (k : ℕ) → k ≤ m → Permutation (suc m)
   then-exchanged k h = record {
     source = λ i. exchanged k m (withLast m (π .source) i);

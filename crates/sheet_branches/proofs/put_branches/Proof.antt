@@ -1,4 +1,5 @@
--- `sheet_branches::put_branches` meets its contract. The loop's invariant: the first i bytes are copied. Assumes nothing.
+-- `sheet_branches::put_branches` meets its contract. The loop's invariant: the first i bytes are copied.
+-- Assumes nothing.
 use mathlib.Core.Path.{_≡_, refl, ap, _∙_}
 use mathlib.Core.List.{List}
 use Prim.Native.Nat.{ℕ, _≤_, _-_}

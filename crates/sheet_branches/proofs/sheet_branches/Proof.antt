@@ -1,4 +1,5 @@
--- `sheet_branches::sheet_branches` meets its contract: the table's rows in their order, past each that passes to the one that fails. Assumes nothing.
+-- `sheet_branches::sheet_branches` meets its contract: the table's rows in their order, until one fails.
+-- Assumes nothing.
 use mathlib.Core.Path.{_≡_, sym, _∙_}
 use mathlib.Core.Bool.{false}
 use Prim.Native.Nat.{_≤_}
@@ -119,7 +120,7 @@ returns-6 c =
     let s = found t in
     answer-55 _ _ _ (zones-in (s .before .before)) (s .read-lines .ensures) (t .enum-told .given .1) (u .enum-told2 .given .1) (v .enum-told3 .given .1) (e .if2 .left) (b .branch-part .ensures) (i .if3 .taken) (c .refused6 .ensures)
 
--- the table keeps its length, and the branches lie inside it
+-- the table keeps its length, and the branches are inside it
 table-length : (s : tie.After-read-lines) → length (s .read-lines .last .1 .1 .0) ≡ 4420
 table-length s = search needs
 

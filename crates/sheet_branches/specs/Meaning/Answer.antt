@@ -1,4 +1,5 @@
--- THE ANSWER TO A SHEET: number and index, the length written, and every byte of the output afterwards. Assumes nothing.
+-- THE ANSWER TO A SHEET: number and index, the length written, and every byte of the output afterwards.
+-- Assumes nothing.
 use mathlib.Core.Path.{_≡_}
 use mathlib.Core.List.{List}
 use Prim.Native.Nat.{ℕ}

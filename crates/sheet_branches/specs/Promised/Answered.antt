@@ -1,5 +1,5 @@
--- A SHEET THAT IS ANSWERED: at most 64 lines, each of a margin and one PTDF per zone, all of them numbers, taken exactly and within 01's range; the length
--- written is that of so many branches. Assumes nothing.
+-- A SHEET THAT IS ANSWERED: at most 64 lines, each with a margin and one PTDF per zone, all of them numbers, taken
+-- exactly and within document 01's range; the length written is that of so many branches. Assumes nothing.
 use mathlib.Core.Path.{_≡_, ap, _∙_}
 use mathlib.Core.Bool.{true, false, not}
 use mathlib.Core.List.{List, _++_}
@@ -12,7 +12,7 @@ use Rattle.base_integers.specs.Meaning.Ranges.{outside, Within}
 use Rattle.base_integers.specs.Steps.Ranges.{within, nat-within, nor-left, nor-right, not-is}
 use Rattle.base_causes.specs.Meaning.Causes.{Pass}
 use Rattle.base_causes.specs.Promised.CauseLaws.{empty, all-pass, no-place}
-use Rattle.text_decimal.specs.Meaning.Text.{valueOf}
+use Rattle.text_rules.specs.Meaning.Text.{valueOf}
 use Rattle.sheet_numbers.specs.Meaning.Numeral.{whole, decimals, isNumber, units, finer}
 use Rattle.sheet_numbers.specs.Promised.Exact.{exact}
 use Rattle.sheet_lines.specs.Meaning.Sheet.{fields, decimalCount, limit, fieldOf, entryOf, malformed, tooFine, outOfRange, lineOf, lineCount, branchPart, sheetCauses, sheetRefusal, sheetOutcome, sheetBytes, sheetWritten}

@@ -1,5 +1,5 @@
--- The table's numbers in the order asked, that a refusal is given for its cause and for no other and writes nothing, and that no cause asked earlier holds.
--- Assumes nothing.
+-- The table's numbers in the order asked; a refusal is given for its own cause and no other and writes nothing; no
+-- cause asked earlier holds. Assumes nothing.
 use mathlib.Core.Path.{_≡_, refl, ap}
 use mathlib.Core.Bool.{true}
 use mathlib.Core.List.{List, [], _∷_}
@@ -37,7 +37,7 @@ module _ (zones : ℕ) (sheet : List ℕ) (room : ℕ) where
   unfolding sheetOutcome sheetRefusal
   sheet-caused h = answer-caused rows h
 
-  -- a cause that holds, in row j at place k, is not asked before the outcome's
+  -- if a cause holds, in row j at place k, it is not asked before the outcome's
   pub sheet-first : (j k : ℕ) → k < (getD rows j empty) .places → T ((getD rows j empty) .fails k) → Soonest rows (sheetOutcome zones sheet room) j k
   unfolding sheetOutcome sheetRefusal
   sheet-first j k h f = soonest rows j k h f
@@ -55,7 +55,7 @@ module _ (zones : ℕ) (sheet : List ℕ) (room : ℕ) where
   unfolding sheetWritten
   sheet-writes e = ap (λ (o : Option Outcome). writtenBy o (sheetBytes zones sheet)) (sheet-none e)
 
--- a refusal leaves every byte as it was
+-- a refusal leaves every byte unchanged
 pub sheet-refused : (zones : ℕ) (sheet out : List ℕ) → 0 < (sheetOutcome zones sheet (length out)) .number → (length (sheetWritten zones sheet (length out)) ≡ 0) × (sheetOutput zones sheet out ≡ out)
 sheet-refused zones sheet out h = refusal-leaves zones sheet out (λ e. omega (arith, e))
 

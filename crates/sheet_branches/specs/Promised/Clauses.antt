@@ -1,5 +1,6 @@
--- WHAT AN ANSWER PROMISES BESIDES: that a case holds the sheet's numbers, and in plain numbers which sheet gives which answer and what stands where. These are
--- the clauses `branches`, `causes` and `bytes` of the exported entry. Assumes nothing.
+-- WHAT ELSE AN ANSWER PROMISES: a case holds the sheet's numbers; and in plain numbers, which sheet gives which
+-- answer and where each number stands. These are the clauses `branches`, `causes` and `bytes` of the exported
+-- entry. Assumes nothing.
 use mathlib.Core.Path.{_≡_, sym, ap, subst, _∙_}
 use mathlib.Core.List.{List, _++_}
 use Prim.Native.Nat.{ℕ}

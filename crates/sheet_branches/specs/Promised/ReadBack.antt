@@ -1,5 +1,6 @@
--- WHAT IS WRITTEN IS READ BACK. Behind any header of 14 bytes that has these zones and that many branches, and whatever follows, the branch part that
--- a sheet turns into holds the sheet's numbers, and row 6 of the verdict table passes. Assumes nothing.
+-- WHAT IS WRITTEN IS READ BACK. Put the branch part that a sheet turns into after any header of 14 bytes with these
+-- zones and that many branches, and before anything: it holds the sheet's numbers, and row 6 of the verdict table
+-- passes. Assumes nothing.
 use mathlib.Core.Path.{_≡_, sym, ap, _∙_, subst}
 use mathlib.Core.Bool.{false}
 use mathlib.Core.List.{List, _++_}
@@ -12,7 +13,7 @@ use mir.Syntax.{w32}
 use Rattle.base_integers.specs.Meaning.Ranges.{outside}
 use Rattle.base_integers.specs.Steps.Ranges.{within, is-false}
 use Rattle.base_integers.specs.Steps.Size.{Near, near-pos, near-neg, near-le, near-within, near-fits}
-use Rattle.base_measures.specs.Meaning.Limits as limits
+use Rattle.base_limits.specs.Meaning.Limits as limits
 use Rattle.rules.specs.Meaning.Layout.{u8At, i32At, zonesIn, branchesIn, branchSize, branchAt, ramIn, ptdfIn}
 use Rattle.rules.specs.Steps.LayoutLaws.{signed-there}
 use Rattle.rules.specs.Meaning.Hour.{caseOf}
@@ -81,7 +82,7 @@ module _ (zones : ℕ) (sheet : List ℕ) (room : ℕ) (answered : (sheetOutcome
         good-field m zero h l = ap (outside limits.margin) (margin-at m h) ∙ in-range m 0 h (omega arith)
         good-field m (suc z) h l = let k : z < zones = omega (arith, has-zones) in ap (outside limits.ptdf) (ptdf-at m z h k) ∙ in-range m (suc z) h (omega arith)
 
--- the same of the bytes that the entry says it wrote, as they then stand in its output
+-- the same for the bytes in the output after the entry wrote them
 pub written-back : (zones : ℕ) (sheet out : List ℕ) → (sheetOutcome zones sheet (length out)) .number ≡ 0 → (header rest : List ℕ) → Header zones (lineCount sheet) header
     → SheetInCase zones sheet (header ++ (take (length (sheetWritten zones sheet (length out))) (sheetOutput zones sheet out) ++ rest))
 unfolding sheetOutput

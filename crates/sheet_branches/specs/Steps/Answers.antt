@@ -1,4 +1,5 @@
--- The table's rows as the entry asks them, and what it then owes of the number, the length and every byte of the output. Assumes nothing.
+-- The table's rows as the entry asks them, and what then must hold of the number, the length and every byte of the
+-- output. Assumes nothing.
 use mathlib.Core.Path.{_≡_, sym, ap, _∙_}
 use mathlib.Core.Bool.{true, false}
 use mathlib.Core.List.{List, [], _∷_}
@@ -44,7 +45,7 @@ module _ (zones : ℕ) (sheet out : List ℕ) where
   refuse : {n k : ℕ} {w : Written} → sheetRefusal zones sheet room ≡ some (verdict n k) → w ≡ refusedBy n k → SheetAnswered zones sheet out out w
   refuse e q = owed (output.met-refusal (sheetBytes zones sheet) out e q)
 
-  -- what is left of the table once its first n rows passed
+  -- the rest of the table once its first n rows passed
   abbrev From : ℕ → Type 0
   From n = sheetRefusal zones sheet room ≡ refusal (drop n (sheetCauses zones sheet room))
 
@@ -52,7 +53,7 @@ module _ (zones : ℕ) (sheet out : List ℕ) where
   unfolding sheetRefusal sheetCauses
   answer-50 e q = refuse (field-fails 50 0 _ e) q
 
-  -- THE ROWS AFTER IT, each where those before it passed, from what was read of the sheet
+  -- THE ROWS AFTER IT, each where those before passed, from what was read of the sheet
   module _ (z : outside zoneCounts (pos zones) ≡ false) {old new : List ℕ} {s : SheetFaults} (r : SheetRead zones sheet old new s) where
     from-1 : From 1
     unfolding sheetRefusal sheetCauses
@@ -108,7 +109,7 @@ module _ (zones : ℕ) (sheet out : List ℕ) where
             unfolding sheetRefusal sheetCauses refusal
             none-refused h = from-5 ∙ field-passes 55 0 [] (le-ltb room (branchPart zones (lineCount sheet)) (omega (arith, part-is)))
 
-            -- the front of the table is the branches
+            -- the start of the table is the branches
             abbrev bytes : List ℕ
             bytes = sheetBytes zones sheet
 
@@ -123,7 +124,7 @@ module _ (zones : ℕ) (sheet out : List ℕ) where
                 let front : take part new ≡ bytes = (λ i. take (part-length i) (t i)) ∙ ap (take (length bytes)) (sets-eq bytes old 0 inside) ∙ take-append-seam bytes (drop (0 + length bytes) old) in
                 owed (output.met-answer bytes out (none-refused h) (omega (arith, part-length)) part-length (b ∙ ap (sets out 0) front))
 
--- one byte more of some that are copied
+-- one more byte copied
 pub copy-next : (from l : List ℕ) (i : ℕ) → i < length from → set (sets l 0 (take i from)) i (getD from i 0) ≡ sets l 0 (take (i + 1) from)
 copy-next from l i h =
     let n : i ≡ 0 + length (take i from) = simp length-take (omega arith) in

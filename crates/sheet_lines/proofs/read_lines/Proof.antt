@@ -1,5 +1,5 @@
--- `sheet_lines::read_lines` meets its contract. The loop's invariant is `SheetSoFar`: no line so far is malformed, the first so far of each other cause, and the
--- lines so far in the table. Assumes nothing.
+-- `sheet_lines::read_lines` meets its contract. The loop's invariant is `SheetSoFar`: no line so far is malformed,
+-- the first line of each other cause so far is known, and the lines so far stand in the table. Assumes nothing.
 use mathlib.Core.Path.{_≡_, ap, _∙_}
 use Prim.Native.Nat.{_+_, _-_, _<_}
 use native.Mathlib.Omega.{arith}

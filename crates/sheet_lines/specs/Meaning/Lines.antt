@@ -20,8 +20,8 @@ tooFineAt zones sheet i = tooFine zones (lineOf sheet i)
 abbrev pub outOfRangeAt : ℕ → List ℕ → ℕ → Bool
 outOfRangeAt zones sheet i = outOfRange zones (lineOf sheet i)
 
--- WHAT IS SAID OF A SHEET read into the table `old`. A first malformed line ends the reading; else every line was read, and the first 64 stand at the start where
--- no number is out of range
+-- A SHEET read into the table `old`. The first malformed line ends the reading. Else every line was read, and the
+-- first 64 stand at the start if no number is out of range
 pub record LinesRead (zones : ℕ) (sheet old new : List ℕ) (r : SheetFaults) : Type 0 where
   pub count : r .lines ≡ lineCount sheet
   pub finer-is : placeOf (r .finer) ≡ firstBelow (lineCount sheet) (tooFineAt zones sheet)

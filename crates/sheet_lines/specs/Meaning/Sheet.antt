@@ -1,6 +1,7 @@
--- REQUEST S-1: a published margin sheet as text, and the branch part of a case that it turns into.
--- One line per branch: the margin in MW to one decimal, then one PTDF per zone to five, comma separated. Sheets count export positive, as 001 does;
--- ours counts import positive, so PTDFs change sign and margins do not. Assumes nothing.
+-- REQUEST S-1: a published margin sheet as text, and the branch part of a case that it turns into. One line per
+-- branch: the margin in MW to one decimal, then one PTDF per zone to five, comma separated. Sheets count export
+-- positive, as 001 does; document 01 counts import positive, so PTDFs change sign and margins do not.
+-- Assumes nothing.
 use mathlib.Core.Path.{_≡_}
 use mathlib.Core.Bool.{Bool, not, cond, _||_}
 use mathlib.Core.List.{List, [], _∷_, _++_}
@@ -11,7 +12,7 @@ use lib.Dec.{eqb}
 use lib.IntN.{ℤ, pos, negℤ}
 use Rattle.base_integers.specs.Meaning.Ranges.{Range, outside}
 use Rattle.base_integers.specs.Meaning.Bytes.{signed32}
-use Rattle.base_measures.specs.Meaning.Limits as limits
+use Rattle.base_limits.specs.Meaning.Limits as limits
 use Rattle.rules.specs.Meaning.Layout.{caseHeader, zonesIn, branchesIn, zoneCounts}
 use Rattle.rules.specs.Meaning.Hour.{caseOf}
 use Rattle.base_causes.specs.declared.Outcome.{Outcome}
@@ -35,7 +36,8 @@ unfoldable pub fields : List ℕ → List (List ℕ)
 fields [] = [] ∷ []
 fields (b ∷ bs) = cond (eqb b 44) ([] ∷ fields bs) (onto b (fields bs))
 
--- ENTRY j OF A BRANCH: entry 0 is its margin in tenths, as it stands; entry z + 1 is the PTDF of zone z in hundred-thousandths, turned
+-- ENTRY j OF A BRANCH: entry 0 is its margin in tenths; entry z + 1 is the PTDF of zone z in hundred-thousandths,
+-- with its sign turned
 abbrev pub decimalCount : ℕ → ℕ
 decimalCount zero = 1
 decimalCount (suc z) = 5
@@ -54,8 +56,9 @@ fieldOf line j = getD (fields line) j []
 unfoldable pub entryOf : List ℕ → ℕ → ℤ
 entryOf line j = entry j (fieldOf line j)
 
--- THE CAUSES of one line: the wrong number of fields or one that is no number; a decimal past ours is not zero; a number out of 01's range.
--- Each has a value on any bytes, which counts only where the rows before it passed.
+-- THE CAUSES of one line: a wrong number of fields or a field that is no number; a decimal after ours that is not
+-- zero; a number out of document 01's range. Each has a value on any bytes; it counts only where the rows before it
+-- passed.
 unfoldable pub malformed : ℕ → List ℕ → Bool
 malformed zones line = differ (length (fields line)) (zones + 1) || anyBelow (zones + 1) (λ j. not (isNumber (fieldOf line j)))
 
@@ -72,7 +75,7 @@ lineOf sheet i = getD (lines sheet) i []
 abbrev pub lineCount : List ℕ → ℕ
 lineCount sheet = length (lines sheet)
 
--- bytes of so many branches: a margin and one PTDF per zone, 4 bytes each
+-- the bytes of some branches: a margin and one PTDF per zone, 4 bytes each
 abbrev pub branchPart : ℕ → ℕ → ℕ
 branchPart zones n = 4 * (zones + 1) * n
 
@@ -105,21 +108,22 @@ lineBytes zones (suc m) sheet = lineBytes zones m sheet ++ entryBytes (zones + 1
 unfoldable pub sheetBytes : ℕ → List ℕ → List ℕ
 sheetBytes zones sheet = lineBytes zones (lineCount sheet) sheet
 
--- what is written into an output: the branches, or for a refusal nothing
+-- what is written into an output: the branches; nothing for a refusal
 unfoldable pub sheetWritten : ℕ → List ℕ → ℕ → List ℕ
 sheetWritten zones sheet room = writtenBy (sheetRefusal zones sheet room) (sheetBytes zones sheet)
 
--- the output afterwards: what is written, and then what stood past it
+-- the output afterwards: what is written, then the old bytes past it
 unfoldable pub sheetOutput : ℕ → List ℕ → List ℕ → List ℕ
 sheetOutput zones sheet out = outputAfter (sheetWritten zones sheet (length out)) out
 
--- WHAT IS READ BACK of an answer, put behind a header and before any bytes. A header of these zones and that many branches, of either case version (S-4)
+-- READ BACK: an answer after a header and before any bytes. A header with these zones and that many branches, of
+-- either case version (S-4)
 pub record Header (zones branches : ℕ) (header : List ℕ) : Type 0 where
   pub size : length header ≡ caseHeader
   pub zones-in : zonesIn header ≡ zones
   pub branches-in : branchesIn header ≡ branches
 
--- what the case s holds of the sheet: the margins as they stand, the PTDFs turned, and row 6 passes
+-- the case s holds the sheet: the margins as they are, the PTDFs with their sign turned, and row 6 passes
 pub record SheetInCase (zones : ℕ) (sheet s : List ℕ) : Type 0 where
   pub zones-are : (caseOf s) .zones ≡ zones
   pub branches-are : (caseOf s) .branches ≡ lineCount sheet

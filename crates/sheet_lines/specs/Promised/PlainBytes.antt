@@ -1,6 +1,6 @@
--- WHAT IS WRITTEN, IN PLAIN BYTES (S-1): where each number of a sheet that is answered 0 stands in the output, and
--- that a refusal leaves every byte. A byte is `getD out i 0`, the number at place i of the output, counted from 0.
--- A branch takes 4 + 4 * zones bytes: its margin as it stands, then each PTDF with its sign changed. Assumes nothing.
+-- WHAT IS WRITTEN, IN PLAIN BYTES (S-1): where each number of a sheet answered 0 stands in the output; a refusal
+-- leaves every byte unchanged. `getD out i 0` is the byte at place i of the output, counted from 0. A branch takes
+-- 4 + 4 * zones bytes: its margin, then each PTDF with its sign changed. Assumes nothing.
 use mathlib.Core.Path.{_≡_, refl, sym, ap, _∙_}
 use mathlib.Core.Logic.{_≢_}
 use mathlib.Core.List.{List, [], _++_}
@@ -29,7 +29,7 @@ use Rattle.sheet_lines.specs.Steps.Stands.{line-there}
 use Rattle.sheet_lines.specs.Promised.PlainText.{Cells, cells-are}
 use Rattle.sheet_lines.specs.Promised.PlainCauses.{InRange, Before55, answers}
 
--- a number modulo 2 ^ 32, as two's complement has it: -1 is 2 ^ 32 - 1
+-- a number modulo 2 ^ 32 (two's complement): -1 is 2 ^ 32 - 1
 abbrev pub modulo32 : ℤ → ℕ
 modulo32 (pos n) = n % 4294967296
 modulo32 (negsuc n) = 4294967295 - n % 4294967296
@@ -38,16 +38,17 @@ modulo32 (negsuc n) = 4294967295 - n % 4294967296
 abbrev pub Stands : List ℕ → ℕ → ℤ → Type 0
 Stands out k x = (i : ℕ) → i < 4 → getD out (k + i) 0 ≡ modulo32 x / 256 ^ i % 256
 
--- WHAT STANDS in an output in which `before` stood, after a sheet of these rows was answered 0 and `size` bytes written
+-- THE BYTES `after`, in an output that held `before`, once a sheet of these rows was answered 0 and `size` bytes
+-- written
 pub record Branches (zones : ℕ) (rows : List (List (List ℕ))) (size : ℕ) (before after : List ℕ) : Type 0 where
   pub size-is : size ≡ length rows * (4 + 4 * zones)
   pub margin-at : (k : ℕ) → k < length rows → (x : ℤ) → Times 10 (getD (getD rows k []) 0 []) x → Stands after (k * (4 + 4 * zones)) x
   pub ptdf-at : (k z : ℕ) → k < length rows → z < zones → (x : ℤ) → Times 100000 (getD (getD rows k []) (suc z) []) x → Stands after (k * (4 + 4 * zones) + 4 + 4 * z) (negℤ x)
-  -- all past the branches is as it was
+  -- all past the branches is unchanged
   pub past-it : (i : ℕ) → length rows * (4 + 4 * zones) ≤ i → getD after i 0 ≡ getD before i 0
   pub same-length : length after ≡ length before
 
--- the same of a sheet as it stands
+-- the same for a sheet as text
 abbrev pub BranchesOf : ℕ → List ℕ → ℕ → List ℕ → List ℕ → Type 0
 BranchesOf zones sheet size before after = (rows : List (List (List ℕ))) → Cells sheet rows → Branches zones rows size before after
 
@@ -93,7 +94,6 @@ module _ (zones : ℕ) (sheet out : List ℕ) (rows : List (List (List ℕ))) (c
       place : p ≡ branchPart zones k + 4 * j
       place = e ∙ omega arith
 
-  -- the field of the rows is that of the line
   field-is : (k j : ℕ) → k < length rows → fieldOf (lineOf sheet k) j ≡ getD (getD rows k []) j []
   unfolding fieldOf
   field-is k j h = ap (λ (l : List (List ℕ)). getD l j []) (sym (cells-are sheet rows c .1 k h))
@@ -127,7 +127,7 @@ module _ (zones : ℕ) (sheet out : List ℕ) (rows : List (List (List ℕ))) (c
           ∙ getD-drop (length bytes) out (i - length bytes) 0
           ∙ ap (λ (j : ℕ). getD out j 0) there
 
--- A REFUSAL leaves every byte, and writes none
+-- A REFUSAL leaves every byte unchanged, and writes none
 pub refusal-leaves : (zones : ℕ) (sheet out : List ℕ) → (sheetOutcome zones sheet (length out)) .number ≢ 0 → (length (sheetWritten zones sheet (length out)) ≡ 0) × (sheetOutput zones sheet out ≡ out)
 unfolding sheetOutcome sheetWritten sheetOutput
 refusal-leaves zones sheet out n = by (sheetRefusal zones sheet (length out)) n

@@ -17,7 +17,7 @@ use lib.Signed.{_≤ℤ_}
 use Rattle.base_integers.specs.Steps.Difference.{at, ⊝_, le-by, le-fact}
 use Rattle.base_integers.specs.Meaning.Ranges.{range, minus, outside, Within}
 use Rattle.base_integers.specs.Steps.Ranges.{within, inside, nat-within, nat-inside, is-false, not-is, nor-left, nor-right}
-use Rattle.base_measures.specs.Meaning.Limits as limits
+use Rattle.base_limits.specs.Meaning.Limits as limits
 use Rattle.base_causes.specs.declared.Outcome.{Outcome}
 use Rattle.base_causes.specs.Meaning.Causes.{Cause, Pass, verdict, refusal, answer}
 use Rattle.base_causes.specs.Promised.CauseLaws.{empty, First, no-place, any-none, all-pass, Comes, past, none-left, row-by-number, row-answers, zero-none, causeNumbered, lacks, before}
@@ -42,7 +42,7 @@ pub record InRange (zones : ℕ) (cells : List (List ℕ)) : Type 0 where
   pub margin-in : (x : ℤ) → Times 10 (getD cells 0 []) x → (negℤ (pos 500000) ≤ℤ x) × (x ≤ℤ pos 500000)
   pub ptdf-in : (z : ℕ) → z < zones → (x : ℤ) → Times 100000 (getD cells (suc z) []) x → (negℤ (pos 200000) ≤ℤ x) × (x ≤ℤ pos 200000)
 
--- of every line, and the first line of which it is not so
+-- for every line, and the first line for which it fails
 abbrev pub Each : (List (List ℕ) → Type 0) → List (List (List ℕ)) → Type 0
 Each P rows = (k : ℕ) → k < length rows → P (getD rows k [])
 
@@ -67,7 +67,8 @@ Before54 zones rows = Before53 zones rows × Each (InRange zones) rows
 abbrev pub Before55 : ℕ → List (List (List ℕ)) → Type 0
 Before55 zones rows = Before54 zones rows × (length rows ≤ 64)
 
--- THE ANSWER o to a sheet of these rows, with so many bytes of room: each number where its cause holds, and only there
+-- THE ANSWER o to a sheet of these rows, with this many bytes of room: each number where its cause holds, and only
+-- there
 pub record Answers (zones : ℕ) (rows : List (List (List ℕ))) (room : ℕ) (o : Outcome) : Type 0 where
   -- 50: no zone, or more than 16
   pub is-50 : (zones ≡ 0) ⊎ (16 < zones) → o ≡ verdict 50 0
@@ -91,7 +92,7 @@ pub record Answers (zones : ℕ) (rows : List (List (List ℕ))) (room : ℕ) (o
   pub is-0 : Before55 zones rows → length rows * (4 + 4 * zones) ≤ room → o ≡ verdict 0 0
   pub only-0 : o .number ≡ 0 → Before55 zones rows × (length rows * (4 + 4 * zones) ≤ room)
 
--- the same of a sheet as it stands
+-- the same for a sheet as text
 abbrev pub AnswersTo : ℕ → List ℕ → ℕ → Outcome → Type 0
 AnswersTo zones sheet room o = (rows : List (List (List ℕ))) → Cells sheet rows → Answers zones rows room o
 
@@ -179,7 +180,7 @@ module _ (zones : ℕ) (line : List ℕ) where
           let b = r .ptdf-in z (omega arith) (x .0) (x .1) in
           inside limits.ptdf (negℤ (value 5 (getD (fields line) (suc z) []))) (subst (λ (y : ℤ). Within limits.ptdf (negℤ y)) (sym (times-value 5 (getD (fields line) (suc z) []) (x .0) (x .1) .1)) (turned-back 200000 (x .0) b))
 
--- A TEST OF EACH LINE, which passes where P holds: it passes everywhere, or fails at first at line k
+-- A TEST OF EACH LINE that passes where P holds: it passes everywhere, or fails first at line k
 record Tests (n : ℕ) (f : ℕ → Bool) (P : List (List ℕ) → Type 0) (rows : List (List (List ℕ))) : Type 0 where
   everywhere : ((k : ℕ) → k < n → T (not (f k))) ↔ Each P rows
   at-first : (k : ℕ) → First n f k ↔ FirstNot P rows k
@@ -245,7 +246,7 @@ module _ (zones : ℕ) (sheet : List ℕ) (room : ℕ) (rows : List (List (List 
   size-is : branchPart zones (lineCount sheet) ≡ length rows * (4 + 4 * zones)
   size-is = ap (branchPart zones) (sym many) ∙ part-is zones (length rows)
 
-  -- the tests of its lines; the second counts where every line is of good form, the third where nothing is lost
+  -- the tests of its lines; the second counts where every line has good form, the third where nothing is lost
   forms : Tests (lineCount sheet) (λ i. malformed zones (lineOf sheet i)) (Formed zones) rows
   forms = tests _ _ (Formed zones) rows many (λ k h. (
     λ t. subst (Formed zones) (sym (cells k h)) (form-to zones (lineOf sheet k) t),
@@ -270,7 +271,7 @@ module _ (zones : ℕ) (sheet : List ℕ) (room : ℕ) (rows : List (List (List 
   abbrev row : ℕ → Cause
   row i = getD table i empty
 
-  -- past the rows before a cause, where what holds before it does
+  -- past the rows before a cause, where the facts before it hold
   past-50 : {rs : List Cause} {x : Option Outcome} → Before51 zones → Comes rs x → Comes (row 0 ∷ rs) x
   unfolding sheetCauses
   past-50 h q = past (record { pass = λ k l. nat-inside 1 16 zones (h .0) (h .1) }) q
@@ -295,7 +296,7 @@ module _ (zones : ℕ) (sheet : List ℕ) (room : ℕ) (rows : List (List (List 
   unfolding sheetCauses
   past-55 h l = past-54 h (past (record { pass = λ k m. le-nltb room (branchPart zones (lineCount sheet)) (omega (arith, size-is, l)) }) none-left)
 
-  -- and what holds before a cause, where the rows before it pass
+  -- the facts before a cause, where the rows before it pass
   before-51 : Pass (row 0) → Before51 zones
   unfolding sheetCauses
   before-51 p = nat-within 1 16 zones (p .pass 0 (omega arith))
@@ -319,7 +320,7 @@ module _ (zones : ℕ) (sheet : List ℕ) (room : ℕ) (rows : List (List (List 
   abbrev o : Outcome
   o = sheetOutcome zones sheet room
 
-  -- a row asked of each line, that fails at first at line k
+  -- a row asked of each line that fails first at line k
   named : (P : List (List ℕ) → Type 0) {n : ℕ} {f : ℕ → Bool} → Tests n f P rows → (k i : ℕ) → i ≡ k → First n f k → FirstNot P rows i
   named P t k i e w = subst (FirstNot P rows) (sym e) (t .at-first k .0 w)
 
@@ -420,7 +421,7 @@ module _ (zones : ℕ) (sheet : List ℕ) (room : ℕ) (rows : List (List (List 
     only-0 = found-0;
   }
 
--- AN EMPTY LINE is of no good form, so it is 51
+-- AN EMPTY LINE does not have good form, so it is 51
 pub empty-line : (zones : ℕ) (cells : List (List ℕ)) → LineText [] cells → Formed zones cells → ⊥
 unfolding fields isNumber digits whole unsigned negative starts numeral.before
 empty-line zones cells t f = clash (sym (number-bytes [] .1 (subst (λ (c : List (List ℕ)). Number (getD c 0 [])) (sym (fields-bytes [] cells .1 t)) (f .numbers 0 (omega arith)))))

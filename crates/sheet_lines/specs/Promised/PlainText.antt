@@ -1,6 +1,6 @@
--- A SHEET IS ITS LINES, A LINE ITS FIELDS, in plain bytes and both ways. A byte is `getD text i 0`, the number at
--- place i of the text, counted from 0. Byte 10 ends a line and the last line may lack it; byte 44 stands between two
--- fields. Each sheet has its fields in exactly one way (`cells-of`, `cells-are`). Assumes nothing.
+-- A SHEET IS ITS LINES, A LINE ITS FIELDS, in plain bytes and both ways. `getD text i 0` is the byte at place i of
+-- the text, counted from 0. Byte 10 ends a line, and the last line may lack it; byte 44 stands between two fields.
+-- Each sheet has its fields in exactly one way (`cells-of`, `cells-are`). Assumes nothing.
 use mathlib.Core.Path.{_≡_, refl, sym, ap, subst, _∙_}
 use mathlib.Core.Logic.{_↔_, _⊎_, inl, inr, _≢_}
 use mathlib.Core.Bool.{Bool, true, false, cond}
@@ -12,11 +12,11 @@ use lib.Dec.{eqb}
 use lib.ListN.{length, getD, length-append}
 use Rattle.sheet_lines.specs.Meaning.Sheet.{onto, lines, fields, lineOf, lineCount}
 
--- a byte that stands nowhere in a text
+-- a text without a byte
 abbrev pub Without : ℕ → List ℕ → Type 0
 Without mark text = (i : ℕ) → i < length text → getD text i 0 ≢ mark
 
--- lines, each with byte 10 behind it; fields, with byte 44 between two of them
+-- lines, each followed by byte 10; fields, with byte 44 between two of them
 unfoldable pub ended : List (List ℕ) → List ℕ
 ended [] = []
 ended (l ∷ ls) = l ++ 10 ∷ ended ls
@@ -26,7 +26,7 @@ joined [] = []
 joined (f ∷ []) = f
 joined (f ∷ g ∷ gs) = f ++ 44 ∷ joined (g ∷ gs)
 
--- A SHEET'S LINES: none has byte 10, and each is ended by it, or all but a last one that is not empty
+-- A SHEET'S LINES: none has byte 10, and each is ended by it; only a last line that is not empty may lack it
 pub record LastUnended (sheet : List ℕ) (ls : List (List ℕ)) : Type 0 where
   pub front : List (List ℕ)
   pub last : List ℕ
@@ -38,7 +38,7 @@ pub record SheetText (sheet : List ℕ) (ls : List (List ℕ)) : Type 0 where
   pub no-newline : (k : ℕ) → k < length ls → Without 10 (getD ls k [])
   pub text-is : (sheet ≡ ended ls) ⊎ LastUnended sheet ls
 
--- A LINE'S FIELDS: one or more, none of which has byte 44
+-- A LINE'S FIELDS: one or more, none with byte 44
 pub record LineText (line : List ℕ) (fs : List (List ℕ)) : Type 0 where
   pub some-field : 0 < length fs
   pub no-comma : (j : ℕ) → j < length fs → Without 44 (getD fs j [])
@@ -114,7 +114,7 @@ text-lines sheet ls t = by (t .text-is)
         let w = all-front 10 (u .front) (u .last) (subst (λ (x : List (List ℕ)). (k : ℕ) → k < length x → Without 10 (getD x k [])) (u .lines-are) (t .no-newline)) in
         ap lines (u .text-is) ∙ lines-then (u .front) (u .last) (w .0) ∙ ap (λ (x : List (List ℕ)). u .front ++ x) (line-last (u .last) (w .1) (u .not-empty)) ∙ sym (u .lines-are)
 
--- and from the lines to the text: a byte more in front
+-- and from the lines to the text: one byte more in front
 newline-first : (b : ℕ) (bs : List ℕ) (ls : List (List ℕ)) → b ≡ 10 → SheetText bs ls → SheetText (b ∷ bs) ([] ∷ ls)
 unfolding ended
 newline-first b bs ls q t = record { no-newline = all-more 10 [] ls (λ i h. absurd (no-less i h)) (t .no-newline); text-is = by (t .text-is) }

@@ -14,7 +14,7 @@ use mir.Facts.{toZ-pos}
 use Rattle.base_integers.specs.Steps.Machine.{sfits-by}
 use Rattle.base_integers.specs.Steps.Size.{near-pos, near-neg, near-fits}
 use Rattle.base_integers.specs.Meaning.Ranges.{range, minus, outside}
-use Rattle.base_measures.specs.Meaning.Limits as limits
+use Rattle.base_limits.specs.Meaning.Limits as limits
 use Rattle.sheet_numbers.specs.declared.Number.{Number}
 use Rattle.sheet_numbers.specs.Meaning.Numeral.{isDigit, negative, units, sign, value}
 use Rattle.sheet_numbers.specs.Meaning.Scan.{Separator}
@@ -61,7 +61,7 @@ entryOfNumber j x = sign (turned j (x .negative)) (x .units)
 abbrev pub heldEntry : ℕ → List ℕ → ℤ
 heldEntry j field = entryOfNumber j (heldNumber (decimalCount j) field)
 
--- holding it changes nothing of whether it lies outside
+-- cutting it at the cap does not change whether it is outside
 far : (b : Bool) (g n : ℕ) → g < n → outside (range (minus g) (pos g)) (sign b n) ≡ true
 unfolding outside
 far false g n h = right (ltZ (pos n) (minus g)) (lt-ltb g n h)
@@ -84,7 +84,7 @@ pub held-outside : (j : ℕ) (field : List ℕ) → outside (limit j) (heldEntry
 held-outside zero field = held-range (turned 0 (negative field)) 500000 (units 1 field) (omega arith) ∙ ap (outside limits.margin) (sym (entry-sign zero field))
 held-outside (suc z) field = held-range (turned (suc z) (negative field)) 200000 (units 5 field) (omega arith) ∙ ap (outside limits.ptdf) (sym (entry-sign (suc z) field))
 
--- and one that does not lie outside is held as it is
+-- a size inside is not cut
 held-within : (b : Bool) (g n : ℕ) → g < cap → outside (range (minus g) (pos g)) (sign b n) ≡ false → capped n ≡ n
 held-within b g n h e = elim (decLt cap n) [ yes l ↦ absurd (clash (sym (far b g n (omega arith)) ∙ e)) | no k ↦ capped-within n (omega arith) ]
 
@@ -96,7 +96,7 @@ held-exact (suc z) field e =
     let d = ap (outside limits.ptdf) (sym (entry-sign (suc z) field)) ∙ e in
     ap (λ (n : ℕ). sign (turned (suc z) (negative field)) n) (held-within (turned (suc z) (negative field)) 200000 (units 5 field) (omega arith) d) ∙ sym (entry-sign (suc z) field)
 
--- a held size as a signed number
+-- a cut size as a signed number
 module _ (n : ℕ) (h : n ≤ cap) where
   pub size-is : toZ w32 n ≡ pos n
   size-is = toZ-pos w32 {n = n} (omega arith)
@@ -107,7 +107,7 @@ module _ (n : ℕ) (h : n ≤ cap) where
   pub minus-fits : SFits w32 (pos 0 -ℤ toZ w32 n)
   minus-fits = sfits-by w32 minus-is (near-fits w32 (omega arith) (near-neg (near-pos n)))
 
--- an entry that is held fits 32 bits
+-- a cut entry fits 32 bits
 pub entry-fits : (b : Bool) (n : ℕ) → n ≤ cap → SFits w32 (sign b n)
 entry-fits true n h = near-fits w32 (omega arith) (near-neg (near-pos n))
 entry-fits false n h = near-fits w32 (omega arith) (near-pos n)

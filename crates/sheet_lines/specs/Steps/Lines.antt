@@ -1,4 +1,5 @@
--- The walk over a line's fields and over a sheet's lines: where it stands, and what it says of what it passed. Assumes nothing.
+-- The walk over a line's fields and over a sheet's lines: where it stands, and what it has found so far.
+-- Assumes nothing.
 use mathlib.Core.Path.{_≡_, refl, sym, ap, _∙_}
 use mathlib.Core.Bool.{Bool, true, false, not, cond, _||_, or-true}
 use mathlib.Core.List.{List, [], _∷_, _++_}
@@ -32,7 +33,7 @@ use Rattle.sheet_lines.specs.Meaning.Sheet.{lines, fields, fieldOf, entr
 use Rattle.sheet_lines.specs.Steps.Entries.{comma, newline}
 use Rattle.sheet_lines.specs.Steps.Split.{fields-cut, fields-last, fields-some, lines-cut}
 
--- what follows the first n of some pieces is what a text has from a place on
+-- the pieces after the first n are those of the text from a place on
 pieces-more : (all rest : List (List ℕ)) (n : ℕ) (p : List ℕ) (ps : List (List ℕ)) → drop n all ≡ rest → rest ≡ p ∷ ps → drop (n + 1) all ≡ ps
 pieces-more all rest n p ps e q = sym (drop-drop 1 n all) ∙ ap (drop 1) (e ∙ q)
 
@@ -59,8 +60,8 @@ module _ (zones : ℕ) (line : List ℕ) where
   unfolding malformed
   malformed-no e n = (λ i. not (eq-eqb (length (fields line)) (zones + 1) e i) || n i)
 
--- THE LINE AT A PLACE of a sheet; the mark that ends its field j, a comma or for the last a newline; and that no comma follows a field before the last, which
--- ends at `end` in a sheet of n bytes
+-- THE LINE AT A PLACE of a sheet. The mark that ends its field j: a comma or, for the last, a newline. And the test
+-- that no comma follows a field before the last, which ends at `end` in a sheet of n bytes
 abbrev pub lineAt : List ℕ → ℕ → List ℕ
 lineAt sheet start = before 10 (drop start sheet)
 
@@ -78,7 +79,8 @@ separator zones j = by (ltb j zones)
     by true = comma
     by false = newline
 
--- FIELDS of the line at `start`. Before field j, which stands at `at`; past the last of them there are as many as there should be, and `at` is past the line
+-- FIELDS of the line at `start`, before field j, which stands at `at`. After the last of them there are as many as
+-- there should be, and `at` is past the line
 pub record FieldsFrom (zones : ℕ) (sheet : List ℕ) (start j at : ℕ) : Type 0 where
   pub inside : at ≤ length sheet
   pub here : j ≤ zones → drop j (fields (lineAt sheet start)) ≡ fields (lineAt sheet at)
@@ -218,7 +220,7 @@ pub record LineValid (zones : ℕ) (line : List ℕ) : Type 0 where
   pub wellformed : malformed zones line ≡ false
   pub in-range : outOfRange zones line ≡ false
 
--- WHAT IS SAID OF A LINE, and where the next one starts
+-- THE ANSWER FOR A LINE, and where the next one starts
 abbrev pub lineBy : Flaws → TextCursor → Bool → LineAnswer
 lineBy f next true = answer.Malformed
 lineBy f next false = answer.Read f next
@@ -288,7 +290,7 @@ module _ (sheet : List ℕ) (n at : ℕ) (f : LinesFrom sheet n at) where
           },
         )
 
--- the row of the table for line n: those past the 64th share one more, which is not written
+-- the row of the table for line n: all lines past the 64th share one more, which is not written
 abbrev pub rowOf : ℕ → ℕ
 rowOf n = cond (ltb n 64) n 64
 
@@ -352,6 +354,6 @@ next-line l zones m sheet =
 pub part-bound : (zones n : ℕ) → zones ≤ 16 → n ≤ 65 → branchPart zones n ≤ 4420
 part-bound zones n h k = mul-le-mul {n₁ = 4 * (zones + 1)} {m₁ = n} {n₂ = 68} {m₂ = 65} (omega arith) k
 
--- a row of the table lies inside it
+-- a row of the table is inside it
 pub row-room : (zones n : ℕ) → zones ≤ 16 → branchPart zones (rowOf n) + 4 * (zones + 1) ≤ 4420
 row-room zones n h = omega (arith, part-bound zones (rowOf n + 1) h (omega (arith, row-le n)))

@@ -1,5 +1,5 @@
--- Lines and fields, one after another: what stands before the first mark is the first of them, and those of what follows are the others.
--- Assumes nothing.
+-- Lines and fields, one after another: the first is what stands before the first mark, and the others are those of
+-- the rest. Assumes nothing.
 use mathlib.Core.Path.{_≡_, refl, ap, _∙_}
 use mathlib.Core.Bool.{Bool, true, false, cond, _||_}
 use mathlib.Core.List.{List, [], _∷_, _++_}

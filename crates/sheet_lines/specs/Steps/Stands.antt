@@ -1,4 +1,4 @@
--- Where an entry stands in the bytes that are written: in its line, and in the lines. Assumes nothing.
+-- Where an entry stands in the written bytes: in its line, and in the lines. Assumes nothing.
 use mathlib.Core.Path.{_≡_, sym, ap, _∙_}
 use mathlib.Core.List.{List, _++_, append-assoc}
 use Prim.Native.Nat.{ℕ, zero, suc, _+_, _*_, _<_}

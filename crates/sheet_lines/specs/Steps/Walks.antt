@@ -1,5 +1,5 @@
--- The invariants of the two walks, over a line's fields and over a sheet's lines: how each starts, what a turn does to it and what it says at the end.
--- Assumes nothing.
+-- The invariants of the two walks, over a line's fields and over a sheet's lines: how each starts, what a turn
+-- changes and what holds at the end. Assumes nothing.
 use mathlib.Core.Path.{_≡_, refl, sym, ap, _∙_}
 use mathlib.Core.Bool.{Bool, true, false, not, cond, _||_}
 use mathlib.Core.List.{List}
@@ -44,7 +44,8 @@ or-right : (a b : Bool) → a || b ≡ false → b ≡ false
 or-right true b e = absurd (clash e)
 or-right false b e = e
 
--- READING A LINE: the first j fields are numbers, f and o say whether one of them is too fine or too large, and if none is too large they stand at `base`
+-- READING A LINE: the first j fields are numbers, f and o say whether one of them is too fine or too large, and if
+-- none is too large they stand at `base`
 pub record LineSoFar (zones : ℕ) (sheet : List ℕ) (start base : ℕ) (old : List ℕ) (at : ℕ) (table : List ℕ) (f o : Bool) (j : ℕ) : Type 0 where
   pub most : j ≤ zones + 1
   pub from : FieldsFrom zones sheet start j at
@@ -62,7 +63,6 @@ module _ (zones : ℕ) (sheet : List ℕ) (start base : ℕ) (old : List ℕ) wh
   unfolding anyBelow entryBytes
   line-start h = record { most = omega arith; from = fields-start zones sheet start h; numbers = refl; finer-is = refl; outside-is = refl; kept = refl; bytes = λ e. refl }
 
-  -- a malformed line
   malformed-read : {table : List ℕ} → malformed zones line ≡ true → LineRead zones sheet start base old table answer.Malformed
   malformed-read e = record { answer-is = sym (ap (lineBy _ _) e); bytes-are = λ v. absurd (clash (sym e ∙ v .wellformed)) }
 
@@ -109,8 +109,8 @@ module _ (zones : ℕ) (sheet : List ℕ) (start base : ℕ) (old : List ℕ) wh
           bytes-are = λ v. s .bytes (o-is ∙ v .in-range) ∙ ap (λ (k : ℕ). sets old base (entryBytes k line)) all;
         }
 
--- READING A SHEET: none of the first n lines is malformed, f and o are the first of them that is too fine or too large, and if none is too large the first 64
--- stand at the table's start
+-- READING A SHEET: none of the first n lines is malformed, and f and o are the first of them that is too fine or
+-- too large. If none is too large, the first 64 stand at the start of the table
 pub record SheetSoFar (zones : ℕ) (sheet old : List ℕ) (at : ℕ) (table : List ℕ) (f o : Place) (n : ℕ) : Type 0 where
   pub from : LinesFrom sheet n at
   pub wellformed : firstBelow n (malformedAt zones sheet) ≡ none

@@ -1,9 +1,10 @@
--- `sheet_numbers::padded` meets its contract. The loop's invariant: with the zeros that are left it comes to what it comes to with all. Assumes nothing.
+-- `sheet_numbers::padded` meets its contract. The loop's invariant: with the zeros that are left the result is the
+-- same as with all. Assumes nothing.
 use mathlib.Core.Path.{_≡_, refl, sym, ap, _∙_}
 use mathlib.Core.List.{[]}
 use Prim.Native.Nat.{ℕ, _+_, _*_, _-_, _≤_}
 use native.Mathlib.Omega.{arith}
-use Rattle.text_decimal.specs.Meaning.Text.{valueFrom}
+use Rattle.text_rules.specs.Meaning.Text.{valueFrom}
 use Rattle.sheet_numbers.specs.Meaning.Numeral.{firstOf}
 use Rattle.sheet_numbers.specs.Steps.Capped.{cap, capped, capped-le}
 use Rattle.sheet_numbers.specs.Steps.Turns.{zero-more, no-zero}

@@ -1,5 +1,5 @@
--- `sheet_numbers::read_decimals` meets its contract. The loop's invariant is `DecimalsSoFar`: the digits from i on come to what all come to, and the size fits.
--- Assumes nothing.
+-- `sheet_numbers::read_decimals` meets its contract. The loop's invariant is `DecimalsSoFar`: the digits from i on
+-- give the same result as all, and the size fits. Assumes nothing.
 use mathlib.Core.Path.{_≡_, sym, _∙_}
 use mathlib.Core.Bool.{true}
 use mathlib.Core.Logic.{⊎-elim}
@@ -43,7 +43,7 @@ returns c =
     turns-done (a .s .now) (a .at) (a .x) (a .k) (l .loop .value) (l .loop .left) (l .loop .finer) (l .loop .i) (l .loop .inv)
     (lead-other (a .s .now) (l .loop .i) (t .loop-test .taken) (sym (d .is-digit .ensures) ∙ not-true _ (i .if1 .taken))) (c .held .ensures)
 
--- this byte is a digit, and the size is so small that it has room for it
+-- this byte is a digit, and the size is small enough to take it
 digit : (e : tie.Else1 Inv-loop μ-loop) → let l = e .before .before .before .before in isDigit (getD (l .before .before .args .s .now) (l .loop .i) 0) ≡ true
 digit e = sym (e .before .is-digit .ensures) ∙ not-false _ (e .if1 .left)
 

@@ -1,4 +1,5 @@
--- `sheet_numbers::read_whole` meets its contract. The loop's invariant is `WholeSoFar`: the digits from i on come to what all come to. Assumes nothing.
+-- `sheet_numbers::read_whole` meets its contract. The loop's invariant is `WholeSoFar`: the digits from i on give
+-- the same result as all. Assumes nothing.
 use mathlib.Core.Path.{refl, sym, _∙_}
 use Prim.Native.Nat.{_-_}
 use native.Mathlib.Omega.{arith}

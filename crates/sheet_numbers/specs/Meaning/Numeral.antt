@@ -1,12 +1,12 @@
--- A DECIMAL NUMBER AS TEXT: what is one, and its value. Digits, perhaps with a minus sign before and a point and digits after, as many as may be.
--- Assumes nothing.
+-- A DECIMAL NUMBER AS TEXT: which texts are numbers, and their value. A number has digits, perhaps with a minus
+-- sign before and a point and any number of digits after. Assumes nothing.
 use mathlib.Core.Bool.{Bool, true, false, not, cond, _&&_, _||_}
 use mathlib.Core.List.{List, [], _∷_, _++_}
 use Prim.Native.Nat.{ℕ, zero, suc}
 use lib.ListN.{drop}
 use lib.Dec.{eqb, leb}
 use lib.IntN.{ℤ, pos, negℤ}
-use Rattle.text_decimal.specs.Meaning.Text.{valueOf}
+use Rattle.text_rules.specs.Meaning.Text.{valueOf}
 
 -- DIGITS: one or more, and nothing else
 unfoldable pub isDigit : ℕ → Bool
@@ -20,7 +20,8 @@ unfoldable pub digits : List ℕ → Bool
 digits [] = false
 digits (b ∷ bs) = onlyDigits (b ∷ bs)
 
--- A MARK in a text: whether the text starts with it, whether it has it, the bytes before the first, all where there is none, and the bytes after it
+-- A MARK in a text: whether the text starts with it; whether the text has it; the bytes before the first one, or
+-- all where there is none; and the bytes after it
 unfoldable pub starts : ℕ → List ℕ → Bool
 starts mark [] = false
 starts mark (b ∷ bs) = eqb b mark
@@ -59,7 +60,8 @@ firstOf zero ds = []
 firstOf (suc k) [] = 48 ∷ firstOf k []
 firstOf (suc k) (d ∷ ds) = d ∷ firstOf k ds
 
--- in units of the k-th decimal: all digits before the point and k after it. Where no later decimal counts this is exact (theorem `exact`).
+-- in units of decimal k: all digits before the point and k after it. Where all later decimals are zero this is
+-- exact (theorem `exact`).
 unfoldable pub units : ℕ → List ℕ → ℕ
 units k text = valueOf (whole text ++ firstOf k (decimals text))
 
@@ -70,7 +72,7 @@ sign false n = pos n
 unfoldable pub value : ℕ → List ℕ → ℤ
 value k text = sign (negative text) (units k text)
 
--- a decimal past the k-th is not zero
+-- some decimal after decimal k is not zero
 unfoldable pub nonZero : List ℕ → Bool
 nonZero [] = false
 nonZero (d ∷ ds) = not (eqb d 48) || nonZero ds

@@ -1,4 +1,4 @@
--- A piece of a text up to its mark, and the number that it is.
+-- A piece of a text up to its mark, and its number.
 use mathlib.Core.Bool.{Bool, true, false, cond}
 use mathlib.Core.List.{List}
 use Prim.Native.Nat.{ℕ, _+_}
@@ -11,14 +11,14 @@ use Rattle.sheet_numbers.specs.declared.NumberAnswer.the-variants.{Read,
 use Rattle.sheet_numbers.specs.Meaning.Numeral.{before, negative, isNumber, units, finer}
 use Rattle.sheet_numbers.specs.Steps.Capped.{capped}
 
--- A PIECE that ends at `end` in a text of n bytes, the one that starts at `at` in s, and what is so of it
+-- A PIECE that ends at `end` in a text of n bytes, the one that starts at `at` in s, and what holds of it
 abbrev pub pieceTo : ℕ → ℕ → Piece
 pieceTo n end = record { end = end; next = record { at = cond (ltb end n) (end + 1) end } }
 
 abbrev pub pieceAt : ℕ → List ℕ → ℕ → Piece
 pieceAt mark s at = pieceTo (length s) (at + length (before mark (drop at s)))
 
--- A NUMBER: the piece that starts there, as one
+-- A NUMBER: the piece that starts there, read as one
 abbrev pub heldNumber : ℕ → List ℕ → Number
 heldNumber k text = record { negative = negative text; units = capped (units k text); finer = finer k text }
 

@@ -1,5 +1,5 @@
--- THE VALUE IS EXACT. A number is its digits, all of them, over ten to the number of its decimals. Where no decimal past the k-th counts, that is its
--- size in units of the k-th decimal over ten to k. Assumes nothing.
+-- THE VALUE IS EXACT. A number is all its digits over ten to the number of its decimals. Where all decimals after
+-- decimal k are zero, that is its size in units of decimal k over ten to k. Assumes nothing.
 use mathlib.Core.Path.{_≡_, refl, sym, ap, _∙_, subst}
 use mathlib.Core.Bool.{Bool, true, false, not, _||_}
 use mathlib.Core.List.{List, [], _∷_, _++_}
@@ -10,7 +10,7 @@ use borrow.Author.Tests.{eqb-true}
 use lib.Dec.{T, eqb}
 use lib.ListN.{length, drop}
 use lib.Seq.{drop-nil}
-use Rattle.text_decimal.specs.Meaning.Text.{valueFrom, valueOf}
+use Rattle.text_rules.specs.Meaning.Text.{valueFrom, valueOf}
 use Rattle.sheet_numbers.specs.Meaning.Numeral.{whole, decimals, firstOf, units, nonZero, finer}
 
 -- some digits and then others
@@ -22,7 +22,7 @@ value-then v (d ∷ a) b = value-then (10 * v + (d - 48)) a b
 clash : true ≡ false → ⊥
 clash q = subst (λ (t : Bool). T t) q tt
 
--- one digit that is not counted, and those after it
+-- one digit that does not count, and those after it
 zero-first : (d : ℕ) (ds : List ℕ) → nonZero (d ∷ ds) ≡ false → (d ≡ 48) × (nonZero ds ≡ false)
 unfolding nonZero
 zero-first d ds = by (eqb d 48) refl
@@ -34,7 +34,7 @@ zero-first d ds = by (eqb d 48) refl
 regroup : (a b : ℕ) → (10 * a + 0) * b ≡ a * (b * 10)
 regroup a b = omega arith
 
--- zeros only make what stands before them worth more
+-- zeros multiply the value before them by powers of ten
 zeros : (v : ℕ) (ds : List ℕ) → nonZero ds ≡ false → valueFrom v ds ≡ v * 10 ^ length ds
 unfolding valueFrom
 zeros v [] e = omega arith

@@ -1,5 +1,5 @@
--- A DECIMAL PAST OURS IS NOT ZERO exactly where the number is no whole number of our units: `Exact` the other way
--- round. So 52 is given where a number would lose something, and nowhere else. Assumes nothing.
+-- A DECIMAL AFTER OURS IS NOT ZERO exactly where the number is no whole number of our units, the converse of
+-- `Exact`. So 52 is given where a number would lose something, and nowhere else. Assumes nothing.
 use mathlib.Core.Path.{_≡_, refl, sym, ap, _∙_, subst}
 use mathlib.Core.Bool.{Bool, true, false, not, cond, _&&_, _||_}
 use mathlib.Core.List.{List, [], _∷_, _++_}
@@ -12,7 +12,7 @@ use lib.Dec.{T, eqb, leb, leb→le}
 use lib.Pow.{pow-add}
 use lib.ListN.{length, take, drop, length-drop, take-append-drop}
 use Rattle.base_integers.specs.Steps.Ranges.{is-true, and-left, and-right}
-use Rattle.text_decimal.specs.Meaning.Text.{valueFrom, valueOf}
+use Rattle.text_rules.specs.Meaning.Text.{valueFrom, valueOf}
 use Rattle.sheet_numbers.specs.Meaning.Numeral.{isDigit, onlyDigits, digits, has, after, unsigned, whole, decimals, isNumber, units, nonZero, finer}
 use Rattle.sheet_numbers.specs.Promised.Exact.{value-then, exact}
 use Rattle.sheet_numbers.specs.Promised.Printed.{value-shift}
@@ -20,7 +20,7 @@ use Rattle.sheet_numbers.specs.Promised.Printed.{value-shift}
 clash : false ≡ true → ⊥
 clash q = subst (λ (t : Bool). T (not t)) q tt
 
--- a digit is worth at most 9, and nothing only where it is a zero
+-- a digit is worth at most 9, and zero only if it is a 0
 pub digit-parts : (d : ℕ) → isDigit d ≡ true → (48 ≤ d) × (d ≤ 57)
 unfolding isDigit
 digit-parts d e = (leb→le 48 d (and-left (leb 48 d) (leb d 57) (is-true e)), leb→le d 57 (and-right (leb 48 d) (leb d 57) (is-true e)))
@@ -50,7 +50,7 @@ ten-pos : (n : ℕ) → 0 < 10 ^ n
 ten-pos zero = omega arith
 ten-pos (suc n) = omega (arith, pow-suc 10 n, ten-pos n)
 
--- what digits are worth: less than one of the unit before them, and more than nothing where one is not zero
+-- the value of digits: less than one of the unit before them, and more than zero where one is not 0
 less-than-one : (ds : List ℕ) → onlyDigits ds ≡ true → valueFrom 0 ds < 10 ^ length ds
 unfolding valueFrom
 less-than-one [] e = omega arith
@@ -89,7 +89,7 @@ no-whole n a p r q Q R l e = by (decLt a n)
     by (yes h) = omega (arith, e, less, mul-le-mul-right {m = a + 1} {n = n} (p * q) (omega arith))
     by (no h) = omega (arith, e, some, mul-le-mul-right {m = n} {n = a} (p * q) (omega arith))
 
--- digits of which one past the k-th is not zero, behind a number v
+-- digits after a number v, of which one after digit k is not 0
 not-counted : (k v n : ℕ) (ds : List ℕ) → onlyDigits ds ≡ true → nonZero (drop k ds) ≡ true → n * 10 ^ length ds ≡ valueFrom v ds * 10 ^ k → ⊥
 not-counted k v n ds e f q =
     let rest = drop k ds in
@@ -131,12 +131,12 @@ decimals-digits text e = by (has 46 (unsigned text)) refl (second (digits (whole
     by true q e = all (after 46 (unsigned text)) e
     by false q e = ap onlyDigits (none-after (unsigned text) q)
 
--- 52 IS GIVEN FOR A CAUSE: a number that is finer than the k-th decimal is no whole number of its units
+-- 52 IS GIVEN FOR A CAUSE: a number finer than decimal k is no whole number of its units
 pub no-units : (k : ℕ) (text : List ℕ) → isNumber text ≡ true → finer k text ≡ true → (n : ℕ) → n * 10 ^ length (decimals text) ≡ valueOf (whole text ++ decimals text) * 10 ^ k → ⊥
 unfolding finer
 no-units k text e f n q = not-counted k (valueOf (whole text)) n (decimals text) (decimals-digits text e) f (q ∙ ap (λ (x : ℕ). x * 10 ^ k) (value-then 0 (whole text) (decimals text)))
 
--- and so both ways
+-- and so in both directions
 pub finer-iff : (k : ℕ) (text : List ℕ) → isNumber text ≡ true → (finer k text ≡ false) ↔ ((n : ℕ) × (n * 10 ^ length (decimals text) ≡ valueOf (whole text ++ decimals text) * 10 ^ k))
 finer-iff k text e = (λ f. (units k text, exact k text f), λ w. by (finer k text) refl w)
   where

@@ -1,6 +1,6 @@
--- A NUMBER IN PLAIN BYTES, both ways: which bytes are one, what it is worth, and which numbers are whole in a unit.
--- A byte is `getD text k 0`, the number at place k of the text, counted from 0. 45 is the minus sign, 46 the point,
--- and 48 to 57 are the digits 0 to 9. Assumes nothing.
+-- A NUMBER IN PLAIN BYTES, both ways: which bytes are a number, its value, and which numbers are whole in a unit.
+-- `getD text k 0` is the byte at place k of the text, counted from 0. 45 is the minus sign, 46 the point, and 48 to
+-- 57 are the digits 0 to 9. Assumes nothing.
 use mathlib.Core.Path.{_≡_, refl, sym, ap, _∙_, subst}
 use mathlib.Core.Logic.{_↔_, _⊎_, inl, inr}
 use mathlib.Core.Bool.{Bool, true, false, cond, _&&_}
@@ -15,8 +15,8 @@ use lib.ListN.{length, getD}
 use lib.IntN.{ℤ, pos, negℤ}
 use Rattle.base_integers.specs.Meaning.NaturalSums.{sumNat}
 use Rattle.base_integers.specs.Steps.NaturalSums.{sum-ext}
-use Rattle.text_decimal.specs.Meaning.Text.{valueFrom, valueOf}
-use Rattle.text_decimal.specs.Promised.Value.{power-positive}
+use Rattle.text_rules.specs.Meaning.Text.{valueFrom, valueOf}
+use Rattle.text_rules.specs.Promised.Value.{power-positive}
 use Rattle.sheet_numbers.specs.Meaning.Numeral.{isDigit, onlyDigits, digits, negative, whole, decimals, isNumber, units, sign, value, finer}
 use Rattle.sheet_numbers.specs.Steps.Scan.{clash}
 use Rattle.sheet_numbers.specs.Promised.Spelled.{minus, numeral, pointed, pointDigits, Spelled, spelled, afterPoint, number-spelled}
@@ -41,11 +41,11 @@ pub record Number (text : List ℕ) : Type 0 where
   pub after : List ℕ
   pub spells : Spells text negative before after
 
--- WHAT DIGITS ARE WORTH: the last of them its value, the one before it ten times its value, and so on
+-- THE VALUE OF DIGITS: the last counts once, the one before it ten times, and so on
 abbrev pub worth : List ℕ → ℕ
 worth ds = sumNat (length ds) (λ i. (getD ds i 0 - 48) * 10 ^ (length ds - 1 - i))
 
--- A NUMBER TIMES `per` IS THE WHOLE NUMBER x: its digits, all of them, over ten to the number of its decimals
+-- A NUMBER TIMES `per` IS THE WHOLE NUMBER x. The number is all its digits over ten to the number of its decimals
 pub record Times (per : ℕ) (text : List ℕ) (x : ℤ) : Type 0 where
   pub negative : Bool
   pub before : List ℕ
@@ -133,7 +133,7 @@ spells-once text s t w x d y p q =
     let b = parts text t x y q .1 in
     (sym (a .0) ∙ b .0, (sym (a .1 .0) ∙ b .1 .0, sym (a .1 .1) ∙ b .1 .1))
 
--- WHAT DIGITS ARE WORTH is what they say
+-- THE VALUE OF DIGITS by both definitions
 sum-front : (n : ℕ) (f : ℕ → ℕ) → sumNat (suc n) f ≡ f 0 + sumNat n (λ i. f (suc i))
 unfolding sumNat
 sum-front zero f = omega arith
@@ -156,7 +156,7 @@ worth-is (d ∷ ds) =
         each : (i : ℕ) → i < length ds → (getD ds i 0 - 48) * 10 ^ (length ds - 1 - i) ≡ (getD ds i 0 - 48) * 10 ^ (suc (length ds) - 1 - suc i)
         each i h = let e : length ds - 1 - i ≡ suc (length ds) - 1 - suc i = omega arith in ap (λ (k : ℕ). (getD ds i 0 - 48) * 10 ^ k) e
 
--- IN UNITS OF THE k-TH DECIMAL. A number that is not finer is so many units, and one that is so many units is not finer
+-- IN UNITS OF DECIMAL k. A number that is not finer is a whole number of units, and conversely
 signs : (s : Bool) (n : ℕ) → sign s n ≡ cond s (negℤ (pos n)) (pos n)
 signs true n = refl
 signs false n = refl

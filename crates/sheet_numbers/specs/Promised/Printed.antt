@@ -1,4 +1,5 @@
--- READ BACK FROM PRINT. What the desk prints for an amount with k decimals is a number, and in units of its k-th decimal it is the amount. Assumes nothing.
+-- READ BACK FROM PRINT. What the desk prints for an amount with k decimals is a number, and in units of decimal k
+-- it is the amount. Assumes nothing.
 use mathlib.Core.Path.{_≡_, refl, sym, ap, _∙_}
 use mathlib.Core.Bool.{Bool, true, false, _&&_}
 use mathlib.Core.List.{List, [], _∷_, _++_}
@@ -9,14 +10,14 @@ use native.Mathlib.Omega.{arith}
 use borrow.Author.Tests.{le-leb}
 use lib.ListN.{length}
 use lib.IntN.{ℤ, pos, negsuc}
-use Rattle.text_decimal.specs.Meaning.Text.{valueFrom, valueOf, lastDigits, places, countText, sizeText, amountText}
-use Rattle.text_decimal.specs.Steps.Places.{fewest}
-use Rattle.text_decimal.specs.Promised.Value.{last-length, size-value}
+use Rattle.text_rules.specs.Meaning.Text.{valueFrom, valueOf, lastDigits, places, countText, sizeText, amountText}
+use Rattle.text_rules.specs.Steps.Places.{fewest}
+use Rattle.text_rules.specs.Promised.Value.{last-length, size-value}
 use Rattle.sheet_numbers.specs.Meaning.Numeral.{isDigit, onlyDigits, digits, isNumber, firstOf, units, sign, value}
 use Rattle.sheet_numbers.specs.Promised.Exact.{value-then}
 use Rattle.sheet_numbers.specs.Promised.Spelled.{numeral, Spelled, spelled}
 
--- what is printed are digits
+-- the printed bytes are digits
 printed-only : (k n : ℕ) → onlyDigits (lastDigits k n) ≡ true
 unfolding lastDigits onlyDigits isDigit
 printed-only zero n = refl
@@ -31,7 +32,7 @@ count-digits : (n : ℕ) → digits (countText n) ≡ true
 unfolding countText
 count-digits n = printed-digits (places n) n (omega (arith, (fewest n) .some-place))
 
--- as many digits as are asked for
+-- as many digits as asked for
 first-all : (ds : List ℕ) → firstOf (length ds) ds ≡ ds
 unfolding firstOf
 first-all [] = refl

@@ -1,5 +1,5 @@
--- WHICH TEXTS ARE NUMBERS: perhaps a minus sign, digits, perhaps a point and digits. Each such text is a number with these parts, and each number is such a
--- text. Assumes nothing.
+-- WHICH TEXTS ARE NUMBERS: perhaps a minus sign, digits, perhaps a point and digits. Each such text is a number
+-- with these parts, and each number is such a text. Assumes nothing.
 use mathlib.Core.Path.{_≡_, refl, sym, ap, _∙_}
 use mathlib.Core.Bool.{Bool, true, false, not, cond, _&&_, _||_}
 use mathlib.Core.List.{List, [], _∷_, _++_, append-nil}
@@ -11,7 +11,7 @@ use lib.ListN.{drop}
 use Rattle.sheet_numbers.specs.Meaning.Numeral.{isDigit, onlyDigits, digits, starts, has, before, after, negative, unsigned, whole, decimals, isNumber}
 use Rattle.sheet_numbers.specs.Steps.Scan.{clash, leading, before-then, after-then, has-then}
 
--- the text of a sign, of digits and of perhaps others after a point
+-- the text of a sign, digits and perhaps digits after a point
 abbrev pub minus : Bool → List ℕ
 minus true = 45 ∷ []
 minus false = []
@@ -23,7 +23,7 @@ point (some d) = 46 ∷ d
 unfoldable pub numeral : Bool → List ℕ → Option (List ℕ) → List ℕ
 numeral s w d = minus s ++ (w ++ point d)
 
--- of digits, all
+-- all of them digits
 abbrev pub pointDigits : Option (List ℕ) → Bool
 pointDigits none = true
 pointDigits (some d) = digits d
@@ -38,7 +38,7 @@ pub record Spelled (text : List ℕ) (s : Bool) (w : List ℕ) (d : Option (List
   pub whole-is : whole text ≡ w
   pub decimals-are : decimals text ≡ pointed d
 
--- digits are all that a text of them opens with
+-- a text of digits has no other leading digits than all of it
 only-digits : (w : List ℕ) → digits w ≡ true → onlyDigits w ≡ true
 unfolding digits
 only-digits [] e = absurd (clash (sym e))
@@ -56,7 +56,6 @@ all-leading (b ∷ w) e = by (isDigit b) e (all-leading w)
 pub digits-lead : (w : List ℕ) → digits w ≡ true → leading w ≡ w
 digits-lead w e = all-leading w (only-digits w e)
 
--- the sign
 no-sign : (w l : List ℕ) → digits w ≡ true → starts 45 (w ++ l) ≡ false
 unfolding digits onlyDigits starts isDigit
 no-sign [] l e = absurd (clash (sym e))

@@ -1,4 +1,5 @@
--- A number's size held at a cap that is past every limit, so that no count of digits overflows it; and digits as the walk takes them. Assumes nothing.
+-- A number's size cut at a cap that is above every limit, so that no count of digits overflows it; and digits as
+-- the walk takes them. Assumes nothing.
 use mathlib.Core.Path.{_≡_, sym, ap, _∙_}
 use mathlib.Core.Bool.{Bool, cond}
 use mathlib.Core.List.{List, [], _∷_, _++_}
@@ -8,7 +9,7 @@ use native.Mathlib.Omega.{arith}
 use borrow.Author.Tests.{lt-ltb, le-ltb}
 use lib.Dec.{ltb}
 use lib.ListN.{length, take}
-use Rattle.text_decimal.specs.Meaning.Text.{valueFrom, valueOf}
+use Rattle.text_rules.specs.Meaning.Text.{valueFrom, valueOf}
 use Rattle.sheet_numbers.specs.Meaning.Numeral.{whole, decimals, firstOf, units}
 use Rattle.sheet_numbers.specs.Promised.Exact.{value-then}
 
@@ -32,7 +33,7 @@ capped-reached n h = elim (decLt cap n) [ yes l ↦ capped-over n l | no g ↦ c
 pub capped-le : (n : ℕ) → capped n ≤ cap
 capped-le n = elim (decLt cap n) [ yes h ↦ omega (arith, capped-over n h) | no g ↦ omega (arith, capped-within n (omega arith)) ]
 
--- one digit more of a number that was held, and more of them
+-- one more digit of a size that was cut, and several
 capped-more : (n d : ℕ) → capped (10 * capped n + d) ≡ capped (10 * n + d)
 capped-more n d = elim (decLt cap n) [
   | yes h ↦ capped-over (10 * capped n + d) (omega (arith, capped-over n h)) ∙ sym (capped-over (10 * n + d) (omega arith))
@@ -55,7 +56,7 @@ first-split (suc k) [] = let e : suc k ≡ suc k - 0 = omega arith in ap (λ (n 
 first-split (suc k) (d ∷ ds) = let e : k - length ds ≡ suc k - suc (length ds) = omega arith in
     ap (λ (l : List ℕ). d ∷ l) (first-split k ds ∙ ap (λ (n : ℕ). take k ds ++ firstOf n []) e)
 
--- A NUMBER'S SIZE from its digits before the point, held, and then those after it
+-- A NUMBER'S SIZE from its digits before the point, cut at the cap, and then those after it
 pub held-whole : (k : ℕ) (text w : List ℕ) → whole text ≡ w → decimals text ≡ [] → capped (valueFrom (capped (valueOf w)) (firstOf k [])) ≡ capped (units k text)
 unfolding units
 held-whole k text w p q = capped-from (valueOf w) (firstOf k []) ∙ ap capped (sym (value-then 0 w (firstOf k []))) ∙ (λ i. capped (valueOf (sym p i ++ firstOf k (sym q i))))

@@ -1,4 +1,4 @@
--- MARKS IN A TEXT: where two of them part it, and that no separator stands in a number. Assumes nothing.
+-- MARKS IN A TEXT: where two of them part it; a number has no separator. Assumes nothing.
 use mathlib.Core.Path.{_≡_, refl, sym, ap, _∙_}
 use mathlib.Core.Bool.{Bool, true, false, cond, _||_}
 use mathlib.Core.List.{List, [], _∷_, _++_, append-nil}
@@ -26,7 +26,7 @@ module _ (k m : ℕ) (apart : eqb k m ≡ false) where
       by false true r e ih = ap (λ (x : ℕ). x ∷ before m t) (eqb-true b k r)
       by false false r e ih = ap (λ (l : List ℕ). b ∷ l) (ih (ap (λ (x : Bool). x || has k (before m t)) (sym r) ∙ e))
 
-  -- and where m does not stand before k, and k stands there, a text up to m has k
+  -- where m does not stand before k, and k is there, the text up to m has k
   pub within-has : (t : List ℕ) → has m (before k t) ≡ false → length (before k t) < length t → has k (before m t) ≡ true
   unfolding has before
   within-has [] e h = absurd (omega arith)
@@ -39,7 +39,7 @@ module _ (k m : ℕ) (apart : eqb k m ≡ false) where
       by false r true q e h ih = absurd (clash (ap (λ (x : Bool). x || has m (before k t)) (sym q) ∙ e))
       by false r false q e h ih = ap (λ (x : Bool). x || has k (before m t)) r ∙ ih (ap (λ (x : Bool). x || has m (before k t)) (sym q) ∙ e) (omega arith)
 
--- NO SEPARATOR STANDS IN A NUMBER
+-- A NUMBER HAS NO SEPARATOR
 module _ (mark : ℕ) (sep : Separator mark) where
   other : (b : ℕ) → eqb mark b ≡ false → eqb b mark ≡ false
   other b e = by (eqb b mark) refl

@@ -1,4 +1,5 @@
--- A number where the walk found its parts: the sign at `at`, the digits before the point from `start` on, and those after it. Assumes nothing.
+-- A number whose parts the walk found: the sign at `at`, the digits before the point from `start` on, and those
+-- after it. Assumes nothing.
 use mathlib.Core.Path.{_≡_, sym, ap, _∙_}
 use mathlib.Core.Bool.{Bool, true, false}
 use mathlib.Core.List.{List, []}
@@ -7,7 +8,7 @@ use native.Mathlib.Decide.{decLt}
 use native.Mathlib.Omega.{arith}
 use lib.ListN.{length, take, drop, length-drop}
 use lib.Seq.{drop-nil, drop-drop}
-use Rattle.text_decimal.specs.Meaning.Text.{valueFrom, valueOf}
+use Rattle.text_rules.specs.Meaning.Text.{valueFrom, valueOf}
 use Rattle.sheet_numbers.specs.declared.Whole.{Whole}
 use Rattle.sheet_numbers.specs.declared.Decimals.{Decimals}
 use Rattle.sheet_numbers.specs.declared.Piece.{Piece}
@@ -66,7 +67,7 @@ module _ {mark k : ℕ} {s : List ℕ} {at start : ℕ} {w : Whole} (r : WholeRe
   rest-is : rest u ≡ drop (w .end) s
   rest-is = ap (λ (l : List ℕ). drop (length (leading u)) l) u-is ∙ drop-drop (length (leading u)) start s ∙ ap (λ (n : ℕ). drop n s) (sym end-is)
 
-  -- no digit before a point; digits, and then neither a point nor the mark
+  -- no digit before a point; or digits, and then neither a point nor the mark
   pub none-read : w .end ≤ start → NoNumber ≡ numberAt k mark s at
   none-read h = sym (answered (no-digits mark sep t (omega (arith, end-is))))
 

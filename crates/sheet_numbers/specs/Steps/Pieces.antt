@@ -1,4 +1,5 @@
--- A text up to its first mark and what follows the mark, as a piece; and the digits and the number that stand at a place. Assumes nothing.
+-- A text up to its first mark and what follows the mark, as a piece; and the digits and the number at a place.
+-- Assumes nothing.
 use mathlib.Core.Path.{_≡_, refl, sym, ap, subst, _∙_}
 use mathlib.Core.Bool.{Bool, true, false, cond, _||_}
 use mathlib.Core.List.{List, [], _∷_}
@@ -8,7 +9,7 @@ use borrow.Author.Tests.{ltb-true, ltb-false}
 use lib.Dec.{eqb, ltb}
 use lib.ListN.{length, take, drop, length-drop, drop-of-length-le}
 use lib.Seq.{drop-drop}
-use Rattle.text_decimal.specs.Meaning.Text.{valueFrom}
+use Rattle.text_rules.specs.Meaning.Text.{valueFrom}
 use Rattle.sheet_numbers.specs.declared.Piece.{Piece}
 use Rattle.sheet_numbers.specs.declared.Whole.{Whole}
 use Rattle.sheet_numbers.specs.declared.Decimals.{Decimals}
@@ -30,7 +31,7 @@ before-le mark (b ∷ bs) = by (eqb b mark) (before-le mark bs)
     by true h = omega arith
     by false h = omega arith
 
--- what follows starts one past it
+-- the rest starts one past it
 pub after-drop : (mark : ℕ) (s : List ℕ) → after mark s ≡ drop (suc (length (before mark s))) s
 unfolding before after
 after-drop mark [] = refl
@@ -78,14 +79,14 @@ module _ (mark : ℕ) (s : List ℕ) (at : ℕ) (h : at ≤ length s) where
   pub cut : {p : Piece} → p ≡ pieceAt mark s at → Cut mark s at p
   cut e = subst (Cut mark s at) (sym e) (by-end (ltb end (length s)) refl)
 
--- THE DIGITS that the text t opens with, which stands at i, after a size v: those before a point
+-- THE LEADING DIGITS before a point, of the text t at i, after a size v
 abbrev pub wholeFrom : ℕ → ℕ → List ℕ → Whole
 wholeFrom v i t = record { value = capped (valueFrom v (leading t)); end = i + length (leading t) }
 
 abbrev pub wholeAt : List ℕ → ℕ → Whole
 wholeAt s at = wholeFrom 0 at (drop at s)
 
--- and those after it: the first `left` of them count, and f is whether one past these was not zero before
+-- and those after it: the first `left` of them count, and f says whether one past these was not zero so far
 abbrev pub decimalsFrom : ℕ → ℕ → Bool → ℕ → List ℕ → Decimals
 decimalsFrom v left f i t = record {
   value = capped (valueFrom v (take left (leading t)));

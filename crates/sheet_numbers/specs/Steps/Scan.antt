@@ -1,5 +1,5 @@
--- A number as one walk from the left finds it: the digits that a text opens with, then perhaps a point and digits, and then the mark or the text's end.
--- Assumes nothing.
+-- A number as one walk from the left finds it: the leading digits of a text, then perhaps a point and digits, then
+-- the mark or the end of the text. Assumes nothing.
 use mathlib.Core.Path.{_≡_, refl, sym, ap, _∙_, subst}
 use mathlib.Core.Bool.{Bool, true, false, not, cond, _&&_, _||_}
 use mathlib.Core.List.{List, [], _∷_, _++_, append-nil}
@@ -15,7 +15,7 @@ use Rattle.sheet_numbers.specs.Meaning.Scan.{Separator}
 pub clash : true ≡ false → ⊥
 clash q = subst (λ (t : Bool). T t) q tt
 
--- the text ends here, or the mark stands here
+-- the text ends here, or here is the mark
 unfoldable pub stops : ℕ → List ℕ → Bool
 stops mark [] = true
 stops mark (b ∷ bs) = eqb b mark
@@ -51,7 +51,7 @@ sign-length (b ∷ t) = by (eqb b 45)
     by true = omega arith
     by false = omega arith
 
--- THE DIGITS THAT A TEXT OPENS WITH, and what follows them
+-- THE LEADING DIGITS of a text, and the rest
 unfoldable pub leading : List ℕ → List ℕ
 leading [] = []
 leading (b ∷ bs) = cond (isDigit b) (b ∷ leading bs) []
@@ -99,7 +99,7 @@ pub lead-end : (s : List ℕ) (i : ℕ) → length s ≤ i → leading (drop i s
 unfolding leading
 lead-end s i h = ap leading (drop-of-length-le s h)
 
--- DIGITS BEFORE A TEXT change nothing of its marks
+-- DIGITS BEFORE A TEXT leave its marks unchanged
 module _ (l : List ℕ) where
   pub only-then : (t : List ℕ) → onlyDigits (leading t ++ l) ≡ onlyDigits l
   unfolding leading onlyDigits
@@ -199,7 +199,7 @@ module _ (mark : ℕ) (m : isDigit mark ≡ false) (t : List ℕ) where
   other-there : 0 < length (leading t) → stops mark (rest t) ≡ false → digits (before mark t) ≡ false
   other-there h e = ap digits up-to ∙ digits-then t (before mark (rest t)) h ∙ stop-other mark (rest t) e (rest-opens t)
 
--- A TEXT UP TO A MARK opens with the same digits
+-- A TEXT UP TO A MARK has the same leading digits
 module _ (mark : ℕ) (m : isDigit mark ≡ false) where
   lead-before : (t : List ℕ) → leading (before mark t) ≡ leading t
   unfolding leading before
@@ -241,7 +241,6 @@ module _ (mark : ℕ) (sep : Separator mark) where
       by false q true r = ap (λ (c : Bool). drop (cond c 1 0) (b ∷ before mark t)) r
       by false q false r = ap (λ (c : Bool). drop (cond c 1 0) (b ∷ before mark t)) r ∙ sym (ap (λ (c : Bool). cond c [] (b ∷ before mark t)) q)
 
-  -- a point that stands there
   point-before : (l : List ℕ) → starts 46 l ≡ true → before mark l ≡ 46 ∷ before mark (drop 1 l)
   unfolding starts before
   point-before [] e = absurd (clash (sym e))
@@ -287,7 +286,7 @@ module _ (mark : ℕ) (sep : Separator mark) where
     unfolding isNumber
     not-digits e = ap (λ (c : Bool). c && (not (has 46 (unsigned text)) || digits (decimals text))) (ap digits whole-of ∙ e)
 
-    -- no digit; digits, and then neither a point nor the mark
+    -- no digit; or digits, and then neither a point nor the mark
     pub no-digits : length (leading u) ≡ 0 → isNumber text ≡ false
     unfolding isDigit
     no-digits e = not-digits (none-there 46 refl g (ap length lead-of ∙ e))

@@ -1,4 +1,5 @@
--- What a turn of the walks over digits does: a digit before a point, one after it that counts, one past those that count, and the end of them. Assumes nothing.
+-- What a turn of the walks over digits does: a digit before a point, one after it that counts, one past those that
+-- count, and their end. Assumes nothing.
 use mathlib.Core.Path.{_≡_, refl, sym, ap, _∙_}
 use mathlib.Core.Bool.{Bool, true, false, not, _||_, or-false, or-assoc}
 use mathlib.Core.List.{List, []}
@@ -8,7 +9,7 @@ use native.Mathlib.Omega.{arith}
 use lib.Dec.{eqb}
 use lib.ListN.{length, getD, take, drop}
 use lib.Seq.{take-nil, drop-nil}
-use Rattle.text_decimal.specs.Meaning.Text.{valueFrom}
+use Rattle.text_rules.specs.Meaning.Text.{valueFrom}
 use Rattle.sheet_numbers.specs.declared.Whole.{Whole}
 use Rattle.sheet_numbers.specs.declared.Decimals.{Decimals}
 use Rattle.sheet_numbers.specs.Meaning.Numeral.{isDigit, firstOf, nonZero}
@@ -17,7 +18,7 @@ use Rattle.sheet_numbers.specs.Steps.Scan.{leading, lead-digit}
 use Rattle.sheet_numbers.specs.Steps.Capped.{cap, capped, capped-le, capped-within, capped-from}
 use Rattle.sheet_numbers.specs.Steps.Pieces.{wholeFrom, wholeAt, decimalsFrom, decimalsAt}
 
--- A WALK OVER THE DIGITS BEFORE A POINT: from i on they come to what they come to from `at` on
+-- A WALK OVER THE DIGITS BEFORE A POINT: from i on they give the same result as from `at` on
 pub record WholeSoFar (s : List ℕ) (at value i : ℕ) : Type 0 where
   pub inside : i ≤ length s
   pub held : value ≤ cap
@@ -85,7 +86,7 @@ module _ (s : List ℕ) (i v : ℕ) (f : Bool) (h : i < length s) (e : isDigit (
       none : 0 - suc (length ds) ≡ 0 - length ds
       none = omega arith
 
--- no digit more
+-- no digit left
 pub digits-done : (v left i : ℕ) (f : Bool) (t : List ℕ) → leading t ≡ [] → decimalsFrom v left f i t ≡ record { value = capped v; missing = left; finer = f; end = i }
 unfolding valueFrom nonZero
 digits-done v left i f t e =
@@ -103,7 +104,6 @@ digits-done v left i f t e =
     here : i + 0 ≡ i
     here = omega arith
 
--- a zero more
 pub zero-more : (v n : ℕ) → 0 < n → capped (valueFrom v (firstOf n [])) ≡ capped (valueFrom (capped (10 * v + 0)) (firstOf (n - 1) []))
 unfolding valueFrom firstOf
 zero-more v zero h = absurd (omega arith)
@@ -116,7 +116,7 @@ pub no-zero : (v : ℕ) → v ≤ cap → capped (valueFrom v (firstOf 0 [])) �
 unfolding valueFrom firstOf
 no-zero v h = capped-within v h
 
--- A WALK OVER THEM. The size grows by a digit for each that counts, and so few fit 64 bits
+-- A WALK OVER THEM. The size grows by one digit for each that counts; so few digits fit 64 bits
 pub record DecimalsSoFar (s : List ℕ) (at x k value left : ℕ) (f : Bool) (i : ℕ) : Type 0 where
   pub inside : i ≤ length s
   pub counted : left ≤ k

@@ -1,4 +1,5 @@
--- `short_hour::hour_shortfalls` meets its contract: the judgement's refusal, 86, or the accepted hour's numbers. Assumes nothing.
+-- `short_hour::hour_shortfalls` meets its contract: the judgement's refusal, 86, or the accepted hour's numbers.
+-- Assumes nothing.
 use mathlib.Core.Path.{_≡_, ap, sym, subst, _∙_}
 use mathlib.Core.List.{List}
 use Prim.Native.Nat.{ℕ, _+_, _*_, _≤_, _<_}

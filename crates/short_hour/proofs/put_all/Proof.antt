@@ -1,4 +1,4 @@
--- `short_hour::put_all` meets its contract: three runs of pairs, one behind the other. Assumes nothing.
+-- `short_hour::put_all` meets its contract: three runs of pairs, one after the other. Assumes nothing.
 use mathlib.Core.Path.{_≡_, ap, sym, subst, _∙_}
 use mathlib.Core.List.{List, _++_}
 use Prim.Native.Nat.{ℕ, _+_, _*_, _≤_}
@@ -15,7 +15,6 @@ use Rattle.short_hour.specs.Steps.Pairs.{countOf, three-runs}
 use Rattle.short_hour.proofs.put_all.Statement.{statement}
 use Rattle.short_hour.proofs.put_all.Tie as tie
 
--- the hour
 abbrev hour : tie.Start → Case
 hour a = caseOf (now (a .args .«case»))
 

@@ -1,4 +1,5 @@
--- `short_hour::put_branches` meets its contract. The loop's invariant: the pairs of the branches so far are written. Assumes nothing.
+-- `short_hour::put_branches` meets its contract. The loop's invariant: the pairs of the branches so far are
+-- written. Assumes nothing.
 use mathlib.Core.Path.{_≡_, refl, ap, _∙_}
 use mathlib.Core.List.{List, []}
 use Prim.Native.Nat.{ℕ, _+_, _*_, _-_, _≤_, _<_}

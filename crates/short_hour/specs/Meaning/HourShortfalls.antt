@@ -1,4 +1,4 @@
--- THE SHORTFALLS of a case s and a proposal t, with an output buffer out: what is answered, r, and the buffer afterwards.
+-- THE SHORTFALLS of a case s and a proposal t, with an output buffer out: the answer r, and the buffer afterwards.
 use mathlib.Core.Path.{_≡_}
 use mathlib.Core.List.{List}
 use Prim.Native.Nat.{ℕ}

@@ -96,6 +96,5 @@ module _ (s t : List ℕ) (out : List ℤ) where
       unfolding shortfallCount caseOf
       count-is = ap countOf (((h .hour-is valued) .proposed) .opened .counts)
 
--- the counts are few
 pub few : {s t : List ℕ} {hour : HourRead} → HourAccepted s t hour → CountsInRange (hour .counts)
 few j = limited (headed (case-opened (j .read)))

@@ -1,4 +1,4 @@
--- The pairs of numbers as they are written: those of one shortfall, and a run of them with one more. Assumes nothing.
+-- The pairs of numbers as written: those of one shortfall, and a run of them with one more. Assumes nothing.
 use mathlib.Core.Path.{_≡_, sym, ap, _∙_}
 use mathlib.Core.List.{List, [], _∷_, _++_}
 use Prim.Native.Nat.{ℕ, _+_, _*_, _/_, _%_, _<_}
@@ -10,15 +10,15 @@ use lib.IntN.{ℤ, pos, natAbs, _*ℤ_}
 use lib.Signed.{_≤ℤ_}
 use Rattle.base_integers.specs.Steps.Bytes.{sets-append}
 use Rattle.base_integers.specs.Steps.Difference.{at, _⊗_, le-fact, eq-fact}
-use Rattle.base_measures.specs.Meaning.Limits.{partsInOne}
-use Rattle.base_measures.specs.Meaning.Exact.{exactly}
+use Rattle.base_limits.specs.Meaning.Limits.{partsInOne}
+use Rattle.base_limits.specs.Meaning.Exact.{exactly}
 use Rattle.base_measures.specs.declared.ExactMicrocents.{ExactMicrocents}
 use Rattle.case_header.specs.declared.Counts.{Counts}
 use Rattle.short_rules.specs.Meaning.Answer.{wholeOf, partsOf, pairsTo}
 use Rattle.short_rules.specs.Steps.Pairs.{pairs-long}
 use Rattle.short_single.specs.Meaning.Short.{Exact}
 
--- so many shortfalls, by the counts
+-- the number of shortfalls, from the counts
 abbrev pub countOf : Counts → ℕ
 countOf k = k .orders + k .branches + k .links
 
@@ -57,7 +57,7 @@ run-more out k i n f {r} e x =
     ∙ ap (λ (l : List ℤ). sets out k (pairsTo i f ++ l)) (numbers-are x)
     ∙ ap (λ (m : ℕ). sets out k (pairsTo m f)) (sym (add-one i))
 
--- THREE RUNS, one behind the other
+-- THREE RUNS, one after the other
 pub three-runs : (out : List ℤ) (a b e : ℕ) (f g h : ℕ → ℤ)
     → sets (sets (sets out 0 (pairsTo a f)) (2 * a) (pairsTo b g)) (2 * (a + b)) (pairsTo e h) ≡ sets out 0 (pairsTo a f ++ (pairsTo b g ++ pairsTo e h))
 three-runs out a b e f g h =

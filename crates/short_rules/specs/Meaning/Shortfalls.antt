@@ -1,5 +1,6 @@
--- REQUEST S-14, who may be off, and by how much: the three shortfalls of an hour, of its case c, its proposal p and its prices d, all in whole
--- hundred-thousandths of a microcent, and what is promised of them. A proposal's denominator is 1. Assumes nothing.
+-- REQUEST S-14, who may be off, and by how much: the three shortfalls of an hour with the case c, the proposal p
+-- and the prices d, in whole hundred-thousandths of a microcent, and the promises about them. A proposal's
+-- denominator is 1. Assumes nothing.
 use mathlib.Core.Path.{_≡_}
 use mathlib.Core.Bool.{cond}
 use Prim.Native.Nat.{ℕ, _<_}
@@ -7,10 +8,11 @@ use lib.IntN.{ℤ, pos, _+ℤ_, _-ℤ_, _*ℤ_}
 use lib.Signed.{_≤ℤ_}
 use Rattle.base_integers.specs.Meaning.Order.{positive}
 use Rattle.base_integers.specs.Meaning.Sums.{sumTo}
-use Rattle.base_measures.specs.Meaning.Limits.{partsInOne}
+use Rattle.base_limits.specs.Meaning.Limits.{partsInOne}
 use Rattle.rules.specs.Meaning.Hour.{Case, Plan, Prices, buys, above, branchUse, branchRoom, zonePrice, orderSurplus, branchTotal, spread, linkTotal, noLink}
 
--- what an order's accepted volume earns at the zone price, in microcents: less than nothing where the price lies on the wrong side
+-- what an order's accepted volume earns at the zone price, in microcents; below zero where the price is on the
+-- wrong side
 unfoldable pub earned : Case → Plan → Prices → ℕ → ℤ
 earned c p d i = pos (p .volume i) *ℤ above (buys c i) (pos partsInOne *ℤ c .price i) (zonePrice c d (c .zone i))
 
@@ -18,7 +20,8 @@ earned c p d i = pos (p .volume i) *ℤ above (buys c i) (pos partsInOne *ℤ c 
 unfoldable pub orderShortfall : Case → Plan → Prices → ℕ → ℤ
 orderShortfall c p d i = pos partsInOne *ℤ (orderSurplus c d i -ℤ earned c p d i)
 
--- EACH BRANCH: 100,000 times its shadow price times what the flow-based part leaves free of the margin scaled by the flow-based share (rule 5)
+-- EACH BRANCH: 100,000 times its shadow price times what the flow-based part leaves free of the margin scaled by
+-- the flow-based share (rule 5)
 unfoldable pub branchShortfall : Case → Plan → Prices → ℕ → ℤ
 branchShortfall c p d m = pos partsInOne *ℤ (pos (d .shadow m) *ℤ (branchRoom c p m -ℤ branchUse c p m))
 
@@ -33,18 +36,18 @@ allShortfalls c p d =
     +ℤ sumTo (c .branches) (λ m. branchShortfall c p d m)
     +ℤ sumTo (c .links) (λ l. linkShortfall c p d l)
 
--- THE LARGER TOTAL'S LEAD, weighed by the two shares: rule 10 takes the larger of branch total and link total, and its lead over the other counts by the
--- share that is on the other
+-- THE LARGER TOTAL'S LEAD, weighed by the two shares: rule 10 takes the larger of branch total and link total, and
+-- its lead over the other counts with the other's share
 unfoldable pub weighedLead : Case → Plan → Prices → ℤ
 weighedLead c p d =
     (pos partsInOne -ℤ pos (p .share)) *ℤ positive (linkTotal c d -ℤ branchTotal c d)
     +ℤ pos (p .share) *ℤ positive (branchTotal c d -ℤ linkTotal c d)
 
--- WHAT IS LEFT OF THE GAP: without links there is one total alone (S-6), and nothing is left
+-- WHAT IS LEFT OF THE GAP: without links there is only one total (S-6), and nothing is left
 unfoldable pub leadLeft : Case → Plan → Prices → ℤ
 leadLeft c p d = cond (noLink c) (pos 0) (weighedLead c p d)
 
--- WHAT IS PROMISED of an accepted hour whose gap, in microcents, is g
+-- THE PROMISES for an accepted hour whose gap, in microcents, is g
 pub record Accounted (c : Case) (p : Plan) (d : Prices) (g : ℤ) : Type 0 where
   -- none is negative
   pub order-in : (i : ℕ) → i < c .orders → pos 0 ≤ℤ orderShortfall c p d i
@@ -60,6 +63,6 @@ pub record Accounted (c : Case) (p : Plan) (d : Prices) (g : ℤ) : Type 0 where
   pub order-zero : g ≡ pos 0 → (i : ℕ) → i < c .orders → orderShortfall c p d i ≡ pos 0
   pub branch-zero : g ≡ pos 0 → (m : ℕ) → m < c .branches → branchShortfall c p d m ≡ pos 0
   pub link-zero : g ≡ pos 0 → (l : ℕ) → l < c .links → linkShortfall c p d l ≡ pos 0
-  -- the exact account, and that what is left is not negative either
+  -- the exact account; what is left is not negative either
   pub account : pos partsInOne *ℤ g ≡ allShortfalls c p d +ℤ leadLeft c p d
   pub left-in : pos 0 ≤ℤ leadLeft c p d

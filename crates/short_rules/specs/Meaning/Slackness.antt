@@ -1,15 +1,16 @@
--- COMPLEMENTARY SLACKNESS in the terms of Annex 14.29, appendix A: of a solution x of (60) to (72) and multipliers y. A variable above zero has its dual
--- condition met with equality, and a multiplier above zero its constraint. l and k are zones, i is an order, m a branch. Assumes nothing.
+-- COMPLEMENTARY SLACKNESS in the terms of Annex 14.29, appendix A, for a solution x of (60) to (72) and multipliers
+-- y. A variable above zero meets its dual condition with equality, and a multiplier above zero its constraint. l
+-- and k are zones, i is an order, m a branch. Assumes nothing.
 use mathlib.Core.Path.{_≡_}
 use Prim.Native.Nat.{ℕ, _*_, _<_}
 use lib.IntN.{ℤ, pos, _*ℤ_}
 use lib.Signed.{_≤ℤ_, _<ℤ_}
 use Rattle.base_integers.specs.Meaning.Sums.{sumTo}
-use Rattle.base_measures.specs.Meaning.Limits.{partsInOne}
+use Rattle.base_limits.specs.Meaning.Limits.{partsInOne}
 use Rattle.rules.specs.Meaning.Hour.{Case, buys, above}
 use Rattle.rules.specs.Meaning.Annex.{Solution, Multipliers, Complementary, capacityLTA, marginValue, capacityValue}
 
--- how far an order's price, in grains, lies on the good side of its zone's
+-- how far an order's price, in grains, is on the good side of its zone's
 unfoldable pub orderGain : Case → Multipliers → ℕ → ℤ
 orderGain c y i = above (buys c i) (pos partsInOne *ℤ c .price i) (y .price (c .zone i))
 

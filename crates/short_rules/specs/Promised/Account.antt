@@ -1,5 +1,6 @@
--- S-14 OF EVERY ACCEPTED HOUR, for every case s and proposal t as bytes, with and without links: no shortfall is negative, all together are at most the gap, at
--- gap zero each is zero, and what is left of the gap is the larger total's lead, weighed by the shares. Assumes nothing.
+-- S-14 FOR EVERY ACCEPTED HOUR, for every case s and proposal t as bytes, with and without links. No shortfall is
+-- negative, and all together are at most the gap. At gap zero each is zero. What is left of the gap is the larger
+-- total's lead, weighed by the shares. Assumes nothing.
 use mathlib.Core.Path.{_≡_, refl, sym, ap, subst, _∙_}
 use mathlib.Core.List.{List}
 use Prim.Native.Nat.{ℕ, _*_, _<_}
@@ -13,7 +14,7 @@ use Rattle.base_integers.specs.Steps.Difference.{at, _⊕_, _⊖_, _⊗_, le-by
 use Rattle.base_integers.specs.Steps.Order.{le-antisym, times-nonneg}
 use Rattle.base_integers.specs.Meaning.Sums.{sumTo}
 use Rattle.base_integers.specs.Steps.Sums.{sum-ext, sum-scale-l, sum-nonneg, one-le-sum}
-use Rattle.base_measures.specs.Meaning.Limits.{partsInOne}
+use Rattle.base_limits.specs.Meaning.Limits.{partsInOne}
 use Rattle.rules.specs.Meaning.Hour.{Case, Plan, Prices, caseOf, planOf, pricesOf, welfare, bound, gap}
 use Rattle.rules.specs.Meaning.Clearing.{Placed, Clearing}
 use Rattle.rules.specs.Meaning.Verdict.{outcome}
@@ -25,7 +26,7 @@ use Rattle.rules.specs.Promised.Reported.{reported}
 use Rattle.short_rules.specs.Meaning.Shortfalls.{orderShortfall, branchShortfall, linkShortfall, allShortfalls, weighedLead, leadLeft, Accounted}
 use Rattle.short_rules.specs.Steps.Parts.{left-without, left-with, order-is, branch-is, link-is, slack-is}
 
--- OF A CLEARING over denominator 1
+-- FOR A CLEARING over denominator 1
 module _ (c : Case) (ok : Placed c) (d : Prices) (p : Plan) (cl : Clearing c p) (one : p .den ≡ 1) where
   orders : ℤ
   orders = sumTo (c .orders) (λ i. orderShortfall c p d i)
@@ -147,7 +148,7 @@ module _ (c : Case) (ok : Placed c) (d : Prices) (p : Plan) (cl : Clearing c p) 
       left-in = left-in;
     }
 
--- OF AN ACCEPTED HOUR
+-- FOR AN ACCEPTED HOUR
 module _ (s t : List ℕ) (room : ℕ) (a : Accepted s t room) where
   wrote : T (reports ((outcome s t room) .number))
   unfolding reports
@@ -163,11 +164,11 @@ module _ (s t : List ℕ) (room : ℕ) (a : Accepted s t room) where
   pub hour-accounted : Accounted (caseOf s) (planOf s t) (pricesOf s t) (gap (caseOf s) (planOf s t) (pricesOf s t))
   hour-accounted = hour-by (gap (caseOf s) (planOf s t) (pricesOf s t)) refl
 
--- and of the gap that stands in its report
+-- and for the gap in its report
 pub reported-accounted : (s t buffer : List ℕ) → Accepted s t (length buffer) → Accounted (caseOf s) (planOf s t) (pricesOf s t) (reportedGap (bufferAfter s t buffer))
 reported-accounted s t buffer a = hour-by s t (length buffer) a (reportedGap (bufferAfter s t buffer)) ((reported s t buffer (wrote s t (length buffer) a)) .gap-at)
 
--- S-6: without links nothing is left, so that the shortfalls are the gap
+-- S-6: without links nothing is left, so the shortfalls are the gap
 pub whole-without-links : (s t : List ℕ) (room : ℕ) → Accepted s t room → (caseOf s) .links ≡ 0
     → pos partsInOne *ℤ gap (caseOf s) (planOf s t) (pricesOf s t) ≡ allShortfalls (caseOf s) (planOf s t) (pricesOf s t)
 whole-without-links s t room a e = (hour-accounted s t room a) .account ∙ ap (λ (x : ℤ). allShortfalls (caseOf s) (planOf s t) (pricesOf s t) +ℤ x) (left-without (caseOf s) (planOf s t) (pricesOf s t) e)

@@ -1,5 +1,6 @@
--- S-14 IN THE ANNEX'S TERMS: at gap zero the proposal, as a solution of (60) to (72), and its prices, as multipliers, meet complementary slackness, (77) among
--- it: each condition is what a shortfall of zero, or a lead of zero, says. Assumes nothing.
+-- S-14 IN THE ANNEX'S TERMS: at gap zero the proposal, as a solution of (60) to (72), and its prices, as
+-- multipliers, meet complementary slackness, including (77). Each condition follows from a shortfall of zero or a
+-- lead of zero. Assumes nothing.
 use mathlib.Core.Path.{_≡_, refl, sym, ap, subst, _∙_}
 use mathlib.Core.Bool.{Bool}
 use mathlib.Core.List.{List}
@@ -15,7 +16,7 @@ use Rattle.base_integers.specs.Steps.Difference.{at, _⊕_, _⊖_, _⊗_, le-by
 use Rattle.base_integers.specs.Meaning.Order.{positive}
 use Rattle.base_integers.specs.Steps.Order.{positive-nat, le-antisym, add-nonneg, larger-left, larger-right}
 use Rattle.base_integers.specs.Steps.Sums.{sum-ext, sum-nonneg}
-use Rattle.base_measures.specs.Meaning.Limits.{partsInOne}
+use Rattle.base_limits.specs.Meaning.Limits.{partsInOne}
 use Rattle.rules.specs.Meaning.Hour.{Case, Plan, Prices, caseOf, planOf, pricesOf, above, fbPart, branchUse, branchRoom, zonePrice, surplusOf, orderSurplus, branchValue, branchTotal, spread, linkTotal, welfare, bound, gap}
 use Rattle.rules.specs.Meaning.Clearing.{Placed, Clearing}
 use Rattle.rules.specs.Meaning.Annex.{Solution, Feasible, PairsOnce, capacityLTA, marginValue, capacityValue, liabilities}
@@ -31,7 +32,7 @@ use Rattle.short_rules.specs.Meaning.Slackness.{orderGain, Slackness}
 use Rattle.short_rules.specs.Steps.Parts.{left-with}
 use Rattle.short_rules.specs.Promised.Account as account
 
--- OVER PLAIN VARIABLES, what a shortfall of zero says. An order: q its quantity, v its volume, g its gain
+-- OVER PLAIN VARIABLES, what a shortfall of zero implies. An order: q its quantity, v its volume, g its gain
 accepted-gains : (q v : ℕ) (g : ℤ) → 0 < v → pos partsInOne *ℤ (positive (pos q *ℤ g) -ℤ pos v *ℤ g) ≡ pos 0 → pos 0 ≤ℤ g
 accepted-gains q v (pos k) h e = le-by (at (pos 0)) (at (pos k)) (omega arith)
 accepted-gains q v (negsuc k) h e = let one : 0 < k + 1 = omega arith in absurd (omega (
@@ -74,7 +75,7 @@ capacity-full k a f (pos n) h e =
       ]
     ]
 
--- two weights, of what is not negative, that come to zero: what has a weight is zero
+-- two amounts that are not negative, weighed, sum to zero: one with a weight above zero is zero
 weight-zero : (r a m n : ℕ) → r * m + a * n ≡ 0 → 0 < r → m ≡ 0
 weight-zero r a zero n e h = refl
 weight-zero r a (suc m) n e h = let one : 0 < m + 1 = omega arith in absurd (omega (arith, mul-pos h one, e))
@@ -90,7 +91,7 @@ no-lead a r (pos m) (pos n) h hx hy e =
     let flat : r * m + a * n ≡ 0 = omega (arith, eq-fact ((at (pos partsInOne) ⊖ at (pos a)) ⊗ at (pos m) ⊕ at (pos a) ⊗ at (pos n)) (at (pos 0)) e, ap (λ (k : ℕ). k * m) h) in
     (λ l. ap pos (weight-zero r a m n flat l), λ l. ap pos (other-zero r a m n flat l))
 
--- a lead of nothing
+-- no lead
 not-ahead : (x y : ℤ) → positive (x -ℤ y) ≡ pos 0 → x ≤ℤ y
 not-ahead x y e = le-by (at x) (at y) (omega (arith, le-fact (at x ⊖ at y) (at (pos 0)) (subst (λ (z : ℤ). (x -ℤ y) ≤ℤ z) e (larger-right (pos 0) (x -ℤ y)))))
 
@@ -179,7 +180,7 @@ module _ (c : Case) (ok : Placed c) (o : PairsOnce c) (d : Prices) (p : Plan) (c
       some-link : 0 < p .share → 0 < c .links
       some-link h = elim (decLt 0 (c .links)) [ yes l ↦ l | no g ↦ absurd (omega (arith, h, cl .without-links (omega arith))) ]
 
--- OF AN ACCEPTED HOUR, whatever commercial flows carry its flow-based part
+-- FOR AN ACCEPTED HOUR, whatever commercial flows carry its flow-based part
 pub hour-slackness : (s t : List ℕ) (room : ℕ) → Accepted s t room → gap (caseOf s) (planOf s t) (pricesOf s t) ≡ pos 0
     → (line : ℕ → ℕ → Bool) (r : IsFeasible (caseOf s) line (planOf s t)) → Slackness (caseOf s) (r .solution) (multipliersOf (caseOf s) (pricesOf s t))
 unfolding reports planOf

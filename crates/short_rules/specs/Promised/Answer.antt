@@ -1,5 +1,6 @@
--- S-14 OF AN ANSWER: in an output that opens with the numbers of an accepted hour each pair is its order's, branch's or link's shortfall; none is negative, all
--- together are at most the gap, and at gap zero every number is zero. Assumes nothing.
+-- S-14 FOR AN ANSWER: in an output that begins with the numbers of an accepted hour, each pair is its order's,
+-- branch's or link's shortfall. None is negative, all together are at most the gap, and at gap zero every number is
+-- zero. Assumes nothing.
 use mathlib.Core.Path.{_≡_, refl, sym, ap, subst, _∙_}
 use mathlib.Core.List.{List, _++_, append-assoc}
 use Prim.Native.Nat.{ℕ, zero, suc, _+_, _*_, _%_, _-_, _≤_, _<_}
@@ -15,7 +16,7 @@ use Rattle.base_integers.specs.Steps.Order.{le-trans}
 use Rattle.base_integers.specs.Steps.Size.{Near, near-fits}
 use Rattle.base_integers.specs.Meaning.Sums.{sumTo}
 use Rattle.base_integers.specs.Steps.Sums.{sum-ext, sum-split}
-use Rattle.base_measures.specs.Meaning.Limits.{partsInOne, microcentsOf}
+use Rattle.base_limits.specs.Meaning.Limits.{partsInOne, microcentsOf}
 use Rattle.rules.specs.Meaning.Hour.{Case, Plan, Prices, caseOf, planOf, pricesOf, branchUse, branchRoom, orderSurplus, gap}
 use Rattle.rules.specs.Meaning.Report.{reports}
 use Rattle.rules.specs.Steps.Passed.{sound, case-sound}
@@ -101,7 +102,7 @@ module _ (c : Case) (p : Plan) (d : Prices) (rest : List ℤ) where
         +ℤ sum-ext (c .branches) (λ m. shortfallAt out (c .orders + m)) (λ m. branchShortfall c p d m) (λ m h. pair-value (a .branch-in m h) (branch-pair m h)) j
         +ℤ sum-ext (c .links) (λ l. shortfallAt out (c .orders + c .branches + l)) (λ l. linkShortfall c p d l) (λ l h. pair-value (a .link-in l h) (link-pair l h)) j)
 
--- 100,000 times whole microcents have no parts
+-- 100,000 times whole microcents has no parts
 size-of-minus : (n : ℕ) → natAbs (negℤ (pos n)) ≡ n
 size-of-minus zero = refl
 size-of-minus (suc n) = refl
@@ -122,7 +123,7 @@ branch-parts : (c : Case) (p : Plan) (d : Prices) (m : ℕ) → partsOf (branchS
 unfolding branchShortfall
 branch-parts c p d m = no-parts (pos (d .shadow m) *ℤ (branchRoom c p m -ℤ branchUse c p m))
 
--- OF AN ACCEPTED HOUR: no gap is above the highest tolerance
+-- FOR AN ACCEPTED HOUR: no gap is above the highest tolerance
 pub gap-small : (s t : List ℕ) (room : ℕ) → Accepted s t room → gap (caseOf s) (planOf s t) (pricesOf s t) ≤ℤ pos 1000000000000000
 unfolding reports
 gap-small s t room a = le-trans ((gap-range s t room a) .1) (highest ((caseOf s) .tolerance) ((case-sound s ((sound s t room (subst (λ (n : ℕ). T (reports n)) (sym (a .answer)) tt)) .readable)) .tolerance-in))

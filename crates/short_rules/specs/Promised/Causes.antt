@@ -1,5 +1,5 @@
--- The judgement first: what it refuses is its own answer, 30 apart, which cannot occur; what it accepts is asked for its room alone. A refusal is given for its
--- cause and for no other and writes nothing. Assumes nothing.
+-- The judgement first: if it refuses, that is the answer, except 30, which cannot occur; if it accepts, only the
+-- room is asked. A refusal is given for its own cause and no other, and writes nothing. Assumes nothing.
 use mathlib.Core.Path.{_≡_, refl, sym, ap, _∙_}
 use mathlib.Core.List.{List, [], _∷_, _++_}
 use mathlib.Core.Option.{Option, none, some}
@@ -24,7 +24,7 @@ module _ (s t : List ℕ) (room : ℕ) where
   abbrev asked : List Cause
   asked = once 86 (room under (2 * shortfallCount (caseOf s))) ∷ []
 
-  -- the table from row 1 on: with room enough for a report 30 passes
+  -- the table from row 1 on: with room for a report 30 passes
   abbrev from-row-1 : List Cause
   from-row-1 = caseCauses s (caseOf s) ++ (proposalCauses s t (caseOf s) (planOf s t) (pricesOf s t) ++ judgementCauses none (caseOf s) (planOf s t) (pricesOf s t))
 
@@ -57,7 +57,7 @@ module _ (s t : List ℕ) (room : ℕ) where
       by (some x) e = ap answer (refused-first x e ∙ sym e)
       by none e = absurd (never (refusal judged) h e)
 
-  -- an accepted one by 86 where the output is too short, and else by 0
+  -- an accepted hour gets 86 where the output is too short, else 0
   pub short-output : (outcome s t reportRoom) .number ≡ 0 → room < 2 * shortfallCount (caseOf s) → refusal (shortfallCauses s t room) ≡ some (verdict 86 0)
   short-output e h = asked-then (none-refused e) ∙ row-found (once 86 (room under (2 * shortfallCount (caseOf s)))) [] 0 (once-fails (lt-ltb room (2 * shortfallCount (caseOf s)) h))
 
@@ -78,7 +78,7 @@ module _ (s t : List ℕ) (room : ℕ) where
   unfolding shortfallOutcome
   shortfall-first j k h f = soonest (shortfallCauses s t room) j k h f
 
-  -- 0 is given where no row fails, for an accepted hour alone, has index 0, and writes the numbers
+  -- 0 is given where no row fails, only for an accepted hour, has index 0, and writes the numbers
   pub shortfall-none : (shortfallOutcome s t room) .number ≡ 0 → refusal (shortfallCauses s t room) ≡ none
   unfolding shortfallOutcome shortfallCauses table roomCauses caseCauses proposalCauses clearingCauses lacks
   shortfall-none e = zero-none (shortfallCauses s t room) tt e
@@ -110,7 +110,7 @@ module _ (s t : List ℕ) (room : ℕ) where
       by (some x) q = not-refused 30 (from-row-1 ++ asked) tt x q (number (some x) q)
       by none q = omega (arith, number none q)
 
--- a refusal leaves every number as it was
+-- a refusal leaves every number unchanged
 pub shortfall-refused : (s t : List ℕ) (out : List ℤ) → 0 < (shortfallOutcome s t (length out)) .number → (length (shortfallWritten s t (length out)) ≡ 0) × (shortfallOutput s t out ≡ out)
 unfolding shortfallOutcome shortfallWritten shortfallOutput
 shortfall-refused s t out h = by (refusal (shortfallCauses s t (length out))) h

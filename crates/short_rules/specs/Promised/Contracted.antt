@@ -1,4 +1,5 @@
--- S-14: CONTRACTED VOLUMES DO NOT ENTER. Two cases that differ in contracted volumes alone have the same shortfalls, and the same is left. Assumes nothing.
+-- S-14: CONTRACTED VOLUMES DO NOT ENTER. Two cases that differ only in contracted volumes have the same shortfalls,
+-- and the same is left. Assumes nothing.
 use mathlib.Core.Path.{_≡_, refl}
 use Prim.Native.Nat.{ℕ}
 use Rattle.rules.specs.Meaning.Hour.{Case, Plan, Prices, buys, orderNet, net, inflow, outflow, ltaPart, fbPart, branchUse, branchRoom, branchPrice, zonePrice, orderSurplus, branchValue, branchTotal, spread, linkValue, linkTotal, noLink}

@@ -1,6 +1,6 @@
 -- S-14 IN PLAIN NUMBERS: when the entry answers 86 and 0, both ways, and what each pair of numbers of an answer is,
--- with the paper's own 100,000. The bytes of a field, as `capacityIn s l`, are in `PlainLayout` of `rules`; `price z` is the
--- zone price of rule 6 in grains. Assumes nothing.
+-- with the paper's own 100,000. `PlainLayout` of `rules` has the bytes of a field such as `capacityIn s l`;
+-- `price z` is the zone price of rule 6 in grains. Assumes nothing.
 use mathlib.Core.Path.{_≡_, refl, sym, ap, subst, _∙_}
 use mathlib.Core.Logic.{_↔_}
 use mathlib.Core.List.{List}
@@ -34,8 +34,8 @@ branches s = getD s 6 0
 abbrev pub links : List ℕ → ℕ
 links s = getD s 7 0
 
--- THE ANSWER o, for an hour that the judgement answers by `judged` and an output of `room` numbers: two are needed for
--- each order, branch and link
+-- THE ANSWER o, for an hour that the judgement answers by `judged` and an output of `room` numbers. Each order,
+-- branch and link needs two
 pub record Numbers (s : List ℕ) (judged : Outcome) (room : ℕ) (o : Outcome) : Type 0 where
   pub not-judged-0 : 0 < judged .number → o ≡ judged
   pub is-86 : (o .number ≡ 86) ↔ ((judged .number ≡ 0) × (room < 2 * (orders s + branches s + links s)))
@@ -81,7 +81,7 @@ module _ (s t : List ℕ) (room : ℕ) where
         index-0 = λ h. refl;
       }) (ap answer (enough-room s t room e (omega (arith, l))))
 
--- THE n-TH AMOUNT of an output, in hundred-thousandths of a microcent: 100,000 times the first of its two numbers, and
+-- AMOUNT n of an output, in hundred-thousandths of a microcent: 100,000 times the first of its two numbers, plus
 -- the second
 abbrev pub amount : List ℤ → ℕ → ℤ
 amount out n = getD out (2 * n) (pos 0) *ℤ pos 100000 +ℤ getD out (2 * n + 1) (pos 0)

@@ -1,4 +1,5 @@
--- Shortfalls as pairs of numbers, read back: where a pair stands in a list of them, and that it is its shortfall. Assumes nothing.
+-- Shortfalls as pairs of numbers, read back: where a pair stands in a list, and that it is its shortfall.
+-- Assumes nothing.
 use mathlib.Core.Path.{_≡_, refl, sym, ap, _∙_}
 use mathlib.Core.List.{List, [], _∷_, _++_, append-assoc}
 use Prim.Native.Nat.{ℕ, zero, suc, _+_, _*_, _/_, _%_, _<_}
@@ -9,7 +10,7 @@ use lib.Seq.{getD-append-add, getD-at}
 use lib.IntN.{ℤ, pos, negsuc, _+ℤ_, _*ℤ_}
 use lib.Signed.{_≤ℤ_}
 use Rattle.base_integers.specs.Steps.Difference.{at, _⊗_, le-by, le-fact}
-use Rattle.base_measures.specs.Meaning.Limits.{partsInOne}
+use Rattle.base_limits.specs.Meaning.Limits.{partsInOne}
 use Rattle.short_rules.specs.Meaning.Answer.{wholeOf, partsOf, pairsTo, wholeAt, partsAt, shortfallAt}
 
 -- ONE SHORTFALL: both numbers, and what bounds them
@@ -33,7 +34,7 @@ whole-range (pos n) g h k = (
 )
 whole-range (negsuc n) g h k = absurd (h .le)
 
--- the n-th pair of an output is that of x
+-- pair n of an output is that of x
 pub record Pair (out : List ℤ) (n : ℕ) (x : ℤ) : Type 0 where
   pub whole-is : wholeAt out n ≡ wholeOf x
   pub parts-is : partsAt out n ≡ partsOf x

@@ -1,5 +1,5 @@
--- The shortfalls and the parts of the gap as `rules` takes it apart: equal but for the factor 100,000, and what its slack is. Over plain variables first.
--- Assumes nothing.
+-- The shortfalls and the parts of the gap in `rules` are equal up to the factor 100,000, and so is the slack. Over
+-- plain variables first. Assumes nothing.
 use mathlib.Core.Path.{_≡_, sym, ap, _∙_}
 use mathlib.Core.Bool.{Bool, true, false, cond}
 use Prim.Native.Nat.{ℕ, _*_, _-_, _<_}
@@ -11,7 +11,7 @@ use Rattle.base_integers.specs.Meaning.Difference.{up, dn}
 use Rattle.base_integers.specs.Steps.Difference.{at, _⊕_, _⊖_, _⊗_, ⊝_, eq-by}
 use Rattle.base_integers.specs.Meaning.Order.{positive}
 use Rattle.base_integers.specs.Steps.Order.{larger-less-left, larger-less-right}
-use Rattle.base_measures.specs.Meaning.Limits.{partsInOne}
+use Rattle.base_limits.specs.Meaning.Limits.{partsInOne}
 use Rattle.rules.specs.Meaning.Hour.{Case, Plan, Prices, signed, buys, above, orderNet, branchUse, branchRoom, zonePrice, orderWelfare, orderSurplus, branchValue, branchTotal, spread, linkValue, linkTotal, noLink, networkBound}
 use Rattle.rules.specs.Meaning.Clearing.{Clearing}
 use Rattle.rules.specs.Steps.Duality.{rest, without-links-is, with-links-is}
@@ -48,7 +48,7 @@ left-with c p d h = ap (λ (b : Bool). cond b (pos 0) (weighedLead c p d)) (ne-e
     some : c .links ≡ 0 → ⊥
     some e = omega (arith, h)
 
--- OF A CLEARING over denominator 1
+-- FOR A CLEARING over denominator 1
 module _ (c : Case) (d : Prices) (p : Plan) (cl : Clearing c p) (one : p .den ≡ 1) where
   pub order-is : (i : ℕ) → orderShortfall c p d i ≡ pos partsInOne *ℤ orderShort c d p i
   unfolding orderShortfall earned orderShort orderWelfare orderNet
@@ -64,7 +64,6 @@ module _ (c : Case) (d : Prices) (p : Plan) (cl : Clearing c p) (one : p .den �
   unfolding linkShortfall linkShort linkValue
   link-is l = link-plain (c .capacity l) (p .share) (positive (spread c d l)) (pos partsInOne *ℤ (pos (p .flow l) *ℤ spread c d l))
 
-  -- the slack is what is left
   pub slack-is : slack c d p ≡ leadLeft c p d
   unfolding slack weighedLead
   slack-is = elim (decLt 0 (c .links)) [ yes l ↦ with-links l ∙ sym (left-with c p d l) | no g ↦ without (omega arith) ∙ sym (left-without c p d (omega arith)) ]

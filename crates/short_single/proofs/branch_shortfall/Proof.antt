@@ -1,5 +1,5 @@
--- `short_single::branch_shortfall` meets its contract: the branch's margin by the flow-based share, its load and its shadow price, in the one form.
--- Assumes nothing.
+-- `short_single::branch_shortfall` meets its contract: the branch's margin times the flow-based share, its load and
+-- its shadow price, in the common form. Assumes nothing.
 use mathlib.Core.Path.{_≡_, ap, sym, subst, _∙_}
 use mathlib.Core.List.{List}
 use Prim.Native.Nat.{ℕ, _<_}
@@ -14,8 +14,8 @@ use Rattle.base_integers.specs.Meaning.Sums.{sumTo}
 use Rattle.base_integers.specs.Steps.Sums.{sum-ext}
 use Rattle.base_integers.specs.Meaning.Machine.{SumsFit}
 use Rattle.base_integers.specs.Steps.Machine.{sfits-by}
-use Rattle.base_measures.specs.Meaning.Limits as limits
-use Rattle.base_measures.specs.Meaning.Limits.{partsInOne, grainsOf}
+use Rattle.base_limits.specs.Meaning.Limits as limits
+use Rattle.base_limits.specs.Meaning.Limits.{partsInOne, grainsOf}
 use Rattle.rules.specs.Meaning.Hour.{Case, Plan, Prices, caseOf, planOf, pricesOf, fbPart, branchUse, branchRoom}
 use Rattle.case_branches.specs.Steps.Table.{table-entry, entry-within}
 use Rattle.judge_clearing.specs.Steps.Read.{case-opened, zones-is, branches-is, few-zones}
@@ -44,7 +44,7 @@ margin-at-requires c κs = let a = c .before .before .before .before in (case-op
 shadow-at-requires : tie.Need-shadow-at-requires
 shadow-at-requires c κs = let a = c .before .before .before .before .before in (a .pre .0 .read .proposed, a .pre .1 .0)
 
--- what a zone's part lays on it
+-- the load of a zone's part on it
 term-is : (a : tie.Start) (z : ℕ) → z < a .args .hour .counts .zones → loadOn (a .args .row) (a .args .parts) z ≡ hour a .ptdf (a .args .m) z *ℤ fbPart (hour a) (plan a) z
 unfolding caseOf
 term-is a z h = λ j.
@@ -64,7 +64,7 @@ load-of-requires c κs =
 abbrev start : tie.After-load-of → tie.Start
 start c = c .before .before .before .before .before .before .before
 
--- THE THREE, as the form has them
+-- THE THREE NUMBERS of the common form
 used-is : (c : tie.After-load-of) → c .load-of .result .0 ≡ branchUse (hour (start c)) (plan (start c)) (start c .args .m)
 unfolding branchUse
 used-is c =

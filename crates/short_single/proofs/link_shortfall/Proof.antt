@@ -1,4 +1,5 @@
--- `short_single::link_shortfall` meets its contract: the link's capacity by the LTA share, its flow and its spread, in the one form. Assumes nothing.
+-- `short_single::link_shortfall` meets its contract: the link's capacity times the LTA share, its flow and its
+-- spread, in the common form. Assumes nothing.
 use mathlib.Core.Path.{_≡_, ap, _∙_}
 use Prim.Native.Nat.{_<_}
 use native.Mathlib.Omega.{arith}
@@ -7,7 +8,7 @@ use lib.IntN.{ℤ, pos, _-ℤ_, _*ℤ_}
 use mir.Syntax.{w64}
 use Rattle.base_integers.specs.Steps.Size.{near-fits}
 use Rattle.base_integers.specs.Steps.Machine.{sfits-by}
-use Rattle.base_measures.specs.Meaning.Limits.{partsInOne}
+use Rattle.base_limits.specs.Meaning.Limits.{partsInOne}
 use Rattle.rules.specs.Meaning.Hour.{Case, Plan, Prices, caseOf, planOf, pricesOf, zonePrice, spread}
 use Rattle.case_links.specs.declared.Link.{Link}
 use Rattle.judge_clearing.specs.Steps.Read.{case-opened, sound, links-is, share-is}
@@ -95,7 +96,7 @@ capacity-is : (c : tie.After-minus) → link c .link-at .result .capacity .0 ≡
 unfolding caseOf
 capacity-is c = ap (λ (x : Link). x .capacity .0) (link c .link-at .ensures)
 
--- THE THREE, as the form has them
+-- THE THREE NUMBERS of the common form
 part-is : (c : tie.After-minus) → let a = start (link c) in a .args .hour .opening .share .0 *ℤ link c .link-at .result .capacity .0 ≡ pos (plan a .share) *ℤ pos (hour a .capacity (a .args .l))
 part-is c = λ j. share-is (start (link c) .pre .0 .read) j *ℤ capacity-is c j
 

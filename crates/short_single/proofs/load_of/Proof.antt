@@ -11,7 +11,7 @@ use mir.Facts.{toZ-ofZ}
 use Rattle.base_integers.specs.Meaning.Ranges.{Within}
 use Rattle.base_integers.specs.Meaning.Sums.{sumTo}
 use Rattle.base_integers.specs.Steps.Machine.{step, step-fits, sfits-by}
-use Rattle.base_measures.specs.Meaning.Limits as limits
+use Rattle.base_limits.specs.Meaning.Limits as limits
 use Rattle.judge_clearing.specs.Meaning.TenthsHold.{tenthsAt}
 use Rattle.short_single.specs.Steps.HourAccepted.{loadOn}
 use Rattle.short_single.proofs.load_of.Statement.{statement}
@@ -33,7 +33,7 @@ mul-of-entry c = omega arith
 array-copy-out-of-entry : tie.Need-array-copy-out-of-entry Inv-loop μ-loop
 array-copy-out-of-entry c = omega arith
 
--- this entry as the machine reads it, and what it lays on the branch
+-- the entry that the machine reads, and its load on the branch
 abbrev read : tie.After-of-entry-arg Inv-loop μ-loop → ℤ
 read c = getD (c .before .before .before .args .t1) (c .before .before .loop .z) (pos 0)
 

@@ -1,4 +1,5 @@
--- `short_single::order_shortfall` meets its contract: the order's quantity, its volume and what a unit gains, in the one form. Assumes nothing.
+-- `short_single::order_shortfall` meets its contract: the order's quantity, its volume and the gain of a unit, in
+-- the common form. Assumes nothing.
 use mathlib.Core.Path.{_≡_, ap, sym, subst, _∙_}
 use Prim.Native.Nat.{_<_}
 use native.Mathlib.Omega.{arith}
@@ -8,8 +9,8 @@ use mir.Syntax.{w64}
 use Rattle.base_integers.specs.Meaning.Ranges.{Within}
 use Rattle.base_integers.specs.Steps.Size.{near-fits}
 use Rattle.base_integers.specs.Steps.Machine.{sfits-by}
-use Rattle.base_measures.specs.Meaning.Limits as limits
-use Rattle.base_measures.specs.Meaning.Limits.{partsInOne, grainsOf}
+use Rattle.base_limits.specs.Meaning.Limits as limits
+use Rattle.base_limits.specs.Meaning.Limits.{partsInOne, grainsOf}
 use Rattle.rules.specs.Meaning.Hour.{Case, Plan, Prices, caseOf, planOf, pricesOf, buys, above, zonePrice}
 use Rattle.rules.specs.Promised.Fits.{in-grains, near-zone-price}
 use Rattle.book_order.specs.declared.Order.{Order}
@@ -84,7 +85,6 @@ unit-gain-requires c κs =
       subst (λ (x : ℤ). Within limits.zonePrice x) (sym (zone-price o)) (start o .pre .0 .prices-in .within _ (zone-known o)),
     )
 
--- what a unit gains
 abbrev order : tie.After-unit-gain → tie.After-order-at
 order c = c .before .before .before .before .before
 
@@ -107,7 +107,7 @@ scaled-by-one-requires-2 c κs =
     let a = start (order (c .before)) in
     sfits-by w64 (ap (λ (x : ℤ). x *ℤ pos partsInOne) (volume-is (c .before))) (near-fits w64 (omega arith) ((order-shortable (a .pre .0) (a .args .i) (inside a)) .used-near))
 
--- THE THREE, as the form has them
+-- THE THREE NUMBERS of the common form
 room-is : (c : tie.After-scaled-by-one2) → let a = start (order (c .before .before)) in c .before .scaled-by-one .result .0 ≡ pos (hour a .quantity (a .args .i)) *ℤ pos partsInOne
 room-is c = c .before .scaled-by-one .ensures ∙ ap (λ (x : ℤ). x *ℤ pos partsInOne) (quantity-is (order (c .before .before)))
 

@@ -1,11 +1,12 @@
--- `short_single::short` meets its contract: by the sign of the price one product is the shortfall. Assumes nothing.
+-- `short_single::short` meets its contract: the sign of the price decides which product is the shortfall.
+-- Assumes nothing.
 use mathlib.Core.Path.{_≡_, ap, sym, subst, _∙_}
 use mathlib.Core.Bool.{Bool, true, false, not}
 use borrow.Author.Needs.{needs}
 use lib.Dec.{T}
 use lib.IntN.{ℤ, pos, _*ℤ_}
 use lib.Signed.{ltZ}
-use Rattle.base_measures.specs.Meaning.Exact.{Costs}
+use Rattle.base_limits.specs.Meaning.Exact.{Costs}
 use Rattle.short_single.specs.Steps.Short.{turned-is, kept-is, turned-costs, turned-fits, left-fits, kept-costs}
 use Rattle.short_single.proofs.short.Statement.{statement}
 use Rattle.short_single.proofs.short.Tie as tie
@@ -13,7 +14,7 @@ use Rattle.short_single.proofs.short.Tie as tie
 exceeds-requires : tie.Need-exceeds-requires
 exceeds-requires c κs = search needs
 
--- the test, read as the sign of the price
+-- the test as the sign of the price
 is-true : {b : Bool} → b ≡ true → T b
 is-true e = subst T (sym e) tt
 
@@ -26,7 +27,7 @@ below c = is-true (sym (c .before .exceeds .ensures) ∙ c .if1 .taken)
 not-below : (c : tie.Else1) → T (not (ltZ (c .before .before .args .price .0) (pos 0)))
 not-below c = is-false (sym (c .before .exceeds .ensures) ∙ c .if1 .left)
 
--- BELOW ZERO: all that is used, at the price turned
+-- BELOW ZERO: all that is used, at the price with its sign turned
 minus-requires : tie.Need-minus-requires
 minus-requires c κs = let a = c .before .before in turned-fits (a .args .room .0) (a .args .used .0) (a .args .price .0) (a .pre)
 

@@ -1,4 +1,4 @@
--- An accepted hour, as the shortfalls need it.
+-- An accepted hour, with what the shortfalls need.
 use mathlib.Core.List.{List}
 use Prim.Native.Nat.{ℕ, _≤_}
 use lib.IntN.{pos}
@@ -10,7 +10,7 @@ use Rattle.judge_clearing.specs.Meaning.Read.{HourReadFrom}
 use Rattle.judge_network.specs.Meaning.Prices.{PricesInRange}
 use Rattle.short_rules.specs.Meaning.Shortfalls.{Accounted}
 
--- what was read of the case s and the proposal t, and that the proposal is accepted
+-- what was read of the case s and the proposal t; the proposal is accepted
 pub record HourAccepted (s t : List ℕ) (hour : HourRead) : Type 0 where
   pub read : HourReadFrom s t hour
   pub clearing : Clearing (caseOf s) (planOf s t)

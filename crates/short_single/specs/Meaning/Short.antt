@@ -2,8 +2,8 @@
 use mathlib.Core.Path.{_≡_}
 use Prim.Native.Nat.{_<_}
 use lib.IntN.{ℤ, pos}
-use Rattle.base_measures.specs.Meaning.Limits.{partsInOne}
-use Rattle.base_measures.specs.Meaning.Exact.{exactly}
+use Rattle.base_limits.specs.Meaning.Limits.{partsInOne}
+use Rattle.base_limits.specs.Meaning.Exact.{exactly}
 use Rattle.base_measures.specs.declared.ExactMicrocents.{ExactMicrocents}
 
 -- money that is x

@@ -1,5 +1,5 @@
--- An accepted hour, as the stages after its judgement have it, and that each of its shortfalls can be computed in 64 bits: a whole one is at most the gap.
--- Assumes nothing.
+-- An accepted hour, as the stages after its judgement have it. Each of its shortfalls can be computed in 64 bits:
+-- in whole microcents it is at most the gap. Assumes nothing.
 use mathlib.Core.Path.{_≡_, refl, ap}
 use mathlib.Core.List.{List}
 use Prim.Native.Nat.{ℕ, _*_, _≤_, _<_}
@@ -11,8 +11,8 @@ use lib.Signed.{_≤ℤ_, ltZ}
 use Rattle.base_integers.specs.Steps.Difference.{at, _⊗_, le-by, le-fact, eq-fact}
 use Rattle.base_integers.specs.Steps.Size.{Near, near-le, near-sub, near-mul, near-sum, near-pos, near-unsigned, near-within}
 use Rattle.base_integers.specs.Meaning.Machine.{SumsFit}
-use Rattle.base_measures.specs.Meaning.Limits as limits
-use Rattle.base_measures.specs.Meaning.Limits.{partsInOne}
+use Rattle.base_limits.specs.Meaning.Limits as limits
+use Rattle.base_limits.specs.Meaning.Limits.{partsInOne}
 use Rattle.base_measures.specs.declared.Tenths.{Tenths}
 use Rattle.rules.specs.Meaning.Hour.{Case, Plan, Prices, caseOf, planOf, pricesOf, buys, above, fbPart, linkUse, linkRoom, branchUse, branchRoom, zonePrice, surplusOf, orderSurplus, spread, gap}
 use Rattle.rules.specs.Steps.Passed.{CaseSound}
@@ -24,7 +24,7 @@ use Rattle.short_rules.specs.Meaning.Shortfalls.{earned, orderShortfall, branch
 use Rattle.short_single.specs.Steps.Short.{shortOf, Shortable, order-as, branch-as, link-as}
 use Rattle.short_single.specs.Meaning.HourAccepted.{HourAccepted}
 
--- what the part of a zone lays on a branch with these PTDFs
+-- the load of a zone's part on a branch with these PTDFs
 abbrev pub loadOn : List ℤ → List Tenths → ℕ → ℤ
 loadOn row parts z = getD row z (pos 0) *ℤ tenthsAt parts z
 

@@ -1,5 +1,6 @@
--- THE ONE FORM OF THE THREE SHORTFALLS: a room at a price where that is above zero, less what is used of it at the price, in hundred-thousandths of a
--- microcent. By the sign of the price it is one product of two numbers that are not negative. Over plain variables. Assumes nothing.
+-- THE COMMON FORM OF THE THREE SHORTFALLS: a room at a price where that is above zero, less what is used of it at
+-- the price, in hundred-thousandths of a microcent. For either sign of the price it is one product of two numbers
+-- that are not negative. Over plain variables. Assumes nothing.
 use mathlib.Core.Path.{_≡_, sym, ap, subst, _∙_}
 use mathlib.Core.Bool.{not}
 use Prim.Native.Nat.{ℕ, _*_}
@@ -13,8 +14,8 @@ use Rattle.base_integers.specs.Steps.Difference.{at, _⊖_, _⊗_, le-by, eq-by
 use Rattle.base_integers.specs.Meaning.Order.{positive}
 use Rattle.base_integers.specs.Steps.Order.{positive-nat, lt-le, diff-nonneg, times-positive}
 use Rattle.base_integers.specs.Steps.Size.{Near, near-fits, near-sub, near-pos}
-use Rattle.base_measures.specs.Meaning.Limits.{partsInOne}
-use Rattle.base_measures.specs.Meaning.Exact.{Costs}
+use Rattle.base_limits.specs.Meaning.Limits.{partsInOne}
+use Rattle.base_limits.specs.Meaning.Exact.{Costs}
 use Rattle.base_measures.specs.declared.ExactMicrocents.{ExactMicrocents}
 use Rattle.short_single.specs.Meaning.Short.{Exact}
 
@@ -33,7 +34,7 @@ pub record Shortable (room used price : ℤ) : Type 0 where
 pub exact-by : {x y : ℤ} {r : ExactMicrocents} → x ≡ y → Exact x r → Exact y r
 exact-by {r = r} e x = record { value = x .value ∙ e; parts-in = x .parts-in }
 
--- numbers that are equal
+-- equal numbers
 pub shortable-by : {r u x r′ u′ x′ : ℤ} → r ≡ r′ → u ≡ u′ → x ≡ x′ → Shortable r′ u′ x′ → Shortable r u x
 shortable-by {r} {u} {x} {r′} {u′} {x′} e f g h =
     subst (λ (y : ℤ). Shortable y u x) (sym e) (subst (λ (y : ℤ). Shortable r′ y x) (sym f) (subst (λ (y : ℤ). Shortable r′ u′ y) (sym g) h))

@@ -1,6 +1,7 @@
--- `text_decimal::count_few` meets its contract: it has k digits where 10 ^ k is the first power above it. Assumes nothing.
+-- `text_decimal::count_few` meets its contract: it has k digits where 10 ^ k is the first power above it.
+-- Assumes nothing.
 use native.Mathlib.Omega.{arith}
-use Rattle.text_decimal.specs.Steps.Places.{places-one, places-past, places-at-most}
+use Rattle.text_rules.specs.Steps.Places.{places-one, places-past, places-at-most}
 use borrow.Author.Needs.{needs}
 use Rattle.text_decimal.proofs.count_few.Statement.{statement}
 use Rattle.text_decimal.proofs.count_few.Tie as tie

@@ -1,10 +1,10 @@
--- `text_decimal::count_places` meets its contract. The loop's invariant: what `rest` has left and what `k` has counted are the places of n.
--- The measure is `rest`. Assumes nothing.
+-- `text_decimal::count_places` meets its contract. The loop's invariant: the places of `rest` and the count `k`
+-- together are the places of n. The measure is `rest`. Assumes nothing.
 use mathlib.Core.Path.{_≡_, ap, _∙_}
 use Prim.Native.Nat.{ℕ, _+_, _/_, _≤_}
 use native.Mathlib.Omega.{arith}
-use Rattle.text_decimal.specs.Meaning.Text.{places}
-use Rattle.text_decimal.specs.Steps.Places.{places-myriad, places-at-most}
+use Rattle.text_rules.specs.Meaning.Text.{places}
+use Rattle.text_rules.specs.Steps.Places.{places-myriad, places-at-most}
 use borrow.Author.Needs.{needs}
 use Rattle.text_decimal.proofs.count_places.Statement.{statement}
 use Rattle.text_decimal.proofs.count_places.Tie as tie

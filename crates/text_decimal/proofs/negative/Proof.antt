@@ -1,5 +1,5 @@
 -- `text_decimal::negative` meets its contract: the highest bit is the sign. Assumes nothing.
-use Rattle.text_decimal.specs.Steps.Complement.{sign}
+use Rattle.text_rules.specs.Steps.Complement.{sign}
 use Rattle.text_decimal.proofs.negative.Statement.{statement}
 use Rattle.text_decimal.proofs.negative.Tie as tie
 

@@ -1,10 +1,10 @@
--- `text_decimal::power` meets its contract: each entry of the table is its power. The table is read off the code's own state, so that the test is
--- computed over what is compiled and over no copy. Assumes nothing.
+-- `text_decimal::power` meets its contract: each entry of the table is its power. The test reads the table from the
+-- code's own state, so it is computed over what is compiled and not over a copy. Assumes nothing.
 use mathlib.Core.List.{List}
 use Prim.Native.Nat.{ℕ, _^_}
 use borrow.Author.Needs.{needs}
 use borrow.Table.Row as row
-use Rattle.text_decimal.specs.Steps.Table.{entry}
+use Rattle.text_rules.specs.Steps.Table.{entry}
 use Rattle.text_decimal.proofs.power.Statement.{statement}
 use Rattle.text_decimal.proofs.power.Tie as tie
 use Rattle.text_decimal.proofs.power.Reads as reads

@@ -1,4 +1,5 @@
--- `text_decimal::put_amount` meets its contract: a sign and then the size where the number is below zero, else the size alone. Assumes nothing.
+-- `text_decimal::put_amount` meets its contract: a sign and the size where the number is below zero, else the size
+-- alone. Assumes nothing.
 use mathlib.Core.Path.{_≡_, sym, ap, _∙_}
 use mathlib.Core.Bool.{true, false}
 use mathlib.Core.List.{_∷_}
@@ -8,9 +9,9 @@ use lib.ListN.{length, length-set}
 use lib.IntN.{natAbs}
 use mir.Syntax.{w64}
 use mir.Val.{toZ}
-use Rattle.text_decimal.specs.Meaning.Text.{sizeText, amountText}
-use Rattle.text_decimal.specs.Promised.Value.{amount-negative, amount-positive}
-use Rattle.text_decimal.specs.Steps.Put.{put-as, put-length, put-then, put-byte}
+use Rattle.text_rules.specs.Meaning.Text.{sizeText, amountText}
+use Rattle.text_rules.specs.Promised.Value.{amount-negative, amount-positive}
+use Rattle.text_rules.specs.Steps.Put.{put-as, put-length, put-then, put-byte}
 use borrow.Author.Needs.{needs}
 use Rattle.text_decimal.proofs.put_amount.Statement.{statement}
 use Rattle.text_decimal.proofs.put_amount.Tie as tie

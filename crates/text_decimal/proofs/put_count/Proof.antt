@@ -1,10 +1,10 @@
--- `text_decimal::put_count` meets its contract: a count is its last digits, as many as it has places. Assumes nothing.
+-- `text_decimal::put_count` meets its contract: a count is all its digits. Assumes nothing.
 use mathlib.Core.Path.{ap}
 use Prim.Native.Nat.{ℕ}
 use native.Mathlib.Omega.{arith}
-use Rattle.text_decimal.specs.Meaning.Text.{lastDigits, countText}
-use Rattle.text_decimal.specs.Promised.Value.{count-length}
-use Rattle.text_decimal.specs.Steps.Put.{put-as}
+use Rattle.text_rules.specs.Meaning.Text.{lastDigits, countText}
+use Rattle.text_rules.specs.Promised.Value.{count-length}
+use Rattle.text_rules.specs.Steps.Put.{put-as}
 use borrow.Author.Needs.{needs}
 use Rattle.text_decimal.proofs.put_count.Statement.{statement}
 use Rattle.text_decimal.proofs.put_count.Tie as tie

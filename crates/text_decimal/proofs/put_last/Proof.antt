@@ -1,5 +1,5 @@
--- `text_decimal::put_last` meets its contract. The loop's invariant: from i on stand the last digits of n, and `rest` is n without them.
--- The measure is what is left of the text. Assumes nothing.
+-- `text_decimal::put_last` meets its contract. The loop's invariant: from i on stand the last digits of n, and
+-- `rest` is n without them. The measure is the digits left. Assumes nothing.
 use mathlib.Core.Path.{_≡_, refl, sym, ap, _∙_}
 use mathlib.Core.Logic.{⊎-elim}
 use Prim.Native.Nat.{ℕ, suc, _+_, _-_, _/_, _≤_, _^_}
@@ -7,11 +7,11 @@ use native.Mathlib.Omega.{arith}
 use borrow.Author.Needs.{needs}
 use lib.ListN.{length, length-set}
 use lib.Seq.{sets}
-use Rattle.text_decimal.specs.Meaning.Text.{lastDigits}
-use Rattle.text_decimal.specs.Promised.Value.{last-length}
-use Rattle.text_decimal.specs.Steps.Digits.{put-digit, put-two, hundredth}
-use Rattle.text_decimal.specs.Meaning.Put.{Put}
-use Rattle.text_decimal.specs.Steps.Put.{put-length}
+use Rattle.text_rules.specs.Meaning.Text.{lastDigits}
+use Rattle.text_rules.specs.Promised.Value.{last-length}
+use Rattle.text_rules.specs.Steps.Digits.{put-digit, put-two, hundredth}
+use Rattle.text_rules.specs.Meaning.Put.{Put}
+use Rattle.text_rules.specs.Steps.Put.{put-length}
 use Rattle.text_decimal.proofs.put_last.Statement.{statement}
 use Rattle.text_decimal.proofs.put_last.Tie as tie
 

@@ -1,14 +1,14 @@
--- `text_decimal::put_size` meets its contract: the whole part, the point and the decimals stand one after another, each where the one before ends.
+-- `text_decimal::put_size` meets its contract: whole part, point and decimals, each where the one before ends.
 -- Assumes nothing.
 use mathlib.Core.Path.{ap, _∙_}
 use mathlib.Core.List.{append-assoc, [], _∷_}
 use Prim.Native.Nat.{ℕ, _+_, _/_, _^_, _≤_}
 use native.Mathlib.Omega.{arith}
 use lib.ListN.{length, length-set}
-use Rattle.text_decimal.specs.Meaning.Text.{lastDigits, countText, sizeText}
-use Rattle.text_decimal.specs.Promised.Sizes.{size-length}
-use Rattle.text_decimal.specs.Meaning.Put.{Put}
-use Rattle.text_decimal.specs.Steps.Put.{put-as, put-length, put-then, put-byte}
+use Rattle.text_rules.specs.Meaning.Text.{lastDigits, countText, sizeText}
+use Rattle.text_rules.specs.Promised.Sizes.{size-length}
+use Rattle.text_rules.specs.Meaning.Put.{Put}
+use Rattle.text_rules.specs.Steps.Put.{put-as, put-length, put-then, put-byte}
 use borrow.Author.Needs.{needs}
 use Rattle.text_decimal.proofs.put_size.Statement.{statement}
 use Rattle.text_decimal.proofs.put_size.Tie as tie

@@ -1,4 +1,5 @@
--- `text_decimal::size` meets its contract: the bits themselves, or what they lack of 2 ^ 64; this holds of the least number too. Assumes nothing.
+-- `text_decimal::size` meets its contract: the bits themselves, or 2 ^ 64 less the bits; this holds for the least
+-- number too. Assumes nothing.
 use mathlib.Core.Path.{_≡_, sym, _∙_}
 use mathlib.Core.Bool.{true}
 use native.Mathlib.Omega.{arith}
@@ -6,7 +7,7 @@ use lib.IntN.{pos}
 use lib.Signed.{ltZ}
 use mir.Syntax.{w64}
 use mir.Val.{toZ}
-use Rattle.text_decimal.specs.Steps.Complement.{high-bit, size-below, size-above}
+use Rattle.text_rules.specs.Steps.Complement.{high-bit, size-below, size-above}
 use borrow.Author.Needs.{needs}
 use Rattle.text_decimal.proofs.size.Statement.{statement}
 use Rattle.text_decimal.proofs.size.Tie as tie

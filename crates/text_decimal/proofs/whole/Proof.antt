@@ -1,7 +1,7 @@
 -- `text_decimal::whole` meets its contract: the table's power divides the size. Assumes nothing.
 use native.Mathlib.Omega.{arith}
 use Prim.Native.Nat.{_/_}
-use Rattle.text_decimal.specs.Promised.Value.{power-positive}
+use Rattle.text_rules.specs.Promised.Value.{power-positive}
 use borrow.Author.Needs.{needs}
 use Rattle.text_decimal.proofs.whole.Statement.{statement}
 use Rattle.text_decimal.proofs.whole.Tie as tie

@@ -1,4 +1,4 @@
--- `text_lines::put_lines` meets its contract: the verdict's line, and of an hour that is valued the lines of what was
+-- `text_lines::put_lines` meets its contract: the verdict's line and, for a valued hour, the lines of what was
 -- found. Assumes nothing.
 use mathlib.Core.Path.{_≡_, refl, sym, ap}
 use mathlib.Core.List.{List}
@@ -6,7 +6,7 @@ use mathlib.Core.Option.{none}
 use Prim.Native.Nat.{ℕ}
 use native.Mathlib.Omega.{arith}
 use lib.ListN.{length, length-append}
-use Rattle.text_decimal.specs.Steps.Put.{put-as, put-length, put-then}
+use Rattle.text_rules.specs.Steps.Put.{put-as, put-length, put-then}
 use Rattle.rules.specs.Meaning.Cut.{casePart, proposalPart}
 use Rattle.rules.specs.Meaning.Lines.{verdictLine, deskText}
 use Rattle.judge_stages.specs.Meaning.Found.{Finds, hourCauses}

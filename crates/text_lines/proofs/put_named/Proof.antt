@@ -1,8 +1,8 @@
--- `text_lines::put_named` meets its contract: name, count and space stand one after another, each where the one
--- before ends. Assumes nothing.
+-- `text_lines::put_named` meets its contract: name, count and space, each where the one before ends.
+-- Assumes nothing.
 use native.Mathlib.Omega.{arith}
 use lib.ListN.{length-append}
-use Rattle.text_decimal.specs.Steps.Put.{put-length, put-then}
+use Rattle.text_rules.specs.Steps.Put.{put-length, put-then}
 use borrow.Author.Needs.{needs}
 use Rattle.text_lines.proofs.put_named.Statement.{statement}
 use Rattle.text_lines.proofs.put_named.Tie as tie

@@ -4,8 +4,8 @@ use mathlib.Core.Path.{_≡_, refl, ap}
 use Prim.Native.Nat.{ℕ, _-_, _≤_}
 use native.Mathlib.Omega.{arith}
 use borrow.Author.Needs.{needs}
-use Rattle.text_decimal.specs.Meaning.Put.{Put}
-use Rattle.text_decimal.specs.Steps.Put.{put-as, put-length, put-then}
+use Rattle.text_rules.specs.Meaning.Put.{Put}
+use Rattle.text_rules.specs.Steps.Put.{put-as, put-length, put-then}
 use Rattle.rules.specs.Meaning.Lines.{priceLines}
 use Rattle.report_file.specs.Meaning.Written.{priceIn}
 use Rattle.text_lines.specs.Steps.Texts.{prices-more, prices-within}

@@ -1,5 +1,5 @@
 -- `text_lines::put_text` meets its contract. The loop's invariant: the first i bytes of the text stand at `at`, and
--- all else is as it was. The measure is what is left of the text. Assumes nothing.
+-- all else is unchanged. The measure is the bytes left. Assumes nothing.
 use mathlib.Core.Path.{_≡_, refl, sym, ap, _∙_}
 use mathlib.Core.List.{[], _∷_, _++_}
 use Prim.Native.Nat.{ℕ, _+_, _-_, _≤_, _<_}
@@ -7,8 +7,8 @@ use native.Mathlib.Numerals.{add-one}
 use native.Mathlib.Omega.{arith}
 use lib.ListN.{length, take, getD}
 use lib.Seq.{take-suc, take-length}
-use Rattle.text_decimal.specs.Meaning.Put.{Put}
-use Rattle.text_decimal.specs.Steps.Put.{put-as, put-length, put-then, put-byte}
+use Rattle.text_rules.specs.Meaning.Put.{Put}
+use Rattle.text_rules.specs.Steps.Put.{put-as, put-length, put-then, put-byte}
 use Rattle.text_lines.proofs.put_text.Statement.{statement}
 use Rattle.text_lines.proofs.put_text.Tie as tie
 

@@ -1,8 +1,7 @@
--- `text_lines::put_totals` meets its contract: the five lines stand one after another, each where the one before
--- ends. Assumes nothing.
+-- `text_lines::put_totals` meets its contract: the five lines, each where the one before ends. Assumes nothing.
 use native.Mathlib.Omega.{arith}
 use lib.ListN.{length-append}
-use Rattle.text_decimal.specs.Steps.Put.{put-length, put-then}
+use Rattle.text_rules.specs.Steps.Put.{put-length, put-then}
 use Rattle.rules.specs.Meaning.Lines.{totalLines}
 use borrow.Author.Needs.{needs}
 use Rattle.text_lines.proofs.put_totals.Statement.{statement}

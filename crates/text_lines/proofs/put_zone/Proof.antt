@@ -1,15 +1,15 @@
--- `text_lines::put_zone` meets its contract: name and zone, price and newline stand one after another, each where the
--- one before ends. Assumes nothing.
+-- `text_lines::put_zone` meets its contract: name and zone, price and newline, each where the one before ends.
+-- Assumes nothing.
 use mathlib.Core.Path.{_≡_, ap}
 use mathlib.Core.List.{_++_}
 use native.Mathlib.Omega.{arith}
 use lib.ListN.{length, length-append}
 use mir.Syntax.{w64}
 use mir.Val.{toZ}
-use Rattle.text_decimal.specs.Meaning.Ascii.{ascii}
-use Rattle.text_decimal.specs.Meaning.Text.{countText, amountText}
-use Rattle.text_decimal.specs.Meaning.Put.{Put}
-use Rattle.text_decimal.specs.Steps.Put.{put-as, put-length, put-then}
+use Rattle.text_rules.specs.Meaning.Ascii.{ascii}
+use Rattle.text_rules.specs.Meaning.Text.{countText, amountText}
+use Rattle.text_rules.specs.Meaning.Put.{Put}
+use Rattle.text_rules.specs.Steps.Put.{put-as, put-length, put-then}
 use Rattle.rules.specs.Meaning.Lines.{priceLine}
 use Rattle.text_lines.specs.Steps.Texts.{bits-text}
 use borrow.Author.Needs.{needs}

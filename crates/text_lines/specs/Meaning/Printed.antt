@@ -1,4 +1,4 @@
--- The desk's text in a lent output: its lines where the output has the room that the lines of every input have
+-- The desk's text in a lent output: its lines where the output has room for the lines of every input
 -- (`Room.desk-room`), else the refusal by 31. Assumes nothing.
 use mathlib.Core.Path.{_≡_}
 use mathlib.Core.List.{List, [], _∷_}
@@ -25,16 +25,16 @@ deskRefusal room = refusal (deskCauses room)
 unfoldable pub deskOutcome : ℕ → Outcome
 deskOutcome room = answer (deskRefusal room)
 
--- what is written into an output: the lines, or for a refusal nothing
+-- what is written into an output: the lines; nothing for a refusal
 unfoldable pub deskWritten : ℕ → List ℕ → List ℕ
 deskWritten room input = writtenBy (deskRefusal room) (deskText input)
 
--- the output afterwards: what is written, and then what stood past it
+-- the output afterwards: what is written, then the old bytes past it
 unfoldable pub deskOutput : List ℕ → List ℕ → List ℕ
 deskOutput input out = outputAfter (deskWritten (length out) input) out
 
--- WHAT IS OWED of an answer r: number and index, the length of what it wrote, every byte of the output afterwards, and
--- that the length lies within the output
+-- WHAT AN ANSWER r MUST MEET: number and index, the length of what it wrote, every byte of the output afterwards,
+-- and that the length is within the output
 pub record DeskPrinted (input before : List ℕ) (r : Written) (after : List ℕ) : Type 0 where
   pub outcome : verdict (r .number) (r .index) ≡ deskOutcome (length before)
   pub written : r .length ≡ length (deskWritten (length before) input)

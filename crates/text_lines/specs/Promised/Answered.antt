@@ -1,5 +1,5 @@
--- WHAT AN ANSWER HOLDS: from the desk's room on, what was written is the text in plain bytes. This is the clause `text`
--- of the exported entry. Assumes nothing.
+-- WHAT AN ANSWER HOLDS: where the output has the desk's room, what was written is the text in plain bytes. This is
+-- the clause `text` of the exported entry. Assumes nothing.
 use mathlib.Core.Path.{_≡_, sym, ap, subst, _∙_}
 use mathlib.Core.List.{List}
 use mathlib.Core.Option.{Option}

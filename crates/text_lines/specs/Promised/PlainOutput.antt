@@ -21,7 +21,7 @@ pub record TooShort (input out : List ℕ) : Type 0 where
   pub length-is : length (deskWritten (length out) input) ≡ 0
   pub output-is : deskOutput input out ≡ out
 
--- FROM 1,024 BYTES ON: 0, index 0, the text and its length, and all past it as it was
+-- FROM 1,024 BYTES ON: 0, index 0, the text and its length, and all past it unchanged
 pub record Printed (input out : List ℕ) : Type 0 where
   pub number-is : deskOutcome (length out) ≡ verdict 0 0
   pub text-is : deskWritten (length out) input ≡ deskText input

@@ -16,8 +16,8 @@ pub record PlainText (input text : List ℕ) : Type 0 where
   pub case-bytes : List ℕ
   pub proposal-bytes : List ℕ
   pub input-is : case-bytes ++ proposal-bytes ≡ input
-  -- once the header is good and enough bytes are there, the case has the length that its header demands; else all is
-  -- the case
+  -- where the header is good and there are enough bytes, the case has the length that its header demands; else all
+  -- is the case
   pub cut-there : HeaderFacts input → (n : ℕ) → Demands input n → n ≤ length input → length case-bytes ≡ n
   pub too-few : HeaderFacts input → (n : ℕ) → Demands input n → length input < n → proposal-bytes ≡ []
   pub bad-header : (HeaderFacts input → ⊥) → proposal-bytes ≡ []

@@ -1,6 +1,6 @@
--- A long input is judged by its start. No legal hour has more than 10,126 + 2,573 = 12,699 bytes, so an input that
--- has more is refused, and by the same number and index as any part of it from the start that has more. Assumes
--- nothing.
+-- A long input is judged by its start. No legal hour has more than 10,126 + 2,573 = 12,699 bytes. So a longer input
+-- is refused, and any start of it with more bytes than that is refused by the same number and index.
+-- Assumes nothing.
 use mathlib.Core.Path.{_≡_, refl, sym, ap, _∙_}
 use mathlib.Core.Bool.{not, _&&_}
 use mathlib.Core.List.{List}

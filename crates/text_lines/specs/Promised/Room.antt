@@ -1,4 +1,4 @@
--- All that the desk prints for any input has the room that its text is given. Assumes nothing.
+-- The text for any input fits the room that the desk gives it. Assumes nothing.
 use mathlib.Core.Path.{_≡_, refl, sym, subst, _∙_}
 use mathlib.Core.Bool.{Bool, true, false, cond}
 use mathlib.Core.List.{List, [], _∷_, _++_}
@@ -10,8 +10,8 @@ use lib.Dec.{T, ltb, ltb→lt}
 use lib.IntN.{ℤ}
 use mir.Syntax.{w64}
 use mir.Val.{SFits}
-use Rattle.text_decimal.specs.Meaning.Ascii.{ascii}
-use Rattle.text_decimal.specs.Promised.Sizes.{count-at-most, amount-at-most}
+use Rattle.text_rules.specs.Meaning.Ascii.{ascii}
+use Rattle.text_rules.specs.Promised.Sizes.{count-at-most, amount-at-most}
 use Rattle.rules.specs.Meaning.Layout.{branchesIn, linksIn, branchSize, caseLength, proposalLength, reportRoom}
 use Rattle.rules.specs.Meaning.Hour.{caseOf, planOf, pricesOf, zonePrice}
 use Rattle.base_causes.specs.declared.Outcome.{Outcome}
@@ -33,7 +33,7 @@ use Rattle.rules.specs.Meaning.Lines.{verdictLine, totalLine, totalLines, price
 use Rattle.text_lines.specs.Meaning.Printed.{deskRoom}
 
 -- AN OUTCOME's number has at most three digits, and its index at most five: an offset in a file (S-2) is below
--- 100,000, in a case of version 2 (S-4) perhaps above 10,000
+-- 100,000, and in a case of version 2 (S-4) it can be above 10,000
 pub record Short (o : Outcome) : Type 0 where
   pub number-in : o .number < 1000
   pub index-in : o .index < 100000

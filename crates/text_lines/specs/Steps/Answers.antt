@@ -1,4 +1,4 @@
--- What is owed of the desk's text in a lent output, with too little room and with enough. Assumes nothing.
+-- What the desk's text in a lent output must meet, with too little room and with enough. Assumes nothing.
 use mathlib.Core.Path.{_≡_, sym, ap}
 use mathlib.Core.List.{List}
 use Prim.Native.Nat.{ℕ, _≤_, _<_}
@@ -8,7 +8,7 @@ use lib.Seq.{length-take-le}
 use Rattle.base_output.specs.declared.Written.{Written}
 use Rattle.base_output.specs.Meaning.Output.{writtenBy, outputAfter}
 use Rattle.base_output.specs.Steps.Met as output
-use Rattle.text_decimal.specs.Meaning.Put.{Put}
+use Rattle.text_rules.specs.Meaning.Put.{Put}
 use Rattle.rules.specs.Meaning.Lines.{deskText}
 use Rattle.text_lines.specs.Meaning.Printed.{deskRoom, deskRefusal, deskOutcome, deskWritten, deskOutput, DeskPrinted}
 use Rattle.text_lines.specs.Promised.ShortOutput.{refused-31, past-31}

@@ -1,4 +1,5 @@
--- The header's rows and the rows after them, and how long a case and a proposal can be under a good header. Assumes nothing.
+-- The header's rows and the rows after them, and how long a case and a proposal can be under a good header.
+-- Assumes nothing.
 use mathlib.Core.Path.{_≡_, refl, ap, _∙_}
 use mathlib.Core.List.{List, _++_}
 use mathlib.Core.Option.{Option, none}

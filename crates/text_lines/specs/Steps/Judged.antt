@@ -1,5 +1,5 @@
--- The lines of an hour from what the driver finds in it: the verdict, and for 0 and 26 its totals and prices. Assumes
--- nothing.
+-- The lines of an hour from what the driver finds in it: the verdict, and for 0 and 26 its totals and prices.
+-- Assumes nothing.
 use mathlib.Core.Path.{_≡_, refl, sym, ap, _∙_}
 use mathlib.Core.Bool.{Bool, true, false, cond}
 use mathlib.Core.List.{List, [], _++_, append-nil}

@@ -27,7 +27,6 @@ not-reported rs h l o e = λ i. ne-eqb (o .number) 0 (not-refused 0 rs h o e) i 
 refused-line : (s t : List ℕ) (o : Outcome) → outcome s t reportRoom ≡ o → reports (o .number) ≡ false → hourText s t ≡ verdictLine o
 refused-line s t o e r = one-line s t (ap (λ (x : Outcome). reports (x .number)) e ∙ r) ∙ ap verdictLine e
 
--- refused by its header
 pub header-refused : (s t : List ℕ) (o : Outcome) → headerRefusal s ≡ some o → hourText s t ≡ verdictLine o
 unfolding headerRefusal lacks
 header-refused s t o e =

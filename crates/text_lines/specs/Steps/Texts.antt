@@ -10,10 +10,10 @@ use lib.IntN.{ℤ}
 use mir.Syntax.{w64}
 use mir.Val.{SFits, toZ, ofZ}
 use mir.Facts.{toZ-ofZ}
-use Rattle.text_decimal.specs.Meaning.Text.{amountText}
+use Rattle.text_rules.specs.Meaning.Text.{amountText}
 use Rattle.rules.specs.Meaning.Lines.{priceLine, priceLines}
 
--- an amount's text, from the bits that the amount is printed by
+-- an amount's text, from the bits that are printed
 pub bits-text : (decimals : ℕ) {b : ℕ} {z : ℤ} → SFits w64 z → b ≡ ofZ w64 z → amountText decimals (toZ w64 b) ≡ amountText decimals z
 bits-text decimals {b} {z} f e = ap (λ (n : ℕ). amountText decimals (toZ w64 n)) e ∙ ap (λ (x : ℤ). amountText decimals x) (toZ-ofZ {w = w64} {z = z} f)
 

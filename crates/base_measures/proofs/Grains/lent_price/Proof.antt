@@ -1,7 +1,8 @@
--- `base_measures::Grains::lent_price` meets its contract: a number of the host, held to the limits of a zone price. Assumes nothing.
+-- `base_measures::Grains::lent_price` meets its contract: the host's number, tested by the limits of a zone price.
+-- Assumes nothing.
 use mathlib.Core.Path.{ap, _∙_}
 use Rattle.base_measures.specs.declared.Grains.{Grains}
-use Rattle.base_measures.specs.Meaning.Limits as limits
+use Rattle.base_limits.specs.Meaning.Limits as limits
 use Rattle.base_measures.specs.Meaning.Held.{grainsIn}
 use borrow.Author.Needs.{needs}
 use Rattle.base_measures.proofs.Grains.lent_price.Statement.{statement}

@@ -1,7 +1,7 @@
 -- `base_measures::Grains::zone_price` meets its contract: by the test of the range. Assumes nothing.
 use mathlib.Core.Path.{_≡_}
 use Rattle.base_integers.specs.Meaning.Ranges.{outside}
-use Rattle.base_measures.specs.Meaning.Limits as limits
+use Rattle.base_limits.specs.Meaning.Limits as limits
 use borrow.Author.Needs.{needs}
 use Rattle.base_measures.proofs.Grains.zone_price.Statement.{statement}
 use Rattle.base_measures.proofs.Grains.zone_price.Tie as tie

@@ -1,6 +1,7 @@
--- `base_measures::Microcents::tolerance` meets its contract: cents as money, and the test of the range. Assumes nothing.
+-- `base_measures::Microcents::tolerance` meets its contract: cents as money, and the test of the range.
+-- Assumes nothing.
 use mathlib.Core.Path.{ap, _∙_}
-use Rattle.base_measures.specs.Meaning.Limits as limits
+use Rattle.base_limits.specs.Meaning.Limits as limits
 use Rattle.base_measures.specs.Meaning.Held.{microcentsIn}
 use borrow.Author.Needs.{needs}
 use Rattle.base_measures.proofs.Microcents.tolerance.Statement.{statement}

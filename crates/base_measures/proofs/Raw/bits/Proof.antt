@@ -1,5 +1,5 @@
--- `base_measures::Raw::bits` meets its contract: the machine reads the number back from its bits, and it is -(n + 1) where it is below 0.
--- Assumes nothing.
+-- `base_measures::Raw::bits` meets its contract: the machine reads the number back from its bits; below 0 it is -(n
+-- + 1). Assumes nothing.
 use mathlib.Core.Path.{_≡_, refl, sym, subst, ap, _∙_}
 use mathlib.Core.Bool.{true, false}
 use Prim.Native.Nat.{ℕ, zero, suc, _+_, _-_, _<_, _^_}
@@ -15,14 +15,14 @@ use mir.ValLaws.{toZ-ofZ}
 use Rattle.base_measures.proofs.Raw.bits.Statement.{statement}
 use Rattle.base_measures.proofs.Raw.bits.Tie as tie
 
--- what the code computes from what it reads back
+-- what the code computes from the number that it reads back
 abbrev one-more : ℤ → ℤ
 one-more z = toZ w64 (ofZ w64 z) +ℤ pos 1
 
 abbrev flipped : ℤ → ℤ
 flipped z = pos 0 -ℤ toZ w64 (ofZ w64 (one-more z))
 
--- of a number below 0
+-- a number below 0
 record Below (z : ℤ) : Type 0 where
   more-fits : SFits w64 (one-more z)
   flip-fits : SFits w64 (flipped z)
@@ -61,7 +61,7 @@ below (negsuc n) f t =
       bits-are = omega (arith, f .sfits);
     }
 
--- the same of the number, where the test found it below 0
+-- the same for the number that the test found below 0
 abbrev number : tie.Start → ℤ
 number c = c .args .self .0
 

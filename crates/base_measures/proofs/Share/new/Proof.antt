@@ -1,7 +1,7 @@
 -- `base_measures::Share::new` meets its contract: by the test of the range. Assumes nothing.
 use mathlib.Core.Path.{_≡_, ap}
 use Rattle.base_integers.specs.Meaning.Ranges.{outside}
-use Rattle.base_measures.specs.Meaning.Limits as limits
+use Rattle.base_limits.specs.Meaning.Limits as limits
 use Rattle.base_measures.specs.declared.ShareAnswer.the-variants.{Held as held}
 use borrow.Author.Needs.{needs}
 use Rattle.base_measures.proofs.Share.new.Statement.{statement}

@@ -1,4 +1,5 @@
--- `book_surplus::BookState::take_row` meets its contract: one row more of at most 512, and a sum that fits. Assumes nothing.
+-- `book_surplus::BookState::take_row` meets its contract: one row more of at most 512, and a sum that fits.
+-- Assumes nothing.
 use Prim.Native.Nat.{_+_}
 use borrow.Author.Needs.{needs}
 use Rattle.book_surplus.proofs.BookState.take_row.Statement.{statement}

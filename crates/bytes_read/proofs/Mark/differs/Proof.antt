@@ -1,4 +1,5 @@
--- `bytes_read::Mark::differs` meets its contract: each return goes by the letters compared on the way. Assumes nothing.
+-- `bytes_read::Mark::differs` meets its contract: each return follows from the letters compared before it.
+-- Assumes nothing.
 use mathlib.Core.Path.{_≡_, refl, sym}
 use mathlib.Core.Bool.{Bool, not, _&&_}
 use borrow.Author.Tests.{eq-eqb, ne-eqb}

@@ -1,4 +1,5 @@
--- `case_header::Counts::link_size` meets its contract: with a contracted volume a link has four bytes more. Assumes nothing.
+-- `case_header::Counts::link_size` meets its contract: a contracted volume makes a link four bytes longer.
+-- Assumes nothing.
 use mathlib.Core.Path.{sym, ap, _∙_}
 use mathlib.Core.Bool.{Bool, cond}
 use Prim.Native.Nat.{_+_}

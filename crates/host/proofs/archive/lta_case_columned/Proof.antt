@@ -1,5 +1,5 @@
--- `host::archive::lta_case_columned` meets its contract: its clauses are taken out of what `columned` says of its
--- answer. Assumes nothing.
+-- `host::archive::lta_case_columned` meets its contract: its clauses are parts of the contract of `columned`.
+-- Assumes nothing.
 use borrow.Author.Needs.{needs}
 use Rattle.host.proofs.archive.lta_case_columned.Statement.{statement}
 use Rattle.host.proofs.archive.lta_case_columned.Tie as tie

@@ -1,6 +1,6 @@
--- `host::book::lta_book_surplus` meets its contract: a walk of its MIR, by hand, since its rows are structs. It passes both slices on, and what is known of the
--- callee is that it meets its contract. A slice is Copy: a copy of what it owns goes to the callee, beside its lifetime's token, which comes back.
--- Assumes nothing.
+-- `host::book::lta_book_surplus` meets its contract. The proof walks the MIR by hand, because the rows are structs.
+-- The function passes both slices on; of the callee the proof uses only its contract. A slice is Copy: the callee
+-- gets a copy of what the slice owns and its lifetime's token, and gives the token back. Assumes nothing.
 use mathlib.Core.Path.{_≡_, refl, sym, subst}
 use Prim.Native.Nat.{ℕ}
 use mathlib.Core.List.{List, [], _∷_}
@@ -65,7 +65,7 @@ slice = sliceTy (tyRef (named 0) imm (pointee (T.the-row .written)))
 abbrev slice₂ : Ty
 slice₂ = sliceTy (tyRef (named 1) imm (tyInt w64))
 
--- the function, with its locals' types written as here: `code.function` by computation
+-- the function, with the types of its locals as written here: `code.function` by computation
 abbrev fn : Fn
 fn = record {
   lifetimes = 2;
@@ -117,7 +117,7 @@ module _ {M : Type 1} (𝓤 : URA M) (H : Heap 𝓤) (A : Atoms 𝓤) (W : Given
   abbrev is-answer : Surplus → Type 0
   is-answer r = r ≡ lentAnswer (x .now) (p .now)
 
-  -- and what follows in plain numbers
+  -- and the same in plain numbers
   told : (r : Surplus) → is-answer r → is-answer r × PlainAnswer (x .now) (p .now) r
   told r e = (e, subst (λ (y : Surplus). PlainAnswer (x .now) (p .now) y) (sym e) (lent-plain (x .now) (p .now)))
 
@@ -149,11 +149,11 @@ module _ {M : Type 1} (𝓤 : URA M) (H : Heap 𝓤) (A : Atoms 𝓤) (W : Given
       body : ent 𝓤 (⋆ 𝓤 H A Passed) (Wp 𝓤 H (𝓣 .C) (𝓣 .Λ) En code-mir.t-1 (atReturn 𝓤 H En Post))
       body =
           qed W Passed ∵ exec ! (𝓣 .C) (𝓣 .Λ) En code-mir.t-1 (atRet En Post) $
-          -- what the callee asks is made
+          -- what the callee requires
           move ! (7 ∷ []) $ fsplit ! $ move ! (1 ∷ []) $ fsplit ! $ use1 W (‵ Own₂ ⊛ ‵ Own₂) (shr-slice-copy 𝓤 H A W (named 1) κ′ i64 .twice p (pv ∷ [])) $ split ! $ move ! (0 ∷ 2 ∷ []) $ fjoin ! $
           move ! (2 ∷ []) $ use1 W (‵ Own ⊛ ‵ Own) (shr-slice-copy 𝓤 H A W (named 0) κ T.the-row .twice x (xv ∷ [])) $ split ! $ move ! (0 ∷ 2 ∷ []) $ fjoin ! $
           move ! (9 ∷ 0 ∷ []) $ use2 W (raw (Sums 𝓤 H A mem run .pre to-sum)) asks-sum $
-          -- [what is asked; what orders owns; what prices owns; _2; _1; _0]
+          -- [the callee's demands; what orders owns; what prices owns; _2; _1; _0]
           calls-at ! (fmOf 𝓤 H (W .laws) 𝓣) (Sums 𝓤 H A mem run) known-sum to-sum (and-then ! (load ! (from ! (stop !)) (look ! 5 refl)) (and-then ! (load ! (from ! (stop !)) (look ! 3 refl)) (no-more !))) (λ u.
           use1 W (later (some (λ (r : Surplus). (Tokens ⊛ ‵ (S.the-row .own r (u ∷ []))) ⊛ raw (ensured 𝓤 H A sums.ended (sums.clauses 𝓤 H A mem run) κs (x, (p, tt)) tt r)))) (id⊢ 𝓤 _) $ await ! tt $ pick ! (λ r.
           split ! $ move ! (1 ∷ []) $ use1 W (raw (fact 𝓤 (is-answer r))) (says-sum r) $ heard ! (is-answer r) (λ e. split ! $ move ! (1 ∷ []) $

@@ -1,5 +1,5 @@
--- `host::dump::lta_dump_proposal` meets its contract: the clauses are what `dump_proposal` answers, and what is
--- proved of an answer. Assumes nothing.
+-- `host::dump::lta_dump_proposal` meets its contract: the clauses are the answer of `dump_proposal` and the
+-- theorems about it. Assumes nothing.
 use borrow.Author.Needs.{needs}
 use Rattle.dump_proposal.specs.Promised.Answered.{answer-read-back, answer-volumes, answer-bytes}
 use Rattle.host.proofs.dump.lta_dump_proposal.Statement.{statement}

@@ -1,4 +1,4 @@
--- `host::hour::lta_judge` meets its contract: the clauses are those of the verdict that `judge` gives, packed. Assumes nothing.
+-- `host::hour::lta_judge` meets its contract: the clauses are those of `judge`'s verdict, packed. Assumes nothing.
 use denote.Ref.{now}
 use borrow.Author.Needs.{needs}
 use Rattle.judge_hour.specs.Steps.Promises.{clauses}

@@ -1,4 +1,5 @@
--- `host::hour::lta_judge_families` meets its contract: the clauses are those of the verdict that `judge_families` gives, packed. Assumes nothing.
+-- `host::hour::lta_judge_families` meets its contract: the clauses are those of `judge_families`' verdict, packed.
+-- Assumes nothing.
 use denote.Ref.{now}
 use borrow.Author.Needs.{needs}
 use Rattle.judge_hour.specs.Steps.Promises.{family-clauses}

@@ -1,5 +1,5 @@
--- `host::intuitive_hours::lta_intuitive` meets its contract: the clauses of what `intuitive` answers,
--- and the eighth, which follows. Assumes nothing.
+-- `host::intuitive_hours::lta_intuitive` meets its contract: the clauses are those of `intuitive`'s answer, and the
+-- eighth follows from them. Assumes nothing.
 use borrow.Author.Needs.{needs}
 use Rattle.flow_intuitive.specs.Steps.Answers.{clauses}
 use Rattle.flow_intuitive.specs.Promised.Worth.{yes-worth-nonneg}

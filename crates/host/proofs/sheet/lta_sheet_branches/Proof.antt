@@ -1,4 +1,5 @@
--- `host::sheet::lta_sheet_branches` meets its contract: its clauses are taken out of what `sheet_branches` says of its answer. Assumes nothing.
+-- `host::sheet::lta_sheet_branches` meets its contract: its clauses are parts of the contract of `sheet_branches`.
+-- Assumes nothing.
 use borrow.Author.Needs.{needs}
 use Rattle.sheet_branches.specs.Promised.Clauses.{branches-held, causes-plain, bytes-plain}
 use Rattle.host.proofs.sheet.lta_sheet_branches.Statement.{statement}

@@ -1,4 +1,5 @@
--- `host::shortfall_hours::lta_shortfalls` meets its contract: its clauses are the fields of what `short_hour` answers. Assumes nothing.
+-- `host::shortfall_hours::lta_shortfalls` meets its contract: its clauses are the fields of `short_hour`'s answer.
+-- Assumes nothing.
 use borrow.Author.Needs.{needs}
 use Rattle.host.proofs.shortfall_hours.lta_shortfalls.Statement.{statement}
 use Rattle.host.proofs.shortfall_hours.lta_shortfalls.Tie as tie

@@ -1,5 +1,5 @@
--- `host::text::lta_desk_lines` meets its contract: its clauses are what `lines` answers, and what is proved of an
--- answer. Assumes nothing.
+-- `host::text::lta_desk_lines` meets its contract: its clauses are the answer of `lines` and the theorems about it.
+-- Assumes nothing.
 use borrow.Author.Needs.{needs}
 use Rattle.text_lines.specs.Promised.Answered.{answer-text}
 use Rattle.host.proofs.text.lta_desk_lines.Statement.{statement}

@@ -1,4 +1,5 @@
--- `prog_records::shortages::print_number` is safe and ends: a number that is not negative is its own size. Assumes nothing.
+-- `prog_records::shortages::print_number` is safe and ends: a number that is not negative is its own size.
+-- Assumes nothing.
 use mathlib.Core.Path.{_≡_, subst}
 use mathlib.Core.Bool.{false}
 use borrow.Author.Needs.{needs}

@@ -1,7 +1,7 @@
--- A readable case and an accepted hour in the Annex's own terms: the case's clearings are the solutions of (60) to (72); none of them does better than
--- reported welfare and gap together; the proposal is one; its prices are those of (73) to (80), its rent is the left side of (81), and what is owed is at
--- most the right side (S-4), and of an hour with a link (S-6) covered with it.
--- Assumes nothing.
+-- A readable case and an accepted hour in the Annex's terms. The case's clearings are the solutions of (60) to
+-- (72), and none has more than the reported welfare and gap together. The proposal is one of them; its prices are
+-- those of (73) to (80), and its rent is the left side of (81). What is owed is at most the right side (S-4); in an
+-- hour with a link (S-6) the rent covers it up to the gap. Assumes nothing.
 use mathlib.Core.Path.{_≡_, refl, sym, ap, subst, _∙_}
 use mathlib.Core.Bool.{Bool}
 use mathlib.Core.List.{List}
@@ -35,11 +35,11 @@ solution-clears s r x fe = extended.sound (caseOf s) ((case-sound s r) .placed) 
 pub clearing-solves : (s : List ℕ) → Readable s → (p : Plan) → Clearing (caseOf s) p → (line : ℕ → ℕ → Bool) → Connected ((caseOf s) .zones) line → IsFeasible (caseOf s) line p
 clearing-solves s r p cl line q = extended.complete (caseOf s) ((case-sound s r) .placed) p cl (case-pairs s r) line q
 
--- a bound over a denominator, where what is bounded and the denominator are known by other names
+-- a bound over a denominator, under other names for the bounded number and the denominator
 same-bound : (b : ℤ) {v w : ℤ} {d e : ℕ} → w ≡ v → e ≡ d → w ≤ℤ (pos e *ℤ b) → v ≤ℤ (pos d *ℤ b)
 same-bound b p q h = rw (← p, ← q) h
 
--- where each contracted volume is its link's capacity, what is owed is the link total
+-- where each contracted volume is its link's capacity, owed is the link total
 all-contracted : (c : Case) (d : Prices) → ((l : ℕ) → l < c .links → c .contracted l ≡ c .capacity l) → owed c d ≡ linkTotal c d
 unfolding owed linkOwed linkTotal linkValue
 all-contracted c d e = sum-ext (c .links) _ _ (λ l h. ap (λ (n : ℕ). pos n *ℤ positive (spread c d l)) (e l h))

@@ -1,5 +1,6 @@
--- The Annex's prices and rule 6's: (79) and (80), both sides of (81), complementary slackness (77) at a gap of zero, and (82), that no import and export
--- which the network allows earns more at the prices than rule 10's bound of the network. Assumes nothing.
+-- The Annex's prices and rule 6's: (79) and (80), both sides of (81), and complementary slackness (77) at a gap of
+-- zero. Also (82): no exchange that the network allows earns more at the prices than rule 10's bound of the
+-- network. Assumes nothing.
 use mathlib.Core.Path.{_≡_, refl, sym, ap, _∙_}
 use mathlib.Core.Bool.{Bool, true, false, not}
 use Prim.Native.Nat.{ℕ, _+_, _*_, _<_}
@@ -14,7 +15,7 @@ use Rattle.base_integers.specs.Meaning.Order.{positive}
 use Rattle.base_integers.specs.Steps.Order.{cond-ind, diff-nonneg, mul-nonneg, larger-left, larger-right, le-trans, le-antisym}
 use Rattle.base_integers.specs.Meaning.Sums.{sumTo, only}
 use Rattle.base_integers.specs.Steps.Sums.{sum-ext, sum-le, sum-zero, sum-add, sum-sub, sum-scale, sum-scale-l, sum-swap, sum-only, only-both, only-swap, sum-weights}
-use Rattle.base_measures.specs.Meaning.Limits.{partsInOne}
+use Rattle.base_limits.specs.Meaning.Limits.{partsInOne}
 use Rattle.rules.specs.Meaning.Hour.{Case, Plan, Prices, zonePrice, branchPrice, welfare, surplus, branchValue, branchTotal, spread, linkValue, linkTotal, networkBound, bound, gap, rent}
 use Rattle.rules.specs.Meaning.Clearing.{Placed, Clearing}
 use Rattle.rules.specs.Meaning.Annex.{Solution, Network, Feasible, PairsOnce, AlongLines, Route, here, onward, Connected, Multipliers, PriceConditions, Complementary, joins, byPair, capacityLTA, netFlow, congestionRent, marginValue, capacityValue, liabilities}
@@ -25,7 +26,8 @@ use Rattle.rules.specs.Promised.Annex.CommercialFlows.{net-priced}
 use Rattle.rules.specs.Promised.Annex.Extended as extended
 
 -- PRICES
--- (79): multipliers that meet (73) to (76) and (78) over connected zones are rule 6's zone prices, at the system price price^FB_0
+-- (79): over connected zones, multipliers that meet (73) to (76) and (78) are rule 6's zone prices, at the system
+-- price price^FB_0
 unfoldable pub pricesFrom : Multipliers → Prices
 pricesFrom y = record { system = y .priceFB 0; shadow = y .shadow }
 
@@ -44,7 +46,7 @@ module _ (c : Case) {line : ℕ → ℕ → Bool} (q : Connected (c .zones) line
   unfolding zonePrice branchPrice pricesFrom
   price-is l h = conditions .price-FB l h ∙ ap (λ (z : ℤ). pos partsInOne *ℤ z +ℤ sumTo (c .branches) (λ m. c .ptdf m l *ℤ pos (y .shadow m))) (one-system-price l h)
 
--- and rule 6's zone prices meet (73) to (76) and (78), with the positive spreads as w
+-- rule 6's zone prices meet (73) to (76) and (78), with the positive spreads as w
 pub priced-of : (c : Case) (line : ℕ → ℕ → Bool) (d : Prices) → PriceConditions c line (multipliersOf c d)
 unfolding multipliersOf zonePrice branchPrice
 priced-of c line d = record {
@@ -79,7 +81,7 @@ pub rent-is : (c : Case) (p : Plan) (x : Solution) → Agree c p x → (d : Pric
 unfolding congestionRent rent
 rent-is c p x same d = sum-ext (c .zones) _ _ (λ l h. ap (λ (z : ℤ). z *ℤ zonePrice c d l) (sym (same .net-is l h)))
 
--- right side: the link total, over the links, is the Annex's sum over ordered pairs
+-- (81), right side: the link total, over the links, is the Annex's sum over ordered pairs
 pairs-weighed : (c : Case) → Placed c → (f : ℕ → ℤ) (w : ℕ → ℕ → ℤ)
     → sumTo (c .zones) (λ l. sumTo (c .zones) (λ k. byPair c f l k *ℤ w l k)) ≡ sumTo (c .links) (λ j. f j *ℤ w (c .from j) (c .to j))
 unfolding byPair joins
@@ -119,8 +121,9 @@ complementary c ok o d p cl x same fe no-gap = record {
     not-negative (pos n) a k f h e = cond-ind (ltZ (pos 0) (pos n)) (pos n) (pos 0) (λ z. pos n ≡ z) (λ t. refl) (λ t. le-antisym (ltZ-no t) (le-by (at (pos 0)) (at (pos n)) (omega arith)))
     not-negative (negsuc n) a k f h e = let one : 0 < n + 1 = omega arith in absurd (omega (arith, mul-pos h one, eq-fact (at (pos a) ⊗ (at (pos k) ⊗ at (pos 0)) ⊖ at (pos partsInOne) ⊗ (at (pos f) ⊗ at (negsuc n))) (at (pos 0)) e))
 
--- (82): THE NETWORK'S PROFIT, whatever the orders. Multipliers that meet (73) to (76) and (78) bound what any network-feasible choice earns: commercial
--- flow gains nothing by (78), the flow-based part at most the margins at their shadow prices, the LTA flows at most the capacities at w.
+-- (82): THE NETWORK'S PROFIT, whatever the orders. Multipliers that meet (73) to (76) and (78) bound what any
+-- choice that the network allows earns. Commercial flow gains nothing by (78). The flow-based part earns at most
+-- the margins at their shadow prices, the LTA flows at most the capacities at w.
 module _ (c : Case) {line : ℕ → ℕ → Bool} (x : Solution) (nw : Network c x) (along : AlongLines c line x) (y : Multipliers) (conditions : PriceConditions c line y) where
   n : ℕ
   n = c .zones
@@ -191,7 +194,8 @@ module _ (c : Case) {line : ℕ → ℕ → Bool} (x : Solution) (nw : Network c
       together : (a b e m v : ℤ) → a ≤ℤ pos 0 → b ≤ℤ m → (pos partsInOne *ℤ e) ≤ℤ v → (pos partsInOne *ℤ ((a +ℤ b) +ℤ e)) ≤ℤ (pos partsInOne *ℤ m +ℤ v)
       together a b e m v h g i = le-by (at (pos partsInOne) ⊗ ((at a ⊕ at b) ⊕ at e)) (at (pos partsInOne) ⊗ at m ⊕ at v) (omega (arith, le-fact (at a) (at (pos 0)) h, le-fact (at b) (at m) g, le-fact (at (pos partsInOne) ⊗ at e) (at v) i))
 
--- so at rule 6's prices no choice earns more than rule 10's bound of the network: the larger total, and without links, where α₂ is 0, the branch total (S-6)
+-- so at rule 6's prices no choice earns more than rule 10's bound of the network: the larger total, or without
+-- links, where α₂ is 0, the branch total (S-6)
 pub network-le : (c : Case) → Placed c → (x : Solution) → Network c x → (d : Prices) → congestionRent c x (zonePrice c d) ≤ℤ (pos (x .den) *ℤ networkBound c d)
 unfolding multipliersOf marginValue capacityValue liabilities branchTotal branchValue
 network-le c ok x nw d =
@@ -211,7 +215,7 @@ network-le c ok x nw d =
       eq-fact ((at a ⊕ at b) ⊗ at t) (at (pos (partsInOne * e)) ⊗ at t) (ap (λ (z : ℤ). z *ℤ t) s),
     ))
 
--- and the rent of a clearing earns it up to the gap
+-- the rent of a clearing is that bound up to the gap
 pub rent-earns : (c : Case) → Placed c → (d : Prices) (q : Plan) → Clearing c q → q .den ≡ 1 → networkBound c d ≤ℤ (rent c q d +ℤ gap c q d)
 unfolding gap bound
 rent-earns c ok d q cl one = earns (welfare c q) (rent c q d) (surplus c d) (networkBound c d) (q .den) one (welfare-le c ok d q cl)

@@ -1,6 +1,8 @@
--- Appendix B of the Annex: the network constraints (63) to (72) allow every convex combination of the flow-based domain and the LTA domain; with both
--- weights positive nothing else, and without LTA weight, as in every hour without links (S-6), only points of the flow-based domain. With the whole weight on the LTA domain the Annex assumes
--- that the PTDF constraints bound the positions; that nothing else is allowed then is not shown. Assumes nothing.
+-- Appendix B of the Annex: the network constraints (63) to (72) allow every convex combination of the flow-based
+-- domain and the LTA domain. With both weights positive they allow nothing else. Without LTA weight, as in every
+-- hour without links (S-6), they allow only points of the flow-based domain. With the whole weight on the LTA
+-- domain the Annex assumes that the PTDF constraints bound the positions; no theorem here says that nothing else is
+-- allowed then. Assumes nothing.
 use mathlib.Core.Path.{_≡_, refl, sym, ap, _∙_}
 use Prim.Native.Nat.{ℕ, zero, suc, _+_, _*_, _<_}
 use native.Mathlib.Nat.{mul-le-mul-left, mul-pos}
@@ -13,7 +15,7 @@ use Rattle.base_integers.specs.Steps.Difference.{at, _⊕_, _⊗_, le-by, eq-by
 use Rattle.base_integers.specs.Steps.Order.{scaled, times-nonneg}
 use Rattle.base_integers.specs.Meaning.Sums.{sumTo}
 use Rattle.base_integers.specs.Steps.Sums.{sum-ext, sum-scale-l}
-use Rattle.base_measures.specs.Meaning.Limits.{partsInOne}
+use Rattle.base_limits.specs.Meaning.Limits.{partsInOne}
 use Rattle.rules.specs.Meaning.Hour.{Case}
 use Rattle.rules.specs.Meaning.Annex.{Solution, Network, FBDomain, TwoPoints, Combines, capacityLTA, netFlow}
 use Rattle.rules.specs.Promised.Annex.CommercialFlows.{net-ext, net-zero, net-scale}
@@ -69,7 +71,7 @@ allowed c y = record {
     unweighed zero h e = eq-by (at (pos (partsInOne * (0 * y .den)))) (at (pos 0)) (omega arith)
     unweighed (suc a) h e = absurd (omega (arith, h (omega arith)))
 
-    -- what holds where the weight is positive holds of the weighed sides
+    -- an inequality that holds where its weight is positive holds after both sides are weighed
     weighed-le : (a : ℕ) (u v : ℤ) → (0 < a → u ≤ℤ v) → (pos a *ℤ u) ≤ℤ (pos a *ℤ v)
     weighed-le zero u v h = le-by (at (pos 0) ⊗ at u) (at (pos 0) ⊗ at v) (omega arith)
     weighed-le (suc a) u v h = scaled (suc a) (h (omega arith))
@@ -88,7 +90,7 @@ allowed c y = record {
     hundred-thousand : (f : ℤ) (a d : ℕ) (k : ℤ) → f ≤ℤ (pos a *ℤ (pos d *ℤ k)) → (pos partsInOne *ℤ f) ≤ℤ (pos a *ℤ (pos (partsInOne * d) *ℤ k))
     hundred-thousand f a d k h = le-by (at (pos partsInOne) ⊗ at f) (at (pos a) ⊗ (at (pos (partsInOne * d)) ⊗ at k)) (omega (arith, le-fact (at f) (at (pos a) ⊗ (at (pos d) ⊗ at k)) h))
 
--- WITH BOTH WEIGHTS POSITIVE nothing else is
+-- WITH BOTH WEIGHTS POSITIVE nothing else is allowed
 module _ (c : Case) (x : Solution) (nw : Network c x) (a b : ℕ) (is-a : pos a ≡ x .alpha1) (is-b : pos b ≡ x .alpha2) (a-positive : 0 < a) (b-positive : 0 < b) where
   whole : a + b ≡ partsInOne * x .den
   whole = omega (arith, eq-fact (at (pos a) ⊕ at (pos b)) (at (pos (partsInOne * x .den))) (cc (is-a, is-b, nw .alpha-sum)))

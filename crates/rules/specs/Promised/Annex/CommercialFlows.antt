@@ -1,6 +1,6 @@
--- Commercial flows and the net positions that they bring about. RULE 3: "000 writes unbounded commercial flows here; over connected zones that says
--- the same", as `net-sum` (the net positions of any flows sum to zero) and `balanced-carried` (whatever sums to zero, flows along lines bring about).
--- Assumes nothing.
+-- Commercial flows and the net positions that they bring about. RULE 3: "000 writes unbounded commercial flows
+-- here; over connected zones that says the same". `net-sum`: the net positions of any flows sum to zero.
+-- `balanced-carried`: flows along lines bring about any positions that sum to zero. Assumes nothing.
 use mathlib.Core.Path.{_≡_, refl, sym, ap, _∙_}
 use mathlib.Core.Bool.{Bool, true, false, not, _||_}
 use Prim.Native.Nat.{ℕ, zero, suc, _+_, _≤_, _<_}
@@ -56,7 +56,7 @@ net-scale n z f l =
     factor : (k a b : ℤ) → k *ℤ a -ℤ k *ℤ b ≡ k *ℤ (a -ℤ b)
     factor k a b = eq-by (at k ⊗ at a ⊖ at k ⊗ at b) (at k ⊗ (at a ⊖ at b)) (omega arith)
 
--- at a price for each zone, net positions are worth what the flows gain on their way
+-- at a price for each zone, the net positions are worth what the flows gain on their way
 pub net-priced : (n : ℕ) (f : ℕ → ℕ → ℤ) (price : ℕ → ℤ) → sumTo n (λ l. netFlow n f l *ℤ price l) ≡ sumTo n (λ l. sumTo n (λ k. f l k *ℤ (price k -ℤ price l)))
 net-priced n f price =
     sum-ext n _ _ (λ l h.
@@ -74,7 +74,7 @@ net-priced n f price =
     sub-times : (a u v : ℤ) → a *ℤ u -ℤ a *ℤ v ≡ a *ℤ (u -ℤ v)
     sub-times a u v = eq-by (at a ⊗ at u ⊖ at a ⊗ at v) (at a ⊗ (at u ⊖ at v)) (omega arith)
 
--- WHAT LINES CAN CARRY: net positions that flows along lines, none negative, bring about
+-- WHAT LINES CAN CARRY: net positions that come from flows along lines, none of them negative
 pub record Carried (n : ℕ) (line : ℕ → ℕ → Bool) (net : ℕ → ℤ) : Type 0 where
   pub flow : ℕ → ℕ → ℤ
   pub flow-in : (l k : ℕ) → pos 0 ≤ℤ flow l k
@@ -160,7 +160,7 @@ module _ {n : ℕ} {line : ℕ → ℕ → Bool} where
   first-zones q x zero h = carried-zero
   first-zones q x (suc m) h = carried-sum (first-zones q x m (omega arith)) (exchange-carried (x m) (q .from-first m h) (q .to-first m h))
 
-  -- RULE 3: over connected zones commercial flows can carry whatever sums to zero
+  -- RULE 3: over connected zones commercial flows can carry any positions that sum to zero
   pub balanced-carried : Connected n line → (x : ℕ → ℤ) → sumTo n x ≡ pos 0 → Carried n line x
   unfolding exchange
   balanced-carried q x e = carried-same (first-zones q x n (omega arith)) (λ l h.
@@ -190,7 +190,7 @@ every-pair-connected n = record { from-first = λ z h. direct 0 z (omega arith) 
     direct : (a b : ℕ) → a < n → b < n → Route n everyPair a b
     direct a b ha hb = by a b (eqb a b) (eqb→eq a b) (λ t. onward here ha hb t)
 
--- and a chain, in which each zone is joined with the next, both ways
+-- a chain, in which each zone is joined with the next, both ways
 unfoldable pub chain : ℕ → ℕ → Bool
 chain l k = eqb (l + 1) k || eqb (k + 1) l
 

@@ -1,6 +1,7 @@
--- The Annex's extended formulation allows exactly the clearings of document 01: every feasible solution is a clearing (SOUND), and every clearing a
--- feasible solution (COMPLETE), with the same volumes, LTA flows and share, so the same welfare and net positions. Commercial flows may be confined
--- to any lines over which the zones are connected; those of the Annex go between any two zones. Assumes nothing.
+-- The Annex's extended formulation allows exactly the clearings of document 01. Every feasible solution is a
+-- clearing (SOUND), and every clearing is a feasible solution (COMPLETE), with the same volumes, LTA flows and
+-- share. So welfare and net positions are the same. Commercial flows may be confined to any lines that connect the
+-- zones; the Annex's go between any two zones. Assumes nothing.
 use mathlib.Core.Path.{_≡_, refl, sym, ap, subst, _∙_}
 use mathlib.Core.Bool.{Bool, true, false, not}
 use mathlib.Core.Option.{Option, none, some}
@@ -13,7 +14,7 @@ use Rattle.base_integers.specs.Steps.Difference.{at, _⊕_, _⊖_, _⊗_, le-by
 use Rattle.base_integers.specs.Steps.Ranges.{and-both, and-left, and-right}
 use Rattle.base_integers.specs.Meaning.Sums.{sumTo, only}
 use Rattle.base_integers.specs.Steps.Sums.{sum-ext, sum-zero, sum-add, sum-sub, sum-scale-l, sum-swap, sum-nonneg, sum-le, only-on, only-off, only-both, only-swap, sum-one, sum-key}
-use Rattle.base_measures.specs.Meaning.Limits.{partsInOne}
+use Rattle.base_limits.specs.Meaning.Limits.{partsInOne}
 use Rattle.rules.specs.Meaning.Hour.{Case, Plan, signed, buys, orderNet, net, inflow, outflow, ltaPart, fbPart, netSum, linkUse, linkRoom, branchUse, branchRoom, orderWelfare, welfare}
 use Rattle.rules.specs.Meaning.Clearing.{Placed, Clearing}
 use Rattle.rules.specs.Meaning.Annex.{Solution, Feasible, PairsOnce, Connected, joins, byPair, capacityLTA, netFlow, objective}
@@ -53,7 +54,7 @@ of-link c o f j h =
     same : (i : ℕ) → i < c .links → (c .from i ≡ c .from j) × (c .to i ≡ c .to j) → i ≡ j
     same i l e = o .once i j l h (e .0) (e .1)
 
--- and a pair with no link has zero
+-- a pair without a link has zero
 pub of-none : (c : Case) (f : ℕ → ℤ) (l k : ℕ) → ((j : ℕ) → j < c .links → T (not (joins c j l k))) → byPair c f l k ≡ pos 0
 unfolding byPair
 of-none c f l k no-link = sum-ext (c .links) _ (λ j. pos 0) (λ j h. only-off (joins c j l k) (f j) (T-not (joins c j l k) (no-link j h))) ∙ sum-zero (c .links)
@@ -80,7 +81,7 @@ module _ (c : Case) (ok : Placed c) where
       ∙ net-plain (c .zones) (byPair c (λ j. pos (p .flow j))) z
       ∙ (cc (into-zone (λ j. pos (p .flow j)) z, out-of-zone (λ j. pos (p .flow j)) z))
 
--- a flow from zero to a part of a capacity of zero
+-- a flow that is not negative, within a share of a capacity of zero, is zero
 no-flow : (f a k : ℤ) → pos 0 ≤ℤ f → (pos partsInOne *ℤ f) ≤ℤ (a *ℤ k) → k ≡ pos 0 → f ≡ pos 0
 no-flow f a k h l e = eq-by (at f) (at (pos 0)) (omega (arith, le-fact (at (pos 0)) (at f) h, le-fact (at (pos partsInOne) ⊗ at f) (at a ⊗ at (pos 0)) (rw e at l)))
 
@@ -186,7 +187,7 @@ sound c ok o x fe = record {
     }
 
 -- COMPLETE
--- the solution of a plan whose flow-based parts the commercial flows g carry
+-- the solution of a plan, where the commercial flows g carry the plan's flow-based parts
 unfoldable pub solutionFrom : Case → Plan → (ℕ → ℕ → ℤ) → Solution
 solutionFrom c p g = record {
   den = p .den;

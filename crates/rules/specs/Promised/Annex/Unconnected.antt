@@ -1,6 +1,7 @@
--- Why rule 3 says "over connected zones": two zones, one selling a tenth and one buying it, and no line from the first to the second. The net positions
--- sum to zero, so this is a clearing of document 01. No solution of (60) to (72) is the same: with no flow from the first zone (68) and (69) leave the
--- second no flow-based position above zero. Assumes nothing.
+-- Why rule 3 says "over connected zones": take two zones, one selling a tenth and one buying it, and no line from
+-- the first to the second. The net positions sum to zero, so this is a clearing of document 01. It is no solution
+-- of (60) to (72): without flow from the first zone, (68) and (69) leave the second no flow-based position above
+-- zero. Assumes nothing.
 use mathlib.Core.Path.{_≡_, refl, _∙_}
 use mathlib.Core.Bool.{Bool, not}
 use Prim.Native.Nat.{ℕ, _-_}
@@ -51,7 +52,7 @@ allowed = record {
   branch = λ m h. absurd (omega arith);
 }
 
--- whatever lines there are, but for one from zone 0 to zone 1
+-- with any lines except one from zone 0 to zone 1
 pub not-carried : (line : ℕ → ℕ → Bool) → T (not (line 0 1)) → (x : Solution) → Feasible twoZones x → AlongLines twoZones line x → Same twoZones bothAccepted x → ⊥
 unfolding twoZones bothAccepted fbPart ltaPart inflow outflow net orderNet buys netFlow sumTo
 not-carried line no-line x fe along same = apart (x .flowFB 0 1) (x .flowFB 1 0)

@@ -1,4 +1,5 @@
--- `sheet_numbers::TextCursor::number` meets its contract: each way out of the walk is one of the texts of `Parts`. Assumes nothing.
+-- `sheet_numbers::TextCursor::number` meets its contract: each return of the walk is one of the texts of `Parts`.
+-- Assumes nothing.
 use mathlib.Core.Path.{refl, sym, _∙_}
 use Prim.Native.Nat.{_+_, _<_}
 use native.Mathlib.Omega.{arith}
@@ -29,7 +30,7 @@ returns c = none-read (whole-is (c .before)) (c .if1 .taken)
 starts-at-requires-2 : tie.Need-starts-at-requires-2
 starts-at-requires-2 c κs = search needs
 
--- the point stands inside
+-- the point is inside the text
 inside : (c : tie.Then2) → c .before .before .before .read-whole .result .end < length (c .before .before .before .before .before .before .before .args .s .now)
 inside c = point-in (whole-is (c .before .before .before)) (sym (c .before .starts-at2 .ensures) ∙ c .if2 .taken)
 

@@ -1,0 +1,2 @@
+-- A LOAD AT A PRICE
+pub mod Cost

@@ -1,6 +1,0 @@
--- THE PROOFS' MEANS
-pub mod Places
-pub mod Digits
-pub mod Table
-pub mod Complement
-pub mod Put
