@@ -1,17 +1,17 @@
-//! The first difference of a run as files that `lta` opens, by the suffixes that it knows: difference.case,
+//! The first difference of a run, as files that `lta` opens by their suffixes: difference.case,
 //! difference.proposal, difference.families and so on. difference.about says what differs.
 
 use std::fs;
 use std::io;
 use std::path::Path;
 
-/// An input's files: each with the suffix that `lta` knows it by.
+/// An input's files, each with the suffix by which `lta` knows it.
 pub type Files<'a> = [(&'a str, &'a [u8])];
 
 const NAME: &str = "difference";
 
-/// Writes the files, and none of an earlier run is left. What comes back is the command that shows them, or the path
-/// of difference.about where they are no hour's.
+/// Writes the files and removes those of an earlier run. Returns the command that shows them, or the path of
+/// difference.about if they are no hour's.
 pub fn write(folder: &Path, files: &Files, about: &str) -> io::Result<String> {
     fs::create_dir_all(folder)?;
     for entry in fs::read_dir(folder)? {
@@ -36,7 +36,7 @@ pub fn write(folder: &Path, files: &Files, about: &str) -> io::Result<String> {
     Ok(format!("{command}{}", paths.join(" ")))
 }
 
-/// A line for each file: its name and its bytes in hexadecimal digits, unless they are too many to be read.
+/// A line for each file: its name and its bytes in hexadecimal digits, unless there are too many to read.
 pub fn hex(files: &Files) -> String {
     let line = |(name, file): &(&str, &[u8])| match file.len() {
         0..=400 => {

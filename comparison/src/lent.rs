@@ -1,5 +1,5 @@
-//! A room lent to an entry, with numbers on either side that nobody may touch: what the library leaves of it and what
-//! the second judge does.
+//! A room lent to an entry, with guard numbers on either side: what the library leaves of it, and what the second
+//! judge leaves.
 
 use std::fmt::{Debug, Display};
 use std::ops::Range;
@@ -22,7 +22,7 @@ pub struct Left<A, T> {
 }
 
 impl Lent<u8> {
-    /// A pattern of its own for each input, so that no byte is right by luck.
+    /// A different pattern for each input, so that no byte is right by luck.
     pub fn bytes(room: usize, input: u64) -> Lent<u8> {
         let salt = input.wrapping_mul(101).wrapping_add(11);
         Lent::filled(room, |n| (n * 37).wrapping_add(salt) as u8)
@@ -35,20 +35,20 @@ impl<T: Clone> Lent<T> {
         Lent { filled: space.map(pattern).collect(), room: GUARD..GUARD + room }
     }
 
-    /// Lends only so much of the room: the rest is a side too.
+    /// Lends only this much of the room: the rest becomes a guard too.
     pub fn only(mut self, room: usize) -> Lent<T> {
         self.room.end = GUARD + room;
         self
     }
 
-    /// Calls an entry, which is lent the room.
+    /// Calls an entry with the room.
     pub fn to<A>(&self, entry: impl FnOnce(&mut [T]) -> A) -> Left<A, T> {
         let (mut space, room) = (self.filled.clone(), self.room.clone());
         let answer = entry(&mut space[room.clone()]);
         Left { answer, space, room }
     }
 
-    /// Counts each wrong build that is told from the library.
+    /// Counts each wrong build that differs from the library.
     pub fn tell<A: PartialEq, B: Copy>(
         &self,
         library: &Left<A, T>,
@@ -70,7 +70,7 @@ impl<A: PartialEq + Debug, T: PartialEq + Display> Left<A, T> {
         &self.space[self.room.clone()]
     }
 
-    /// In what the second judge differs from the library.
+    /// How the second judge differs from the library.
     pub fn unlike(&self, second: &Left<A, T>) -> Option<String> {
         if self == second {
             return None;

@@ -1,4 +1,4 @@
-//! The proved judge's library, with the second judge's types for what it answers.
+//! The proved judge's library, with the second judge's types for its answers.
 
 use second_judge::{BookAnswer, CarriedAnswer, OutputAnswer, Row, ServedAnswer, Verdict, QUEUE_BYTES};
 
@@ -19,7 +19,7 @@ pub fn judge(case: &[u8], proposal: &[u8], report: &mut [u8]) -> Verdict {
     judge_as(case, proposal, report, false)
 }
 
-/// As `judge`; `null`, here and below, passes a null pointer for each empty slice.
+/// Like `judge`; `null`, here and below, passes a null pointer for each empty slice.
 pub fn judge_as(case: &[u8], proposal: &[u8], report: &mut [u8], null: bool) -> Verdict {
     verdict(lta_sys::judge(case, proposal, report, null))
 }

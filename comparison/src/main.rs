@@ -1,7 +1,7 @@
 //! Compares the proved judge's library with the second judge over made inputs.
 //!
-//! The wrong builds here are the second judge's, from the crate wrong_builds: the inputs must tell each of them from
-//! the library. Wrong builds of the proved judge are the edits in crates/NAME/must-fail, and it is the prover that
+//! The wrong builds here are the second judge's, from the crate wrong_builds: the inputs must distinguish each of
+//! them from the library. Wrong builds of the proved judge are the edits in crates/NAME/must-fail; the prover
 //! refuses them.
 
 use comparison::checks::*;
@@ -65,7 +65,7 @@ fn main() -> ExitCode {
         first_entries(&mut run);
         run.progress.clear();
         add(&mut entries, &run.entries);
-        // A further round is told by what failed in it.
+        // A further round prints its failures only.
         faults += run.checks.iter().filter(|check| !check.passed).count();
         if run.progress.round() > 1 {
             let failed = run.checks.iter().filter(|check| !check.passed);
@@ -95,7 +95,7 @@ fn main() -> ExitCode {
     }
 }
 
-/// Every part with a source of chance of its own, so that none depends on the one before.
+/// Every part has its own source of random numbers, so that none depends on the one before.
 const PARTS: [fn(&mut Run, &mut Rng); 19] = [
     |run, _| inputs::widest_totals(run),
     inputs::buffer_lengths,
@@ -118,7 +118,7 @@ const PARTS: [fn(&mut Run, &mut Rng); 19] = [
     queue::queues,
 ];
 
-/// One round; whether it came to its end before the time was over.
+/// One round; whether it ended before the time was over.
 fn round(run: &mut Run, seed: u64, inputs: u64) -> bool {
     run.section("the paper's hours");
     inputs::paper_hours(run);
@@ -162,7 +162,7 @@ fn judgement(run: &mut Run) {
     }
 }
 
-/// The judgement's and the desk's rows of the table, first of all: each input of the one is one of the other.
+/// The judgement's and the desk's rows of the table, first: each input of the one is one of the other.
 fn first_entries(run: &mut Run) {
     let (verdicts, told) = (run.verdicts, run.second_wrong.map(|found| found.made));
     run.entry("lta_judge", run.inputs, &[(&JUDGE, &verdicts)], &told);

@@ -1,10 +1,10 @@
-//! How far a long run is: a line on the terminal, and whether its time is over.
+//! The progress of a long run: a line on the terminal, and whether its time is over.
 
 use crate::table::grouped;
 use std::io::{IsTerminal, Write};
 use std::time::{Duration, Instant};
 
-/// A line is written anew after so long, and the clock asked once in so many inputs.
+/// How often the line is rewritten, and after how many inputs the clock is asked.
 const EVERY: Duration = Duration::from_millis(500);
 const INPUTS: u64 = 256;
 
@@ -55,7 +55,7 @@ impl Progress {
         std::io::stderr().flush().ok();
     }
 
-    /// Takes the line away, so that something else can be written.
+    /// Removes the line, so that something else can be written.
     pub fn clear(&self) {
         if self.terminal {
             eprint!("\r{:<78}\r", "");

@@ -1,5 +1,5 @@
-//! The records that crates/prog_records reads, and what the second judge says that the program prints for each.
-//! The program's src/main.rt has the format, and each of its modules what a kind of record holds.
+//! The records that crates/prog_records reads, and what the program prints for each by the second judge. The
+//! program's src/main.rt has the format, and each of its modules says what a kind of record holds.
 
 use crate::stored_lines::hex;
 use second_judge::files::u32_at;
@@ -15,14 +15,14 @@ const OPENING: usize = 21;
 /// Bytes of an event of the queue: a letter and two numbers.
 const EVENT: usize = 9;
 
-/// What the program has room for; a record lends all of it or less.
+/// The room of the program; a record lends all of it or less.
 const COLUMNED_ROOM: usize = 10_126;
 const PROPOSAL_ROOM: usize = 2_572;
 const SHEET_ROOM: usize = 4_352;
 const SHORTFALL_ROOM: usize = 1_280;
 const SCRATCH_ROOM: usize = 330;
 const SMALL_SCRATCH_ROOM: usize = 102;
-/// Net positions and prices of which the program takes no more.
+/// The most net positions and prices that the program takes.
 const ZONES: usize = 17;
 /// Each number of a scratch before the call.
 const SCRATCH_BEFORE: i64 = 7;
@@ -94,7 +94,7 @@ fn answer_words(OutputAnswer { number, index, length }: OutputAnswer) -> String 
     format!("{number} {index} {length}")
 }
 
-/// The line of a dump: an answer, and of a proposal that was written the number by which it is judged.
+/// The line of a dump: an answer and, for a written proposal, the number of its judgement.
 pub fn dump_line(answer: OutputAnswer, judged: Option<u32>) -> String {
     let judged = judged.map_or(String::new(), |number| format!(" judged {number}"));
     format!("{}{judged}", answer_words(answer))
@@ -110,12 +110,12 @@ pub fn shortfall_line(answer: OutputAnswer, numbers: &[i64]) -> String {
     format!("{}{}", answer_words(answer), numbers_words(numbers))
 }
 
-/// Each number behind a space.
+/// A space before each number.
 pub fn numbers_words(numbers: &[i64]) -> String {
     numbers.iter().map(|number| format!(" {number}")).collect()
 }
 
-/// An answer, and what an entry wrote into so much of the program's room.
+/// An answer, and what an entry wrote into this much of the program's room.
 fn lent<T: Copy + Default>(room: usize, entry: impl FnOnce(&mut [T]) -> OutputAnswer) -> (OutputAnswer, Vec<T>) {
     let mut out = vec![T::default(); room];
     let answer = entry(&mut out);
@@ -171,8 +171,8 @@ fn numbers_of(bytes: &[u8]) -> Vec<i64> {
     bytes.chunks_exact(8).take(ZONES).map(number).collect()
 }
 
-/// The bytes of net positions or prices, as many as the program takes. The least number of 64 bits has none, and
-/// becomes the one above it.
+/// The bytes of net positions or prices, at most as many as the program takes. The least number of 64 bits cannot
+/// be written so, and becomes the one above it.
 pub fn bytes_of(numbers: &[i64]) -> Vec<u8> {
     let bits = |number: &i64| number.unsigned_abs().min(i64::MAX as u64) | (*number as u64 & 1 << 63);
     numbers.iter().take(ZONES).flat_map(|number| bits(number).to_le_bytes()).collect()

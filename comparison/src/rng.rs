@@ -1,4 +1,4 @@
-//! The seeded source of chance (splitmix64), so that a run can be repeated.
+//! The seeded random numbers (splitmix64), so that a run can be repeated.
 
 pub struct Rng(u64);
 
@@ -15,7 +15,7 @@ impl Rng {
         z ^ (z >> 31)
     }
 
-    /// From 0 up to and without `n`.
+    /// From 0 to `n` - 1.
     pub fn below(&mut self, n: usize) -> usize {
         ((u128::from(self.draw()) * n as u128) >> 64) as usize
     }
@@ -26,7 +26,7 @@ impl Rng {
         least + ((u128::from(self.draw()) * width) >> 64) as i64
     }
 
-    /// As `between`, with either end one time in eight.
+    /// Like `between`, with either end one time in eight.
     pub fn between_or_end(&mut self, least: i64, greatest: i64) -> i64 {
         match self.below(8) {
             0 => least,

@@ -1,4 +1,4 @@
-//! Feeds both judges the same input, compares all they leave behind, and counts.
+//! Feeds both judges the same input, compares everything that they leave, and counts.
 
 use crate::checks::desk::Desk;
 use crate::checks::places::PLACES;
@@ -14,7 +14,7 @@ use wrong_builds::judgement::BUILDS;
 
 /// The longest buffer that is lent.
 const MOST_LENT: usize = 256;
-/// The wrong builds run along on one input out of so many.
+/// The wrong builds run on one input out of this many.
 const WRONG_EVERY: u64 = 6;
 /// Disagreements shown in full for each check.
 const SHOWN: u64 = 3;
@@ -27,7 +27,7 @@ pub struct Check {
     pub note: String,
 }
 
-/// How often a wrong build was told from the library, by the paper's hours and by made ones.
+/// How often a wrong build differed from the library, on the paper's hours and on made ones.
 #[derive(Clone, Copy, Default)]
 pub struct Found {
     pub of_paper: u64,
@@ -36,10 +36,10 @@ pub struct Found {
 
 /// A total above this fills most of its 64 bits.
 const LARGE: i64 = 1_000_000_000_000_000_000;
-/// The most that can be owed: every link, full, across all prices.
+/// The most that can be owed: every link fully contracted, across all prices.
 const MOST_OWED: i64 = 64 * 100_000 * 450_000 * 100_000;
 
-/// Things a good stream of inputs must come across, counted.
+/// What a good stream of inputs must contain, counted.
 pub const MET: [&str; 25] = [
     "accepted with gap zero",
     "accepted, gap at the tolerance",
@@ -71,7 +71,7 @@ pub const MET: [&str; 25] = [
 pub struct Run {
     pub checks: Vec<Check>,
     pub verdicts: [u64; COUNTED],
-    /// Those on cases of version 2.
+    /// The verdicts on cases of version 2.
     pub verdicts_on_two: [u64; COUNTED],
     /// Cases of version 1, of version 2, and of none.
     pub versions: [u64; 3],
@@ -80,7 +80,7 @@ pub struct Run {
     pub met: [u64; MET.len()],
     pub places: [u64; PLACES.len()],
     pub inputs: u64,
-    /// Inputs of the paper's hours, not of the generator.
+    /// Inputs are the paper's hours, not the generator's.
     pub of_paper: bool,
     pub desk: Desk,
     /// Answers of the order book's entry, by number.
@@ -88,7 +88,7 @@ pub struct Run {
     /// The rows of the closing table.
     pub entries: Vec<Entry>,
     pub progress: Progress,
-    /// Where the first difference is written, until it is.
+    /// Where the first difference will be written; none once it is.
     difference_folder: Option<PathBuf>,
 
     section: &'static str,
@@ -133,7 +133,7 @@ impl Run {
         self.section = name;
     }
 
-    /// Opens a check; what is fed until `end` belongs to it.
+    /// Opens a check; everything fed until `end` belongs to it.
     pub fn begin(&mut self, name: &str) {
         self.kind = name.to_string();
         self.kind_inputs = 0;
@@ -151,7 +151,7 @@ impl Run {
         self.check_inputs(name, self.kind_inputs, self.kind_faults);
     }
 
-    /// A check that passes when something was fed and nothing was amiss.
+    /// A check that passes if something was fed and nothing was wrong.
     pub fn check_inputs(&mut self, name: String, inputs: u64, faults: u64) {
         let note = match faults {
             0 => format!("{inputs}"),
@@ -164,12 +164,13 @@ impl Run {
         self.checks.push(Check { section: self.section, name, passed, note });
     }
 
-    /// A check that something was met so many times at least.
+    /// A check that something was met at least this many times.
     pub fn check_times(&mut self, name: String, times: u64, least: u64) {
         self.check(name, times >= least, format!("{times}"));
     }
 
-    /// A check for each number that an entry must reach, by how often it was answered, and one that it answers no other.
+    /// A check for each number that an entry must reach, by how often it was answered, and one that it answers no
+    /// other.
     pub fn check_numbers(&mut self, reach: &Reach, times: &[u64]) {
         for number in &reach.numbers {
             self.check_times(format!("{number}"), times[*number as usize], reach.times);
@@ -191,7 +192,7 @@ impl Run {
         }
     }
 
-    /// A check for each wrong build that some of the inputs told it from the library.
+    /// A check for each wrong build that some input distinguished it from the library.
     pub fn check_told<B>(&mut self, builds: &[(B, &str)], times: &[u64], inputs: u64) {
         for ((_, name), times) in builds.iter().zip(times) {
             self.check(name.to_string(), *times > 0, format!("{times} of {inputs}"));
@@ -204,12 +205,12 @@ impl Run {
         self.progress.tick(&self.kind);
     }
 
-    /// Something is amiss that no file shows.
+    /// Something is wrong that no file shows.
     pub fn fault(&mut self, text: impl FnOnce() -> String) {
         self.fault_in(&[], text);
     }
 
-    /// Something is amiss with an input of these files.
+    /// Something is wrong with an input of these files.
     pub fn fault_in(&mut self, files: &Files, text: impl FnOnce() -> String) {
         self.kind_faults += 1;
         if self.kind_faults > SHOWN && self.difference_folder.is_none() {
@@ -230,7 +231,7 @@ impl Run {
         }
     }
 
-    /// The folder for the first difference, if none was met yet.
+    /// The folder for the first difference, if there was none yet.
     pub fn into_difference_folder(self) -> Option<PathBuf> {
         self.difference_folder
     }
@@ -240,7 +241,7 @@ impl Run {
         self.feed_as(case, proposal, lent, false)
     }
 
-    /// As `feed`, with null pointers for what is empty.
+    /// Like `feed`, with null pointers for empty slices.
     pub fn feed_null(&mut self, case: &[u8], proposal: &[u8], lent: usize) -> Verdict {
         self.feed_as(case, proposal, lent, true)
     }
@@ -248,7 +249,7 @@ impl Run {
     fn feed_as(&mut self, case: &[u8], proposal: &[u8], lent: usize, null: bool) -> Verdict {
         self.inputs += 1;
         self.count();
-        // Files are never written: what they held is kept to be compared.
+        // Files must not be written: a copy is kept to compare.
         self.copies.0.clear();
         self.copies.0.extend(case);
         self.copies.1.clear();
@@ -290,7 +291,7 @@ impl Run {
         self.verdict
     }
 
-    /// Says that the last input must have had this verdict.
+    /// The last input must have had this verdict.
     pub fn expect(&mut self, number: u32, index: u32) {
         let verdict = self.verdict;
         if verdict != (Verdict { number, index }) {
@@ -298,7 +299,7 @@ impl Run {
         }
     }
 
-    /// Says that this number of the last report must have this value.
+    /// This number of the last report must have this value.
     pub fn expect_total(&mut self, n: usize, value: i64) {
         let reported = self.total(n);
         if reported != value {
@@ -306,7 +307,7 @@ impl Run {
         }
     }
 
-    /// Something is amiss with the input that the judgement was fed last.
+    /// Something is wrong with the last input of the judgement.
     pub fn fault_in_last(&mut self, text: impl FnOnce() -> String) {
         let (case, proposal) = self.copies.clone();
         self.fault_in(&[("case", &case), ("proposal", &proposal)], text);
@@ -344,7 +345,7 @@ impl Run {
         let link_total: i64 = (0..links).map(|l| capacity(l) * spread(l).max(0)).sum();
         let less = two && owed < link_total;
         let offered = two && (0..links).any(|l| capacity(l) > 0);
-        // The coverage rule, which holds by capacities too, speaks of hours with a link (S-6).
+        // The coverage rule holds by capacities too; it speaks of hours with a link (S-6).
         let uncovered = rent < owed - gap || rent < link_total - gap;
         if links > 0 && uncovered {
             self.fault_in_last(|| format!("rent {rent} does not cover {owed} or {link_total} less {gap}"));
@@ -383,8 +384,7 @@ impl Run {
         count_met(&mut self.met, &met);
     }
 
-    /// Each wrong build in place of the papers: told from the library, by what it answered and left in the buffer, or
-    /// not.
+    /// Each wrong build in place of the papers: whether its answer or its buffer differs from the library's.
     fn try_second_wrong(&mut self, case: &[u8], proposal: &[u8], lent: &Lent<u8>, library: &Left<Verdict, u8>) {
         self.second_wrong_tried += u64::from(!self.of_paper);
         for (found, (build, _)) in self.second_wrong.iter_mut().zip(BUILDS) {
@@ -396,7 +396,7 @@ impl Run {
     }
 }
 
-/// Counts those that one input met.
+/// Counts what one input met.
 pub fn count_met(counts: &mut [u64], met: &[bool]) {
     for (count, met) in counts.iter_mut().zip(met) {
         *count += u64::from(*met);

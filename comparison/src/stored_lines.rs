@@ -1,10 +1,10 @@
-//! What the programs share that have both judges say something of stored hours or dumps.
+//! What the programs share that print both judges' answers for stored hours or dumps.
 
 use second_judge::OutputAnswer;
 use std::io::{Error, Write};
 
-/// Reads the lines on standard input, each a name and some fields, and prints what the library says of them and what
-/// the second judge does: the name, the judge, the words.
+/// Reads the lines on standard input, each a name and some fields, and prints the library's answer and the second
+/// judge's: the name, the judge, the words.
 pub fn of_each<const FIELDS: usize>(
     what: &str,
     said: impl Fn([&str; FIELDS]) -> Option<[Vec<String>; 2]>,
@@ -26,7 +26,7 @@ pub fn of_each<const FIELDS: usize>(
     out.flush()
 }
 
-/// The bytes of pairs of hexadecimal digits; a dash stands for none.
+/// The bytes of pairs of hexadecimal digits; a dash means none.
 pub fn bytes(digits: &str) -> Option<Vec<u8>> {
     if digits == "-" {
         return Some(Vec::new());
@@ -38,8 +38,8 @@ pub fn hex(bytes: &[u8]) -> String {
     bytes.iter().map(|byte| format!("{byte:02x}")).collect()
 }
 
-/// What an entry answers, its output, and how much of it was written: up to the last number that was changed in one
-/// of two outputs that have none in common.
+/// An entry's answer, its output, and how much of it was written: up to the last number that changed in one of two
+/// outputs with different fills.
 pub fn written<T: Copy + PartialEq>(
     room: usize,
     fills: [T; 2],

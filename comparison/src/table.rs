@@ -15,7 +15,7 @@ pub struct Entry {
 }
 
 impl Entry {
-    /// By how often each number was answered, and each wrong build told.
+    /// From how often each number was answered, and each wrong build found.
     pub fn new(name: &'static str, inputs: u64, reached: &[(&Reach, &[u64])], told: &[u64]) -> Entry {
         let mut numbers = (0, 0);
         for (reach, times) in reached {
@@ -44,7 +44,7 @@ pub fn add(entries: &mut Vec<Entry>, round: &[Entry]) {
     }
 }
 
-/// A part for each section, with short checks side by side.
+/// A part for each section, with short checks next to each other.
 pub fn print_checks(checks: &[Check]) {
     for section in checks.chunk_by(|one, other| one.section == other.section) {
         println!("{}", section[0].section);
@@ -80,7 +80,7 @@ pub fn print_entries(entries: &[Entry]) {
     println!();
 }
 
-/// A number with a comma before each three digits.
+/// A number with a comma before each group of three digits.
 pub fn grouped(number: u64) -> String {
     let digits = number.to_string();
     let mut text = String::new();

@@ -1,5 +1,6 @@
-//! The proved judge's library over its C interface: the declarations of include/lta_judgement.h, and for each entry a
-//! safe function over slices. In each of these `null` passes a null pointer for every empty slice, as a C host may.
+//! The proved judge's library through its C interface: the declarations of include/lta_judgement.h, and for each
+//! entry a safe function over slices. In each of these `null` passes a null pointer for every empty slice, as a C
+//! host may.
 
 /// struct lta_order.
 #[derive(Clone, Copy, Debug)]
@@ -162,7 +163,7 @@ fn start_mut<T>(list: &mut [T], null: bool) -> *mut T {
 
 // Each call below is safe: every pointer comes with the length of its own slice.
 
-/// LTA_VERSION_NUMBER of the header that belongs to the library.
+/// LTA_VERSION_NUMBER of the library's own header.
 pub fn version() -> u32 {
     unsafe { lta_version() }
 }

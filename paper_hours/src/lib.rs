@@ -1,4 +1,4 @@
-//! Hours as values, their bytes, and the hours the paper names with their outcomes.
+//! Hours as values, their bytes, and the hours that the paper names with their outcomes.
 
 use second_judge::limits::{BUYS, SELLS};
 use second_judge::Row;
@@ -14,7 +14,7 @@ pub struct Link {
     pub from: u8,
     pub to: u8,
     pub capacity: u32,
-    /// Written in version 2 alone.
+    /// Written in version 2 only.
     pub contracted: u32,
 }
 
@@ -141,7 +141,7 @@ impl Totals {
     }
 }
 
-/// An hour the paper names, with what it says of it.
+/// An hour that the paper names, with what the paper says of it.
 pub struct Stored {
     pub name: &'static str,
     pub case: Vec<u8>,
@@ -161,8 +161,8 @@ pub fn contracted_hour() -> Hour {
     hour
 }
 
-/// S-6: no link, and a margin of -1,000 tenths that makes the second zone import so much: what A sells at 50 euros B
-/// buys at 40. The branch earns -1,000 euros.
+/// S-6: no link, and a margin of -1,000 tenths that makes the second zone import as much: what A sells at 50 euros
+/// B buys at 40. The branch earns -1,000 euros.
 pub fn forced_hour() -> Hour {
     let order = |zone, side, price| Row { zone, side, quantity: 1_000, price };
     Hour {

@@ -1,9 +1,9 @@
-//! An order book already in memory: its rows and the sum of rule 8.
+//! An order book in memory: its rows and the sum of rule 8.
 
 use crate::files::{i32_at, u32_at};
 use crate::limits::*;
 
-/// An order, in a lent book as in a case.
+/// An order, of a lent book or of a case.
 #[derive(Clone, Copy, Debug, PartialEq, Eq)]
 pub struct Row {
     pub zone: u8,
@@ -28,7 +28,7 @@ impl Row {
         self.price.into()
     }
 
-    /// Zone, side, quantity and price: whether each is in its range, among so many zones.
+    /// Zone, side, quantity and price: whether each is in its range, with this many zones.
     pub fn fields_in_range(&self, zones: usize) -> [bool; 4] {
         [
             usize::from(self.zone) < zones,
@@ -38,8 +38,8 @@ impl Row {
         ]
     }
 
-    /// What a tenth of the order gains at a zone price, in microcents: a buy the order price above the zone price, a
-    /// sell the zone price above the order price, both in grains.
+    /// What a tenth of the order gains at a zone price, in microcents: for a buy the order price above the zone
+    /// price, for a sell the zone price above the order price, both in grains.
     pub fn unit_gain(&self, zone_price: i128) -> i128 {
         match self.side {
             BUYS => ONE * self.price() - zone_price,

@@ -6,8 +6,8 @@ use crate::limits::*;
 use crate::{OutputAnswer, Papers};
 
 pub trait Columns: Sized {
-    /// The byte of an order's row that each column takes: all zones, then sides, then each quantity byte and each
-    /// price byte, in file order.
+    /// The byte of an order's row for each column: all zones, then sides, then each quantity byte and each price
+    /// byte, in file order.
     fn columns(&self) -> [usize; ORDER_BYTES] {
         [0, 1, 2, 3, 4, 5, 6, 7, 8, 9]
     }
@@ -16,13 +16,13 @@ pub trait Columns: Sized {
         case.order_at(0)
     }
 
-    /// The rows of so many orders as columns.
+    /// The rows of this many orders as columns.
     fn in_columns(&self, rows: &[u8], orders: usize) -> Vec<u8> {
         let column = |byte: usize| (0..orders).map(move |order| rows[order * ORDER_BYTES + byte]);
         self.columns().into_iter().flat_map(column).collect()
     }
 
-    /// The columns of so many orders as rows.
+    /// The columns of this many orders as rows.
     fn in_rows(&self, columns: &[u8], orders: usize) -> Vec<u8> {
         let mut rows = vec![0; columns.len()];
         for (column, byte) in self.columns().into_iter().enumerate() {
@@ -56,14 +56,14 @@ pub trait Columns: Sized {
         Some(with_mark(self.mark(), &file))
     }
 
-    /// The case that a columned file restores to. None, which is 71, if the mark is not LTK or no readable case
+    /// The case that a columned file restores to; none, which is 71, if the mark is not LTK or no readable case
     /// results.
     fn restored(&self, file: &[u8]) -> Option<Vec<u8>> {
         if !self.has_mark(file) || file.len() < CASE_HEADER {
             return None;
         }
         let bytes = with_mark(b"LTC", file);
-        // The counts are the case's, and say where its columns stand.
+        // The counts are the case's, and tell where its columns begin.
         let case = with_good_header(&bytes).ok().filter(|case| case.demanded() == file.len())?;
         let restored = with_orders(&bytes, self.orders_at(&case), &case, |columns| self.in_rows(columns, case.orders));
         self.is_readable(&restored).then_some(restored)
@@ -90,12 +90,12 @@ pub trait Columns: Sized {
     }
 }
 
-/// A file under another mark.
+/// A file with another mark.
 pub fn with_mark(mark: &[u8; 3], file: &[u8]) -> Vec<u8> {
     [mark, &file[3..]].concat()
 }
 
-/// A file whose order part, which begins here, is rearranged; all else stays.
+/// A file with its order part, which begins here, rearranged; all else stays.
 fn with_orders(file: &[u8], start: usize, case: &Case, rearranged: impl Fn(&[u8]) -> Vec<u8>) -> Vec<u8> {
     let (before, rest) = file.split_at(start);
     let (orders, past) = rest.split_at(case.orders * ORDER_BYTES);

@@ -9,7 +9,7 @@ const MONEY: (u64, usize) = (100_000_000, 8);
 /// Grains in a euro per MWh, and the decimals shown.
 const PRICE: (u64, usize) = (10_000_000, 7);
 
-/// Where the case ends. Once the header is good and enough bytes are there, the case is cut at its demanded length and
+/// Where the case ends. If the header is good and there are enough bytes, the case ends at its demanded length and
 /// the rest is the proposal; else all is the case.
 fn cut(input: &[u8]) -> usize {
     match with_good_header(input) {
@@ -45,7 +45,7 @@ pub fn desk_lines(input: &[u8]) -> Vec<u8> {
     lines.into_bytes()
 }
 
-/// The same lines written to an output, and how long they are; 31 where it has under 1,024 bytes.
+/// The same lines written to an output, and their length; 31 if it has under 1,024 bytes.
 pub fn desk_output(input: &[u8], out: &mut [u8]) -> OutputAnswer {
     if out.len() < LEAST_OUTPUT {
         return OutputAnswer::refused(31, 0);

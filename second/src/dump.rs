@@ -1,7 +1,7 @@
-//! Straight from the solver's dump, request S-5: its values as a proposal for a case.
+//! A proposal straight from the solver's dump, request S-5.
 //!
-//! A binary64 is a whole number times a power of two, as its bits say. Products are taken and rounded in whole
-//! numbers, and no float is touched.
+//! A binary64 is a whole number times a power of two, given by its bits. Products are taken and rounded in whole
+//! numbers; no float is used.
 
 use crate::files::Case;
 use crate::judgement::readable;
@@ -9,7 +9,7 @@ use crate::limits::*;
 use crate::{OutputAnswer, Papers};
 use std::cmp::Ordering;
 
-/// What a value of a dump is.
+/// The kind of a value in a dump.
 #[derive(Clone, Copy, Debug, PartialEq, Eq)]
 pub enum Kind {
     LtaShare,
@@ -29,7 +29,7 @@ impl Kind {
         matches!(self, Kind::SystemPrice | Kind::ShadowPrice)
     }
 
-    /// What it is multiplied by: hundred-thousandths in 1, cents in a euro, the quantity, tenths in a MW.
+    /// The factor: hundred-thousandths in 1, cents in a euro, the quantity, tenths in a MW.
     pub fn factor(self) -> u32 {
         match self {
             Kind::LtaShare => 100_000,
@@ -71,7 +71,7 @@ pub trait DumpReading: Sized {
         Value::of(bits).is_none()
     }
 
-    /// What stands in the proposal for a finite value. None is 59: a share outside 0 to 1, a negative flow or shadow
+    /// The number in the proposal for a finite value. None is 59: a share outside 0 to 1, a negative flow or shadow
     /// price, or a result that is infinite or leaves its field's range.
     fn converted(&self, kind: Kind, bits: u64) -> Option<i128> {
         let value = self.value(bits)?;
@@ -111,7 +111,7 @@ pub trait DumpReading: Sized {
         }
     }
 
-    /// 58 or 59 with the first such value's place, each asked over the whole dump.
+    /// 58 or 59 with the place of the first such value, each asked over the whole dump.
     fn refused_value(&self, values: &[(Kind, u64)]) -> Option<(u32, usize)> {
         let not_finite = values.iter().position(|(_, bits)| self.is_not_finite(*bits));
         let outside = || values.iter().position(|(kind, bits)| self.converted(*kind, *bits).is_none());
@@ -133,7 +133,7 @@ pub trait DumpReading: Sized {
         let mut proposal = b"LTP\x01\x00".to_vec();
         for (kind, bits) in values {
             let number = self.converted(kind, bits).expect("59 was asked before");
-            // The low 32 bits, which of a system price below zero are its complement.
+            // The low 32 bits; for a system price below zero they are its two's complement.
             proposal.extend((number as u32).to_le_bytes());
         }
         if room < proposal.len() {
@@ -165,7 +165,7 @@ pub const FRACTION: u64 = (1 << 52) - 1;
 pub const EXPONENT: u64 = !(SIGN | FRACTION);
 /// Binary digits of a binary64.
 const DIGITS: u32 = 53;
-/// What is not below two to this is infinite.
+/// From two to this power on a number is infinite.
 const INFINITE: i32 = 1_024;
 
 /// A finite number: its size is `whole` times two to the `power`.
@@ -177,7 +177,7 @@ pub struct Value {
 }
 
 impl Value {
-    /// What the bits of a binary64 say; none where that is infinite or no number.
+    /// The value of a binary64's bits; none if infinite or no number.
     pub fn of(bits: u64) -> Option<Value> {
         let (exponent, fraction) = ((bits & EXPONENT) >> 52, bits & FRACTION);
         let (whole, power) = match exponent {
@@ -190,23 +190,23 @@ impl Value {
 
     pub fn above_one(&self) -> bool {
         match u32::try_from(-self.power) {
-            // A whole number of at most 53 digits: with more places it is below one.
+            // A whole number has at most 53 digits: with more places the value is below one.
             Ok(places) => places <= DIGITS && self.whole > 1 << places,
             Err(_) => self.whole > 0,
         }
     }
 
-    /// The exact product: 53 digits by 17 at most, which is 70.
+    /// The exact product: at most 53 digits by 17, which is 70.
     pub fn times(&self, factor: u32) -> Value {
         Value { whole: self.whole * u128::from(factor), ..*self }
     }
 
-    /// The binary64 nearest to it, ties to even; none where that is infinite. The power of what was read is never
-    /// below the least of a binary64, nor is its product's, so 53 digits are there however small it is.
+    /// The nearest binary64, ties to even; none if that is infinite. A value read from bits never has a power below
+    /// the least of a binary64, and neither has its product, so 53 digits are available however small it is.
     pub fn rounded(&self) -> Option<Value> {
         let spare = digits(self.whole).saturating_sub(DIGITS);
         let kept = self.whole >> spare;
-        // What is dropped against half of the last digit kept, both doubled.
+        // The dropped part and half of the last digit kept, both doubled.
         let dropped = 2 * (self.whole - (kept << spare));
         let up = match dropped.cmp(&(1 << spare)) {
             Ordering::Less => 0,
@@ -217,7 +217,7 @@ impl Value {
         (digits(nearest.whole) as i32 + nearest.power <= INFINITE).then_some(nearest)
     }
 
-    /// Its size cut to a whole number; the greatest there is for what has no room.
+    /// Its size cut to a whole number; the greatest number if it does not fit.
     pub fn cut(&self) -> u128 {
         match u32::try_from(-self.power) {
             Ok(places) => self.whole.checked_shr(places).unwrap_or(0),
@@ -227,11 +227,11 @@ impl Value {
         }
     }
 
-    /// Its size cut to a whole number, and what is cut off against a half.
+    /// Its size cut to a whole number, and how the rest compares with a half.
     pub fn floor_and_half(&self) -> (u128, Ordering) {
         let floor = self.cut();
         let half = match u32::try_from(-self.power) {
-            // A half is a one at the first place behind the point.
+            // A half is a one at the first place after the point.
             Ok(places @ 1..=127) => (self.whole - (floor << places)).cmp(&(1 << (places - 1))),
             _ => Ordering::Less,
         };

@@ -4,10 +4,9 @@ use crate::files::u16_at;
 
 /// Mark and version.
 pub const LIST_HEADER: usize = 5;
-/// What stands for no parent.
 pub const NO_PARENT: u16 = 65_535;
 
-/// Whether mark, version and length are those of a list for so many orders.
+/// Whether mark, version and length are those of a list for this many orders.
 pub fn well_formed(list: &[u8], orders: usize) -> bool {
     list.len() == LIST_HEADER + 2 * orders && list.starts_with(b"LTF") && u16_at(list, 3) == 1
 }
@@ -17,7 +16,7 @@ pub fn well_formed(list: &[u8], orders: usize) -> bool {
 pub struct Parents(Vec<Option<usize>>);
 
 impl Parents {
-    /// Of a list that is long enough for so many orders.
+    /// For a list that is long enough for this many orders.
     pub fn of(list: &[u8], orders: usize) -> Parents {
         let named = |o| Some(u16_at(list, LIST_HEADER + 2 * o)).filter(|parent| *parent != NO_PARENT);
         Parents((0..orders).map(|o| named(o).map(usize::from)).collect())
@@ -32,17 +31,17 @@ impl Parents {
         self.0[order]
     }
 
-    /// The same where such an order exists.
+    /// The same if such an order exists.
     pub fn parent(&self, order: usize) -> Option<usize> {
         self.0[order].filter(|parent| *parent < self.orders())
     }
 
-    /// The parent, its parent and so on. A walk that comes back goes around without end.
+    /// The parent, its parent and so on. On a circle the walk does not end.
     pub fn ancestors(&self, order: usize) -> impl Iterator<Item = usize> + '_ {
         std::iter::successors(self.parent(order), |order| self.parent(*order))
     }
 
-    /// Whether an order leads back to itself. It does so within as many steps as there are orders, or never.
+    /// Whether an order leads back to itself: within as many steps as there are orders, or never.
     pub fn leads_back(&self, order: usize) -> bool {
         self.ancestors(order).take(self.orders()).any(|ancestor| ancestor == order)
     }

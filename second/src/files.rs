@@ -39,12 +39,12 @@ pub struct Link {
     pub to: usize,
     /// Tenths.
     pub capacity: i128,
-    /// Tenths. S-4: what was bought of the capacity; in version 1 all of it.
+    /// Tenths. S-4: the part of the capacity that was bought; in version 1 all of it.
     pub contracted: i128,
 }
 
 impl<'a> Case<'a> {
-    /// The case of these bytes. A header that is cut short counts as zeros: 1 refuses it before any of it is used.
+    /// The case of these bytes. A header that is cut short reads as zeros: 1 refuses it before any of it is used.
     pub fn of(bytes: &'a [u8], link_bytes: impl Fn(u16) -> usize) -> Case<'a> {
         let mut header = [0; CASE_HEADER];
         if let Some(whole) = bytes.get(..CASE_HEADER) {
@@ -112,7 +112,7 @@ impl<'a> Case<'a> {
         }
     }
 
-    /// The first link before this one that has its ordered pair.
+    /// The first earlier link with the same ordered pair.
     pub fn same_pair_before(&self, l: usize) -> Option<usize> {
         let pair = |l| &self.bytes[self.link_at(l)..][..2];
         (0..l).find(|&earlier| pair(earlier) == pair(l))
@@ -168,12 +168,12 @@ impl Proposal<'_> {
     }
 }
 
-/// All that a judgement is lent.
+/// All arguments of a judgement.
 #[derive(Clone, Copy, Debug)]
 pub struct Hour<'a> {
     pub case: Case<'a>,
     pub proposal: Proposal<'a>,
-    /// S-11: the family list; none at the entry that takes none.
+    /// S-11: the family list; none for the entry without one.
     pub list: Option<&'a [u8]>,
     /// Bytes of the report buffer.
     pub room: usize,

@@ -1,7 +1,8 @@
-//! Intuitive hours, request S-3: whether an hour's exchanges can all go from lower or equal price to higher, by annex
-//! 5.1 of document 001; and S-13, the same from a smaller scratch.
+//! Intuitive hours, request S-3: whether all exchanges of an hour can go from a lower or equal price to a higher
+//! one, by annex 5.1 of document 001. S-13 asks the same with a smaller scratch.
 //!
-//! The scratch is room for a host that has no other. It is not needed here, and only asked for and zeroed.
+//! The scratch is for a host that has no other memory. It is not needed here; it is only tested for its size and
+//! zeroed.
 
 use crate::files::Hour;
 use crate::judgement::{hour_in_order, judge, Judgement};
@@ -19,7 +20,7 @@ pub struct CarriedAnswer {
     pub total: i64,
 }
 
-/// How many numbers of scratch are asked for and zero after an answer.
+/// How many numbers of scratch are needed, and zero after an answer.
 #[derive(Clone, Copy, Debug, PartialEq, Eq)]
 pub enum ScratchSize {
     /// S-3.
@@ -37,7 +38,7 @@ impl ScratchSize {
     }
 }
 
-/// What is asked.
+/// The arguments.
 #[derive(Clone, Copy, Debug)]
 pub struct Exchange<'a> {
     /// Tenths, export positive.
@@ -60,13 +61,13 @@ impl Exchange<'_> {
         self.pairs.len().div_ceil(2)
     }
 
-    /// From and to. A last byte alone has no second zone, which is unknown therefore.
+    /// From and to. A last byte alone has no second zone, so that zone is unknown.
     pub fn pair(&self, n: usize) -> (usize, Option<usize>) {
         (self.pairs[2 * n].into(), self.pairs.get(2 * n + 1).map(|zone| usize::from(*zone)))
     }
 }
 
-/// Where a cause holds, its index.
+/// The index of a cause where it holds.
 pub type Cause<I> = fn(&I, &Exchange) -> Option<usize>;
 
 /// The causes in the order in which they are asked.
@@ -86,7 +87,7 @@ pub trait IntuitiveHours: Sized {
         causes()
     }
 
-    /// 81: 0 or over 16 zones, or lists of two lengths.
+    /// 81: 0 or over 16 zones, or lists of different lengths.
     fn zones_are_wrong(&self, given: &Exchange) -> Option<usize> {
         (!ZONES.contains(&given.zones()) || given.prices.len() != given.zones()).then_some(0)
     }
@@ -128,7 +129,7 @@ pub trait IntuitiveHours: Sized {
         causes.find_map(|(number, cause)| cause(self, given).map(|index| (number, index)))
     }
 
-    /// A pair counts when its first price is at most its second.
+    /// A pair counts if its first price is at most its second.
     fn counts(&self, first: i64, second: i64) -> bool {
         first <= second
     }
@@ -191,12 +192,13 @@ pub trait IntuitiveHours: Sized {
         number == 0
     }
 
-    /// Our net positions turned: export positive. They fit 64 bits, as 512 orders come to 51,200,000 at most.
+    /// Our net positions with their sign turned: export positive. They fit 64 bits, since 512 orders have at most
+    /// 51,200,000.
     fn net_exports(&self, hour: &Hour) -> Vec<i64> {
         Papers.net_positions(hour)[..hour.case.zones].iter().map(|net| -net as i64).collect()
     }
 
-    /// The entry over an hour, which must be accepted: else the judgement's number and index.
+    /// The entry over an hour. If it is not accepted, the answer is the judgement's number and index.
     fn hour_intuitive(
         &self,
         size: ScratchSize,
@@ -222,8 +224,8 @@ pub trait IntuitiveHours: Sized {
 }
 
 impl IntuitiveHours for Papers {
-    /// Found in a second way that shares nothing with the first: all exports less the greatest excess of a set that no
-    /// counted pair leaves. So the flows and the set prove each other best.
+    /// Computed in a second way that shares nothing with the first: all exports less the greatest excess of a set
+    /// that no counted pair leaves. By duality the flows and the set prove each other optimal.
     fn most_carried(&self, graph: &Graph) -> i128 {
         let total = graph.carried_by(&graph.flows()).expect("flows along counted pairs");
         let (excess, _) = graph.greatest_excess();
@@ -241,17 +243,17 @@ pub fn intuitive(net_exports: &[i64], prices: &[i64], pairs: &[u8], scratch: &mu
     Papers.intuitive(ScratchSize::Wide, net_exports, prices, pairs, scratch)
 }
 
-/// The same from the smaller scratch.
+/// The same with the smaller scratch.
 pub fn intuitive_small(net_exports: &[i64], prices: &[i64], pairs: &[u8], scratch: &mut [i64]) -> CarriedAnswer {
     Papers.intuitive(ScratchSize::Small, net_exports, prices, pairs, scratch)
 }
 
-/// The same of an hour.
+/// The same for an hour.
 pub fn hour_intuitive(case: &[u8], proposal: &[u8], pairs: &[u8], scratch: &mut [i64]) -> CarriedAnswer {
     Papers.hour_intuitive(ScratchSize::Wide, case, proposal, pairs, scratch)
 }
 
-/// The same of an hour from the smaller scratch.
+/// The same for an hour, with the smaller scratch.
 pub fn hour_intuitive_small(case: &[u8], proposal: &[u8], pairs: &[u8], scratch: &mut [i64]) -> CarriedAnswer {
     Papers.hour_intuitive(ScratchSize::Small, case, proposal, pairs, scratch)
 }
@@ -261,11 +263,11 @@ pub fn hour_intuitive_small(case: &[u8], proposal: &[u8], pairs: &[u8], scratch:
 pub struct Graph {
     /// Export positive.
     pub net: Vec<i128>,
-    /// Of each zone, the set of those to which a counted pair leads, a bit each.
+    /// For each zone, the set of zones to which a counted pair leads, one bit each.
     pub leads: Vec<u32>,
 }
 
-/// What goes from each zone to each other.
+/// The flow from each zone to each other.
 pub type Flows = Vec<Vec<i128>>;
 
 impl Graph {
@@ -285,13 +287,13 @@ impl Graph {
         self.net.iter().filter(|net| **net > 0).sum()
     }
 
-    /// Flows that carry as much as can be, by push and relabel: the source lets out all exports, what lies in a zone
-    /// goes downhill, a zone that is stuck is lifted, and what the imports do not take runs back.
+    /// Flows that carry as much as possible, by push and relabel: the source lets out all exports, a zone's excess
+    /// goes downhill, a zone that is stuck is lifted, and what the imports do not take flows back.
     pub fn flows(&self) -> Flows {
         let zones = self.zones();
         let (source, sink) = (zones, zones + 1);
         let nodes = zones + 2;
-        // Along a pair nothing limits but what there is to be carried.
+        // A pair has no limit of its own; no flow exceeds all exports.
         let all = self.exports();
         let mut capacity = vec![vec![0i128; nodes]; nodes];
         for (z, net) in self.net.iter().enumerate() {
@@ -322,20 +324,20 @@ impl Graph {
             lies[z] -= amount;
             lies[lowest] += amount;
         }
-        // What went, less what went the other way where both were counted.
+        // The net flow where both directions are counted.
         let went = |from: usize, to: usize| (capacity[from][to] - left[from][to]).max(0);
         (0..zones).map(|from| (0..zones).map(|to| went(from, to)).collect()).collect()
     }
 
-    /// What flows let out of a zone, less what they bring into it.
+    /// The outflow of a zone less its inflow.
     pub fn net_of(&self, flows: &Flows, zone: usize) -> i128 {
         let out: i128 = flows[zone].iter().sum();
         let into: i128 = flows.iter().map(|row| row[zone]).sum();
         out - into
     }
 
-    /// What flows carry, if they go along counted pairs alone and no zone lets out more than its export or takes in
-    /// more than its import.
+    /// What flows carry, if they use counted pairs only and no zone lets out more than its export or takes in more
+    /// than its import.
     pub fn carried_by(&self, flows: &Flows) -> Option<i128> {
         let mut total = 0;
         for z in 0..self.zones() {
@@ -353,23 +355,23 @@ impl Graph {
         Some(total)
     }
 
-    /// By how much the exports of a set that no counted pair leaves can exceed its imports, and such a set. The empty
-    /// set gives zero.
+    /// The greatest excess of exports over imports among the sets that no counted pair leaves, and such a set. The
+    /// empty set gives zero.
     pub fn greatest_excess(&self) -> (i128, u32) {
         self.excess_from(0, 0, 0, 0)
     }
 
-    /// The same of the sets whose zones before this one are given.
+    /// The same among the sets with these zones before this one.
     fn excess_from(&self, zone: usize, set: u32, leads: u32, excess: i128) -> (i128, u32) {
         if leads & !set & ((1 << zone) - 1) != 0 {
-            return (0, 0); // a pair leaves it for a zone that stays out
+            return (0, 0); // a counted pair leaves the set
         }
         if zone == self.zones() {
             return (excess, set);
         }
         let without = self.excess_from(zone + 1, set, leads, excess);
         let with = self.excess_from(zone + 1, set | 1 << zone, leads | self.leads[zone], excess + self.net[zone]);
-        // A negative excess is worse than that of the empty set.
+        // A negative excess is worse than the empty set's.
         without.max(with).max((0, 0))
     }
 }

@@ -9,17 +9,17 @@ use std::ops::RangeInclusive;
 /// A number for each zone.
 pub type PerZone = [i128; MOST_ZONES];
 
-/// A field of a file: its offset, and whether it holds what it may.
+/// A field of a file: its offset, and whether its value is allowed.
 pub type Field = (usize, bool);
 
-/// Where a cause of the verdict table holds, its index: the smallest, if it holds at several.
+/// The index of a cause of the verdict table where it holds: the smallest, if it holds at several places.
 pub type Cause<J> = fn(&J, &Hour) -> Option<usize>;
 
-/// A row for each number, with its cause.
+/// One row per number, with its cause.
 pub type Table<J> = [(u32, Cause<J>); 27];
 
 /// The verdict table: each number with its cause, in the order in which they are asked. The first that holds is the
-/// verdict; where none does, the hour is accepted.
+/// verdict; if none does, the hour is accepted.
 pub fn verdict_table<J: Judgement>() -> Table<J> {
     [
         (30, J::report_buffer_is_short),
@@ -141,13 +141,13 @@ pub trait Judgement: Sized {
     }
 
     /// Rule 9. Owed: the sum over links of volume times (price at "to" minus price at "from"), where positive. S-4:
-    /// the volume is what is contracted.
+    /// the volume is the contracted one.
     fn owed(&self, hour: &Hour, prices: &PerZone) -> i128 {
         let links = (0..hour.case.links).map(|l| hour.case.link(l));
         links.map(|link| link.contracted * (prices[link.to] - prices[link.from]).max(0)).sum()
     }
 
-    /// S-4: the same of capacities, which the bound keeps using.
+    /// S-4: the same with capacities, which the bound keeps using.
     fn link_total(&self, hour: &Hour, prices: &PerZone) -> i128 {
         let links = (0..hour.case.links).map(|l| hour.case.link(l));
         links.map(|link| link.capacity * (prices[link.to] - prices[link.from]).max(0)).sum()
@@ -237,7 +237,7 @@ pub trait Judgement: Sized {
     }
 
     /// S-2: a repeated pair names the later link's first byte, equal zones the second of the two. S-4: a contracted
-    /// volume above the capacity names itself; in version 1 it is equal.
+    /// volume above the capacity names itself; in version 1 the two are equal.
     fn link_fields(&self, case: &Case, l: usize) -> [Field; 4] {
         let (at, link) = (case.link_at(l), case.link(l));
         [
@@ -259,7 +259,7 @@ pub trait Judgement: Sized {
         [(at, zone), (at + 1, side), (at + 2, quantity), (at + 6, price)]
     }
 
-    /// S-2: where several causes meet in one row, the first field in file order is named.
+    /// S-2: if several causes hold in one row, the first field in file order is named.
     fn named_field(&self, row: &[Field]) -> Option<usize> {
         first_at_fault(row)
     }
@@ -301,7 +301,7 @@ pub trait Judgement: Sized {
         holds(hour.case.tolerance > WIDEST_TOLERANCE)
     }
 
-    /// 16: Mark, version or length of the family list is wrong (S-11). Nothing is asked where no list is taken.
+    /// 16: Mark, version or length of the family list is wrong (S-11). Not asked by the entry without a list.
     fn family_list_is_wrong(&self, hour: &Hour) -> Option<usize> {
         holds(!well_formed(hour.list?, hour.case.orders))
     }
@@ -334,7 +334,7 @@ pub trait Judgement: Sized {
         (0..hour.case.orders).find(ahead)
     }
 
-    /// S-11: whether one order's accepted volume over its quantity is above another's over its own.
+    /// S-11: whether one order's accepted volume over its quantity is above another's.
     fn fraction_exceeds(&self, hour: &Hour, one: usize, other: usize) -> bool {
         let (volume, quantity) = (|o| hour.proposal.volume(o), |o| hour.case.order(o).quantity());
         volume(one) * quantity(other) > volume(other) * quantity(one)
@@ -418,7 +418,7 @@ pub trait Judgement: Sized {
         Hour { case, proposal, list, room }
     }
 
-    /// S-4: a link of version 2 has its contracted volume behind its capacity.
+    /// S-4: a link of version 2 has its contracted volume after its capacity.
     fn link_bytes(&self, version: u16) -> usize {
         match version {
             2 => 10,
@@ -426,14 +426,14 @@ pub trait Judgement: Sized {
         }
     }
 
-    /// Welfare, bound, gap, rent and owed, as the report has them.
+    /// Welfare, bound, gap, rent and owed, in the order of the report.
     fn totals(&self, hour: &Hour, prices: &PerZone) -> [i128; REPORT_TOTALS] {
         let (welfare, bound) = (self.welfare(hour), self.bound(hour, prices));
         [welfare, bound, self.gap(bound, welfare), self.rent(hour, prices), self.owed(hour, prices)]
     }
 
-    /// The report: LTR, version 1, number, zones and a zero byte, then the totals, then each zone price. What lies
-    /// past it is left alone.
+    /// The report: LTR, version 1, number, zones and a zero byte, then the totals, then each zone price. The bytes
+    /// past it are left alone.
     fn write_report(&self, hour: &Hour, number: u32, report: &mut [u8]) {
         let prices = self.zone_prices(hour);
         let zones = hour.case.zones;
@@ -446,7 +446,7 @@ pub trait Judgement: Sized {
     }
 }
 
-/// The index of a cause that names no place: 0.
+/// The index of a cause without a place: 0.
 pub fn holds(cause: bool) -> Option<usize> {
     cause.then_some(0)
 }
@@ -483,7 +483,7 @@ fn case_without(causes: RangeInclusive<u32>, bytes: &[u8]) -> Result<Case<'_>, V
     }
 }
 
-/// The hour of files that are in order: none of 1 to 14 holds.
+/// The hour of two files of which none of 1 to 14 holds.
 pub fn hour_in_order<'a>(case: &'a [u8], proposal: &'a [u8]) -> Result<Hour<'a>, Verdict> {
     let hour = Papers.hour(case, proposal, None, 0);
     match Papers.first_cause(1..=14, &hour) {

@@ -1,9 +1,9 @@
-//! The second judge: documents 01 and 02 in Rust, written apart from the proved judge.
+//! The second judge: documents 01 and 02 in Rust, written independently of the proved judge.
 //!
 //! Each entry is a file. `judgement` has rules 1 to 11, the verdict table and its causes; the other entries follow
-//! their requests. An entry that is more than a few lines is a trait whose default methods are the paper's rules, and
-//! [`Papers`] takes all of them as they stand. Numbers are those of the papers. Every sum is taken in 128 bits, so
-//! that no argument about widths is needed before the totals go into the report.
+//! their requests. An entry that is more than a few lines is a trait whose default methods are the paper's rules,
+//! and [`Papers`] takes all of them unchanged. Numbers are those of the papers. Every sum is taken in 128 bits, so
+//! no argument about widths is needed before the totals go into the report.
 //!
 //! "The paper" is document 01 as the requests of document 02 amend it.
 
@@ -44,7 +44,7 @@ impl DeskQueue for Papers {}
 impl Columns for Papers {}
 impl GapShortfalls for Papers {}
 
-/// Number and index as the verdict table returns them.
+/// Number and index of the verdict table.
 #[derive(Clone, Copy, Debug, PartialEq, Eq)]
 pub struct Verdict {
     pub number: u32,
@@ -58,8 +58,8 @@ impl Verdict {
     }
 }
 
-/// What an entry answers that writes into an output. A refusal has length 0. The length is in bytes, and in numbers
-/// where the output is a list of numbers.
+/// The answer of an entry that writes into an output. A refusal has length 0. The length is in bytes, or in numbers
+/// if the output is a list of numbers.
 #[derive(Clone, Copy, Debug, PartialEq, Eq)]
 pub struct OutputAnswer {
     pub number: u32,

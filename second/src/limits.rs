@@ -1,4 +1,4 @@
-//! The paper's limits, each in the measure it bounds, and its sizes in bytes.
+//! The paper's limits, each in its measure, and its sizes in bytes.
 
 use std::ops::RangeInclusive;
 
@@ -26,7 +26,7 @@ pub const SHARE: RangeInclusive<i128> = 0..=ONE;
 pub const SHADOW_PRICE: RangeInclusive<i128> = 0..=1_000_000;
 /// Grains: -50,000 to 400,000 cents per MWh.
 pub const ZONE_PRICE: RangeInclusive<i128> = -50_000 * ONE..=400_000 * ONE;
-/// Tenths, export positive. S-3: what 512 orders can come to.
+/// Tenths, export positive. S-3: the most that 512 orders can have.
 pub const NET_EXPORT: RangeInclusive<i128> = -51_200_000..=51_200_000;
 
 /// 100,000: hundred-thousandths in 1, grains in a cent per MWh, and S-14's parts of a microcent.
@@ -48,7 +48,7 @@ pub const PROPOSAL_HEADER: usize = 13;
 
 /// A report buffer shorter than this is refused by 30.
 pub const LEAST_BUFFER: usize = 176;
-/// The report: its header's bytes, the totals behind it, and the bytes of each total or zone price.
+/// The report: the bytes of its header, the number of totals after it, and the bytes of each total or zone price.
 pub const REPORT_HEADER: usize = 8;
 pub const REPORT_ZONES_AT: usize = 6;
 pub const REPORT_TOTALS: usize = 5;
@@ -57,7 +57,7 @@ pub const REPORT_FIELD: usize = 8;
 /// An output for the desk's lines shorter than this is refused by 31.
 pub const LEAST_OUTPUT: usize = 1_024;
 
-/// S-3: pairs that are taken, and numbers of scratch under which 85 is answered.
+/// S-3: the most pairs that are taken, and the numbers of scratch under which 85 is answered.
 pub const MOST_PAIRS: usize = 64;
 pub const SCRATCH: usize = 324;
 /// S-13: one number per pair, one per zone for export used, one per zone for import used.

@@ -1,5 +1,5 @@
-//! A day for four areas, request S-8: one list of all that was posted and not yet served, in the order posted, and the
-//! area last served. The bytes in which a host holds the queue are read and written apart from it.
+//! A day for four areas, request S-8: one list of all that was posted and not yet served, in the order posted, and
+//! the area last served. Reading and writing the host's bytes is separate from it.
 
 use crate::Papers;
 
@@ -10,7 +10,7 @@ pub const HOURS: usize = 25;
 pub const AREAS: u32 = 4;
 const TURN_AT: usize = 100;
 
-/// What a serve answers; a refusal has zeros but for the number.
+/// What a serve answers; a refusal has zeros except for the number.
 #[derive(Clone, Copy, Debug, PartialEq, Eq)]
 pub struct ServedAnswer {
     pub number: u32,
@@ -52,8 +52,8 @@ impl Queue {
 }
 
 pub trait DeskQueue {
-    /// Posts an area and hour number. 61 when the area is over 3, 62 when the hour is over 24, 63 when that area has
-    /// it waiting already, in that order, the queue unchanged.
+    /// Posts an area and hour number. 61 when the area is over 3, 62 when the hour is over 24, 63 when that area
+    /// has it waiting already, in that order, the queue unchanged.
     fn post(&self, queue: &mut Queue, area: u32, hour: u32) -> u32 {
         if area > 3 {
             return 61;
@@ -98,8 +98,8 @@ pub trait DeskQueue {
         queue.posted.iter().position(|(other, _)| *other == area)
     }
 
-    /// The queue that any bytes are: in each area a cell from 1 to 25 is hour 0 to 24, others and repeated ones are
-    /// free; the last byte, of which the rest by four counts, is the turn.
+    /// The queue of any bytes: in each area a cell from 1 to 25 is hour 0 to 24, others and repeated ones are free;
+    /// the last byte modulo 4 is the turn.
     fn read(&self, bytes: &[u8; QUEUE_BYTES]) -> Queue {
         let mut queue = Queue::default();
         for (area, cells) in (0..).zip(bytes[..TURN_AT].chunks(HOURS)) {
@@ -122,7 +122,7 @@ pub trait DeskQueue {
         queue.posted.contains(&pair)
     }
 
-    /// The areas whose cells a call writes anew: the one posted to or served.
+    /// The areas whose cells a call rewrites: the one posted to or served.
     fn areas_written(&self, area: u32) -> std::ops::Range<u32> {
         area..area + 1
     }
@@ -159,12 +159,12 @@ pub trait DeskQueue {
     }
 }
 
-/// Posts an area and hour number to the queue that these bytes are.
+/// Posts an area and hour number to the queue in these bytes.
 pub fn queue_post(bytes: &mut [u8; QUEUE_BYTES], area: u32, hour: u32) -> u32 {
     Papers.queue_post(bytes, area, hour)
 }
 
-/// Serves from it.
+/// Serves from the queue in these bytes.
 pub fn queue_serve(bytes: &mut [u8; QUEUE_BYTES]) -> ServedAnswer {
     Papers.queue_serve(bytes)
 }

@@ -1,13 +1,13 @@
 //! Published margin sheets, request S-1: lines of text as the branch part of a case.
 //!
-//! A number stays text until its digits are known to be no more than those of its limit, so that no width has to be
-//! argued about.
+//! A number stays text until it is known to have no more digits than its limit, so no argument about widths is
+//! needed.
 
 use crate::limits::*;
 use crate::{OutputAnswer, Papers};
 use std::ops::RangeInclusive;
 
-/// What a field of a line is: the decimals of our unit, and the range in it.
+/// A field of a line: the decimals of our unit, and the range in that unit.
 #[derive(Clone, Debug, PartialEq, Eq)]
 pub struct Column {
     pub decimals: usize,
@@ -25,7 +25,7 @@ pub struct Numeral<'a> {
     pub negative: bool,
     /// The digits before its point.
     pub whole: &'a str,
-    /// Those after it, without the zeros at the end, which say nothing.
+    /// Those after it, without the zeros at the end, which do not change the value.
     pub decimals: &'a str,
 }
 
@@ -33,7 +33,7 @@ pub trait MarginSheet: Sized {
     /// A newline ends a line and the last may lack it. An empty sheet has none.
     fn lines<'a>(&self, sheet: &'a [u8]) -> Vec<&'a [u8]> {
         let mut lines: Vec<&[u8]> = sheet.split(|byte| *byte == b'\n').collect();
-        // What follows the last newline is a line only if something stands there.
+        // After the last newline there is a line only if it is not empty.
         if lines.last().is_some_and(|last| last.is_empty()) {
             lines.pop();
         }
@@ -55,8 +55,8 @@ pub trait MarginSheet: Sized {
     /// The number in our unit; none, which is 53, where it is out of range.
     fn units(&self, numeral: &Numeral, column: &Column) -> Option<i32> {
         let size = numeral.digits_in(column);
-        // Without zeros before it the longer number is the larger one, and of two of one length the one that comes
-        // later in the alphabet.
+        // Without leading zeros the longer number is larger, and of two with one length the one later in the
+        // alphabet.
         let limit = match numeral.negative {
             true => column.range.start(),
             false => column.range.end(),
@@ -82,7 +82,7 @@ pub trait MarginSheet: Sized {
         lines > MOST_BRANCHES
     }
 
-    /// 51 to 53 with the first such line, each asked over the whole sheet. A line is none where it has the wrong
+    /// 51 to 53 with the first such line, each asked over the whole sheet. A line is none if it has the wrong
     /// number of fields or one is no number.
     fn refused_line(&self, lines: &[Option<Vec<Numeral>>], columns: &[Column]) -> Option<(u32, usize)> {
         let any = |line: &[Numeral], cause: &dyn Fn(&Numeral, &Column) -> bool| {
@@ -144,7 +144,7 @@ pub fn sheet_branches(sheet: &[u8], zones: usize, out: &mut [u8]) -> OutputAnswe
     Papers.sheet_branches(sheet, zones, out)
 }
 
-/// The numbers of a line, if there are so many and each is one.
+/// The numbers of a line, if there are this many fields and each is a number.
 fn numerals(line: &[u8], count: usize) -> Option<Vec<Numeral<'_>>> {
     let fields: Vec<&[u8]> = line.split(|byte| *byte == b',').collect();
     if fields.len() != count {
@@ -169,7 +169,7 @@ impl<'a> Numeral<'a> {
         are_digits(whole).then_some(Numeral { negative, whole, decimals: decimals.trim_end_matches('0') })
     }
 
-    /// Its size in our unit, without zeros before it. Decimals past ours count for nothing.
+    /// Its size in our unit, without leading zeros. Decimals after ours are dropped.
     pub fn digits_in(&self, column: &Column) -> String {
         let width = column.decimals;
         let ours = &self.decimals[..self.decimals.len().min(width)];

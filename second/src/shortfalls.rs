@@ -45,12 +45,12 @@ pub trait GapShortfalls: Sized {
         link.capacity * hour.proposal.share() * spread.max(0) - ONE * hour.proposal.flow(l) * spread
     }
 
-    /// Rule 2, of which a branch's load is taken.
+    /// Rule 2, used for a branch's load.
     fn flow_based_parts(&self, hour: &Hour) -> PerZone {
         Judgement::flow_based_parts(&Papers, hour)
     }
 
-    /// Of any hour whose files are in order, be it accepted or not.
+    /// For any hour whose files are in order, accepted or not.
     fn hour_shortfalls(&self, hour: &Hour) -> Shortfalls {
         let prices = Papers.zone_prices(hour);
         let parts = self.flow_based_parts(hour);
@@ -81,7 +81,7 @@ pub trait GapShortfalls: Sized {
         [&found.orders, &found.branches, &found.links]
     }
 
-    /// Whole microcents, and the hundred-thousandths of one past them.
+    /// Whole microcents, and the hundred-thousandths of one besides.
     fn pair(&self, amount: i128) -> [i128; 2] {
         [amount.div_euclid(ONE), amount.rem_euclid(ONE)]
     }

@@ -57,7 +57,7 @@ fn desk_cuts_version_2_at_its_own_length() {
     let lines = String::from_utf8(desk_lines(&input)).unwrap();
     assert!(lines.starts_with("verdict 0 0\n"), "{lines}");
     assert!(lines.contains("\nowed 10937.50000000\n"), "{lines}");
-    // Six bytes to a link under version 2: the case takes four of the proposal's.
+    // Six bytes to a link under version 2: the case takes four bytes of the proposal.
     let mut narrow = three_zone_hour().case();
     narrow[3] = 2;
     let joined = [narrow.clone(), hour.proposal()].concat();
@@ -89,7 +89,7 @@ fn book_answers() {
     let answer = |number, index, sum| BookAnswer { number, index, sum };
     let p1 = three_zone_hour();
     let prices = named("P1").prices;
-    // P1: bound less the owed, 22,125 - 17,500 euros.
+    // P1: bound less owed, 22,125 - 17,500 euros.
     assert_eq!(book_surplus(&p1.orders, &prices), answer(0, 0, 4_625 * EURO));
     assert_eq!(book_surplus(&[], &prices), answer(0, 0, 0));
 

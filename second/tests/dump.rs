@@ -23,7 +23,7 @@ fn one_of_each(quantity: u32) -> Hour {
     }
 }
 
-/// Number, index and the numbers written. What lies past them must be as it was.
+/// Number, index and the numbers written. The bytes past them must be unchanged.
 fn read_in(room: usize, build: impl DumpReading, case: &[u8], dump: &[u8]) -> (u32, u64, Vec<i64>) {
     let mut out = vec![FILL; room];
     let answer = build.dump_proposal(case, dump, &mut out);
@@ -45,7 +45,7 @@ fn read_in(room: usize, build: impl DumpReading, case: &[u8], dump: &[u8]) -> (u
     (answer.number, answer.index, numbers.collect())
 }
 
-/// What becomes of a value at a place of a dump with one of each, the others zero.
+/// What a value becomes at a place of a dump with one of each, the others zero.
 fn becomes_as(build: impl DumpReading, at: usize, quantity: u32, value: f64) -> Option<i64> {
     let mut values = [0.0; 5];
     values[at] = value;
@@ -100,7 +100,7 @@ fn products_are_rounded_once_and_cut() {
     assert_eq!(becomes(ACCEPTED, 10, 0.3), Some(3));
     // 0.29 times 100 is 28.999999999999996.
     assert_eq!(becomes(ACCEPTED, 100, 0.29), Some(28));
-    // The greatest below 1: its product with 100,000 is below it by a digit.
+    // The greatest value below 1: its product with 100,000 is below it by a digit.
     let below = f64::from_bits(1.0f64.to_bits() - 1);
     assert_eq!(below, 1.0 - 2f64.powi(-53));
     assert_eq!(becomes(ACCEPTED, 100_000, below), Some(99_999));
@@ -163,7 +163,7 @@ fn each_limit_and_the_next_value_past_it() {
     assert_eq!(becomes(SYSTEM, 1, -f64::MAX), None);
 }
 
-/// The machine's own product and what follows from it, for patterns of every kind.
+/// The machine's own product and its result, for patterns of every kind.
 #[test]
 fn by_hand_as_by_the_machine() {
     let mut state = 1u64;

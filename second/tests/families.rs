@@ -3,7 +3,7 @@
 use paper_hours::{three_zone_hour, Hour};
 use second_judge::*;
 
-/// What a list is answered that is lent with an hour of as many orders, none of them accepted.
+/// The answer to a list for an hour of as many orders, none of them accepted.
 fn answered(list: &[u8], orders: usize) -> (u32, u32) {
     let order = Row { zone: 0, side: 0, quantity: 1, price: 0 };
     let hour = Hour { zones: 1, orders: vec![order; orders], volumes: vec![0; orders], ..Hour::default() };
@@ -15,8 +15,8 @@ fn refused(parents: &[Option<u16>]) -> (u32, u32) {
     answered(&list_of(parents), parents.len())
 }
 
-/// In other words: orders that no order names are taken away until none is left to take. What then stands are the
-/// circles and nothing else.
+/// Found differently: take away orders that no order names until none is left to take. What remains are the circles
+/// and nothing else.
 fn on_circles(parents: &[Option<u16>]) -> Vec<bool> {
     let mut standing = vec![true; parents.len()];
     let leads_to = |standing: &[bool], order: usize| {
@@ -82,7 +82,7 @@ fn lists_of_wrong_shape() {
     assert_eq!(number(b"LTF\x02\x00", 0), 16);
     assert_eq!(number(b"LTF\x01\x01", 0), 16);
     assert_eq!(number(b"LTP\x01\x00", 0), 16);
-    // 65,534 is a parent like another, and none exists of that number.
+    // 65,534 is a parent like any other, and there is no such order.
     assert_eq!(refused(&[None, Some(65_534)]), (17, 1));
 }
 
@@ -115,7 +115,7 @@ fn fractions_as_ratios_compare_them() {
     assert!(exceeds((50_001, 100_000), (1, 2)));
 }
 
-/// P1 with a family list: what is answered, and whether the report is P1's.
+/// P1 with a family list: the answer, and whether the report is P1's.
 fn with_list(hour: &Hour, list: &[u8]) -> (u32, u32) {
     let (mut report, mut free) = ([0xA5; 200], [0xA5; 200]);
     let verdict = judge_families(&hour.case(), &hour.proposal(), list, &mut report);
@@ -142,7 +142,8 @@ fn families_of_the_three_zone_hour() {
     // Equal fractions of other quantities.
     assert_eq!(with_list(&hour, &of(&[(0, 2)])), (0, 0));
     assert_eq!(with_list(&hour, &of(&[(2, 0)])), (0, 0));
-    // 43.75 % and 22.9 %: 4,375 is more than 1,375, and 1,000 of 1,000 is more though it is less.
+    // 43.75 % and 22.9 %: 4,375 is more than 1,375; and 1,000 of 1,000 is the larger fraction, though the smaller
+    // volume.
     assert_eq!(with_list(&hour, &of(&[(4, 1)])), (28, 4));
     assert_eq!(with_list(&hour, &of(&[(2, 1), (4, 1)])), (28, 2));
     // 16 to 18.
@@ -179,7 +180,7 @@ fn families_asked_out_of_their_turn() {
     let at = 13 + 4 * (5 + 1 + 1);
     assert_eq!(with_list(&hour, &[]), (14, at));
     assert_eq!(with_list(&hour, &list(1, 1)), (14, at));
-    // No room for a report: asked first of all.
+    // No room for a report is asked first.
     let (case, proposal) = (p1.case(), p1.proposal());
     assert_eq!(judge_families(&case, &proposal, &[], &mut [0; 175]).number, 30);
 }

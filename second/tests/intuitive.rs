@@ -16,7 +16,7 @@ fn answer(number: u32, index: u32, intuitive: u32, total: i64) -> CarriedAnswer 
     CarriedAnswer { number, index, intuitive, total }
 }
 
-/// The answer, whose scratch must be as it should, of either size.
+/// The answer; its scratch, of either size, is checked.
 fn asked(net: &[i64], prices: &[i64], pairs: &[u8]) -> CarriedAnswer {
     let with = |size: ScratchSize| {
         let mut scratch = vec![FILL; size.numbers() + 3];
@@ -74,7 +74,7 @@ fn pair_counts_from_lower_or_equal_to_higher() {
         let total = if yes == 1 { 7 } else { 0 };
         let due = answer(0, 0, yes, total);
         assert_eq!(asked(&[7, -7], &[first, second], &[0, 1]), due);
-        // The other way it carries nothing.
+        // The opposite direction carries nothing.
         assert_eq!(asked(&[7, -7], &[first, second], &[1, 0]), answer(0, 0, 0, 0));
     }
 }

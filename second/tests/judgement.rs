@@ -66,7 +66,7 @@ fn buffer_is_asked_first() {
         }
         assert!(report.iter().all(|byte| *byte == 7));
     }
-    // The whole length counts, not what this report would fill.
+    // The whole length counts, not the length of this report.
     assert_eq!(judge(&hour.case, &hour.proposal, &mut [7; LEAST_BUFFER]).number, 0);
 }
 
@@ -125,7 +125,7 @@ fn smallest_number_then_smallest_index() {
     assert_eq!(verdict, Verdict { number: 8, index: 78 });
 }
 
-/// A link that is contracted whole.
+/// A link that is fully contracted.
 fn link(from: u8, to: u8, capacity: u32) -> Link {
     Link { from, to, capacity, contracted: capacity }
 }
@@ -160,7 +160,7 @@ fn version_1_is_version_2_with_all_contracted() {
     }
 }
 
-/// A case of version 1 as one of version 2 with each link contracted whole.
+/// A case of version 1 as one of version 2 with each link fully contracted.
 fn all_contracted(case: &[u8]) -> Option<Vec<u8>> {
     if case.len() < 14 || case[3] != 1 {
         return None;

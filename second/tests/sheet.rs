@@ -5,7 +5,7 @@ use second_judge::*;
 const ROOM: usize = 64 * 68;
 const FILL: u8 = 0xA5;
 
-/// The answer of a build in this much room, and the numbers written. What lies past them must be as it was.
+/// The answer of a build in this much room, and the numbers written. The bytes past them must be unchanged.
 fn read_in(room: usize, build: impl MarginSheet, sheet: &[u8], zones: usize) -> (OutputAnswer, Vec<i32>) {
     let mut out = vec![FILL; room];
     let answer = build.sheet_branches(sheet, zones, &mut out);
@@ -96,7 +96,7 @@ fn decimals_past_ours() {
     refuses("0,-0.1234501", 1, 52, 0);
     let zeros = "0".repeat(1_000);
     refuses(&format!("0.{zeros}1,0"), 1, 52, 0);
-    // Two decimals are past a margin's and not past a PTDF's.
+    // Two decimals are too many for a margin and not for a PTDF.
     gives("0,0.25", 1, &[0, -25_000]);
 }
 

@@ -7,8 +7,8 @@ use second_judge::*;
 /// A microcent in hundred-thousandths.
 const MICROCENT: i128 = ONE;
 
-/// P1 with every volume, margin, capacity, flow and quantity a 125th: its amounts are too, and so is a gap. A
-/// tolerance of 100 euros, which S-12 leaves.
+/// P1 with every volume, margin, capacity, flow and quantity divided by 125: its amounts are too, and so is a gap.
+/// The tolerance is 100 euros, which S-12 allows.
 pub fn small_hour() -> Hour {
     let mut hour = three_zone_hour();
     hour.tolerance = 10_000;
@@ -28,7 +28,7 @@ pub fn small_hour() -> Hour {
     hour
 }
 
-/// P3 in the same way: nothing flows over its link, and no share is LTA.
+/// P3 in the same way: nothing flows over its link, and the LTA share is 0.
 fn small_unused_link_hour() -> Hour {
     Hour {
         share: 0,
@@ -40,7 +40,8 @@ fn small_unused_link_hour() -> Hour {
     }
 }
 
-/// The gap that is reported, which must be accepted, and the shortfalls, each in hundred-thousandths of a microcent.
+/// The reported gap of an hour that must be accepted, and its shortfalls, both in hundred-thousandths of a
+/// microcent.
 fn accepted(hour: &Hour) -> (i128, Shortfalls) {
     let (case, proposal) = (hour.case(), hour.proposal());
     let mut report = [0; LEAST_BUFFER];
@@ -90,9 +91,9 @@ fn p1_falls_short_nowhere() {
 
 #[test]
 fn p3s_gap_is_the_larger_totals_lead_and_no_shortfall() {
-    // Every order, branch and link is at its best for these prices: share 0 leaves the
-    // link no part to fall short in. The gap is what the LTA domain would have earned
-    // more than the margins, 18,000 less 15,000 euros, here a 125th of it.
+    // Every order, branch and link is at its best for these prices: share 0 leaves the link nothing to fall short
+    // of. The gap is what the LTA domain would have earned more than the margins, 18,000 less 15,000 euros, divided
+    // by 125.
     let (gap, found) = accepted(&small_unused_link_hour());
     assert_eq!(gap, euros(24));
     assert_eq!(found.sum(), 0);
@@ -119,8 +120,8 @@ fn an_order_left_out_for_a_dearer_one() {
 
 #[test]
 fn an_order_accepted_at_a_loss() {
-    // A tenth goes from order 2, which would have gained 6.25 euros per MWh, to order 3,
-    // which loses 3.75: its volume earns less than nothing.
+    // A tenth goes from order 2, which would have gained 6.25 euros per MWh, to order 3, which loses 3.75: its
+    // volume earns a negative amount.
     let hour = Hour { volumes: vec![32, 11, 7, 1, 35], ..small_hour() };
     let (gap, found) = accepted(&hour);
     let (left_out, lost) = (cents_on_a_tenth(625), cents_on_a_tenth(375));
@@ -209,7 +210,7 @@ fn a_flow_against_the_spread() {
 
 #[test]
 fn a_negative_margin_left_free() {
-    // S-6's hour a hundredth as large, made to import nine tenths, and ten are.
+    // S-6's hour a hundredth as large, made to import nine tenths; it imports ten.
     let mut hour = forced_hour();
     hour.tolerance = 100;
     hour.branches[0].ram = -9;
@@ -270,9 +271,9 @@ fn room_is_asked_last() {
 
 #[test]
 fn a_links_terms_pass_64_bits() {
-    // A link across all prices, full: 100,000 * 100,000 * 450,000 cents in grains, less
-    // as much. With nothing on it, and nothing sold, all of it falls short: the hour is
-    // far from accepted, and the shortfall past 64 bits.
+    // A link across all prices, full: 100,000 * 100,000 * 450,000 cents in grains, less as much. With nothing on
+    // it, and nothing sold, all of it is a shortfall: the hour is far from accepted, and the shortfall exceeds 64
+    // bits.
     let order = |zone, side, price| Row { zone, side, quantity: 100_000, price };
     let mut hour = Hour {
         zones: 2,

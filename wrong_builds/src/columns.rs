@@ -1,4 +1,4 @@
-//! Wrong columns and ways back, S-10's and S-12's.
+//! Wrong builds of columns and the way back, of S-10 and S-12.
 
 use second_judge::columns::with_mark;
 use second_judge::files::Case;

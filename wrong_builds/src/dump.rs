@@ -1,4 +1,4 @@
-//! Wrong readings of a solver's dump, S-5's and S-12's.
+//! Wrong builds of a solver's dump, of S-5 and S-12.
 
 use second_judge::dump::{Kind, Value, EXPONENT, FRACTION, SIGN};
 use second_judge::files::Case;

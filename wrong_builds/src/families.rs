@@ -1,4 +1,4 @@
-//! Wrong judgements with a family list, S-11's and S-12's.
+//! Wrong builds of the judgement with a family list, of S-11 and S-12.
 
 use crate::judgement::{asked_after, asked_before};
 use second_judge::families::{Parents, LIST_HEADER};
@@ -43,7 +43,7 @@ impl Judgement for EmptyIsNoFamilies {
     }
 }
 
-/// Mark, version and length of a list for so many orders.
+/// Whether mark, version and length are those of a list for this many orders.
 fn asked_of(list: &[u8], orders: usize) -> [bool; 3] {
     let version = list.len() >= LIST_HEADER && u16_at(list, 3) == 1;
     [list.starts_with(b"LTF"), version, list.len() == LIST_HEADER + 2 * orders]
@@ -117,7 +117,7 @@ fn on_circle(hour: &Hour, such: impl Fn(&Parents, usize) -> bool) -> Option<usiz
 pub struct IntoCircleRefused;
 impl Judgement for IntoCircleRefused {
     fn order_leads_back(&self, hour: &Hour) -> Option<usize> {
-        // A walk that does not end within so many steps goes around.
+        // A walk that does not end within this many steps goes around.
         let parents = self.parents(hour)?;
         let orders = hour.case.orders;
         (0..orders).find(|&order| parents.ancestors(order).take(orders).count() == orders)
@@ -183,7 +183,7 @@ impl Judgement for ParentNamed {
     }
 }
 
-/// A child is held to the order that no other leads.
+/// A child is compared with the top of its family.
 pub struct TopOfTheFamily;
 impl Judgement for TopOfTheFamily {
     fn child_is_ahead(&self, hour: &Hour) -> Option<usize> {

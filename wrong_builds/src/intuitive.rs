@@ -1,4 +1,4 @@
-//! Wrong answers to S-3, and to S-13 from the smaller scratch.
+//! Wrong builds of S-3, and of S-13 with the smaller scratch.
 
 use second_judge::files::Hour;
 use second_judge::intuitive::{causes, Cause, Exchange, Graph};
@@ -55,7 +55,7 @@ pub static SMALL_BUILDS: [(Entries, &str); 6] = [
     (entries!(ScratchClearedPast), "scratch cleared past 96"),
 ];
 
-/// Two by whose difference an input is known: an equal price decides it, or a way back.
+/// Two builds that classify an input: an equal price decides it, or a way back does.
 pub const EQUAL_PRICES: &str = "equal prices not counted";
 pub const NO_WAY_BACK: &str = "no flow back along a used pair";
 
@@ -94,7 +94,7 @@ impl IntuitiveHours for PairsBothWays {
     }
 }
 
-/// Exports walk along counted pairs to the first import that has room, and what was sent is never sent elsewhere.
+/// Exports go along counted pairs to the first import that has room, and are never sent elsewhere afterwards.
 pub struct NoWayBack;
 impl IntuitiveHours for NoWayBack {
     fn most_carried(&self, graph: &Graph) -> i128 {
@@ -115,7 +115,7 @@ impl IntuitiveHours for NoWayBack {
     }
 }
 
-/// All zones to which counted pairs lead from this one, one after another.
+/// All zones that counted pairs lead to from this one, directly or not.
 fn reached(graph: &Graph, from: usize) -> u32 {
     let mut reached = 1 << from;
     loop {

@@ -29,7 +29,7 @@ pub static BUILDS: [(Judge, &str); 41] = [
     (|c, p, r| LastFieldOfRow.judge(c, p, r), "last field at fault of a row"),
     (|c, p, r| ShadowPriceInCase.judge(c, p, r), "14: the branch in the case"),
     (|c, p, r| ShadowPriceJoined.judge(c, p, r), "14: offset in the joined file"),
-    // S-4's: what is owed and bounded, how the versions are read, what of the contracted volumes is refused.
+    // S-4's: owed and bound, how the versions are read, which contracted volumes are refused.
     (|c, p, r| OwedByCapacity.judge(c, p, r), "owed by capacity"),
     (|c, p, r| BoundByContracted.judge(c, p, r), "bound by contracted volumes"),
     (|c, p, r| LinkRuleByContracted.judge(c, p, r), "link rule by contracted"),
@@ -41,7 +41,7 @@ pub static BUILDS: [(Judge, &str); 41] = [
     (|c, p, r| ContractedToItsOwnLimit.judge(c, p, r), "contracted up to 100,000"),
     (|c, p, r| ContractedNamesCapacity.judge(c, p, r), "contracted: capacity named"),
     (|c, p, r| ContractedBeforeCapacity.judge(c, p, r), "contracted before capacity"),
-    // S-6's. That 27 is asked before 23 no hour can show: without links 23 has no place.
+    // S-6's. No hour can show that 27 is asked before 23: without links 23 has no place.
     (|c, p, r| ShareNotAsked.judge(c, p, r), "27 not asked"),
     (|c, p, r| ShareBeforeBalance.judge(c, p, r), "27 before 22"),
     (|c, p, r| ShareAfterBranches.judge(c, p, r), "27 after 24"),
@@ -110,7 +110,7 @@ impl Judgement for SmallerTotal {
     }
 }
 
-/// Netted down to nothing at most, which is the harder one to find.
+/// The net sum is cut at zero, which is harder to find than a negative one.
 pub struct SpreadsNetted;
 impl SpreadsNetted {
     fn netted(hour: &Hour, prices: &PerZone, volume: impl Fn(usize) -> i128) -> i128 {
@@ -138,7 +138,7 @@ impl Judgement for RamNeverNegative {
     }
 }
 
-// The shams refuse with 1 to 25 and 30 as they should, so that only an hour that comes through can find them.
+// The shams refuse by 1 to 25 and 30 correctly, so only an hour that passes these can find them.
 
 pub struct AlwaysOverTolerance;
 impl Judgement for AlwaysOverTolerance {
@@ -275,7 +275,7 @@ impl Judgement for VersionOneWide {
     }
 }
 
-/// Takes the four bytes behind a link's capacity for contracted, whatever they are.
+/// Takes the four bytes after a link's capacity as contracted, whatever they are.
 pub struct ContractedPastTheLink;
 impl Judgement for ContractedPastTheLink {
     fn owed(&self, hour: &Hour, prices: &PerZone) -> i128 {
@@ -391,7 +391,7 @@ impl Judgement for NegativeTotalAsZero {
 
 // S-11's.
 
-/// A list is asked where none is lent, as if it were empty.
+/// Asks for a list where none is lent, as if it were empty.
 pub struct FamiliesAsked;
 impl Judgement for FamiliesAsked {
     fn judge(&self, case: &[u8], proposal: &[u8], report: &mut [u8]) -> Verdict {

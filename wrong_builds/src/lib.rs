@@ -1,4 +1,4 @@
-//! Wrong builds of the second judge. Each takes the papers' rules but for the one that it overrides, and has the name
+//! Wrong builds of the second judge. Each follows the papers except in the rule that it overrides, and has the name
 //! that the comparison's table gives it.
 
 pub mod columns;

@@ -1,11 +1,11 @@
-//! Wrong desk queues, S-8's.
+//! Wrong builds of the desk queue, S-8.
 
 use second_judge::queue::{Queue, AREAS};
 use second_judge::{DeskQueue, Papers, ServedAnswer};
 use std::cell::RefCell;
 use std::ops::Range;
 
-/// A queue for one run: a build may keep what it saw in it.
+/// A queue for one run: a build may remember what it saw.
 pub type NewQueue = fn() -> Box<dyn DeskQueue>;
 
 /// Every wrong build, with its name.
@@ -26,7 +26,7 @@ pub static BUILDS: [(NewQueue, &str); 14] = [
     (|| Box::new(AllAreasWritten), "all areas written anew"),
 ];
 
-/// From here on the builds read or write bytes wrongly, and are the right queue where there are none.
+/// From here on the builds read or write bytes wrongly; where there are no bytes they are the correct queue.
 pub const OF_BYTES: usize = 11;
 
 pub struct AreaZeroFirst;
@@ -100,7 +100,7 @@ impl DeskQueue for Area3Refused {
     }
 }
 
-/// What was served is refused as if it waited.
+/// A served hour is refused as if it still waited.
 #[derive(Default)]
 pub struct NoRepost {
     served: RefCell<Vec<(u32, u32)>>,

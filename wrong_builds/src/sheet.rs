@@ -1,4 +1,4 @@
-//! Wrong readings of a margin sheet, S-1's.
+//! Wrong builds of a margin sheet, S-1.
 
 use second_judge::limits::MOST_BRANCHES;
 use second_judge::sheet::{Column, Numeral};

@@ -1,4 +1,4 @@
-//! Wrong shortfalls, S-14's.
+//! Wrong builds of the shortfalls, S-14.
 
 use second_judge::files::Hour;
 use second_judge::judgement::{judge, readable, Judgement, PerZone};
@@ -96,7 +96,7 @@ impl GapShortfalls for PartDropped {
     }
 }
 
-/// A link's shortfall by the share of the branches.
+/// A link's shortfall with the share of the branches.
 fn link_by_flow_based_share(hour: &Hour, l: usize, prices: &PerZone) -> i128 {
     let spread = spread(hour, l, prices);
     of_link(hour, l, hour.case.link(l).capacity, ONE - hour.proposal.share(), spread.max(0), spread)
@@ -211,7 +211,7 @@ impl GapShortfalls for AnswersTwentySix {
     }
 }
 
-/// How many numbers are due is known of a readable case alone.
+/// The number of numbers is known only for a readable case.
 pub struct RoomFirst;
 impl GapShortfalls for RoomFirst {
     fn refusal(&self, case: &[u8], proposal: &[u8], room: usize) -> Option<(u32, usize)> {

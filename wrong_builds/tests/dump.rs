@@ -1,4 +1,4 @@
-//! Wrong readings of a dump do what is said of them.
+//! Wrong builds of a dump do what their names say.
 
 use paper_hours::{three_zone_hour, Branch, Hour, Link};
 use second_judge::{DumpReading, Papers, Row};
@@ -22,7 +22,7 @@ fn one_of_each(quantity: u32) -> Hour {
     }
 }
 
-/// Number, index and the numbers written. What lies past them must be as it was.
+/// Number, index and the numbers written. The bytes past them must be unchanged.
 fn read_in(room: usize, build: impl DumpReading, case: &[u8], dump: &[u8]) -> (u32, u64, Vec<i64>) {
     let mut out = vec![FILL; room];
     let answer = build.dump_proposal(case, dump, &mut out);
@@ -44,7 +44,7 @@ fn read_in(room: usize, build: impl DumpReading, case: &[u8], dump: &[u8]) -> (u
     (answer.number, answer.index, numbers.collect())
 }
 
-/// What becomes of a value at a place of a dump with one of each, the others zero.
+/// What a value becomes at a place of a dump with one of each, the others zero.
 fn becomes_as(build: impl DumpReading, at: usize, quantity: u32, value: f64) -> Option<i64> {
     let mut values = [0.0; 5];
     values[at] = value;

@@ -1,4 +1,4 @@
-//! Wrong answers to S-3 and S-13 do what is said of them.
+//! Wrong builds of S-3 and S-13 do what their names say.
 
 use paper_hours::{three_zone_hour, Hour};
 use second_judge::limits::SCRATCH;

@@ -1,4 +1,4 @@
-//! The paper's wrong builds and shams, and those of the requests, on hours that tell them from the papers.
+//! The paper's wrong builds and shams, and those of the requests, on hours that distinguish them from the papers.
 
 use paper_hours::{contracted_hour, forced_hour, stored, three_zone_hour, Hour, Link, Stored, EURO};
 use second_judge::limits::{LEAST_BUFFER, REPORT_FIELD, REPORT_HEADER};
@@ -49,7 +49,7 @@ fn outcome(build: impl Judgement, hour: &Hour) -> Outcome {
     (verdict.number, verdict.index, totals[0], totals[1])
 }
 
-/// A link that is contracted whole.
+/// A link that is fully contracted.
 fn link(from: u8, to: u8, capacity: u32) -> Link {
     Link { from, to, capacity, contracted: capacity }
 }
@@ -90,7 +90,7 @@ fn offset_counted_from_its_part() {
 fn equal_zones_name_the_first_byte() {
     let hour = with_links(&[(0, 1, 1), (2, 2, 100_001)]);
     told_apart(EqualZonesFirstByte, &hour, (7, 53), (7, 52));
-    // Equal and unknown: the from zone is at fault by itself.
+    // Equal and unknown: the from zone alone is at fault.
     let hour = with_links(&[(0, 1, 1), (3, 3, 1)]);
     told_apart(EqualZonesFirstByte, &hour, (7, 52), (7, 52));
 }
@@ -153,8 +153,8 @@ fn owed_by_capacity() {
 
 #[test]
 fn bound_by_contracted_volumes() {
-    // P3 with nothing contracted: the bound still has the 18,000 euros that the
-    // link's capacity would earn, and P3's gap of 3,000 is seen.
+    // P3 with nothing contracted: the bound still has the 18,000 euros that the link's capacity would earn, so P3's
+    // gap of 3,000 shows.
     let mut hour = contracted_hour();
     let p3 = named("P3").proposal;
     hour.share = 0;
@@ -185,7 +185,7 @@ fn contracted_read_in_version_1() {
 #[test]
 fn version_2_read_with_links_of_six_bytes() {
     told_apart(VersionTwoNarrow, &contracted_hour(), (0, 0), (5, 0));
-    // Without a link the two layouts are one.
+    // Without a link the two layouts are the same.
     let mut hour = contracted_hour();
     (hour.links, hour.flows, hour.share) = (vec![], vec![], 0);
     hour.volumes = vec![0; 5];
@@ -241,7 +241,7 @@ fn contracted_named_before_the_capacity() {
     told_apart(LastFieldOfRow, &hour, (7, 48), (7, 52));
     hour.links[0].to = 0;
     told_apart(LastFieldOfRow, &hour, (7, 47), (7, 52));
-    // Within a capacity that is out of range: nothing more is at fault.
+    // Within a capacity that is out of range: nothing else is at fault.
     hour.links[0].contracted = 100_001;
     told_apart(LastFieldOfRow, &hour, (7, 47), (7, 48));
 }
@@ -286,7 +286,7 @@ fn larger_of_the_totals_without_links() {
 
 #[test]
 fn a_link_brings_back_the_zero_exchange() {
-    // A link of no capacity: an LTA domain that holds the zero exchange alone.
+    // A link of no capacity: an LTA domain with only the zero exchange.
     let mut hour = forced_hour();
     hour.links = vec![link(0, 1, 0)];
     hour.flows = vec![0];

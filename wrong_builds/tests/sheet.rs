@@ -1,4 +1,4 @@
-//! Wrong readings of a margin sheet do what is said of them.
+//! Wrong builds of a margin sheet do what their names say.
 
 use second_judge::{MarginSheet, OutputAnswer};
 use wrong_builds::sheet::*;
@@ -6,7 +6,7 @@ use wrong_builds::sheet::*;
 const ROOM: usize = 64 * 68;
 const FILL: u8 = 0xA5;
 
-/// The answer of a build in this much room, and the numbers written. What lies past them must be as it was.
+/// The answer of a build in this much room, and the numbers written. The bytes past them must be unchanged.
 fn read_in(room: usize, build: impl MarginSheet, sheet: &[u8], zones: usize) -> (OutputAnswer, Vec<i32>) {
     let mut out = vec![FILL; room];
     let answer = build.sheet_branches(sheet, zones, &mut out);

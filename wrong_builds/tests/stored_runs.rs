@@ -1,5 +1,5 @@
-//! The stored output of crates/prog_records for queues, columns and shortfalls: the papers' is the same, and each wrong
-//! build's another.
+//! The stored output of crates/prog_records for queues, columns and shortfalls: the papers' output is the same, and
+//! each wrong build's differs.
 
 use paper_hours::{forced_hour, three_zone_hour, Branch, Hour, Link, Version};
 use second_judge::{
@@ -44,8 +44,8 @@ fn printed_of(heading: &str) -> String {
     lines.take_while(|line| !line.starts_with("== ")).map(|line| format!("{line}\n")).collect()
 }
 
-/// The stored runs of the desk queue as this queue prints them: a run opens with its name, and from a line `byte` on
-/// it is followed by its bytes.
+/// The stored runs of the desk queue as this queue prints them: a run begins with its name, and from a line `byte`
+/// on its bytes follow.
 fn queue_runs(new: &dyn Fn() -> Box<dyn DeskQueue>, events: &str) -> String {
     let mut build = new();
     let mut queue = Queue::default();
@@ -95,7 +95,7 @@ const QUEUE_PRINTED: &str = include_str!("../../queue/answers.txt");
 fn stored_queue_runs() {
     assert_eq!(queue_runs(&|| Box::new(Papers), QUEUE_EVENTS), QUEUE_PRINTED);
     assert_eq!(printed_of("== queues"), QUEUE_PRINTED);
-    // What is written into cells is no answer: that build shows in the bytes alone.
+    // Wrong bytes in cells are no answer: that build shows only in the bytes.
     for (build, name) in queue::BUILDS {
         let told = queue_runs(&build, QUEUE_EVENTS) != QUEUE_PRINTED;
         assert_eq!(told, name != "all areas written anew", "{name}");
@@ -132,8 +132,8 @@ fn stored_columns() {
     }
 }
 
-/// P1 with every volume, margin, capacity, flow and quantity a 125th: its amounts are too, and so is a gap. A
-/// tolerance of 100 euros, which S-12 leaves.
+/// P1 with every volume, margin, capacity, flow and quantity divided by 125: its amounts are too, and so is a gap.
+/// The tolerance is 100 euros, which S-12 allows.
 fn small_hour() -> Hour {
     let mut hour = three_zone_hour();
     hour.tolerance = 10_000;
@@ -198,7 +198,7 @@ fn each_wrong_build_is_told_by_some_hour() {
     }
 }
 
-/// The lines of the stored shortfalls, as one of the builds has them.
+/// The lines of the stored shortfalls by one of the builds.
 fn shortfall_runs(build: Value) -> String {
     let mut printed = String::new();
     for Record { room, parts: [case, proposal, _] } in records(b's') {

@@ -1,8 +1,8 @@
-//! What both judges say of the dumps on standard input, for tests/stored_dumps.
+//! What both judges answer for the dumps on standard input, for tests/stored_dumps.
 //!
-//! A dump is a line: its name, the bytes of its output, its case and itself, both in hexadecimal digits. What is said
-//! of it is printed, two lines for each judge: the name, the judge and the line that crates/prog_records prints; and the
-//! name, the judge, `written` and the output's bytes that were changed, from its first on.
+//! A dump is a line: its name, the bytes of its output, its case and the dump itself, both in hexadecimal digits.
+//! For each judge two lines are printed: the name, the judge and the line that crates/prog_records prints; and the
+//! name, the judge, `written` and the bytes of the output that were changed, from its first on.
 
 use comparison::library;
 use comparison::records::dump_line;

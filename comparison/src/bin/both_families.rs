@@ -1,7 +1,7 @@
-//! What both judges say of the hours with families on standard input, for tests/stored_families.
+//! What both judges answer for the hours with families on standard input, for tests/stored_families.
 //!
-//! An hour is a line: its name, its case, its proposal and its family list, all in hexadecimal digits. What is said
-//! of it is printed, a line for each judge: the name, the judge and the line that crates/prog_records prints.
+//! An hour is a line: its name, its case, its proposal and its family list, all in hexadecimal digits. For each
+//! judge a line is printed: the name, the judge and the line that crates/prog_records prints.
 
 use comparison::library;
 use comparison::records::families_line;
@@ -30,7 +30,7 @@ fn second_says(case: &[u8], proposal: &[u8], list: &[u8]) -> Vec<String> {
     )
 }
 
-/// A report that is written with the list is the one without it.
+/// A report written with the list must be the one without it.
 fn said_of(with: impl Fn(&mut [u8]) -> Verdict, without: impl Fn(&mut [u8]) -> Verdict) -> Vec<String> {
     let (mut report, mut free_report) = ([0; LEAST_BUFFER], [0; LEAST_BUFFER]);
     let (verdict, free) = (with(&mut report), without(&mut free_report));

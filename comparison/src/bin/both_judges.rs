@@ -1,8 +1,8 @@
-//! What both judges say of the hours on standard input, for tests/stored_hours.
+//! What both judges answer for the hours on standard input, for tests/stored_hours.
 //!
-//! An hour is a line: its name, its case and its proposal, both in hexadecimal digits. What is said of it is printed,
-//! a line for each thing: the name, the judge, the way and what the judge says. Handed over apart, the two files are
-//! judged, and the totals come from the report, in microcents. Joined, the lines are the desk's.
+//! An hour is a line: its name, its case and its proposal, both in hexadecimal digits. For each answer a line is
+//! printed: the name, the judge, the way and the answer. For two separate files this is the verdict, with the
+//! totals of the report in microcents. For joined files it is the desk's lines.
 
 use comparison::library;
 use comparison::stored_lines::{bytes, of_each};
@@ -41,7 +41,7 @@ fn second_apart(case: &[u8], proposal: &[u8]) -> Vec<String> {
     verdict_and_totals(verdict, &report)
 }
 
-/// The totals are read from the report whatever the number, if one is there.
+/// The totals are read from the report if there is one, whatever the number.
 fn verdict_and_totals(verdict: Verdict, report: &[u8]) -> Vec<String> {
     let mut said = vec![format!("verdict {} {}", verdict.number, verdict.index)];
     if report.iter().any(|byte| *byte != 0) {

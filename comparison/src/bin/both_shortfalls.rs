@@ -1,9 +1,9 @@
-//! What both judges say of the shortfalls of the hours on standard input, for tests/stored_shortfalls.
+//! What both judges answer for the shortfalls of the hours on standard input, for tests/stored_shortfalls.
 //!
 //! An hour is a line: its name, the numbers of its output, its case and its proposal, both in hexadecimal digits, a
-//! dash for one of no bytes. What is said of it is printed, two lines for each judge: the name, the judge and the
-//! line that crates/prog_records prints; and the name, the judge, `written` and the output's numbers that were
-//! changed, from its first on.
+//! dash for an empty one. For each judge two lines are printed: the name, the judge and the line that
+//! crates/prog_records prints; and the name, the judge, `written` and the numbers of the output that were changed,
+//! from its first on.
 
 use comparison::library;
 use comparison::records::{numbers_words, shortfall_line};

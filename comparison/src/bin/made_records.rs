@@ -1,6 +1,6 @@
-//! Writes a part of made records for crates/prog_records, for tests/four_ways_made: FOLDER/stdin has the records,
-//! FOLDER/stdout what the program must print for them by the second judge, and FOLDER/lengths a line for each record,
-//! its kind and its bytes in either file.
+//! Writes a part of made records for crates/prog_records, for tests/four_ways_made. FOLDER/stdin has the records,
+//! FOLDER/stdout what the program must print for them by the second judge, and FOLDER/lengths a line for each
+//! record: its kind and its bytes in either file.
 
 use comparison::makers::records::part;
 use std::fs;

@@ -1,4 +1,4 @@
-//! The order book entry of both: random books, refusals alone and in pairs, the widest.
+//! The order book entry of both judges: random books, refusals alone and in pairs, the widest books.
 
 use crate::library;
 use crate::makers::books::*;
@@ -80,7 +80,7 @@ pub fn books(run: &mut Run, rng: &mut Rng) {
         run.end();
     }
 
-    // Planted in the order of asking, no fault undoes the one before it.
+    // Faults planted in the order of asking do not undo each other.
     run.begin("each pair of refusals");
     for (one, (_, first)) in FAULTS.iter().enumerate() {
         for (other, (_, second)) in FAULTS.iter().enumerate().skip(one) {

@@ -1,5 +1,5 @@
-//! Columning and the way back of both (S-10): readable cases there and back, rooms, fields out of range in rows and in
-//! columns, lengths, counts, marks, and bytes of any kind.
+//! Columning and the way back of both judges (S-10): readable cases there and back, rooms, fields out of range in
+//! rows and in columns, lengths, counts, marks, and random bytes.
 
 use crate::lent::Lent;
 use crate::library;
@@ -17,7 +17,7 @@ use wrong_builds::columns::{Rearrange, BUILDS};
 /// The longest case: 64 branches of 16 zones, 64 links of version 2, 512 orders.
 const LONGEST: usize = 14 + 64 * 68 + 64 * 10 + 512 * 10;
 
-/// Things a good stream of files must come across, counted.
+/// What a good stream of files must contain, counted.
 const MET: [&str; 10] = [
     "longest case and back",
     "case of no rows and back",
@@ -72,7 +72,7 @@ struct Files<'a> {
 }
 
 impl Files<'_> {
-    /// Gives both this file and so much room. What is answered with 0 goes back.
+    /// Gives both judges this file and this much room. A file answered 0 is sent back.
     fn feed(&mut self, entry: Entry, file: &[u8], room: usize) -> OutputAnswer {
         let (answer, out) = self.feed_as(entry, file, room, false);
         if answer.number == 0 {
@@ -118,7 +118,7 @@ impl Files<'_> {
         self.run.fault_in(&[(suffix, file)], || format!("{name}: {}\n  room {room}", text()));
     }
 
-    /// The answer that is due.
+    /// The expected answer.
     fn expect(&mut self, entry: Entry, file: &[u8], room: usize, number: u32) {
         let answer = self.feed(entry, file, room);
         let length = match number {
@@ -131,7 +131,7 @@ impl Files<'_> {
         }
     }
 
-    /// Both judges refuse a columned file by 2, whatever stands for the proposal.
+    /// Both judges refuse a columned file by 2, with any proposal.
     fn judged(&mut self, case: &[u8], columned: &[u8]) {
         let (mut report, mut their_report) = ([7; LEAST_BUFFER], [7; LEAST_BUFFER]);
         let verdict = judge(columned, case, &mut report);
@@ -211,7 +211,7 @@ pub fn files(run: &mut Run, rng: &mut Rng) {
     run.entry("lta_case_columned, lta_case_restored", all, &reached, &files.second_wrong);
 }
 
-/// Outputs of every kind of length, of readable files and of others.
+/// Outputs of every kind of length, for readable files and others.
 fn rooms(files: &mut Files, rng: &mut Rng) {
     files.run.begin("rooms");
     for _ in 0..4_000 {

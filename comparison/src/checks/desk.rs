@@ -1,4 +1,4 @@
-//! The desk's lines of both, over every input the judgement gets.
+//! The desk's lines of both judges, over every input of the judgement.
 
 use crate::lent::Lent;
 use crate::library;
@@ -8,7 +8,7 @@ use crate::run::Run;
 use second_judge::limits::LEAST_OUTPUT;
 use second_judge::{desk_output, OutputAnswer};
 
-/// Outputs are longer than they must be by at most so many bytes.
+/// Outputs are longer than required by at most this many bytes.
 const MORE: usize = 64;
 
 /// What was done to the joined files or to the output.
@@ -34,7 +34,7 @@ impl Desk {
         Desk { inputs: counts, faults: counts, numbers: [0; COUNTED], rng: Rng::new(seed), joined: Vec::new() }
     }
 
-    /// Feeds the files of an hour, joined; the first input of each kind that differs comes back, with what differs.
+    /// Feeds the files of an hour, joined; returns the first input of each kind that differs, with the difference.
     pub fn feed(&mut self, case: &[u8], proposal: &[u8]) -> Option<(Vec<u8>, String)> {
         let mut joined = std::mem::take(&mut self.joined);
         joined.clear();
@@ -67,7 +67,7 @@ impl Desk {
         differs
     }
 
-    /// Gives both this input and so much room.
+    /// Gives both judges this input and this much room.
     fn compare(&mut self, kind: usize, input: &[u8], room: usize) -> Option<String> {
         self.inputs[kind] += 1;
         let lent = Lent::bytes(LEAST_OUTPUT + MORE, self.rng.draw()).only(room);
@@ -84,7 +84,7 @@ impl Desk {
     }
 }
 
-/// What an answer says that it wrote.
+/// The bytes that an answer says it wrote.
 fn shown(out: &[u8], answer: OutputAnswer) -> String {
     let length = out.len().min(answer.length as usize);
     String::from_utf8_lossy(&out[..length]).into()
@@ -103,7 +103,7 @@ pub fn end(run: &mut Run) {
     run.check_numbers(&DESK, &numbers);
 }
 
-/// The row of the closing table, whatever part of the run was done.
+/// The row of the closing table, for whatever part of the run was done.
 pub fn entry(run: &mut Run) {
     let (inputs, numbers) = (run.desk.inputs.iter().sum(), run.desk.numbers);
     run.entry("lta_desk_lines", inputs, &[(&DESK, &numbers)], &[]);

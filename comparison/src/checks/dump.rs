@@ -1,6 +1,6 @@
-//! The solver's dump's entry of both: dumps that give an hour's own proposal, values of every kind, each cause alone
-//! and with others, every limit and the values next to it, every exponent, and bits of any kind. What is written is
-//! judged by both judges.
+//! The entry for a solver's dump, of both judges: dumps that give an hour's own proposal, values of every kind,
+//! each cause alone and with others, every limit and the values next to it, every exponent, and random bits. Both
+//! judges judge what is written.
 
 use crate::lent::Lent;
 use crate::library;
@@ -14,7 +14,7 @@ use second_judge::limits::{LEAST_BUFFER, WIDEST_TOLERANCE};
 use second_judge::{dump_proposal, judge, OutputAnswer};
 use wrong_builds::dump::{Convert, BUILDS};
 
-/// Things a good stream of dumps must come across, counted.
+/// What a good stream of dumps must contain, counted.
 const MET: [&str; 17] = [
     "first value named",
     "last value named",
@@ -43,7 +43,7 @@ fn within_one_tenth(bits: u64, quantity: u32, volume: u32) -> bool {
         _ => (fraction | (FRACTION + 1), 1_075 - exponent),
     };
     if places > 100 {
-        // Below 2^-47 of a tenth, whatever the quantity.
+        // Below 2^-47 of a tenth, for any quantity.
         return volume == 0;
     }
     let exact = i128::from(whole) * i128::from(quantity);
@@ -56,16 +56,16 @@ struct Dumps<'a> {
     run: &'a mut Run,
     inputs: u64,
     numbers: [u64; COUNTED],
-    /// 56 by the number that it names.
+    /// 56 by the number in its index.
     cases: [u64; 9],
-    /// What the judges say of a proposal written.
+    /// The judges' answers for a written proposal.
     judged: [u64; COUNTED],
     met: [u64; MET.len()],
     second_wrong: [u64; BUILDS.len()],
 }
 
 impl Dumps<'_> {
-    /// Gives both this dump and so much room.
+    /// Gives both judges this dump and this much room.
     fn feed(&mut self, case: &[u8], dump: &[u8], room: usize) -> (OutputAnswer, Vec<u8>) {
         self.feed_as(case, dump, room, false)
     }
@@ -101,8 +101,8 @@ impl Dumps<'_> {
         self.run.fault_in(&[("case", case), ("dump", dump)], || format!("{}\n  room {room}", text()));
     }
 
-    /// A proposal that was written is read by both judges: none of 9 to 14 has a cause, nor has 21; 15 if the case's
-    /// tolerance is wide (S-12), and then alone.
+    /// Both judges read a written proposal: none of 9 to 14 and not 21 has a cause. 15 is the only answer if the
+    /// case's tolerance is wide (S-12).
     fn judge(&mut self, case: &[u8], dump: &[u8], proposal: &[u8]) {
         let (mut report, mut their_report) = ([0; LEAST_BUFFER], [0; LEAST_BUFFER]);
         let verdict = judge(case, proposal, &mut report);
@@ -121,7 +121,7 @@ impl Dumps<'_> {
         self.judged[number as usize] += 1;
     }
 
-    /// Feeds a made dump, whose answer and bytes are known beforehand.
+    /// Feeds a made dump whose answer and bytes are known.
     fn feed_made(&mut self, made: &Made) {
         let dump = made.dump();
         let (answer, out) = self.feed(&made.case, &dump, made.room);
@@ -259,7 +259,7 @@ pub fn dumps(run: &mut Run, rng: &mut Rng) {
     run.entry("lta_dump_proposal", inputs, &[(&DUMP, &dumps.numbers)], &dumps.second_wrong);
 }
 
-/// Dumps that give the proposals of good hours, which are judged as those are.
+/// Dumps that give the proposals of good hours, which are judged like those.
 fn given_back(dumps: &mut Dumps, rng: &mut Rng) {
     dumps.run.begin("an hour's own proposal given back");
     for hour in [three_zone_hour(), contracted_hour()] {
@@ -279,7 +279,7 @@ fn given_back(dumps: &mut Dumps, rng: &mut Rng) {
     dumps.run.end();
 }
 
-/// Each volume that is due is within a tenth of the exact product, and not above the quantity.
+/// Each expected volume is within a tenth of the exact product, and not above the quantity.
 fn volumes_near(dumps: &mut Dumps, made: &Made) {
     let (number, _, written) = made.due();
     if number != 0 {

@@ -1,6 +1,6 @@
-//! The judgement with a family list of both (S-11): lists that hold and that do not, circles of every size and what
-//! leads into them, parents at the last order and past it. Without the list the same files are judged too, and that
-//! answer is as it was.
+//! The judgement with a family list of both judges (S-11): lists that hold and that do not, circles of every size
+//! and what leads into them, parents at the last order and past it. The same files are also judged without the
+//! list, and that answer must be unchanged.
 
 use super::families_causes::*;
 use crate::lent::{Left, Lent};
@@ -17,7 +17,7 @@ use wrong_builds::families::{JudgeFamilies, BUILDS};
 
 pub const MOST_LENT: usize = 256;
 
-/// Things a good stream of inputs must come across, counted.
+/// What a good stream of inputs must contain, counted.
 const MET: [&str; 25] = [
     "accepted, 512 orders in a chain",
     "18, 512 orders in a circle",
@@ -55,7 +55,7 @@ pub struct Lists<'a> {
     second_wrong: [u64; BUILDS.len()],
 }
 
-/// An hour's files and a list beside them.
+/// An hour's files and a family list.
 pub struct Files {
     pub case: Vec<u8>,
     pub proposal: Vec<u8>,
@@ -73,7 +73,7 @@ impl Lists<'_> {
         self.feed_as(files, lent, false)
     }
 
-    /// Gives both these files and a buffer of this length.
+    /// Gives both judges these files and a buffer of this length.
     pub fn feed_as(&mut self, files: &Files, lent: usize, null: bool) -> Verdict {
         self.run.count();
         self.inputs += 1;
@@ -96,8 +96,8 @@ impl Lists<'_> {
         ours.answer
     }
 
-    /// The same files by the entry without a list: both judges as they were, and the answer with the list is another
-    /// for the list's own numbers alone.
+    /// The same files through the entry without a list: both judges agree, and the answer with the list differs
+    /// only by the list's own numbers.
     fn without_list(&mut self, files: &Files, lent: &Lent<u8>, with: &Left<Verdict, u8>) {
         let (case, proposal) = (&files.case, &files.proposal);
         let theirs = lent.to(|report| library::judge(case, proposal, report));
@@ -111,7 +111,7 @@ impl Lists<'_> {
             true => *with == lent.to(|_| verdict),
             false => *with == theirs,
         };
-        // 16 to 18 are asked before all that the sums say, 28 after 21; 15 before them.
+        // 16 to 18 are asked before all sums, 28 after 21; 15 before them.
         let earlier = match verdict.number {
             28 => (1..=15).contains(&free.number) || [21, 30].contains(&free.number),
             _ => (1..=15).contains(&free.number) || free.number == 30,
@@ -126,7 +126,7 @@ impl Lists<'_> {
         self.run.fault_in(&[("case", case), ("proposal", proposal), ("families", list)], text);
     }
 
-    /// The answer that is due.
+    /// The expected answer.
     pub fn expect(&mut self, files: &Files, lent: usize, number: u32, index: usize) -> Verdict {
         let verdict = self.feed(files, lent);
         if (verdict.number, verdict.index as usize) != (number, index) {
@@ -135,7 +135,7 @@ impl Lists<'_> {
         verdict
     }
 
-    /// An hour that breaks nothing up to 21, with parents: 17, 18 or 28 of them, or the answer without a list.
+    /// An hour that breaks nothing up to 21, with parents: 17, 18 or 28 for these, or the answer without a list.
     pub fn expect_of(&mut self, hour: &Hour, parents: &[Option<u16>], lent: usize) -> Verdict {
         let files = Files::new(hour, list_of(parents));
         match due(hour, parents) {
@@ -179,7 +179,7 @@ pub fn lists(run: &mut Run, rng: &mut Rng) {
     run.entry("lta_judge_families", inputs, &[(&JUDGE_FAMILIES, &lists.numbers)], &lists.second_wrong);
 }
 
-/// Each single parent of each order of P1, two at a time too.
+/// Each single parent for each order of P1, and two at a time.
 fn the_three_zone_hour(lists: &mut Lists) {
     lists.run.begin("P1, up to two parents");
     let hour = three_zone_hour();
@@ -229,7 +229,7 @@ fn families_that_hold(lists: &mut Lists, rng: &mut Rng) {
             continue;
         }
         made += 1;
-        // Taken out of its family it can close no circle.
+        // An order taken out of its family can close no circle.
         for up in parents.iter_mut() {
             *up = up.filter(|up| usize::from(*up) != child);
         }

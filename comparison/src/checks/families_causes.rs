@@ -1,5 +1,5 @@
-//! Lists of wrong mark, version and length, fractions that are equal or a tenth off, and families with whatever else
-//! is wrong with an hour.
+//! Lists with a wrong mark, version or length, fractions that are equal or a tenth off, and families in hours with
+//! any other fault.
 
 use super::families::{Files, Lists, MOST_LENT};
 use crate::makers::families::*;
@@ -12,7 +12,7 @@ use paper_hours::three_zone_hour;
 use second_judge::limits::LEAST_BUFFER;
 use second_judge::list_of;
 
-/// Marks, versions and lengths, of lists that are good or not.
+/// Marks, versions and lengths, of good lists and others.
 pub fn wrong_lists(lists: &mut Lists, rng: &mut Rng) {
     lists.run.begin("wrong mark, version or length");
     for _ in 0..8_000 {
@@ -36,7 +36,7 @@ pub fn wrong_lists(lists: &mut Lists, rng: &mut Rng) {
             8 => list[..3].copy_from_slice(rng.pick(&[b"LTC", b"LTP", b"LTK", b"ltf"])),
             9 => list[3] = rng.pick(&[0, 2, 3, 255]),
             10 => list[4] = 1 + rng.below(255) as u8,
-            // The bytes of its version the other way around.
+            // The bytes of its version exchanged.
             _ => list[3..5].copy_from_slice(&[0, 1]),
         }
         lists.meet(11, list.is_empty() && !hour.orders.is_empty());
@@ -119,12 +119,12 @@ pub fn fractions(lists: &mut Lists, rng: &mut Rng) {
     lists.run.end();
 }
 
-/// The place of a number among those that are asked.
+/// The place of a number in the order of asking.
 fn rank(number: u32) -> usize {
     JUDGE_FAMILIES.numbers.iter().position(|one| *one == number).expect("a number of the table")
 }
 
-/// Families beside whatever else is wrong: what is asked first is answered.
+/// Families with any other fault: the cause asked first is answered.
 pub fn other_causes(lists: &mut Lists, rng: &mut Rng) {
     lists.run.begin("a field out of range, and families");
     let mut made = 0;
@@ -146,7 +146,7 @@ pub fn other_causes(lists: &mut Lists, rng: &mut Rng) {
         if rng.one_in(4) {
             files.list.push(0);
         }
-        // With a volume above its quantity fractions may be another's.
+        // With a volume above its quantity the fractions may give another answer.
         let due = match due(&hour, &parents) {
             _ if files.list.len() != 5 + 2 * count => Some((16, 0)),
             Some((28, _)) => None,
@@ -243,7 +243,7 @@ pub fn other_causes(lists: &mut Lists, rng: &mut Rng) {
     lists.run.end();
 }
 
-/// Hours that break what they break, lists of any bytes, buffers of every length, null pointers.
+/// Random hours, lists of random bytes, buffers of every length, null pointers.
 pub fn whatever(lists: &mut Lists, rng: &mut Rng) {
     lists.run.begin("hours of any kind");
     for _ in 0..8_000 {

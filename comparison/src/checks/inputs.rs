@@ -33,7 +33,7 @@ fn feed_hour(run: &mut Run, rng: &mut Rng, hour: &Hour) {
     run.feed(&hour.case(), &hour.proposal(), enough(rng));
 }
 
-/// Feeds a good hour, whose report is there whatever its gap.
+/// Feeds a good hour; it has a report whatever its gap.
 pub fn breaks_no_rule(run: &mut Run, rng: &mut Rng, hour: &Hour) -> bool {
     let verdict = run.feed(&hour.case(), &hour.proposal(), enough(rng));
     let reported = matches!(verdict.number, 0 | 26);
@@ -197,7 +197,7 @@ fn several_faults(run: &mut Run, rng: &mut Rng) {
     let shape = Shape::any(rng);
     let hour = good(rng, shape);
     let (mut case, mut proposal) = (hour.case(), hour.proposal());
-    // From one part of the files only, for else small numbers hide the others.
+    // From one part of the files only, since small numbers would hide the others.
     let numbers = rng.pick(&[(0, 30), (2, 4), (6, 8), (7, 8), (10, 14), (13, 21), (14, 23)]);
     let mut list = fields(&hour);
     list.retain(|field| numbers.0 <= field.number && field.number <= numbers.1);
@@ -212,7 +212,7 @@ fn several_faults(run: &mut Run, rng: &mut Rng) {
             due = due.min((field.number, field.index));
         }
     }
-    // A wrong length too: the smaller faults are in the headers and stay.
+    // A wrong length too: the smaller faults are in the headers and remain.
     match rng.below(8) {
         0 => due = due.min((wrong_length(rng, &mut case, 14, 1, 5), 0)),
         1 | 2 => due = due.min((wrong_length(rng, &mut proposal, 13, 9, 12), 0)),
@@ -231,7 +231,7 @@ fn bad_pairs(run: &mut Run, rng: &mut Rng) {
     let mut hour = good(rng, shape);
     let count = hour.links.len();
     let later = 1 + rng.below(count - 1);
-    // The link at fault, and its byte: a repeated pair has the first, equal zones the second.
+    // The link at fault, and the byte named: for a repeated pair the first, for equal zones the second.
     let mut due = (later, 0);
     if rng.one_in(2) {
         let earlier = rng.below(later);
@@ -240,7 +240,7 @@ fn bad_pairs(run: &mut Run, rng: &mut Rng) {
         hour.links[later].from = hour.links[later].to;
         due = (later, 1);
     }
-    // Sometimes another link further on is at fault too, or one before, or this one otherwise.
+    // Sometimes a later link is at fault too, or an earlier one, or this one for another cause.
     if rng.one_in(2) {
         let other = rng.below(count);
         hour.links[other].to = hour.links[other].from;
@@ -413,7 +413,7 @@ fn plain_shapes(run: &mut Run, rng: &mut Rng) {
         _ => good(rng, shape),
     };
     if plain == 6 {
-        // All LTA and nothing flow-based: any margin holds, negative ones too.
+        // All LTA and nothing flow-based: any margin holds, even a negative one.
         for branch in &mut hour.branches {
             branch.ram = rng.between_or_end(-500_000, -1) as i32;
         }
@@ -421,7 +421,7 @@ fn plain_shapes(run: &mut Run, rng: &mut Rng) {
     feed_hour(run, rng, &hour);
 }
 
-/// Totals at their widest, with the value each must have.
+/// Totals at their widest, with their exact values.
 pub fn widest_totals(run: &mut Run) {
     run.begin("totals at their widest");
     for case in widest() {
@@ -475,7 +475,7 @@ pub fn null_pointers(run: &mut Run) {
     run.end();
 }
 
-/// Gives a file another length and tells the verdict for that.
+/// Gives a file another length and returns the verdict for that.
 fn wrong_length(rng: &mut Rng, file: &mut Vec<u8>, header: usize, short: u32, wrong: u32) -> u32 {
     if file.len() == header || rng.one_in(2) {
         file.push(rng.draw() as u8);

@@ -1,5 +1,5 @@
-//! The entries of S-3 of both, over exchanges and over hours. Each input goes to S-13's entries too, whose answers
-//! must be the wide ones'.
+//! The entries of S-3 of both judges, over exchanges and over hours. Each input also goes to S-13's entries, whose
+//! answers must be those of the wide ones.
 
 use super::intuitive_inputs::*;
 use crate::lent::Lent;
@@ -12,8 +12,7 @@ use crate::run::{count_met, Run};
 use second_judge::{CarriedAnswer, IntuitiveHours, Papers, ScratchSize};
 use wrong_builds::intuitive::{Entries, BUILDS, EQUAL_PRICES, NO_WAY_BACK, SMALL_BUILDS};
 
-/// Things a good stream of inputs must come across, counted; the first so many of lta_intuitive, the others of
-/// lta_hour_intuitive.
+/// What a good stream of inputs must contain, counted; first for lta_intuitive, then for lta_hour_intuitive.
 const MET: [&str; 22] = [
     "yes",
     "no",
@@ -40,7 +39,7 @@ const MET: [&str; 22] = [
 ];
 const OF_AN_HOUR: usize = 16;
 
-/// What one of the two entries is asked.
+/// The arguments of one of the two entries.
 #[derive(Clone, Copy)]
 pub enum Asked<'a> {
     Positions(&'a [i64], &'a [i64]),
@@ -77,7 +76,7 @@ impl Asked<'_> {
         }
     }
 
-    /// Both lists, to be compared after the calls: neither is ever written.
+    /// Both lists, to compare after the calls: neither may be written.
     fn copied(self) -> (Vec<i64>, Vec<i64>, Vec<u8>, Vec<u8>) {
         match self {
             Asked::Positions(net, prices) => (net.to_vec(), prices.to_vec(), vec![], vec![]),
@@ -100,7 +99,7 @@ impl Asked<'_> {
     }
 }
 
-/// What one size of scratch met.
+/// What the inputs of one size of scratch met.
 struct Tally {
     inputs: u64,
     hours: u64,
@@ -142,7 +141,7 @@ pub struct Exchanges<'a> {
 }
 
 impl Exchanges<'_> {
-    /// Gives both this input and so many numbers of scratch.
+    /// Gives both judges this input and this many numbers of scratch.
     pub fn feed(&mut self, asked: Asked, pairs: &[u8], room: usize) -> CarriedAnswer {
         self.feed_as(asked, pairs, room, false)
     }
@@ -152,8 +151,7 @@ impl Exchanges<'_> {
         let (wide, wrong) = self.compare(asked, ScratchSize::Wide, pairs, room, null);
         self.meet(asked, pairs, wide, &wrong);
 
-        // The small entries have by turns the same scratch and one that is as much
-        // too long or too short for them.
+        // The small entries get in turn the same scratch and one that is as much too long or too short for them.
         let small_room = match room.checked_sub(SCRATCH) {
             _ if self.inputs.is_multiple_of(3) => room,
             Some(past) => SMALL_SCRATCH + past,
@@ -162,7 +160,7 @@ impl Exchanges<'_> {
         let (small, _) = self.compare(asked, ScratchSize::Small, pairs, small_room, null);
         let enough = (small_room >= SMALL_SCRATCH, room >= SCRATCH);
         let due = match wide.number {
-            // Asked last, so that there is no other cause.
+            // Asked last, so there is no other cause.
             0 | 85 if !enough.0 => small.number == 85,
             0 => small == wide,
             85 => small.number == 0,
@@ -177,7 +175,7 @@ impl Exchanges<'_> {
         wide
     }
 
-    /// One entry against the second judge's: the right answer, and which of the wrong builds were told from it.
+    /// One entry against the second judge's: the right answer, and which wrong builds differed from it.
     fn compare(
         &mut self,
         asked: Asked,
@@ -188,8 +186,7 @@ impl Exchanges<'_> {
     ) -> (CarriedAnswer, Vec<bool>) {
         self.run.count();
         let copies = (asked.copied(), pairs.to_vec());
-        // A pattern of its own for each input and no zero in it, so that no
-        // number is right by luck.
+        // A different pattern for each input, without zeros, so that no number is right by luck.
         let salt = self.inputs as i64;
         let lent = Lent::filled(room, |n| (n as i64 * 0x1_0001_0003 + salt * 0x51_7CC1) | 1);
         let theirs = lent.to(|scratch| asked.library(size, pairs, scratch, null));
@@ -267,7 +264,7 @@ impl Exchanges<'_> {
         }
     }
 
-    /// Feeds a made exchange, which must be answered as it was made.
+    /// Feeds a made exchange, whose answer is known.
     pub fn feed_exchange(&mut self, made: &Exchange) -> CarriedAnswer {
         let pairs = bytes(&made.pairs);
         let asked = Asked::Positions(&made.net, &made.prices);
@@ -281,7 +278,7 @@ impl Exchanges<'_> {
         answer
     }
 
-    /// Feeds what was planted with causes: the first of them must be named.
+    /// Feeds an input with planted causes: the first of them must be named.
     pub fn feed_planted(&mut self, made: &Planted) {
         let pairs = made.bytes();
         let asked = Asked::Positions(&made.net, &made.prices);

@@ -93,7 +93,7 @@ pub fn refused(all: &mut Exchanges, rng: &mut Rng) {
                 let zones = zones_for(rng, &[*first, *second]);
                 let mut made = Planted::good(rng, zones);
                 made.plant(rng, *first);
-                // Lists that were emptied have no place for another cause.
+                // Emptied lists have no place for another cause.
                 if !made.net.is_empty() {
                     made.plant(rng, *second);
                 }
@@ -118,7 +118,7 @@ pub fn refused(all: &mut Exchanges, rng: &mut Rng) {
     all.run.end();
 }
 
-/// Each limit, one on either side of it, and everything else good.
+/// Each limit, and one on either side of it, with everything else good.
 pub fn at_the_limits(all: &mut Exchanges, rng: &mut Rng) {
     all.run.begin("counts of zones and of prices");
     for zones in 0..20 {
@@ -183,7 +183,7 @@ pub fn at_the_limits(all: &mut Exchanges, rng: &mut Rng) {
             made.net[rng.below(zones)] = off;
             made.unbalanced = off != 0;
             all.feed_planted(&made);
-            // Every position at one limit: sixteen of them are no wrap.
+            // Every position at one limit: sixteen of them do not wrap.
             made.net.fill(off);
             all.feed_planted(&made);
         }
@@ -213,7 +213,7 @@ pub fn at_the_limits(all: &mut Exchanges, rng: &mut Rng) {
             made.pairs = every.iter().map(|pair| (*pair, false)).collect();
             let (from, to) = every[earlier];
             let same = if turned { (to, from) } else { (from, to) };
-            // The reverse pair is another one, unless it stands there too.
+            // The reverse pair is a different one, unless it is there too.
             let stands = every.iter().position(|pair| *pair == same);
             made.pairs[later] = (same, stands.is_some_and(|at| at < later));
             if let Some(again) = stands.filter(|at| *at > later) {
@@ -226,7 +226,7 @@ pub fn at_the_limits(all: &mut Exchanges, rng: &mut Rng) {
 
     all.run.begin("lengths of the scratch");
     for room in (0..=660).filter(|n| *n < 4 || (90..=102).contains(n) || (318..=332).contains(n) || n % 50 == 0) {
-        // By threes, so that each length goes to both entries as it is.
+        // In steps of three, so that each length goes to both entries unchanged.
         for zones in [1, 5, MOST_ZONES] {
             let mut made = Planted::good(rng, zones);
             made.room = room;

@@ -1,4 +1,5 @@
-//! The checks, by entry and by request: inputs are given to both judges, and all that they leave is compared.
+//! The checks, by entry and by request: both judges get the same inputs, and everything that they leave is
+//! compared.
 
 pub mod book;
 pub mod columns;

@@ -10,7 +10,7 @@ use paper_hours::{Hour, Link};
 
 const INPUTS: u64 = 50_000;
 
-/// What else is wrong with an hour without links, and what it is answered with share 0 and with one above.
+/// What else is wrong with an hour without links, and its answer with share 0 and with one above.
 const CAUSES: [(Cause, &str, u32, u32); 5] = [
     (Cause::Nothing, "nothing else", 0, 27),
     (Cause::Volume, "a volume above", 21, 21),
@@ -68,7 +68,7 @@ fn alone(rng: &mut Rng) -> Shape {
 fn share_of_nothing(run: &mut Run, rng: &mut Rng, met: &mut [[u64; 2]; CAUSES.len()]) {
     let shape = alone(rng);
     if rng.one_in(8) {
-        // Whatever it breaks.
+        // It may break any rule.
         let hour = random(rng, shape);
         run.feed(&hour.case(), &hour.proposal(), enough(rng));
         return;
@@ -93,7 +93,7 @@ fn share_of_nothing(run: &mut Run, rng: &mut Rng, met: &mut [[u64; 2]; CAUSES.le
     met[n][1] += u64::from(verdict.number == with);
 }
 
-/// Brings the cause into the hour, where it has a place for it.
+/// Plants the cause in the hour, if it has a place for it.
 fn brought(rng: &mut Rng, hour: &mut Hour, cause: Cause) -> bool {
     let some_order = |rng: &mut Rng, hour: &Hour| match hour.orders.len() {
         0 => None,
@@ -140,7 +140,7 @@ fn branch_total(hour: &Hour) -> i64 {
     branches.map(|(branch, &shadow)| 100_000 * i64::from(branch.ram) * i64::from(shadow)).sum()
 }
 
-/// At a gap of zero rent and branch total are the same, and a negative one leaves the rent below zero, which is owed.
+/// At a gap of zero the rent is the branch total; a negative one leaves the rent below zero, which is owed.
 fn rent_is_the_branch_total(run: &mut Run, rng: &mut Rng, signs: &mut [u64; 3]) {
     let shape = alone(rng);
     let hour = optimal(rng, shape);
@@ -152,7 +152,7 @@ fn rent_is_the_branch_total(run: &mut Run, rng: &mut Rng, signs: &mut [u64; 3]) 
     signs[(total.signum() + 1) as usize] += 1;
 }
 
-/// The same hour with a link over which nothing can flow: the bound has the larger of branch total and zero again.
+/// The same hour with a link that carries nothing: the bound takes the larger of branch total and zero again.
 fn link_added(run: &mut Run, rng: &mut Rng, moved: &mut [u64; 2]) {
     let shape = Shape { zones: 2 + rng.below(15), ..alone(rng) };
     let mut hour = good(rng, shape);

@@ -1,4 +1,4 @@
-//! Verdicts 6, 7, 8 and 14: every cause in rows of hours of any size, and the offset that S-2 has named for it.
+//! Verdicts 6, 7, 8 and 14: every cause in rows of hours of any size, and the offset that S-2 names for it.
 
 use crate::makers::fields::{fields, outside, Field};
 use crate::makers::hours::{enough, random, Shape};
@@ -15,15 +15,15 @@ enum Zones {
     Kept,
     Equal,
     EqualUnknown,
-    /// They become those of a link at least so many links before.
+    /// They become those of a link at least this many links before.
     Repeated(usize),
 }
 use Zones::*;
 
-/// The last field of a row, however many it has.
+/// The last field of a row, whatever its number.
 const LAST: usize = usize::MAX;
 
-/// A link's field that version 2 alone has.
+/// A link's field that only version 2 has.
 const CONTRACTED: usize = 3;
 
 /// Name, number, the zones, the row's fields that are put outside their range, the field that is named.
@@ -113,7 +113,7 @@ pub fn at_least(run: &mut Run, name: String, times: u64) {
     run.check_times(name, times, LEAST_TIMES);
 }
 
-/// Plants a cause in one row, if there is such a row, and has it judged.
+/// Plants a cause in one row, if there is such a row, and judges the hour.
 fn plant(
     run: &mut Run,
     rng: &mut Rng,

@@ -47,7 +47,7 @@ pub fn named(run: &mut Run) {
     }
 }
 
-/// The files of a largest hour with a fault at the place, and often with the same fault further on.
+/// The files of a largest hour with a fault at the place, and often the same fault further on.
 fn at_fault(rng: &mut Rng, number: u32, index: u32) -> (Vec<u8>, Vec<u8>) {
     let mut hour = good(rng, Shape::LARGEST);
     let at = index as usize;
@@ -112,5 +112,5 @@ fn at_fault(rng: &mut Rng, number: u32, index: u32) -> (Vec<u8>, Vec<u8>) {
     (hour.case(), hour.proposal())
 }
 
-/// The most that a field of 32 bits holds.
+/// The most that 32 bits hold.
 const MOST: i64 = u32::MAX as i64;

@@ -1,10 +1,10 @@
-//! What is promised of the shortfalls of an accepted hour, over the library's own report and with both totals computed
-//! here: no shortfall is negative, their sum is at most 100,000 times the gap, what is left is the larger total's lead
-//! weighed by the two shares, and at gap zero each is zero.
+//! The promises about the shortfalls of an accepted hour, checked with the library's own report and with both
+//! totals computed here. No shortfall is negative, and their sum is at most 100,000 times the gap. What is left is
+//! the larger total's lead, weighed by the two shares. At gap zero each is zero.
 
 use second_judge::limits::ONE;
 
-/// Things a good stream of hours must come across, counted.
+/// What a good stream of hours must contain, counted.
 pub const MET: [&str; 20] = [
     "gap zero",
     "gap above zero",
@@ -28,13 +28,13 @@ pub const MET: [&str; 20] = [
     "sum above the gap in microcents",
 ];
 
-/// What an hour answered with 0 is held to, and what it has to be counted for.
+/// What an hour answered 0 must keep, and what it counts for.
 pub struct Answered {
     pub fault: Option<String>,
     pub met: [bool; MET.len()],
 }
 
-/// The numbers of two files that were accepted, read once more and apart.
+/// The numbers of two accepted files, read again independently.
 pub struct Files<'a> {
     pub case: &'a [u8],
     pub proposal: &'a [u8],
@@ -109,7 +109,7 @@ impl Files<'_> {
         ]
     }
 
-    /// All that is promised of an answer of these numbers.
+    /// All promises about an answer with these numbers.
     pub fn held(&self, out: &[i64]) -> Answered {
         let [_, branches, links, orders] = self.counts();
         let amounts: Vec<i128> =
@@ -183,7 +183,7 @@ impl Files<'_> {
             self.two() && (0..links).any(|l| self.link(l)[1] < self.link(l)[0]),
             out.is_empty(),
             out.len() == 1_280,
-            // The claim that leaves the 100,000 out.
+            // The claim without the factor 100,000.
             sum > gap / ONE,
         ];
         Answered { fault, met }

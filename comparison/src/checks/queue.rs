@@ -1,5 +1,5 @@
-//! The desk queue of both over runs of posts and serves, from the empty queue and from any bytes: after each event the
-//! answers, what waits, and every byte.
+//! The desk queue of both judges over runs of posts and serves, from the empty queue and from any bytes: after each
+//! event the answers, what waits, and every byte are compared.
 
 use crate::library;
 use crate::makers::queues::{any_bytes, Event, Events};
@@ -9,7 +9,7 @@ use crate::run::Run;
 use second_judge::{DeskQueue, Papers, Queue, ServedAnswer, QUEUE_BYTES};
 use wrong_builds::queue::{BUILDS, OF_BYTES};
 
-/// So many runs of so many events.
+/// The number of runs, and of events in each.
 const RUNS: u64 = 6_000;
 const EVENTS: usize = 500;
 
@@ -21,7 +21,7 @@ const SPACE: usize = GUARD + QUEUE_BYTES + GUARD;
 const AREA_WAITS: u64 = 4;
 const HOUR_WAITS: u64 = 100;
 
-/// Things a good stream of runs must come across, counted.
+/// What a good stream of runs must contain, counted.
 const MET: [&str; 9] = [
     "runs from the empty queue",
     "runs from any bytes",
@@ -42,7 +42,7 @@ enum Answer {
 }
 
 impl Event {
-    /// A queue that is followed by its events alone.
+    /// A queue that follows the events alone.
     fn on(self, build: &dyn DeskQueue, queue: &mut Queue) -> Answer {
         match self {
             Event::Post(area, hour) => Answer::Posted(build.post(queue, area, hour)),
@@ -89,7 +89,7 @@ struct Followed {
     theirs: [u8; SPACE],
     ours: [u8; QUEUE_BYTES],
     queue: Queue,
-    /// A wrong queue for each wrong build, until it is told from the library.
+    /// A wrong queue for each wrong build, until it differs from the library.
     wrong: Vec<Option<(Box<dyn DeskQueue>, Queue)>>,
     /// Serves since each area began to wait, and since each hour was posted.
     area_waits: [Option<u64>; 4],
@@ -146,7 +146,7 @@ impl Queues<'_> {
         }
     }
 
-    /// Gives both this event, and compares all they leave.
+    /// Gives both judges this event, and compares everything that they leave.
     fn feed(&mut self, one: &mut Followed, event: Event) -> Answer {
         let before = one.theirs;
         let theirs = event.on_library(lent(&mut one.theirs));
@@ -175,7 +175,7 @@ impl Queues<'_> {
         ours
     }
 
-    /// The wrong builds along the same run; each is left once it was told.
+    /// The wrong builds along the same run; each stops once it differed.
     fn try_wrong(
         &mut self,
         one: &mut Followed,
@@ -326,7 +326,7 @@ fn longest_waits(all: &mut Queues) {
     all.run.end();
 }
 
-/// One byte of each value in each cell of an else empty queue.
+/// Each value in each cell of an otherwise empty queue.
 fn every_cell(all: &mut Queues, rng: &mut Rng) {
     all.run.begin("each value of each byte");
     for at in 0..QUEUE_BYTES {

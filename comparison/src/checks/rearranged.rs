@@ -1,5 +1,5 @@
-//! The order of orders (S-9). Each hour is judged by the library before and after its orders, and likewise the
-//! proposal's volumes, are rearranged: number, index and every byte of the buffer are the same, but for the index of
+//! The order of orders (S-9). The library judges each hour before and after its orders are rearranged, and the
+//! proposal's volumes with them. Number, index and every byte of the buffer are the same, except for the index of
 //! 21. Books are joined in both orders.
 
 use super::book;
@@ -121,7 +121,7 @@ fn joined_books(run: &mut Run, rng: &mut Rng) {
         if joined != turned {
             run.fault(|| format!("{joined:?} one way, {turned:?} the other"));
         }
-        // 513 rows, none of them refused when they stand in two books, are too many in one.
+        // 513 rows, none of them refused in two books, are too many in one.
         if together > 512 {
             over += 1;
             if (joined.number, joined.index, joined.sum) != (4, 8, 0) {

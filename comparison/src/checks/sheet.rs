@@ -1,5 +1,5 @@
-//! The margin sheet's entry of both: good sheets, each cause alone and with others, every limit, damaged sheets, and
-//! all the short ones.
+//! The margin sheet's entry of both judges: good sheets, each cause alone and with others, every limit, damaged
+//! sheets, and all short ones.
 
 use crate::lent::Lent;
 use crate::library;
@@ -10,7 +10,7 @@ use crate::run::{count_met, Run};
 use second_judge::{sheet_branches, OutputAnswer};
 use wrong_builds::sheet::{Read, BUILDS};
 
-/// Things a good stream of sheets must come across, counted.
+/// What a good stream of sheets must contain, counted.
 const MET: [&str; 6] = [
     "first line named",
     "last of several lines named",
@@ -30,7 +30,7 @@ struct Sheets<'a> {
 }
 
 impl Sheets<'_> {
-    /// Gives both this sheet and so much room.
+    /// Gives both judges this sheet and this much room.
     fn feed(&mut self, sheet: &[u8], zones: usize, room: usize) -> (OutputAnswer, Vec<u8>) {
         self.feed_as(sheet, zones, room, false)
     }
@@ -77,7 +77,7 @@ impl Sheets<'_> {
         count_met(&mut self.met, &met);
     }
 
-    /// Feeds a made sheet, whose answer and bytes are known beforehand.
+    /// Feeds a made sheet whose answer and bytes are known.
     fn feed_made(&mut self, made: &Made) {
         let sheet = made.bytes();
         let (answer, out) = self.feed(&sheet, made.zones, made.room);
@@ -180,7 +180,7 @@ pub fn sheets(run: &mut Run, rng: &mut Rng) {
     run.entry("lta_sheet_branches", inputs, &[(&SHEET, &sheets.numbers)], &sheets.second_wrong);
 }
 
-/// Each limit, one on either side of it, and everything else good.
+/// Each limit, and one on either side of it, with everything else good.
 fn at_the_limits(sheets: &mut Sheets, rng: &mut Rng) {
     sheets.run.begin("each field at its limits and one past");
     for zones in 1..=MOST_ZONES {

@@ -1,6 +1,6 @@
-//! The shortfalls' entry of both (S-14): hours with gap zero and solver-like ones with a gap, with links and without,
-//! contracted volumes moved alone, hours refused by every number, rooms at the length and about it, and the largest
-//! hours. Whatever is answered with 0 is held to `promises`.
+//! The shortfalls' entry of both judges (S-14): hours with gap zero and solver-like ones with a gap, with links and
+//! without, changed contracted volumes, hours refused by every number, rooms around the needed length, and the
+//! largest hours. Every answer 0 is checked by `promises`.
 
 use super::promises::{Answered, Files, MET};
 use crate::lent::Lent;
@@ -17,9 +17,9 @@ use second_judge::limits::LEAST_BUFFER;
 use second_judge::{shortfalls, OutputAnswer};
 use wrong_builds::shortfalls::{Value, BUILDS};
 
-/// So many accepted hours at least have a gap.
+/// At least this many accepted hours have a gap.
 const LEAST_GAPS: u64 = 10_000;
-/// The wrong builds run along on one input out of so many.
+/// The wrong builds run on one input out of this many.
 const WRONG_EVERY: u64 = 3;
 
 /// Counts over all inputs.
@@ -37,13 +37,13 @@ impl Hours<'_> {
         self.feed_as(case, proposal, room, false)
     }
 
-    /// Gives both this hour and so much room, and holds the answer to the library's judgement and to what is
-    /// promised.
+    /// Gives both judges this hour and this much room, and checks the answer against the library's judgement and
+    /// the promises.
     fn feed_as(&mut self, case: &[u8], proposal: &[u8], room: usize, null: bool) -> (OutputAnswer, Vec<i64>) {
         self.run.count();
         self.inputs += 1;
         let copies = (case.to_vec(), proposal.to_vec());
-        // A pattern of its own for each input, so that no number is right by luck.
+        // A different pattern for each input, so that no number is right by luck.
         let salt = self.inputs.wrapping_mul(0x9E37_79B9_7F4A_7C15);
         let lent = Lent::filled(room, |n| (n.wrapping_mul(0xBF58_476D_1CE4_E5B9) ^ salt) as i64);
         let theirs = lent.to(|out| library::shortfalls(case, proposal, out, null));
@@ -65,7 +65,7 @@ impl Hours<'_> {
         (ours.answer, ours.room().to_vec())
     }
 
-    /// It judges first; what it answers with 0 keeps what is promised.
+    /// The judgement comes first; an answer 0 keeps the promises.
     fn held(&mut self, case: &[u8], proposal: &[u8], answer: &OutputAnswer, out: &[i64]) {
         let mut report = [0; LEAST_BUFFER];
         let returned = library::judge(case, proposal, &mut report);
@@ -105,7 +105,6 @@ impl Hours<'_> {
         self.feed(&hour.case(), &hour.proposal(), room)
     }
 
-    /// The number that is due.
     fn expect(&mut self, hour: &Hour, room: usize, number: u32) -> (OutputAnswer, Vec<i64>) {
         let (case, proposal) = (hour.case(), hour.proposal());
         let (answer, out) = self.feed(&case, &proposal, room);
@@ -151,7 +150,7 @@ pub fn hours(run: &mut Run, rng: &mut Rng) {
     run.entry("lta_shortfalls", hours.inputs, &[(&SHORTFALLS, &hours.numbers)], &hours.second_wrong);
 }
 
-/// The hours that the paper names, and P1 and P3 a 125th as large.
+/// The hours that the paper names, and P1 and P3 divided by 125.
 fn paper(hours: &mut Hours) {
     hours.run.begin("the paper's hours");
     for stored in stored() {
@@ -177,7 +176,7 @@ fn gap_zero(hours: &mut Hours, rng: &mut Rng) {
     hours.run.end();
 }
 
-/// Hours about an optimal one, with the widest tolerance and about their own gap.
+/// Hours near an optimal one, with the widest tolerance and near their own gap.
 fn gaps(hours: &mut Hours, rng: &mut Rng) {
     hours.run.begin("a little off");
     for _ in 0..26_000 {
@@ -232,7 +231,7 @@ fn without_links(hours: &mut Hours, rng: &mut Rng) {
     hours.run.end();
 }
 
-/// Contracted volumes moved alone: the same answer, number by number, in either version.
+/// Only contracted volumes changed: the same answer, number by number, in either version.
 fn contracted(hours: &mut Hours, rng: &mut Rng) {
     hours.run.begin("contracted volumes moved alone");
     let mut pairs = 0;
@@ -259,7 +258,7 @@ fn contracted(hours: &mut Hours, rng: &mut Rng) {
     hours.run.end();
 }
 
-/// Hours of one order, branch or link that falls short by a number known beforehand.
+/// Hours with one order, branch or link whose shortfall is known.
 fn by_hand(hours: &mut Hours, rng: &mut Rng) {
     hours.run.begin("one shortfall, known beforehand");
     for _ in 0..1_000 {
@@ -302,7 +301,7 @@ fn rooms(hours: &mut Hours, rng: &mut Rng) {
         hours.expect(&hour, due - 1, 86);
         hours.expect(&hour, due - less, 86);
         hours.expect(&hour, due + 1 + rng.below(9), 0);
-        // However little room there is, the judgement is asked first.
+        // The judgement is asked first, even with no room.
         hour.system_price = i32::MAX;
         hours.expect(&hour, due - less, 25);
     }
@@ -335,7 +334,7 @@ fn refused(hours: &mut Hours, rng: &mut Rng) {
         let hour = good(rng, shape);
         let hour = to_refuse(rng, hour);
         let (mut case, mut proposal) = (hour.case(), hour.proposal());
-        // Each number as often as the others, whatever the rows.
+        // Each number as often as the others, whatever the number of rows.
         let number = rng.pick(&[2, 3, 4, 6, 7, 8, 10, 11, 13, 14, 21, 23]);
         let Some((field, value)) = one_outside(rng, &hour, |field| field.number == number) else {
             continue;

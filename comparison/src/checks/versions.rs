@@ -1,5 +1,5 @@
 //! The two case versions of S-4. A case of version 1 is one of version 2 with all of each capacity contracted,
-//! whatever is wrong with it; and what is contracted moves owed alone.
+//! whatever is wrong with it; and contracted volumes change owed alone.
 
 use super::offsets::at_least;
 use crate::makers::fields::{fields, outside, Field};
@@ -11,7 +11,7 @@ use crate::run::Run;
 use paper_hours::{Hour, Version};
 use second_judge::Verdict;
 
-/// Of each of the two laws.
+/// For each of the two laws.
 const INPUTS: u64 = 24_000;
 
 pub fn laws(run: &mut Run, rng: &mut Rng) {
@@ -32,7 +32,7 @@ pub fn laws(run: &mut Run, rng: &mut Rng) {
     }
 }
 
-/// How the hours fed so far are shared between the versions.
+/// How many of the hours so far have each version.
 pub fn halves(run: &mut Run) {
     run.section("made inputs, by case version");
     let [one, two, other] = run.versions;
@@ -58,7 +58,7 @@ fn any_hour(rng: &mut Rng) -> Hour {
     }
 }
 
-/// An hour of version 1, often damaged, and the same of version 2 with each link contracted whole.
+/// An hour of version 1, often damaged, and the same in version 2 with each link fully contracted.
 fn one_as_two(run: &mut Run, rng: &mut Rng, shifted: &mut [u64; 2]) {
     let hour = Hour { version: Version::One, ..any_hour(rng) };
     let (mut one, mut proposal) = (hour.case(), hour.proposal());
@@ -66,7 +66,7 @@ fn one_as_two(run: &mut Run, rng: &mut Rng, shifted: &mut [u64; 2]) {
         let list = damageable(rng, &hour);
         let field = rng.pick(&list);
         let value = match outside(rng, &field) {
-            // Counts within their ranges would be another layout.
+            // Counts within their ranges would give another layout.
             Some(value) if rng.one_in(2) || field.number <= 4 => value,
             _ => rng.between_or_end(field.least, field.greatest),
         };
@@ -95,7 +95,7 @@ fn one_as_two(run: &mut Run, rng: &mut Rng, shifted: &mut [u64; 2]) {
     }
 }
 
-/// The fields of one part of the files; else those with many rows would have all.
+/// The fields of one part of the files, since parts with many rows would otherwise take all.
 fn damageable(rng: &mut Rng, hour: &Hour) -> Vec<Field> {
     let mut list = fields(hour);
     let numbers = rng.pick(&[(2, 2), (4, 4), (6, 6), (7, 7), (7, 7), (8, 8), (10, 14), (21, 23)]);
@@ -127,7 +127,7 @@ fn parts(hour: &Hour) -> (usize, usize) {
     (links_at, links_at + 6 * hour.links.len())
 }
 
-/// The index that a verdict on a case of version 1 has for the same field in version 2.
+/// The index in version 2 of the field that a verdict on a case of version 1 names.
 fn in_version_two(hour: &Hour, verdict: Verdict) -> u32 {
     let links_at = parts(hour).0 as u32;
     match verdict.number {
@@ -145,7 +145,7 @@ fn reported(run: &Run, verdict: Verdict, hour: &Hour) -> Vec<i64> {
     }
 }
 
-/// An hour of version 2 as made, and with each link contracted whole.
+/// An hour of version 2 as made, and with each link fully contracted.
 fn owed_alone(run: &mut Run, rng: &mut Rng) {
     let mut hour = Hour { version: Version::Two, ..any_hour(rng) };
     let proposal = hour.proposal();

@@ -1,5 +1,5 @@
-//! Wide tolerances retired (S-12): hours with tolerances about 10,000 cents and far above, alone and beside each
-//! other cause, and gaps about 10,000 cents.
+//! Wide tolerances retired (S-12): hours with tolerances around 10,000 cents and far above, alone and with each
+//! other cause, and gaps around 10,000 cents.
 
 use super::inputs::hour_and_gap;
 use super::offsets::at_least;
@@ -77,8 +77,8 @@ fn about_the_widest(run: &mut Run, rng: &mut Rng, met: &mut [u64; MET.len()]) {
     }
 }
 
-/// A field out of range, or whatever a random hour breaks, at a wide tolerance: 15 hides all that is asked after it
-/// and nothing before.
+/// A field out of range, or any rule broken, at a wide tolerance: 15 hides all causes asked after it and none
+/// before.
 fn another_cause(run: &mut Run, rng: &mut Rng, met: &mut [u64; MET.len()]) {
     let shape = Shape::any(rng);
     let mut hour = match rng.one_in(3) {
@@ -89,7 +89,7 @@ fn another_cause(run: &mut Run, rng: &mut Rng, met: &mut [u64; MET.len()]) {
     let (mut case, mut proposal) = (hour.case(), hour.proposal());
     if rng.one_in(2) {
         let numbers = rng.pick(&[(2, 8), (6, 8), (10, 14), (14, 14), (21, 23)]);
-        // The tolerance itself is put below.
+        // The tolerance itself is set below.
         let such =
             |field: &Field| (numbers.0..=numbers.1).contains(&field.number) && (field.number, field.index) != (4, 10);
         if let Some((field, value)) = one_outside(rng, &hour, such) {
@@ -107,7 +107,7 @@ fn another_cause(run: &mut Run, rng: &mut Rng, met: &mut [u64; MET.len()]) {
     met[6] += u64::from((21..=25).contains(&free.number) || free.number == 27);
 }
 
-/// A link's spread left unused: its capacity times the spread is the gap.
+/// A link's spread left unused: the gap is its capacity times the spread.
 fn gaps(run: &mut Run, rng: &mut Rng, met: &mut [u64; MET.len()]) {
     // 10^10 microcents, one less and one more, each a product of tenths and grains
     // in range; a spread is a PTDF times a shadow price.

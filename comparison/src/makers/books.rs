@@ -34,7 +34,7 @@ pub const FAULTS: [(&str, u32); 11] = [
     ("zone price over", 25),
 ];
 
-/// Plants a fault and gives the index that its refusal names.
+/// Plants a fault and returns the index that its refusal names.
 pub fn plant(rng: &mut Rng, fault: usize, rows: &mut Vec<Row>, prices: &mut Vec<i64>) -> u32 {
     let r = rng.below(rows.len());
     let z = if prices.is_empty() { 0 } else { rng.below(prices.len()) };

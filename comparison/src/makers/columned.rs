@@ -7,7 +7,7 @@ use crate::rng::Rng;
 use paper_hours::Hour;
 use second_judge::case_columned;
 
-/// A case's columns, which the second judge makes.
+/// A case's columns, made by the second judge.
 pub fn columned(case: &[u8]) -> Vec<u8> {
     let mut out = vec![0; case.len()];
     let answer = case_columned(case, &mut out);
@@ -15,7 +15,7 @@ pub fn columned(case: &[u8]) -> Vec<u8> {
     out
 }
 
-/// The same bytes moved, whatever they are: where the orders begin and how many they are is the hour's.
+/// The same bytes moved, whatever they are; the hour says where the orders begin and how many there are.
 pub fn moved(hour: &Hour, case: &[u8]) -> Vec<u8> {
     let count = hour.orders.len();
     let start = case.len() - 10 * count;
@@ -32,7 +32,7 @@ pub fn some_hour(rng: &mut Rng) -> Hour {
     hour_of(rng, shape)
 }
 
-/// The same of a given shape.
+/// The same with a given shape.
 pub fn hour_of(rng: &mut Rng, shape: Shape) -> Hour {
     match rng.below(4) {
         0 => random(rng, shape),

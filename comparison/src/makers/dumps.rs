@@ -1,5 +1,5 @@
-//! Makes solver's dumps: values of every kind, and causes planted in them. What is due is found here once more, by the
-//! machine's own product.
+//! Makes solver's dumps: values of every kind, and causes planted in them. The expected answer is computed here
+//! independently, by the machine's own product.
 
 use super::hours::{good, tolerance, Shape};
 use crate::rng::Rng;
@@ -44,7 +44,7 @@ impl Kind {
         matches!(self, Kind::System | Kind::Shadow)
     }
 
-    /// What is written may be from the first to the second.
+    /// The least and the greatest number that may be written.
     pub fn range(self) -> (f64, f64) {
         match self {
             Kind::LtaShare => (0.0, 100_000.0),
@@ -79,7 +79,7 @@ pub fn kinds(hour: &Hour) -> Vec<Kind> {
         .collect()
 }
 
-/// The value so many steps further from zero, or nearer to it.
+/// The value this many steps further from zero, or nearer to it.
 pub fn stepped(value: f64, steps: i64) -> f64 {
     let size = value.to_bits() & !SIGN;
     let moved = (size as i64 + steps).clamp(0, INFINITE as i64 - 1) as u64;
@@ -104,14 +104,14 @@ pub const CAUSES: [(Cause, &str); 5] = [
     (Cause::Room, "60, the room"),
 ];
 
-/// A dump for an hour's case, with what is wrong with it.
+/// A dump for an hour's case, with its faults.
 pub struct Made {
     pub hour: Hour,
     pub case: Vec<u8>,
     /// The number that refuses the case, or 0.
     pub case_number: u32,
     pub values: Vec<u64>,
-    /// Bytes too many, or too few where it is below zero.
+    /// Bytes too many, or too few if negative.
     pub longer: isize,
     pub room: usize,
 }
@@ -121,7 +121,7 @@ impl Made {
         Made { case: hour.case(), case_number: 0, room: HEADER + 4 * (values.len() - 2), values, longer: 0, hour }
     }
 
-    /// Good values of every kind, with room for what they give.
+    /// Good values of every kind, with room for their proposal.
     pub fn good(rng: &mut Rng, hour: Hour) -> Made {
         let values = kinds(&hour).into_iter().map(|kind| taken(rng, kind).to_bits()).collect();
         let mut made = Made::of(hour, values);
@@ -132,7 +132,7 @@ impl Made {
     pub fn some(rng: &mut Rng) -> Made {
         let shape = Shape::mostly_small(rng, 8);
         let mut hour = good(rng, shape);
-        // S-12: a wide tolerance is read, and the proposal not judged.
+        // S-12: a wide tolerance is read, and the proposal is not judged.
         hour.tolerance = tolerance(rng);
         Made::good(rng, hour)
     }
@@ -228,7 +228,7 @@ impl Made {
     }
 }
 
-/// A value that is taken, of its kind.
+/// A value of its kind that is taken.
 pub fn taken(rng: &mut Rng, kind: Kind) -> f64 {
     let steps = rng.between(-3, 3);
     let value = match rng.below(10) {
@@ -251,7 +251,7 @@ pub fn taken(rng: &mut Rng, kind: Kind) -> f64 {
     }
 }
 
-/// The most that a number of this kind is, and often far less.
+/// The greatest number of this kind, or often a far smaller one.
 pub fn most(rng: &mut Rng, kind: Kind) -> i64 {
     let most = kind.range().1 as i64;
     rng.pick(&[most, most.min(100_000), most.min(1_000), most.min(10)])
@@ -263,7 +263,7 @@ pub fn whole(rng: &mut Rng, kind: Kind) -> f64 {
     rng.between_or_end(0, most) as f64 / f64::from(kind.factor())
 }
 
-/// The value nearest to one whose product has a half, or such a one itself.
+/// The value nearest to one whose product ends in a half, or such a value itself.
 pub fn half(rng: &mut Rng, kind: Kind) -> f64 {
     let most = most(rng, kind);
     let half = rng.between_or_end(0, most) as f64 + 0.5;
@@ -326,7 +326,7 @@ pub fn giving(kind: Kind, number: u32) -> f64 {
         _ => f64::from(number),
     };
     let near = whole / f64::from(kind.factor());
-    // The nearest may lie below, and a product that is cut then ends one too low.
+    // The nearest may be below, and then the cut product is one too low.
     match kind.written(near) == Some(number) {
         true => near,
         false => stepped(near, 1),

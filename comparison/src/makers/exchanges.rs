@@ -1,5 +1,5 @@
-//! Makes exchanges for the entries of S-3 and S-13: net positions, prices and pairs. Of some it is known from their
-//! making whether all can be carried.
+//! Makes exchanges for the entries of S-3 and S-13: net positions, prices and pairs. For some it is known whether
+//! all can be carried.
 
 use super::hours::{self, pairs};
 use crate::rng::Rng;
@@ -22,7 +22,7 @@ pub struct Exchange {
     /// Grains.
     pub prices: Vec<i64>,
     pub pairs: Vec<(u8, u8)>,
-    /// Whether all can be carried, where the making says so.
+    /// Whether all can be carried, if that is known.
     pub known: Option<bool>,
 }
 
@@ -46,7 +46,7 @@ pub fn annex(second: bool) -> Exchange {
     }
 }
 
-/// Few zones the most often, to keep a run short.
+/// Mostly few zones, to keep a run short.
 pub fn some_zones(rng: &mut Rng) -> usize {
     match rng.below(10) {
         0 => 1 + rng.below(MOST_ZONES),
@@ -82,7 +82,7 @@ fn some_prices(rng: &mut Rng, zones: usize) -> Vec<i64> {
         .collect()
 }
 
-/// Balanced positions: some amounts taken from one zone and given to another.
+/// Balanced positions: amounts taken from one zone and given to another.
 fn some_positions(rng: &mut Rng, zones: usize) -> Vec<i64> {
     let mut net = vec![0; zones];
     let largest = rng.pick(&[1, 3, 1_000, MOST_EXPORT, MOST_EXPORT]);
@@ -93,7 +93,7 @@ fn some_positions(rng: &mut Rng, zones: usize) -> Vec<i64> {
     net
 }
 
-/// An export more at one zone, and as much import at another.
+/// More export at one zone, and as much import at another.
 fn transfer(rng: &mut Rng, net: &mut [i64], one: usize, other: usize, largest: i64) {
     if one == other {
         return;
@@ -104,7 +104,7 @@ fn transfer(rng: &mut Rng, net: &mut [i64], one: usize, other: usize, largest: i
     net[other] -= amount;
 }
 
-/// Nothing is known of it.
+/// The answer is not known.
 pub fn random(rng: &mut Rng, zones: usize) -> Exchange {
     Exchange {
         net: some_positions(rng, zones),
@@ -150,7 +150,7 @@ pub fn shut(rng: &mut Rng, zones: usize) -> Exchange {
             transfer(rng, &mut made.net, one, other, largest);
         }
     }
-    // One tenth at least goes from the set to the others.
+    // At least one tenth goes from the set to the others.
     let from = (0..size).min_by_key(|z| made.net[*z]).expect("not empty");
     let to = (size..zones).max_by_key(|z| made.net[*z]).expect("not empty");
     let room = (MOST_EXPORT - made.net[from]).min(MOST_EXPORT + made.net[to]);
@@ -161,8 +161,8 @@ pub fn shut(rng: &mut Rng, zones: usize) -> Exchange {
     made.relabelled(rng)
 }
 
-/// Exports that each reach two imports, in a row, of which only one assignment carries all: what is sent to the wrong
-/// import has to be taken back, down to the first rung. Without its first rung it is a no.
+/// A row of exports that each reach two imports, where only one assignment carries all: what goes to the wrong
+/// import must be taken back, down to the first rung. Without its first rung it is a no.
 pub fn ladder(rng: &mut Rng, rungs: usize) -> Exchange {
     let whole = !rng.one_in(4);
     let alike = rng.one_in(2);
@@ -206,7 +206,7 @@ pub fn chain(rng: &mut Rng, zones: usize) -> Exchange {
         known: Some(true),
     };
     if rng.one_in(2) {
-        // A pair turned leaves no way to the last zone, at equal prices too.
+        // With one pair reversed there is no way to the last zone, even at equal prices.
         let at = rng.below(made.pairs.len());
         let (from, to) = made.pairs[at];
         made.pairs[at] = (to, from);
@@ -216,7 +216,7 @@ pub fn chain(rng: &mut Rng, zones: usize) -> Exchange {
 }
 
 impl Exchange {
-    /// One pair leads by a zone that neither exports nor imports.
+    /// One pair leads through a zone that neither exports nor imports.
     fn through_a_zone(&mut self, rng: &mut Rng) {
         if self.pairs.is_empty() {
             return;

@@ -1,5 +1,5 @@
-//! Makes families: parents that hold, drawn ones and circles, and hours for them. What is due is found here once
-//! more, by the walk up and by products.
+//! Makes families: parents that hold, random ones and circles, and hours for them. The expected answer is computed
+//! here independently, by the walk up and by products.
 
 use super::hours::{good, optimal, Shape};
 use crate::rng::Rng;
@@ -7,7 +7,7 @@ use paper_hours::Hour;
 use second_judge::limits::{BUYS, MOST_ORDERS, SELLS};
 use second_judge::Row;
 
-/// Steps up, at most so many as there are orders: how many lead back, if any do.
+/// How many steps up lead back, if any do; at most as many as there are orders.
 pub fn back(parents: &[Option<u16>], order: usize) -> Option<usize> {
     let mut at = order;
     for steps in 1..=parents.len() {
@@ -26,7 +26,7 @@ pub fn ahead(hour: &Hour, child: usize, parent: usize) -> bool {
     product(child, parent) > product(parent, child)
 }
 
-/// What the list is refused for, or the volumes that go with it.
+/// The refusal of the list, or of the volumes with it.
 pub fn due(hour: &Hour, parents: &[Option<u16>]) -> Option<(u32, usize)> {
     let count = parents.len();
     let stray = |o: &usize| parents[*o].is_some_and(|parent| usize::from(parent) >= count);
@@ -69,13 +69,13 @@ pub fn holding(rng: &mut Rng, hour: &Hour) -> Vec<Option<u16>> {
     parents
 }
 
-/// Parents of so many orders, drawn; circles are frequent where few have none.
+/// Random parents for this many orders; circles are frequent if few have none.
 pub fn drawn(rng: &mut Rng, count: usize) -> Vec<Option<u16>> {
     let none = rng.pick(&[1, 2, 4, 40]);
     (0..count).map(|_| (!rng.one_in(none)).then(|| rng.below(count) as u16)).collect()
 }
 
-/// So many different orders, drawn.
+/// This many different random orders.
 pub fn some_orders(rng: &mut Rng, count: usize, wanted: usize) -> Vec<usize> {
     let mut all: Vec<usize> = (0..count).collect();
     for n in 0..wanted {
@@ -97,7 +97,7 @@ pub fn some_hour(rng: &mut Rng) -> Hour {
     good(rng, shape)
 }
 
-/// The same with orders in it.
+/// The same with some orders.
 pub fn hour_with_orders(rng: &mut Rng, least: usize) -> Hour {
     loop {
         let hour = some_hour(rng);
@@ -118,8 +118,8 @@ pub fn many_orders(rng: &mut Rng) -> Hour {
     }
 }
 
-/// The most orders there can be, each accepted in the same fraction and all at the zone's price: every family holds,
-/// and the gap is zero.
+/// The most orders, each accepted in the same fraction and all at the zone's price: every family holds, and the gap
+/// is zero.
 pub fn even_orders(rng: &mut Rng) -> Hour {
     let quantity = rng.between_or_end(1, 100_000) as u32;
     let volume = rng.between_or_end(0, quantity.into()) as u32;
@@ -134,8 +134,8 @@ pub fn even_orders(rng: &mut Rng) -> Hour {
     }
 }
 
-/// An hour of one zone: a child and its parent on either side, what is left of the balance in a third order, all at
-/// the zone's price, so that the gap is zero.
+/// An hour of one zone: a child and its parent on either side, a third order that balances them, all at the zone's
+/// price, so that the gap is zero.
 pub fn two_and_a_third(rng: &mut Rng, child: (u32, u32), parent: (u32, u32)) -> Hour {
     let price = rng.between(-50_000, 400_000) as i32;
     let sides = rng.pick(&[(BUYS, BUYS), (BUYS, SELLS), (SELLS, BUYS), (SELLS, SELLS)]);

@@ -1,4 +1,4 @@
-//! The fields of an hour's two files: where each stands and what it may hold.
+//! The fields of an hour's two files: where each stands and its range.
 
 use super::hours::most_flow;
 use crate::rng::Rng;
@@ -14,7 +14,7 @@ pub struct Field {
     /// The verdict for a value outside; number 0 when every value is allowed.
     pub number: u32,
     pub index: u32,
-    /// A value inside may earn the same verdict for another cause.
+    /// A value inside may get the same verdict for another cause.
     pub tied: bool,
 }
 
@@ -83,7 +83,7 @@ pub fn fields(hour: &Hour) -> Vec<Field> {
         case.field(1, 0, last_zone, 7, case.at).tied = true;
         let capacity = case.field(4, 0, 100_000, 7, case.at);
         if hour.version == Version::Two {
-            // A smaller one may be less than what is contracted.
+            // A smaller one may be less than the contracted volume.
             capacity.tied = true;
             case.field(4, 0, link.capacity.into(), 7, case.at);
         }
@@ -99,7 +99,7 @@ pub fn fields(hour: &Hour) -> Vec<Field> {
     proposal.mark(b"LTP", 10);
     proposal.field(2, 1, 1, 11, 0);
     proposal.field(4, 0, 100_000, 13, 0);
-    // The system price: no value is refused, and none is outside.
+    // The system price: no value is refused, so none is outside.
     proposal.field(4, i32::MIN.into(), i32::MAX.into(), 0, 0).tied = true;
     for (o, row) in hour.orders.iter().enumerate() {
         proposal.field(4, 0, row.quantity.into(), 21, o);
@@ -135,7 +135,7 @@ pub fn one_outside(rng: &mut Rng, hour: &Hour, such: impl Fn(&Field) -> bool) ->
     outside(rng, &field).map(|value| (field, value))
 }
 
-/// One bit turned, or any of the eight.
+/// One bit flipped, or all eight bits random.
 pub fn change_a_byte(rng: &mut Rng, file: &mut [u8]) {
     let at = rng.below(file.len());
     file[at] ^= match rng.one_in(2) {

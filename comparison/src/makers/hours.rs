@@ -1,10 +1,10 @@
 //! Makes hours: optimal ones, feasible ones and random ones, half of them of either case version.
 //!
-//! An optimal hour is made from its prices. Take shadow prices and a system price, hence zone prices; let every link
-//! with a positive spread be full and call the sum of their capacities in and out of a zone its net position. Let
-//! each branch's RAM be just what these net positions use. Then branch total, owed and rent are equal, whatever the
-//! share, and with orders taken in the money only, the gap is zero. Without links (S-6) the share is 0 and the net
-//! positions are drawn: branch total and rent are equal, and often negative.
+//! An optimal hour is made from its prices. Take shadow prices and a system price, hence zone prices. Let every
+//! link with a positive spread be full, and call the sum of their capacities in and out of a zone its net position.
+//! Let each branch's RAM be exactly what these net positions use. Then branch total, owed and rent are equal for
+//! any share, and if only orders in the money are taken, the gap is zero. Without links (S-6) the share is 0 and
+//! the net positions are random: branch total and rent are equal, and often negative.
 
 use crate::rng::Rng;
 use paper_hours::{Branch, Hour, Link, Version};
@@ -32,7 +32,7 @@ impl Shape {
         Shape::within(rng, [4, 4, 6, 12])
     }
 
-    /// Any size; small ones are the most frequent, to keep a run short.
+    /// Any size; mostly small, to keep a run short.
     pub fn any(rng: &mut Rng) -> Shape {
         match rng.below(100) {
             0..=59 => Shape::small(rng),
@@ -42,7 +42,7 @@ impl Shape {
         }
     }
 
-    /// A small one, but for one out of so many.
+    /// A small shape, except for one out of this many.
     pub fn mostly_small(rng: &mut Rng, every: usize) -> Shape {
         match rng.one_in(every) {
             true => Shape::any(rng),
@@ -61,7 +61,7 @@ impl Shape {
     }
 }
 
-/// S-12, in cents: a tolerance that is judged, often either end of what is.
+/// S-12, in cents: a tolerance that is judged, often one of the two ends.
 pub fn narrow(rng: &mut Rng) -> u32 {
     match rng.below(4) {
         0 | 1 => 0,
@@ -70,7 +70,7 @@ pub fn narrow(rng: &mut Rng) -> u32 {
     }
 }
 
-/// One that is read and not judged.
+/// A tolerance that is read and not judged.
 pub fn wide(rng: &mut Rng) -> u32 {
     match rng.below(4) {
         0 | 1 => 10_001,
@@ -78,7 +78,7 @@ pub fn wide(rng: &mut Rng) -> u32 {
     }
 }
 
-/// Either; wide ones are rare, for nothing past 15 is asked of them.
+/// Either; wide ones are rare, since nothing after 15 is asked of them.
 pub fn tolerance(rng: &mut Rng) -> u32 {
     match rng.one_in(10) {
         true => wide(rng),
@@ -91,7 +91,7 @@ pub fn version(rng: &mut Rng) -> Version {
     rng.pick(&[Version::One, Version::Two])
 }
 
-/// A link of which nothing is contracted yet.
+/// A link with nothing contracted yet.
 pub fn link((from, to): (u8, u8), capacity: u32) -> Link {
     Link { from, to, capacity, contracted: 0 }
 }
@@ -103,7 +103,7 @@ fn contract(rng: &mut Rng, links: &mut [Link]) {
     }
 }
 
-/// So many different ordered pairs of zones.
+/// This many different ordered pairs of zones.
 pub fn pairs(rng: &mut Rng, zones: usize, count: usize) -> Vec<(u8, u8)> {
     let zones = zones as u8;
     let mut all: Vec<(u8, u8)> =
@@ -141,7 +141,7 @@ pub fn used(branch: &Branch, parts: &[i64; 16]) -> i64 {
     branch.ptdfs.iter().zip(parts).map(|(&ptdf, part)| i64::from(ptdf) * part).sum()
 }
 
-/// Rule 5: the least RAM that lets so much pass; none at share 100,000.
+/// Rule 5: the least RAM for this use; none at share 100,000.
 pub fn least_ram(used: i64, share: u32) -> Option<i64> {
     let left = ONE - i64::from(share);
     // Division that rounds up, for either sign.
@@ -166,13 +166,13 @@ pub fn most_flow(share: u32, capacity: u32) -> i64 {
 
 /// An hour with gap zero, made as told above.
 pub fn optimal(rng: &mut Rng, shape: Shape) -> Hour {
-    // Where a volume does not fit its orders, all volumes are halved.
+    // If a volume does not fit its orders, all volumes are halved.
     (0..).find_map(|halvings| try_optimal(rng, shape, halvings)).expect("volumes end at zero")
 }
 
 fn try_optimal(rng: &mut Rng, shape: Shape, halvings: u32) -> Option<Hour> {
-    // PTDFs in thousands and shadow prices in hundreds, so that zone prices
-    // are whole cents and orders can be just at them.
+    // PTDFs in thousands and shadow prices in hundreds, so that zone prices are whole cents and orders can be
+    // exactly at them.
     let widest = rng.pick(&[20, 100, 200]);
     let ptdfs: Vec<Vec<i64>> =
         (0..shape.branches).map(|_| (0..shape.zones).map(|_| 1_000 * rng.between(-widest, widest)).collect()).collect();
@@ -196,8 +196,7 @@ fn try_optimal(rng: &mut Rng, shape: Shape, halvings: u32) -> Option<Hour> {
     };
     prices.iter_mut().for_each(|price| *price += system_price);
 
-    // Capacities in hundreds and the share in thousands, so that full links
-    // and full branches come out whole.
+    // Capacities in hundreds and the share in thousands, so that full links and full branches are whole numbers.
     let widest = rng.pick(&[10, 40, 300, 1_000]) >> halvings;
     let mut links: Vec<Link> = pairs(rng, shape.zones, shape.links)
         .into_iter()
@@ -234,7 +233,7 @@ fn try_optimal(rng: &mut Rng, shape: Shape, halvings: u32) -> Option<Hour> {
             return None;
         }
         let ram = match (share, shadow) {
-            // All is LTA: a branch may have any margin that adds nothing.
+            // All is LTA: a branch may have any margin, since it adds nothing.
             (100_000, 0) => rng.between_or_end(-500_000, 500_000),
             (100_000, _) => rng.between_or_end(-500_000, full),
             (_, 0) => rng.between_or_end(full, 500_000),
@@ -243,7 +242,7 @@ fn try_optimal(rng: &mut Rng, shape: Shape, halvings: u32) -> Option<Hour> {
         branches.push(Branch { ram: ram as i32, ptdfs: row.iter().map(|&ptdf| ptdf as i32).collect() });
     }
     if share == 0 && rng.one_in(2) {
-        // All is flow-based: what the LTAs would earn may be less.
+        // All is flow-based: the LTAs may earn less.
         for link in &mut links {
             link.capacity = rng.between(0, i64::from(link.capacity)) as u32;
         }
@@ -289,7 +288,7 @@ fn priced_orders(
         let volume = if taken { quantity } else { 0 };
         (Row { zone: zone as u8, side, quantity, price }, volume)
     };
-    // Room is kept for the orders at the zone price that even out each zone.
+    // Room is left for the orders at the zone price that balance each zone.
     for _ in 0..count.min(MOST_ORDERS - 3 * zones) {
         let taken = rng.one_in(2);
         let (row, volume) = drawn(rng, taken);
@@ -387,7 +386,7 @@ fn fit_margins(rng: &mut Rng, hour: &mut Hour) -> bool {
     })
 }
 
-/// An hour with every field in range, taken so far along the rules by chance.
+/// A random hour with every field in range that keeps the rules up to a random one.
 pub fn random(rng: &mut Rng, shape: Shape) -> Hour {
     let zones = shape.zones;
     let tolerance = tolerance(rng);
@@ -419,7 +418,7 @@ pub fn random(rng: &mut Rng, shape: Shape) -> Hour {
     contract(rng, &mut hour.links);
     hour.version = version(rng);
 
-    // How many of the rules from 21 on are seen to.
+    // How many of the rules from 21 on are kept.
     let seen_to = rng.below(7);
     let volume = |rng: &mut Rng, row: &Row| match seen_to {
         0 => rng.between_or_end(0, i64::from(row.quantity) * 2) as u32,
@@ -440,7 +439,7 @@ pub fn random(rng: &mut Rng, shape: Shape) -> Hour {
         hour.flows.push(rng.between_or_end(0, most) as u32);
     }
     if seen_to >= 4 {
-        // Small PTDFs, for else no margin is wide enough.
+        // Small PTDFs, since otherwise no margin is wide enough.
         for ptdf in hour.branches.iter_mut().flat_map(|branch| &mut branch.ptdfs) {
             *ptdf /= rng.pick(&[1_000, 10_000]);
         }
@@ -483,7 +482,7 @@ pub fn good(rng: &mut Rng, shape: Shape) -> Hour {
     }
 }
 
-/// A length that is enough, mostly the least that is.
+/// A sufficient length, mostly the least.
 pub fn enough(rng: &mut Rng) -> usize {
     match rng.below(3) {
         0 => LEAST_BUFFER + rng.below(81),

@@ -65,7 +65,7 @@ pub fn widest() -> Vec<Widest> {
     let order = |zone, side, price| Row { zone, side, quantity: 100_000, price };
     let halves = |first: Row, second: Row| [vec![first; 256], vec![second; 256]].concat();
     let flat = |ram, count| vec![Branch { ram, ptdfs: vec![0] }; count];
-    // Zones of the second half have the highest price, the others the lowest.
+    // Zones in the second half have the highest price, the others the lowest.
     let split = |zones: usize, ram| -> Vec<Branch> {
         let row = |ptdf| (0..zones).map(|zone| if zone < zones / 2 { 0 } else { ptdf }).collect();
         (0..64).map(|b| Branch { ram, ptdfs: row(if b == 63 { 711 } else { 703 }) }).collect()
@@ -97,8 +97,8 @@ pub fn widest() -> Vec<Widest> {
         share: 100_000,
         ..hour
     };
-    // S-6: margins that make the second zone buy for -500 euros what the first
-    // sells for 4,000, and earn as much below zero.
+    // S-6: margins that make the second zone buy for -500 euros what the first sells for 4,000, and so earn a
+    // negative amount.
     let forced = Hour {
         zones: 2,
         branches: vec![Branch { ram: -500_000, ptdfs: vec![0, -2_000] }; 23],

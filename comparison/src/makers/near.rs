@@ -1,4 +1,4 @@
-//! Makes hours about an optimal one, as a solver gives them, and hours with one shortfall that is known beforehand.
+//! Makes hours near an optimal one, as a solver gives them, and hours with one known shortfall.
 
 use super::hours::{flow_based_parts, least_ram, most_flow, optimal, pairs, used, version, zone_price, Shape};
 use crate::rng::Rng;
@@ -6,7 +6,7 @@ use paper_hours::{Branch, Hour, Link, Version};
 use second_judge::limits::{BUYS, ONE, SELLS, SHADOW_PRICE, ZONE_PRICE};
 use second_judge::Row;
 
-/// Cents: the widest tolerance that S-12 leaves.
+/// Cents: the widest tolerance that S-12 allows.
 pub const TOLERANCE: u32 = 10_000;
 
 /// How many numbers are written for an hour.
@@ -24,7 +24,7 @@ pub fn tolerance(rng: &mut Rng) -> u32 {
     rng.between_or_end(0, TOLERANCE.into()) as u32
 }
 
-/// An hour to be refused, with such a tolerance; one in so many keeps the tolerance that it has.
+/// An hour to be refused, with such a tolerance; one in 20 keeps its own tolerance.
 pub fn to_refuse(rng: &mut Rng, mut hour: Hour) -> Hour {
     if !rng.one_in(20) {
         hour.tolerance = tolerance(rng);
@@ -32,7 +32,7 @@ pub fn to_refuse(rng: &mut Rng, mut hour: Hour) -> Hour {
     hour
 }
 
-/// A solver-like hour: an optimal one, with a few numbers off by a little, and its margins widened where they no
+/// A solver-like hour: an optimal one with a few numbers slightly off, and with its margins widened where they no
 /// longer hold.
 pub fn near(rng: &mut Rng, shape: Shape) -> Hour {
     loop {
@@ -98,7 +98,7 @@ pub fn nudge(rng: &mut Rng, hour: &mut Hour) {
     }
 }
 
-/// A little volume from one order to another, mostly of the same zone and side, or on both of two sides: the balance
+/// A little volume moved from one order to another, mostly of the same zone and side, or on both sides: the balance
 /// stays.
 pub fn exchange(rng: &mut Rng, hour: &mut Hour) {
     let count = hour.orders.len();
@@ -125,8 +125,8 @@ pub fn exchange(rng: &mut Rng, hour: &mut Hour) {
     }
 }
 
-/// A small hour with links whose numbers are round nowhere, so that shares and spreads leave parts of a microcent,
-/// and flows go either way.
+/// A small hour with links and no round numbers, so that shares and spreads leave parts of a microcent, and flows
+/// go either way.
 pub fn odd(rng: &mut Rng) -> Hour {
     loop {
         let zones = 2 + rng.below(3);
@@ -175,7 +175,7 @@ pub fn odd(rng: &mut Rng) -> Hour {
     }
 }
 
-/// Widens the margins that are too small; no where that cannot be, or a price is out.
+/// Widens the margins that are too small; false if that is not possible, or if a price is out of range.
 pub fn fitted(hour: &mut Hour) -> bool {
     let parts = flow_based_parts(hour);
     let share = hour.share;
@@ -190,7 +190,7 @@ pub fn fitted(hour: &mut Hour) -> bool {
     held && (0..hour.zones.into()).all(|zone| ZONE_PRICE.contains(&zone_price(hour, zone).into()))
 }
 
-/// One order in the money, and nobody to trade with: all of its surplus, to 100 euros.
+/// One order in the money, and nobody to trade with: its shortfall is all of its surplus, up to 100 euros.
 pub fn lone_order(rng: &mut Rng) -> (Hour, usize, i64, i64) {
     let quantity = rng.between_or_end(1, 1_000);
     let gain = rng.between_or_end(0, 100_000 / quantity);
@@ -207,7 +207,7 @@ pub fn lone_order(rng: &mut Rng) -> (Hour, usize, i64, i64) {
     (hour, 0, 100_000 * quantity * gain, 0)
 }
 
-/// One branch with a shadow price and some margin, and nothing on it; no link, and the margin is free in full.
+/// One branch with a shadow price and some margin, and no load; without links the whole margin is free.
 pub fn lone_branch(rng: &mut Rng) -> (Hour, usize, i64, i64) {
     let margin = rng.between_or_end(0, 10_000);
     let shadow = rng.between_or_end(0, 100_000 / margin.max(1)).min(1_000_000);
@@ -243,7 +243,7 @@ pub fn lone_link(rng: &mut Rng) -> (Hour, usize, i64, i64) {
     (hour, 1, (amount / ONE) as i64, (amount % ONE) as i64)
 }
 
-/// The same with the spread turned and a flow against it, which an order in each zone makes up for at its own price.
+/// The same with the spread reversed and a flow against it; an order in each zone balances it at its own price.
 pub fn link_against(rng: &mut Rng) -> (Hour, usize, i64, i64) {
     let flow = rng.between_or_end(0, 100);
     let cents = rng.between(0, 100_000 / flow.max(1)).min(40_000);

@@ -1,10 +1,10 @@
-//! Inputs of S-3's entry with causes planted in them: which of these must be named, and where, is known.
+//! Inputs of S-3's entry with planted causes: which of these must be named, and where, is known.
 
 use super::exchanges::*;
 use super::hours::pairs;
 use crate::rng::Rng;
 
-/// What can be wrong with an input, in the order in which none undoes another.
+/// What can be wrong with an input, in an order in which none undoes another.
 #[derive(Clone, Copy, PartialEq, Eq)]
 pub enum Cause {
     Sum,
@@ -54,7 +54,7 @@ pub fn zones_for(rng: &mut Rng, causes: &[Cause]) -> usize {
 pub struct Planted {
     pub net: Vec<i64>,
     pub prices: Vec<i64>,
-    /// Each pair, and whether it is at fault where it stands.
+    /// Each pair, and whether it is at fault at its place.
     pub pairs: Vec<((u8, u8), bool)>,
     pub lone: Option<u8>,
     pub room: usize,
@@ -66,7 +66,7 @@ pub struct Planted {
 }
 
 impl Planted {
-    /// Nothing is wrong with it yet.
+    /// Nothing is wrong with it.
     pub fn good(rng: &mut Rng, zones: usize) -> Planted {
         let made = match rng.below(3) {
             0 => carried(rng, zones),
@@ -115,7 +115,7 @@ impl Planted {
         }
     }
 
-    /// Plants a cause; to be called in the order of `CAUSES`.
+    /// Plants a cause; call it in the order of `CAUSES`.
     pub fn plant(&mut self, rng: &mut Rng, cause: Cause) {
         let zones = self.net.len();
         let z = rng.between_or_end(0, zones as i64 - 1) as usize;
@@ -181,7 +181,7 @@ impl Planted {
                 self.net.resize(count, 0);
                 self.prices.resize(count, 0);
             }
-            // A second time it could mend the first.
+            // A second time it could repair the first.
             Cause::TwoLengths if self.zones_at_fault => {}
             Cause::TwoLengths => match rng.below(4) {
                 0 => self.prices.push(0),
@@ -193,7 +193,7 @@ impl Planted {
         self.zones_at_fault |= matches!(cause, Cause::NoZones | Cause::ManyZones | Cause::TwoLengths);
     }
 
-    /// A pair at fault, put in at a place that is not before this one.
+    /// Inserts a pair at fault at this place or later.
     fn put_in(&mut self, rng: &mut Rng, least: usize, pair: (u8, u8)) {
         let at = rng.between_or_end(least as i64, self.pairs.len() as i64) as usize;
         self.pairs.insert(at, (pair, true));

@@ -9,7 +9,7 @@ pub enum Event {
     Serve,
 }
 
-/// How a run goes: which areas and hours are posted, how often it serves.
+/// The habit of a run: which areas and hours it posts, how often it serves.
 pub struct Habit {
     pub areas: u32,
     pub hours: u32,
@@ -48,7 +48,7 @@ impl Habit {
     }
 }
 
-/// The events of a run, drawn one after the other by some habit.
+/// The events of a run, drawn one by one by some habit.
 pub struct Events {
     habit: Habit,
     serving: bool,
@@ -80,7 +80,7 @@ impl Events {
     }
 }
 
-/// Bytes that a run starts from, where it is not the empty queue.
+/// Bytes that a run starts from, if it is not the empty queue.
 pub fn any_bytes(rng: &mut Rng) -> [u8; QUEUE_BYTES] {
     let mut bytes = [0; QUEUE_BYTES];
     let most = rng.pick(&[256, 256, 28, 27, 26, 4]);

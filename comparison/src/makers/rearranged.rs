@@ -12,7 +12,7 @@ pub fn files(rng: &mut Rng) -> (Hour, Vec<u8>, Vec<u8>) {
     files_of(rng, shape)
 }
 
-/// The same of a given shape.
+/// The same with a given shape.
 pub fn files_of(rng: &mut Rng, shape: Shape) -> (Hour, Vec<u8>, Vec<u8>) {
     let hour = match rng.below(8) {
         0 => at_limits(rng, shape),
@@ -44,8 +44,7 @@ pub fn files_of(rng: &mut Rng, shape: Shape) -> (Hour, Vec<u8>, Vec<u8>) {
     (hour, case, proposal)
 }
 
-/// For each place the one from which it takes: by chance, turned round, shifted by one, two exchanged, or sorted; and
-/// whether it is sorted.
+/// For each place its source: random, reversed, shifted by one, two exchanged, or sorted; and whether it is sorted.
 pub fn rearrangement(rng: &mut Rng, hour: &Hour) -> (Vec<usize>, bool) {
     let count = hour.orders.len();
     let mut source: Vec<usize> = (0..count).collect();
@@ -71,7 +70,7 @@ pub fn rearrangement(rng: &mut Rng, hour: &Hour) -> (Vec<usize>, bool) {
     (source, sorted)
 }
 
-/// The file with its rows in another order; what stands before and after them stays.
+/// The file with its rows in another order; all before and after them stays.
 pub fn rows_moved(file: &[u8], start: usize, size: usize, source: &[usize]) -> Vec<u8> {
     let mut moved = file.to_vec();
     for (place, from) in source.iter().enumerate() {

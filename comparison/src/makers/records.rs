@@ -1,5 +1,5 @@
-//! Makes records for crates/prog_records, of every kind and with every cause that a record can hold. They are small but
-//! for a few: the interpreter takes some thousand steps for one, and ends a run after ten million.
+//! Makes records for crates/prog_records, of every kind and with every cause that a record can have. Most are
+//! small: the interpreter takes some thousand steps for one, and ends a run after ten million.
 
 use super::columned::{fault_in, hour_of, moved};
 use super::dumps;
@@ -31,12 +31,12 @@ pub const KINDS: [(&str, usize, Maker); 8] = [
     ("queues", 5, queue),
 ];
 
-/// A shape is small but for one out of so many.
+/// A shape is small, except for one out of this many.
 const LARGER_EVERY: usize = 40;
 /// Events of the longest run of the queue.
 const MOST_EVENTS: usize = 40;
-/// Bytes of the longest record's parts. The largest hour has fewer; a sheet of many zeros may have more than the 65,536
-/// that the program keeps.
+/// The most bytes of a record's parts. The largest hour has fewer; a sheet of many zeros may have more than the
+/// 65,536 that the program keeps.
 const LONGEST: usize = 16_384;
 
 /// The records of a part, kind by kind, each with the name of its kind.
@@ -61,7 +61,7 @@ fn damage(rng: &mut Rng, file: &mut Vec<u8>) {
     }
 }
 
-/// An hour and its files: a half breaks no rule, and of the others some have a field out of range or are damaged.
+/// An hour and its files: half of them break no rule; some of the others have a field out of range or are damaged.
 fn files(rng: &mut Rng) -> (Hour, Vec<u8>, Vec<u8>) {
     let shape = Shape::mostly_small(rng, LARGER_EVERY);
     if rng.one_in(2) {
@@ -88,7 +88,7 @@ fn hour(rng: &mut Rng) -> Record {
     Record::new(b'h', [[case, proposal].concat(), vec![], vec![]])
 }
 
-/// Parents that hold or that are drawn, some with a circle closed or with a parent that does not exist.
+/// Parents that hold or are random, some with a circle closed or with a parent that does not exist.
 fn families(rng: &mut Rng) -> Record {
     let (hour, case, proposal) = files(rng);
     let count = hour.orders.len();
@@ -107,7 +107,7 @@ fn families(rng: &mut Rng) -> Record {
 }
 
 /// A dump that gives an hour's own proposal, or values of every kind; half of them with a cause. The room is the
-/// program's own, so that no record can make it short.
+/// program's own, so no record can make it too short.
 fn dump(rng: &mut Rng) -> Record {
     let mut made = match rng.one_in(3) {
         true => {
@@ -127,7 +127,7 @@ fn dump(rng: &mut Rng) -> Record {
 
 /// A case in rows or in columns, with room for it or too little.
 fn columns(rng: &mut Rng) -> Record {
-    // Every byte is printed, so that a large case takes the interpreter too long.
+    // Every byte is printed, so a large case takes the interpreter too long.
     let shape = Shape::small(rng);
     let hour = hour_of(rng, shape);
     let mut case = hour.case();
@@ -143,7 +143,7 @@ fn columns(rng: &mut Rng) -> Record {
     Record { room: room as u32, ..Record::new(b'c', [file, vec![], vec![]]) }
 }
 
-/// An hour about an optimal one, or one with a shortfall that is known; some are refused or have too little room.
+/// An hour near an optimal one, or one with a known shortfall; some are refused or have too little room.
 fn shortfalls(rng: &mut Rng) -> Record {
     let (hour, case, proposal) = match rng.below(4) {
         0 => whole(odd(rng)),
@@ -199,7 +199,7 @@ fn exchange_of(net: &[i64], prices: &[i64], pairs: Vec<u8>, room: usize) -> Reco
     Record { number: room as u32, room: small_room as u32, ..Record::new(b'i', parts) }
 }
 
-/// A run of posts and serves from the empty queue, a third of them with some bytes changed on the way.
+/// A run of posts and serves from the empty queue, a third of them with some bytes changed in between.
 fn queue(rng: &mut Rng) -> Record {
     let (mut queue, mut drawn) = ([0; QUEUE_BYTES], Events::any(rng));
     let changes = rng.one_in(3);

@@ -1,4 +1,4 @@
-//! Makes margin sheets: good ones, and such with causes planted in them whose answer is known.
+//! Makes margin sheets: good ones, and ones with planted causes whose answer is known.
 
 use crate::rng::Rng;
 
@@ -29,8 +29,8 @@ pub enum Cause {
     Room,
 }
 
-/// In the order in which none of them undoes another: lines are added before fields are spoilt, and fields before
-/// their line.
+/// In an order in which none undoes another: lines are added before fields are damaged, and fields before their
+/// line.
 pub const CAUSES: [(Cause, u32, &str); 9] = [
     (Cause::Lines, 54, "over 64 lines"),
     (Cause::Decimal, 52, "decimal past ours"),
@@ -50,13 +50,13 @@ pub const NO_NUMBERS: &str = "|-|+1|.5|1.|-.5|-1.|--1|1-|1e3| 1|1 |1\r|1\t|1.2.3
 pub const WRONG_ZONES: [usize; 14] =
     [0, 17, 18, 64, 255, 256, 257, 65_537, 1 << 32, (1 << 32) + 1, 1 << 62, (1 << 62) + 2, usize::MAX - 1, usize::MAX];
 
-/// A sheet, field by field, with what is wrong with it.
+/// A sheet, field by field, with its faults.
 pub struct Made {
     pub zones: usize,
     pub room: usize,
     pub ended: bool,
     pub lines: Vec<Vec<String>>,
-    /// What the fields say, in their units.
+    /// The values of the fields, in their units.
     pub units: Vec<Vec<i128>>,
     /// Number and line of each cause planted.
     pub causes: Vec<(u32, u64)>,
@@ -104,14 +104,14 @@ impl Made {
     pub fn bytes(&self) -> Vec<u8> {
         let lines: Vec<String> = self.lines.iter().map(|line| line.join(",")).collect();
         let mut text = lines.join("\n");
-        // An empty line at the end would be none without its newline.
+        // Without its newline an empty line at the end would be no line.
         if lines.last().is_some_and(|last| self.ended || last.is_empty()) {
             text.push('\n');
         }
         text.into_bytes()
     }
 
-    /// The branch part: margins as they are, PTDFs turned.
+    /// The branch part: margins as they are, PTDFs with their sign turned.
     pub fn branches(&self) -> Vec<u8> {
         let turned = |(field, units): (usize, &i128)| match field {
             0 => *units as i32,
@@ -126,7 +126,7 @@ impl Made {
         self.causes.iter().copied().min().unwrap_or((0, 0))
     }
 
-    /// Plants a cause; to be called in the order of `CAUSES`.
+    /// Plants a cause; call it in the order of `CAUSES`.
     pub fn plant(&mut self, rng: &mut Rng, cause: Cause) {
         let (_, number, _) = CAUSES.iter().find(|row| row.0 == cause).expect("in the list");
         let last = self.lines.len() - 1;
@@ -151,7 +151,7 @@ impl Made {
                     _ => out_of_range(rng, f),
                 };
             }
-            // A line that is already wrong is left: adding what was taken away would mend it.
+            // A line that is already wrong is left: adding what was removed would repair it.
             _ if *number == 51 && self.causes.contains(&(51, l as u64)) => return,
             Cause::NoNumber => {
                 let texts: Vec<&str> = NO_NUMBERS.split('|').collect();
@@ -213,7 +213,7 @@ pub fn zeros(rng: &mut Rng) -> String {
     "0".repeat(count)
 }
 
-/// A number whose last decimal that is not zero is past ours.
+/// A number whose last nonzero decimal is past ours.
 pub fn with_decimal_past(rng: &mut Rng, field: usize) -> String {
     let units = match rng.below(4) {
         0 => column(field).1,
@@ -230,7 +230,7 @@ pub fn with_decimal_past(rng: &mut Rng, field: usize) -> String {
     text
 }
 
-/// A number past its range, by one and by far. Some would be in range, were they kept in 32 bits or in 64.
+/// A number out of its range, by one or by far. Some would wrap into the range in 32 or 64 bits.
 pub fn out_of_range(rng: &mut Rng, field: usize) -> String {
     let most = column(field).1;
     let wraps = in_range(rng, field).abs();

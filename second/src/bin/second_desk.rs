@@ -1,4 +1,4 @@
-//! The desk program over the second judge: reads all of standard input, prints.
+//! The desk program with the second judge: reads all of standard input, prints.
 
 use std::io::{Read, Write};
 
