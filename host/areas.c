@@ -1,14 +1,14 @@
-/* A host of the desk queue: `areas POSTS` reads what four areas post, and one loop serves the queue and has each hour
- * judged. A line of the file POSTS is
+/* A host of the desk queue: `areas POSTS` reads what four areas post; one loop serves the queue and judges each hour.
+ * A line of the file POSTS is
  *
- *     AREA HOUR CASE PROPOSAL      an area's solver has finished an hour: it is posted, with its two files
+ *     AREA HOUR CASE PROPOSAL      an area's solver has finished an hour: post it, with its two files
  *     (a line without words)       the desk has time for one hour
  *
- * and at the end of the file the desk serves all that waits. For each hour judged a line is printed: area, hour,
- * number, index and what the number means; for each post that is refused: area, hour, `not posted`, number and what it
- * means. The last line counts. A line that is neither is named by its number, counted from 1, and those after it are
- * read all the same. The status is 0 if every hour judged is accepted and every post taken, 1 if not, 2 if an hour
- * could not be judged, a line not be read or the answer not be printed.
+ * At the end of the file the desk serves all that waits. For each judged hour it prints area, hour, number, index and
+ * what the number means; for each refused post area, hour, `not posted`, number and what it means. The last line
+ * counts. A line that is neither kind is named by its number, counted from 1, and the lines after it are still read.
+ * The status is 0 if every judged hour is accepted and every post taken, 1 if not, 2 if an hour could not be judged,
+ * a line could not be read or the answer could not be printed.
  *
  *     cc areas.c $(pkg-config --cflags --libs lta_judgement) -o areas
  */
@@ -25,7 +25,7 @@
 #define NAME_MOST 255
 #define LINE_MOST (2 * NAME_MOST + 40)
 
-/* The desk: its queue, and the files of each hour that waits in it. All of it is zero at the beginning of a day. */
+/* The desk: its queue, and the files of each hour that waits in it. All zero at the beginning of a day. */
 struct desk {
     uint8_t queue[LTA_QUEUE_SIZE];
     struct files {
@@ -55,7 +55,7 @@ static void judge(struct desk *desk, uint32_t area, uint32_t hour)
     desk->refused += number != LTA_ACCEPTED;
 }
 
-/* Serves an hour and has it judged; false where nothing waits. */
+/* Serves an hour and judges it; false if none waits. */
 static bool serve(struct desk *desk)
 {
     struct lta_served next = lta_queue_serve(desk->queue);
@@ -65,8 +65,8 @@ static bool serve(struct desk *desk)
     return true;
 }
 
-/* Posts an hour. Its files are kept only if it is taken: then none of that area and hour is waiting that they could be
- * mistaken for. */
+/* Posts an hour. Its files are kept only if it is taken; then no other hour with this area and number waits, so
+ * they cannot be confused. */
 static void take_post(struct desk *desk, const struct post *post)
 {
     uint32_t number = lta_queue_post(desk->queue, post->area, post->hour);
@@ -78,8 +78,8 @@ static void take_post(struct desk *desk, const struct post *post)
     }
 }
 
-/* Whether a word is a whole number of 32 bits in digits alone: strtoul by itself takes a sign, and what it has no room
- * for it cuts. Whether there is such an area or hour, the queue says. */
+/* Whether a word is a whole number of 32 bits, in digits alone. strtoul accepts a sign and cuts a number that is
+ * too large. The queue itself decides whether there is such an area or hour. */
 static bool read_number(const char *word, uint32_t *number)
 {
     char *end = NULL;
@@ -98,7 +98,7 @@ static bool read_name(const char *word, char name[NAME_MOST + 1])
     return true;
 }
 
-/* Reads four words as a post. What is wrong with them, or null. */
+/* Reads four words as a post. Returns what is wrong with them, or null. */
 static const char *read_post(char *const word[4], struct post *post)
 {
     if (!read_number(word[0], &post->area))
@@ -110,7 +110,7 @@ static const char *read_post(char *const word[4], struct post *post)
     return NULL;
 }
 
-/* Cuts a line into its words, and gives how many there are; the first four are kept. */
+/* Cuts a line into words, keeps the first four and returns how many there are. */
 static size_t cut_words(char *line, char *word[4])
 {
     size_t count = 0;
@@ -122,7 +122,7 @@ static size_t cut_words(char *line, char *word[4])
     return count;
 }
 
-/* Takes a line. What is wrong with it, or null. */
+/* Takes a line. Returns what is wrong with it, or null. */
 static const char *take_line(struct desk *desk, char *line)
 {
     char *word[4];
@@ -140,7 +140,7 @@ static const char *take_line(struct desk *desk, char *line)
 
 enum line { LINE, BAD_LINE, NO_LINE };
 
-/* The next line without its newline. One that has no room, or has a zero byte, is read to its end and is bad. */
+/* The next line without its newline. A line that is too long or has a zero byte is read to its end and is bad. */
 static enum line next_line(FILE *posts, char line[LINE_MOST + 1])
 {
     size_t length = 0;

@@ -1,7 +1,8 @@
-/* A host of the judgement that judges a day: `day CASE PROPOSAL [CASE PROPOSAL ..]` has each pair of files judged and
+/* A host of the judgement that judges a day: `day CASE PROPOSAL [CASE PROPOSAL ..]` judges each pair of files and
  * prints a line for it: the case's name, number, index and what the number means, and for 0 and 26 gap, rent and owed
- * in euros. The last line counts. The status is 0 if every hour is accepted, 1 if one is refused, 2 if one could not be
- * judged or the answer not be printed; an hour that cannot be read is named, and those after it are judged.
+ * in euros. The last line counts. The status is 0 if every hour is accepted, 1 if one is refused, 2 if one could not
+ * be judged or the answer could not be printed. An hour that cannot be read is named, and the hours after it are
+ * still judged.
  *
  *     cc day.c $(pkg-config --cflags --libs lta_judgement) -o day
  */
@@ -19,7 +20,7 @@ struct tally {
     unsigned accepted, refused, not_judged;
 };
 
-/* An amount in euros, with the eight decimals that a microcent has. */
+/* An amount in euros, with eight decimals: the last is a microcent. */
 static void print_euros(const char *name, int64_t microcents)
 {
     uint64_t size = microcents < 0 ? 0 - (uint64_t)microcents : (uint64_t)microcents;

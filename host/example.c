@@ -1,6 +1,6 @@
-/* A host of the judgement, complete: `example CASE PROPOSAL` reads two files, has them judged and prints the answer,
- * and `example CASE PROPOSAL FAMILIES` does so with a family list. The status is 0 if the hour is accepted, 1 if it is
- * refused, 2 if it could not be judged or the answer not be printed.
+/* A complete host of the judgement: `example CASE PROPOSAL` reads two files, judges them and prints the answer;
+ * `example CASE PROPOSAL FAMILIES` does so with a family list. The status is 0 if the hour is accepted, 1 if it is
+ * refused, 2 if it could not be judged or the answer could not be printed.
  *
  *     cc example.c $(pkg-config --cflags --libs lta_judgement) -o example
  */
@@ -41,7 +41,7 @@ int main(int count, char **words)
         (with_families && !read_file("example", words[3], families, sizeof families, &families_length)))
         return NOT_JUDGED;
 
-    /* An empty list is refused: without families it is the other entry that is called. */
+    /* An empty list is refused, so without families the other entry is called. */
     if (with_families)
         verdict = lta_judge_families(hour.case_bytes, hour.case_length, hour.proposal, hour.proposal_length,
                                      families, families_length, report, sizeof report);

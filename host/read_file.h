@@ -1,7 +1,7 @@
-/* What the example hosts share: the files of an hour, read into memory of a fixed size.
+/* What the example hosts share: reading the files of an hour into memory of a fixed size.
  *
- * At most one byte more than the longest legal file has is read of each. A longer file is refused for its length by
- * that byte, as it would be whole.
+ * Of each file at most one byte more than the longest legal file is read. That byte is enough for a longer file to be
+ * refused for its length, as the whole file would be.
  */
 #ifndef READ_FILE_H
 #define READ_FILE_H
@@ -26,7 +26,7 @@ static inline bool read_file(const char *program, const char *name, uint8_t *byt
         fprintf(stderr, "%s: cannot open %s: %s\n", program, name, strerror(errno));
         return false;
     }
-    setvbuf(file, NULL, _IONBF, 0); /* or it would read ahead */
+    setvbuf(file, NULL, _IONBF, 0); /* else it would read ahead */
     *length = fread(bytes, 1, room, file);
     bool read = ferror(file) == 0;
     if (!read)
@@ -35,7 +35,7 @@ static inline bool read_file(const char *program, const char *name, uint8_t *byt
     return read;
 }
 
-/* The same of the two files of an hour. */
+/* The same for the two files of an hour. */
 static inline bool read_hour(const char *program, const char *case_name, const char *proposal_name, struct hour_files *hour)
 {
     return read_file(program, case_name, hour->case_bytes, sizeof hour->case_bytes, &hour->case_length) &&

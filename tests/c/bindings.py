@@ -3,14 +3,18 @@ them. The last line is 'N passed, M failed'.
 
     bindings.py SHARED_OBJECT CASE PROPOSAL
 """
+
+from __future__ import annotations
+
 import csv
 import ctypes
 import sys
+from typing import Any
 
 passed = failed = 0
 
 
-def check(name, found, due):
+def check(name: str, found: object, due: object) -> None:
     global passed, failed
     if found == due:
         passed += 1
@@ -19,14 +23,15 @@ def check(name, found, due):
         print(f"{name} FAILED: {found}, and should be {due}")
 
 
-def table(name):
+def table(name: str) -> list[dict[str, str]]:
     with open(f"host/{name}.tsv", encoding="utf-8", newline="") as file:
         return list(csv.DictReader(file, delimiter="\t"))
 
 
-def fields(report):
+def fields(report: bytes) -> dict[str, Any]:
     """The fields of a report by name; one that is there for each zone is a list."""
-    found: dict = {}
+    found: dict[str, Any] = {}
+    values: list[Any]
     for row in table("report"):
         at, size = int(row["offset"]), int(row["bytes"])
         count = int(row["count"]) if row["count"].isdigit() else found[row["count"]]
@@ -39,7 +44,7 @@ def fields(report):
     return found
 
 
-def judged(library, case, proposal):
+def judged(library: ctypes.CDLL, case: bytes, proposal: bytes) -> tuple[str, bytes]:
     """The words of the verdict's number, and the report."""
     report = ctypes.create_string_buffer(176)
     library.lta_judge.restype = ctypes.c_uint64

@@ -1,5 +1,6 @@
-/* lta_book_surplus through the archive: P1's book, each refusal at its limits, refusals that meet, the widest books, null pointers, rows
- * that no answer needs. Every call is made with rows and prices at both places between unreadable pages, and unwritable. */
+/* lta_book_surplus through the library: P1's book, each refusal at its limits, several causes together, the widest
+ * books, null pointers, and rows that the answer does not need. Every call is made with rows and prices at both
+ * places between unreadable pages, and unwritable. */
 #include "harness.h"
 #include "hours.h"
 #include "lta_judgement.h"
@@ -56,7 +57,7 @@ static struct book three_zone_book(void)
     return b;
 }
 
-/* Rows alike in one zone. */
+/* Equal rows in one zone. */
 static struct book rows_alike(size_t rows, struct lta_order row, int64_t price)
 {
     struct book b = {.rows = rows, .prices = 1, .price = {price}};

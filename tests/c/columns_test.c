@@ -1,7 +1,8 @@
-/* lta_case_columned and lta_case_restored through the archive: the sample and its columns, every byte of a case of either version at its
- * place, cases and columned files with each cause and their order, files and outputs of every length, null pointers, the largest case.
- * Calls are made with both arguments at both places between unreadable pages, the file unwritable, and every byte of the output is compared
- * afterwards; what one entry writes the other is given, and the columned file is judged.
+/* lta_case_columned and lta_case_restored through the library: the sample and its columns, every byte of a case of
+ * either version at its place, cases and columned files with each cause and their order, files and outputs of every
+ * length, null pointers, the largest case. Calls are made with both arguments at both places between unreadable
+ * pages, the file unwritable, and every byte of the output is compared afterwards. Each entry gets what the other
+ * wrote, and the columned file is judged.
  *
  *     columns_test CASE COLUMNED     the three-zone hour's case, and the columned file that it gives
  */
@@ -46,7 +47,7 @@ static void refused_in(size_t room, entry *call, const struct file *f, uint32_t 
 
 static void refused(entry *call, const struct file *f) { refused_in(ROOM, call, f, LTA_COLUMN_FILE); }
 
-/* The columns of an hour's orders, from the hour itself and not from its case's order part. */
+/* The columns of an hour's orders, from the hour itself and not from the order part of its case. */
 static struct file columned_file(const struct hour *h)
 {
     struct file f = case_file(h);
@@ -64,7 +65,7 @@ static struct file columned_file(const struct hour *h)
     return f;
 }
 
-/* There and back, with just enough room and with more, and neither entry takes what it writes. */
+/* There and back, with just enough room and with more. Neither entry takes what it writes itself. */
 static void there_and_back(const struct hour *h)
 {
     struct file c = case_file(h), k = columned_file(h);
@@ -109,7 +110,7 @@ static void hours(void)
         about("hour %zu and back", n);
         there_and_back(&all[n]);
     }
-    /* request S-12: wide tolerances are columned and restored, and judged no more */
+    /* request S-12: a wide tolerance is columned and restored, and no longer judged */
     static const uint32_t tolerances[] = {10000, 10001, 1000000000};
     for (size_t n = 0; n < COUNT(tolerances); n++) {
         struct hour h = three_zone_hour();
@@ -117,7 +118,7 @@ static void hours(void)
         about("a tolerance of %" PRIu32, tolerances[n]);
         there_and_back(&h);
     }
-    /* every byte of an order different, so that none is right by luck; one order, two and three */
+    /* every byte of an order differs, so that none is right by luck; one order, two and three */
     for (uint16_t version = 1; version <= 2; version++)
         for (uint16_t orders = 1; orders <= 3; orders++) {
             struct hour h = {.version = version, .zones = 16, .links = 1, .link = {{0, 1, 7, 7}}, .orders = orders};

@@ -1,6 +1,6 @@
-/* lta_desk_lines through the archive: document 01's nine lines, hours that end after the first line, where the input is cut, and outputs
- * too short, which are refused. Every call is made with input and output at both places between unreadable pages, the input unwritable, and every byte of
- * the output is compared afterwards.
+/* lta_desk_lines through the library: document 01's nine lines, hours that end after the first line, where the input
+ * is cut, and outputs that are too short. Every call is made with input and output at both places between unreadable
+ * pages, the input unwritable, and every byte of the output is compared afterwards.
  *
  *     desk_test CASE PROPOSAL     the three-zone hour's files
  */
@@ -75,7 +75,7 @@ static void answered_in(size_t room, const struct file *input, uint32_t number, 
 
 static void printed(const struct file *input, const char *text) { answered_in(ROOM, input, 0, text); }
 
-/* A text where there is room, else the refusal: 31, index 0, length 0, and every byte as it was. */
+/* A text where there is room, else the refusal: 31, index 0, length 0, and every byte unchanged. */
 static void printed_or_refused(size_t room, const struct file *input, const char *text)
 {
     if (room < 1024)
@@ -84,7 +84,7 @@ static void printed_or_refused(size_t room, const struct file *input, const char
         answered_in(room, input, 0, text);
 }
 
-/* Case and at once proposal. */
+/* A case directly followed by its proposal. */
 static struct file input_of(const struct hour *h)
 {
     struct file input = case_file(h), p = proposal_file(h);

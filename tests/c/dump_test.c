@@ -1,7 +1,8 @@
-/* lta_dump_proposal through the archive: the sample dump, what becomes of each kind of value, each limit and the value past it, patterns
- * that are no finite value, the floating-point flags, each cause and their order, dumps and outputs of every length, null
- * pointers, the largest hour. Calls are made with every argument at both places between unreadable pages, case and dump
- * unwritable, and every byte of the output is compared afterwards; what is written is judged.
+/* lta_dump_proposal through the library: the sample dump, what each kind of value becomes, each limit and the value
+ * past it, patterns that are no finite value, the floating-point flags, each cause and their order, dumps and outputs
+ * of every length, null pointers, the largest hour. Calls are made with every argument at both places between
+ * unreadable pages, case and dump unwritable, and every byte of the output is compared afterwards. What is written is
+ * judged.
  *
  *     dump_test CASE DUMP PROPOSAL     the three-zone hour, its dump, and the proposal that it gives
  */
@@ -33,7 +34,7 @@ static uint64_t bits_of(double value)
     return bits;
 }
 
-/* The value so many steps further from zero. */
+/* The value this many steps further from zero. */
 static double stepped(double value, int64_t steps)
 {
     uint64_t bits = bits_of(value) + (uint64_t)steps;
@@ -106,7 +107,7 @@ static void becomes(size_t place, uint32_t quantity, double value, int64_t numbe
     }
 }
 
-/* The same is refused by this number, by the value's place. */
+/* The same is refused by this number, with the value's place. */
 static void is_refused(size_t place, uint64_t bits, uint32_t number)
 {
     struct hour h = one_of_each(1, 77);
@@ -239,7 +240,7 @@ static void not_finite(void)
             is_refused(place, patterns[k], LTA_DUMP_NOT_FINITE);
 }
 
-/* The floating-point flags after a call with a value at a place, these flags being raised before it. */
+/* The floating-point flags after a call with a value at a place, with these flags raised before it. */
 static unsigned flags_after(size_t place, uint64_t bits, unsigned before)
 {
     struct hour h = one_of_each(1, 77);
@@ -253,7 +254,7 @@ static unsigned flags_after(size_t place, uint64_t bits, unsigned before)
     return after;
 }
 
-/* Whether a quotient that is not exact raises a flag, as every processor does and valgrind does not. */
+/* Whether an inexact quotient raises a flag; every processor does this, valgrind does not. */
 static bool raises_flags(void)
 {
     volatile double three = 3;
@@ -262,7 +263,7 @@ static bool raises_flags(void)
     return (_mm_getcsr() & _MM_EXCEPT_INEXACT) != 0;
 }
 
-/* Inexact, overflow and a subnormal operand are raised, each where it is due; no other flag is, and none is cleared. */
+/* Inexact, overflow and a subnormal operand are raised where expected; no other flag is, and none is cleared. */
 static void flags(void)
 {
     const unsigned may = _MM_EXCEPT_INEXACT | _MM_EXCEPT_OVERFLOW | _MM_EXCEPT_DENORM;
@@ -373,7 +374,7 @@ static void lengths(void)
     refused_in(12, &c, &d, LTA_DUMP_NO_ROOM, 0);
 }
 
-/* The case and the dump are only read: they may lie in one array, at any offset, and overlap. */
+/* The case and the dump are only read: they may be in one array, at any offset, and overlap. */
 static void one_array(void)
 {
     struct hour h = three_zone_hour();

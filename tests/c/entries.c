@@ -161,7 +161,7 @@ static void give_up(const char *name, const char *why)
     exit(2);
 }
 
-/* Texts and runs of the queue are no inputs; what falls short is asked of the hours. */
+/* Texts and runs of the queue are no inputs here; the shortfalls are asked of the hours. */
 size_t read_inputs(const char *name)
 {
     FILE *file = fopen(name, "rb");
@@ -205,7 +205,7 @@ static size_t signed_numbers(const struct file *f, int64_t *numbers, size_t room
     return count;
 }
 
-/* Where a case's links and orders begin and where it ends, by its header. */
+/* Where a case's links and orders begin and where it ends, from its header. */
 struct shape {
     size_t links, link_size, link_count, orders, order_count, end;
 };
@@ -224,7 +224,7 @@ static struct shape shape_of(const struct file *f)
     return s;
 }
 
-/* Of a joined file the case and the proposal: as document 01 cuts it, and uncut where it is too short for that. */
+/* The case and the proposal of a joined file: cut as document 01 says, uncut where it is too short for that. */
 static void cut(struct input *in)
 {
     size_t end = shape_of(&in->joined).end;
@@ -234,7 +234,8 @@ static void cut(struct input *in)
     in->proposal = file_of(in->joined.bytes + end, in->joined.length - end);
 }
 
-/* What a host has of a case and its proposal: columns, the links as pairs, the orders as a lent book, zone prices. */
+/* What a host makes of a case and its proposal: columns, the links as pairs, the orders as a lent book, zone
+ * prices. */
 static void add_what_follows(struct input *in)
 {
     struct answer a;
@@ -256,7 +257,7 @@ static void add_what_follows(struct input *in)
             in->price[in->prices] = lta_report_price(a.out.byte, in->prices);
 }
 
-/* Any bytes are a queue: these differ from input to input, and half of its cells wait. */
+/* Any bytes are a queue: these differ from input to input, and half of the cells have an hour waiting. */
 static void fill_queue(struct input *in, size_t number)
 {
     for (size_t k = 0; k < sizeof in->queue; k++)

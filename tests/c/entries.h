@@ -1,4 +1,4 @@
-/* Every entry of the header, asked in one way over the stored inputs, for tests that are of all entries. */
+/* Every entry of the header, called in one way over the stored inputs, for tests of all entries. */
 #ifndef ENTRIES_H
 #define ENTRIES_H
 
@@ -9,8 +9,7 @@
 #include <stddef.h>
 #include <stdint.h>
 
-/* What the entries are asked over. A stored input fills some of it and leaves the rest empty: every entry answers that
- * too. */
+/* The arguments of the entries. A stored input fills some and leaves the rest empty; every entry answers that too. */
 struct input {
     struct file hour, proposal, families, joined, dump, columned, sheet, pairs;
     size_t zones, orders, nets, prices;
@@ -20,7 +19,7 @@ struct input {
     uint8_t queue[LTA_QUEUE_SIZE];
 };
 
-/* What an entry answers, and all that it may write: the report, the output, the scratch or the queue. */
+/* The answer of an entry, and all that it may write: the report, the output, the scratch or the queue. */
 struct answer {
     uint64_t word[4];
     union {
@@ -38,13 +37,13 @@ struct entry {
 #define ENTRIES 16
 extern const struct entry every_entry[ENTRIES];
 
-/* Reads the records that tools/build_records.py wrote, and gives how many of them are inputs here. */
+/* Reads the records that tools/build_records.py wrote, and returns how many of them are inputs here. */
 size_t read_inputs(const char *records);
 
 /* An input, by its number. */
 void make_input(size_t number, struct input *in);
 
-/* The answer of an entry, over memory that holds zeros before. */
+/* The answer of an entry, with memory that held zeros before. */
 void ask(const struct entry *entry, const struct input *in, struct answer *a);
 
 #endif

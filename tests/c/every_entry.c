@@ -1,9 +1,9 @@
-/* Every entry called as the header allows, in what C99 and C++98 have in common: no compiler may warn. Status 0 if each
- * entry answers what is due. The header is included twice, as a large program does. */
+/* Every entry called as the header allows, in the common subset of C99 and C++98: no compiler may warn. Status 0
+ * if each entry gives the expected answer. The header is included twice, as happens in a large program. */
 #include "lta_judgement.h"
 #include "lta_judgement.h"
 
-/* Where there is nothing to read, and no room, an array may be null. */
+/* An array may be null where there is nothing to read and no room. */
 static int answers_without_arrays(void)
 {
     return LTA_NUMBER(lta_judge(NULL, 0, NULL, 0, NULL, 0)) == LTA_NO_ROOM &&
@@ -21,7 +21,7 @@ static int answers_without_arrays(void)
            lta_shortfalls(NULL, 0, NULL, 0, NULL, 0).number == LTA_CASE_SHORT;
 }
 
-/* Room that nothing was written to before is lent as it is, and so is part of an array. */
+/* Memory that was never written may be lent, and so may part of an array. */
 static int answers_with_arrays(void)
 {
     const uint8_t file[14] = {'L', 'T', 'X'};

@@ -1,7 +1,8 @@
-/* lta_judge_families through the archive: the sample, each cause of a family list and the order among them and the others, fractions that
- * are equal and a tenth off, circles of every size and what leads into them, lists of every length, report buffers, null pointers, and the
- * largest hour in one chain and one circle. Every call is made with each argument at both places between unreadable pages, case, proposal
- * and list unwritable, and every byte of the report buffer is compared afterwards; lta_judge over the same files is as it was.
+/* lta_judge_families through the library: the sample, each cause of a family list and its order among the others,
+ * fractions that are equal and a tenth off, circles of every size and what leads into them, lists of every length,
+ * report buffers, null pointers, and the largest hour in one chain and one circle. Every call is made with each
+ * argument at both places between unreadable pages, case, proposal and list unwritable, and every byte of the report
+ * buffer is compared afterwards. lta_judge answers the same files as before.
  *
  *     families_test CASE PROPOSAL FAMILIES     the three-zone hour's files, and a family list for it
  */
@@ -21,7 +22,7 @@
 static struct arena case_arena, proposal_arena, list_arena, report_arena;
 static const char *sample_case, *sample_proposal, *sample_families;
 
-/* Of P1's five orders none leans on another; and what the sample list says. */
+/* P1's five orders without parents, and with those of the sample list. */
 static const uint16_t none[5] = {NONE, NONE, NONE, NONE, NONE}, sample_parents[5] = {NONE, 0, NONE, 2, 2};
 
 /* The verdict, and the report buffer's bytes, with the four arguments at each of their places. */
@@ -42,7 +43,7 @@ static void judged(const struct file *c, const struct file *p, const struct file
     check(ok);
 }
 
-/* A family list, from what names each order's parent. */
+/* A family list, from the parent of each order. */
 static struct file list_file(const uint16_t *parent, size_t orders)
 {
     struct file f = {.length = LTA_FAMILIES_SIZE(orders), .bytes = {'L', 'T', 'F', 1, 0}};
@@ -51,7 +52,7 @@ static struct file list_file(const uint16_t *parent, size_t orders)
     return f;
 }
 
-/* A refusal that leaves the buffer as it was. */
+/* A refusal that leaves the buffer unchanged. */
 static void refused_list(const struct hour *h, const struct file *f, uint32_t number, uint32_t index)
 {
     struct file c = case_file(h), p = proposal_file(h);
@@ -91,7 +92,8 @@ static void sample(void)
     judged(&c, &p, &f, ROOM, LTA_ACCEPTED, 0, &report);
 }
 
-/* P1 accepts 4,000 of 4,000, 1,375 of 6,000, 1,000 of 1,000, 0 of 9,000 and 4,375 of 10,000: every order under every other, alone. */
+/* P1 accepts 4,000 of 4,000, 1,375 of 6,000, 1,000 of 1,000, 0 of 9,000 and 4,375 of 10,000. Each order in turn is
+ * the child of each other, alone. */
 static void each_parent(void)
 {
     /* the orders by fraction, two of them equal */
@@ -120,7 +122,7 @@ static void each_parent(void)
     reported(&h, chain, LTA_ACCEPTED, three_zone_totals());
 }
 
-/* A buy that leans on another, and a sell that balances them, all at the zone's price. */
+/* A buy whose parent is another buy, and a sell that balances them, all at the zone's price. */
 static struct hour two_buys(uint32_t volume, uint32_t quantity, uint32_t parent_volume, uint32_t parent_quantity)
 {
     return (struct hour){
@@ -173,7 +175,7 @@ static void fractions(void)
     }
 }
 
-/* Mark, version and length, each of a list that is good otherwise. */
+/* Mark, version and length, each wrong in a list that is otherwise good. */
 static void lists(void)
 {
     struct hour h = three_zone_hour();
@@ -228,7 +230,7 @@ static void parents(void)
     refused(&h, two, LTA_FAMILY_PARENT, 2);
 }
 
-/* Circles of P1's orders, as lists; and of many by their size. */
+/* Circles of P1's orders, as lists; larger ones by their size. */
 static void circles(void)
 {
     static const struct {
@@ -255,7 +257,7 @@ static void circles(void)
     h = largest_hour(1, 0);
     static const uint16_t sizes[] = {1, 2, 3, 255, 256, 257, 511, 512};
     for (size_t k = 0; k < COUNT(sizes); k++) {
-        /* the last orders are the circle, and each order before it leads to the next */
+        /* the last orders are the circle, and each earlier order leads to the next */
         uint16_t parent[ORDERS], first = (uint16_t)(ORDERS - sizes[k]);
         for (uint16_t i = 0; i < ORDERS; i++)
             parent[i] = i < ORDERS - 1 ? (uint16_t)(i + 1) : first;
@@ -264,7 +266,7 @@ static void circles(void)
     }
 }
 
-/* What is asked first is answered. */
+/* Of several causes the one asked first is answered. */
 static void order_of_causes(void)
 {
     const uint16_t circle[5] = {0, NONE, NONE, NONE, NONE}, ahead[5] = {NONE, NONE, NONE, NONE, 1};
@@ -323,7 +325,7 @@ static void order_of_causes(void)
     refused(&h, first, LTA_FAMILY_FRACTION, 0);
 }
 
-/* Report buffers around the room that is asked for, before all else. */
+/* Report buffers around the required room, which is asked before all else. */
 static void rooms(void)
 {
     static const size_t lengths[] = {0, 1, 71, 72, LTA_REPORT_ROOM - 1, LTA_REPORT_ROOM, LTA_REPORT_ROOM + 1, 300};

@@ -2,7 +2,7 @@
  *
  *     faults KIND
  *
- * none; unset, a value used that was never set; past, a byte read behind its array; lost, memory not given back.
+ * none; unset: a value is used that was never set; past: a byte is read behind its array; lost: memory is not freed.
  */
 #include "harness.h"
 

@@ -1,4 +1,4 @@
-/* See harness.h. The counts lie in memory that the children share with their parent. */
+/* See harness.h. The counts are in memory that the children share with their parent. */
 #define _DEFAULT_SOURCE /* NOLINT(bugprone-reserved-identifier): the C library asks for this name */
 #include "harness.h"
 
@@ -142,7 +142,7 @@ static uint8_t fill(enum place place, size_t at)
 
 enum place place_of(unsigned way, unsigned argument) { return way >> argument & 1 ? AT_START : AT_END; }
 
-/* Where the lent bytes begin. Those of an empty array would, and nothing is there to be read. */
+/* Where the lent bytes begin. An empty array has such a place too, with nothing to read there. */
 static uint8_t *lent(struct arena a, enum place place, size_t length)
 {
     if (length > a.size) {

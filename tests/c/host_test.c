@@ -1,5 +1,5 @@
-/* What the header itself has, next to the library's entries: the version, which is the library's, the readers of a
- * report and the numbers in words. */
+/* What the header itself has besides the library's entries: the version, which must be the library's, the readers
+ * of a report and the numbers in words. */
 #include "harness.h"
 #include "hours.h"
 #include "lta_judgement.h"
@@ -28,7 +28,7 @@ static void amount_reads(int64_t amount)
     check(lta_report_amount(report, 5) == amount);
 }
 
-/* Each reader reads its own field: every field of this report has another value, the negative ones too. */
+/* Each reader reads its own field: every field of this report has another value, some negative. */
 static void readers(void)
 {
     const struct totals t = {-1, 2, -300000000000, 4, 5, {-6, 7, INT64_MAX}};
@@ -46,7 +46,7 @@ static void readers(void)
         amount_reads(ends[k]);
 }
 
-/* No two numbers have the same words. Which numbers have words, and which, tests/numbers asks. */
+/* No two numbers have the same words. tests/numbers checks which numbers have words, and which words. */
 static void number_texts(void)
 {
     const char *none = lta_number_text(UINT32_MAX);

@@ -10,7 +10,7 @@ struct branch {
     int32_t ram, ptdf[16];
 };
 
-/* What is contracted stands in a case of version 2 alone. */
+/* Only a case of version 2 has contracted volumes. */
 struct link {
     uint8_t from, to;
     uint32_t capacity, contracted;
@@ -47,19 +47,20 @@ struct hour contracted_hour(void);
 /* An hour with every margin, capacity, flow, quantity and volume divided by a number. */
 struct hour divided(struct hour h, uint8_t by);
 
-/* A sell at 1 cent and a buy at 0 cents, both of a tenth, at a zone price of -1 cent: welfare -0.001 euros, bound 0.001, gap 0.002. The
- * tolerance is a cent. */
+/* A sell at 1 cent and a buy at 0 cents, both of a tenth, at a zone price of -1 cent: welfare -0.001 euros, bound
+ * 0.001, gap 0.002. The tolerance is a cent. */
 struct hour negative_hour(void);
 
-/* The largest hour of a version: as many of each as there may be, every order accepted, every link used in full and half contracted. All
- * net positions, LTA parts and PTDFs are zero, and so are the zone prices. Every branch has the shadow price given. */
+/* The largest hour of a version: the greatest count of everything, every order accepted, every link fully used and
+ * half contracted. All net positions, LTA parts and PTDFs are zero, and so are the zone prices. Every branch has
+ * the given shadow price. */
 struct hour largest_hour(uint16_t version, uint32_t shadow);
 
 /* The largest case, which is of version 2, and its proposal. */
 #define CASE_ROOM 10126
 #define PROPOSAL_ROOM 2573
 
-/* A file, or a part of one. The largest case and its proposal in one piece have as many bytes. */
+/* A file, or a part of one; room for the largest case joined with its proposal. */
 struct file {
     size_t length;
     uint8_t bytes[CASE_ROOM + PROPOSAL_ROOM];
@@ -70,10 +71,10 @@ struct file proposal_file(const struct hour *h);
 
 bool same_file(const struct file *one, const struct file *other);
 
-/* Puts the bytes of a stored file behind those of a file; no if it cannot be opened. */
+/* Appends the bytes of a stored file; false if it cannot be opened. */
 bool append_stored(struct file *f, const char *name);
 
-/* A stored file; that it can be read is a check. */
+/* A stored file. A check fails if it cannot be read. */
 struct file read_file(const char *name);
 
 /* A number of some bytes, little-endian, at an offset of a file. */
@@ -99,7 +100,7 @@ struct price_limit {
 #define PRICE_LIMITS 6
 extern const struct price_limit price_limits[PRICE_LIMITS];
 
-/* What the paper gives of P1, P2, and P3 and P4. */
+/* The paper's values for P1, P2, and P3 and P4. */
 struct totals three_zone_totals(void);
 struct totals contracted_totals(void);
 struct totals flow_based_totals(void);

@@ -1,7 +1,7 @@
-/* lta_intuitive and lta_hour_intuitive through the archive, and both with the smaller scratch: annex 5.1's two price sets, which pairs
- * count, exports that make way for each other, each limit and one past it, each cause and their order, hours accepted and refused, null
- * pointers. Calls are made with every argument at both places between unreadable pages, all but the scratch unwritable, and every number
- * of the scratch is compared. */
+/* lta_intuitive and lta_hour_intuitive through the library, and both with the smaller scratch: annex 5.1's two
+ * price sets, which pairs count, exports that make way for each other, each limit and one past it, each cause and
+ * their order, hours accepted and refused, null pointers. Calls are made with every argument at both places
+ * between unreadable pages, all except the scratch unwritable, and every number of the scratch is compared. */
 #include "harness.h"
 #include "hours.h"
 #include "lta_judgement.h"
@@ -31,7 +31,7 @@ static const struct entries sizes[] = {
 };
 static const struct entries *entries = sizes;
 
-/* What is asked, with room for some zones and many pairs too many. */
+/* The arguments, with room for some zones and many pairs too many. */
 struct exchange {
     size_t zones, prices, bytes;
     int64_t net[ZONES_MOST + 2], price[ZONES_MOST + 2];
@@ -50,7 +50,7 @@ static bool is(struct lta_carried a, uint32_t number, uint32_t index, uint32_t i
     return ok;
 }
 
-/* The scratch afterwards: zeros in an answer, and else all as it was. */
+/* The scratch afterwards: zeros after an answer, else unchanged. */
 static bool scratch_is(enum place place, size_t room, uint32_t number)
 {
     return holds(scratch_arena, place, 8 * room, zeros, number == 0 ? 8 * entries->scratch : 0);
@@ -113,7 +113,8 @@ static void layout(void)
           && LTA_INTUITIVE_NO_ROOM == 85 && LTA_INTUITIVE_PAIRS == 64 && LTA_INTUITIVE_SCRATCH == 324 && LTA_INTUITIVE_SMALL_SCRATCH == 96);
 }
 
-/* Zones A to E of annex 5.1: of 1,400 MW 800 can be carried, and all of them once the prices of A and B are exchanged. */
+/* Zones A to E of annex 5.1: of 1,400 MW 800 can be carried, and all of them after the prices of A and B are
+ * exchanged. */
 static void annex(void)
 {
     struct exchange e = {.zones = 5, .prices = 5, .net = {1000, 13000, -7000, -3000, -4000}};
@@ -167,7 +168,7 @@ static void counted_pairs(void)
 
 static void carried(void)
 {
-    /* zone 0 reaches both imports, zone 1 one of them: whichever comes first, the other zone's import has to be left to it */
+    /* zone 0 reaches both imports, zone 1 only one: whichever comes first, zone 1 must get that one */
     for (uint8_t first = 2; first <= 3; first++) {
         struct exchange e = {.zones = 4, .prices = 4, .net = {5, 7}};
         uint8_t second = 5 - first;
@@ -401,8 +402,8 @@ static void hour_is(const struct hour *h, size_t bytes, const uint8_t *pair, siz
     asked_hour(&c, &p, bytes, pair, room, due);
 }
 
-/* The largest hour with every sell in zones 0 to 7 and every buy in 8 to 15: at equal prices each link counts, and each zone has links to
- * the next four. */
+/* The largest hour with every sell in zones 0 to 7 and every buy in 8 to 15: at equal prices each link counts, and
+ * each zone has links to the next four. */
 static struct hour sold_across(uint16_t version)
 {
     struct hour h = largest_hour(version, 0);

@@ -1,8 +1,10 @@
-/* lta_judge through the archive: P1 to P12 and the run cases of document 01, each cause of its verdict table, files of every length up
- * to 200 bytes, report buffers of several lengths, null pointers, and the largest hour. Every call is made with each argument at both
- * places between unreadable pages, case and proposal unwritable, and every byte of the report buffer is compared afterwards.
+/* lta_judge through the library: P1 to P12 and the run cases of document 01, each cause of its verdict table, files
+ * of every length up to 200 bytes, report buffers of several lengths, null pointers, and the largest hour. Every call
+ * is made with each argument at both places between unreadable pages, case and proposal unwritable, and every byte of
+ * the report buffer is compared afterwards.
  *
- *     judge_test CASE PROPOSAL CONTRACTED     the three-zone hour's files, which must be P1's bytes, and its case with 2,500 contracted
+ *     judge_test CASE PROPOSAL CONTRACTED     the three-zone hour's files, which must be P1's bytes, and its case with
+ *                                             2,500 contracted
  */
 #include "harness.h"
 #include "hours.h"
@@ -33,7 +35,7 @@ static void judged(const struct file *c, const struct file *p, size_t room, uint
     check(ok);
 }
 
-/* A refusal that leaves the buffer as it was. */
+/* A refusal that leaves the buffer unchanged. */
 static void refused_files(const struct file *c, const struct file *p, uint32_t number, uint32_t index)
 {
     judged(c, p, ROOM, number, index, &(struct file){0});
@@ -52,7 +54,7 @@ static void reported(const struct hour *h, uint8_t number, struct totals t)
     judged(&c, &p, ROOM, number, 0, &report);
 }
 
-/* The guard pages do end a process, so that all that follows means something. */
+/* The guard pages do end a process; else the tests below would mean nothing. */
 static void memory(void)
 {
     const uint8_t two[2] = {1, 2};
@@ -226,8 +228,8 @@ static void one_field(void)
     }
 }
 
-/* One field at an offset of an hour's case (0) or proposal (1), put one past either limit, where under 0 is all bits, and at its highest
- * bit alone: its own offset is named. Gives the offset of the next field. */
+/* One field at an offset of an hour's case (0) or proposal (1), set one past either limit (under 0 means all bits
+ * set) and to its highest bit alone: the refusal names its offset. Returns the offset of the next field. */
 static size_t field_damaged(const struct hour *h, int file, size_t offset, size_t width, int64_t least, int64_t greatest, uint32_t number)
 {
     const int64_t values[] = {least - 1, greatest + 1, INT64_C(1) << (8 * width - 1)};
@@ -278,7 +280,7 @@ static void each_field(void)
     fields_damaged(&two, 106);
 }
 
-/* Request S-4: owed is by contracted volumes, the bound by capacities. */
+/* Request S-4: owed uses contracted volumes, the bound capacities. */
 static void contracted(void)
 {
     struct hour h = contracted_hour();
@@ -317,8 +319,8 @@ static void contracted(void)
     reported(&h, LTA_ACCEPTED, flow_based_totals());
 }
 
-/* What is contracted is refused above its capacity, by the field's own offset, and after the fields before it. The links of P1 in version 2
- * begin at 46, 56 and 66, what the first has contracted stands at 52. */
+/* A contracted volume above its capacity is refused, by its own offset, after the fields before it. The links of
+ * P1 in version 2 begin at 46, 56 and 66, and the first contracted volume is at 52. */
 static void contracted_refused(void)
 {
     struct hour h = contracted_hour();
@@ -374,8 +376,9 @@ static void contracted_refused(void)
     refused_files(&c, &p, LTA_CASE_VERSION, 0);
 }
 
-/* Rows with two faults, or the same fault in two rows: the first field in file order is named. P1's branches begin at 14 and 30, its
- * links at 46, 52 and 58 if there are so many, the orders after one link at 52, 62, 72, 82 and 92, the shadow prices at 37 and 41. */
+/* Rows with two faults, or the same fault in two rows: the refusal names the first field in file order. P1's
+ * branches begin at 14 and 30, its links at 46, 52 and 58 if there are that many, the orders after one link at 52,
+ * 62, 72, 82 and 92, the shadow prices at 37 and 41. */
 static void first_in_file_order(void)
 {
     struct hour h = three_zone_hour();
@@ -428,7 +431,7 @@ static void first_in_file_order(void)
     refused(&h, LTA_CASE_BRANCH, 14);
 }
 
-/* Hours at which two causes meet, or the index is not the first. */
+/* Hours with two causes, or with an index that is not the first. */
 static void causes(void)
 {
     struct hour h = three_zone_hour();
@@ -491,7 +494,8 @@ static void causes(void)
     reported(&h, LTA_GAP_ABOVE_TOLERANCE, t);
 }
 
-/* A link's spread left unused: the gap is its capacity times the spread, which is a PTDF times a shadow price in grains. */
+/* A link's spread left unused: the gap is its capacity times the spread, which is a PTDF times a shadow price in
+ * grains. */
 static struct hour unused_spread(uint32_t tolerance, uint32_t capacity, int32_t ptdf, uint32_t shadow)
 {
     return (struct hour){
@@ -506,7 +510,7 @@ static struct hour unused_spread(uint32_t tolerance, uint32_t capacity, int32_t 
     };
 }
 
-/* Request S-12: 15 above 10,000 cents, asked straight after 14. */
+/* Request S-12: 15 above 10,000 cents, asked directly after 14. */
 static void wide_tolerances(void)
 {
     const int64_t widest = INT64_C(10000) * LTA_MICROCENTS_PER_CENT;
@@ -567,7 +571,8 @@ static void wide_tolerances(void)
     judged(&c, &p, LTA_REPORT_ROOM - 1, LTA_NO_ROOM, 0, &(struct file){0});
 }
 
-/* S-6: no link, and a margin of -1,000 tenths by which the second zone must buy for 40 euros what the first sells for 50. */
+/* S-6: no link, and a margin of -1,000 tenths that makes the second zone buy for 40 euros what the first sells for
+ * 50. */
 static void without_links(void)
 {
     const struct hour forced = {
@@ -616,7 +621,8 @@ static void without_links(void)
     }
 }
 
-/* An accepted hour's case cut short at each length, and lengthened by zero bytes: the length is refused, and nothing past it is read. */
+/* An accepted hour's case cut short at each length, and lengthened by zero bytes: the length is refused, and
+ * nothing past it is read. */
 static void each_case_length(const struct hour *h, struct totals t, size_t whole)
 {
     struct file c = case_file(h), p = proposal_file(h), report = report_file(LTA_ACCEPTED, h->zones, t);
@@ -643,7 +649,7 @@ static void contracted_case_lengths(void)
     each_case_length(&h, contracted_totals(), 106);
 }
 
-/* The same of a proposal. */
+/* The same for a proposal. */
 static void proposal_lengths(void)
 {
     struct hour h = three_zone_hour();
@@ -659,7 +665,7 @@ static void proposal_lengths(void)
     }
 }
 
-/* Report buffers around the room that is asked for. */
+/* Report buffers around the required room. */
 static void rooms(void)
 {
     static const size_t lengths[] = {0, 1, 71, 72, LTA_REPORT_ROOM - 1, LTA_REPORT_ROOM, LTA_REPORT_ROOM + 1, 300};
@@ -704,7 +710,7 @@ static void nulls(void)
     }
 }
 
-/* The largest hour, the last zone's price a cent above the others'. */
+/* The largest hour, with the last zone's price a cent above the others'. */
 static struct hour ceiling_hour(uint16_t version)
 {
     struct hour h = largest_hour(version, 0);
@@ -714,8 +720,8 @@ static struct hour ceiling_hour(uint16_t version)
     return h;
 }
 
-/* What a buy gains less by that a sell gains more. One branch of 500,000 at a shadow price of 100,000 has 5e15, and four links lead to the
- * zone, of each of which so much is contracted. */
+/* A buy gains less by what a sell gains more. One branch of 500,000 at a shadow price of 100,000 has 5e15. Four
+ * links lead to the zone, each with this much contracted. */
 static struct totals ceiling_totals(int64_t contracted)
 {
     struct totals t = {.welfare = 1152000000000000000, .bound = 1157000000000000000, .gap = 5000000000000000};
@@ -725,8 +731,9 @@ static struct totals ceiling_totals(int64_t contracted)
     return t;
 }
 
-/* As many of each as there may be. Each order is served at 450,000 cents between its price and the other side's: 256 pairs of 100,000
- * tenths have a welfare of 1.152e18 microcents. The 64 branches, at their greatest margin and shadow price, have a total of 3.2e18. */
+/* The greatest count of everything. Each order is served at 450,000 cents between its price and the other side's:
+ * 256 pairs of 100,000 tenths have a welfare of 1.152e18 microcents. The 64 branches, at their greatest margin and
+ * shadow price, have a total of 3.2e18. */
 static void largest(void)
 {
     struct hour h = largest_hour(1, 0);
@@ -784,7 +791,7 @@ static void largest(void)
     refused(&h, LTA_ZONE_PRICE, 15);
 }
 
-/* The same of version 2, which is the longest of all cases. */
+/* The same in version 2, the longest of all cases. */
 static void largest_contracted(void)
 {
     struct hour h = largest_hour(2, 0);

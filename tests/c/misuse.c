@@ -1,4 +1,5 @@
-/* Calls that a compiler must warn of, one for each value of MISUSE. Any other value has the same calls made well. */
+/* Calls that a compiler must warn about, one for each value of MISUSE. Any other value makes the same calls
+ * correctly. */
 #include "lta_judgement.h"
 
 #ifndef MISUSE

@@ -1,6 +1,7 @@
-/* lta_queue_post and lta_queue_serve through the archive: turns and the order posted, each limit and one past it, each cause and their
- * order, the longest waits, bytes that no call left, and the stored runs. Calls are made with the queue at both places between unreadable
- * pages, and every byte is compared; a call that is refused is made on an unwritable queue too.
+/* lta_queue_post and lta_queue_serve through the library: turns and the order posted, each limit and one past it,
+ * each cause and their order, the longest waits, bytes that no call left, and the stored runs. Calls are made with
+ * the queue at both places between unreadable pages, and every byte is compared; a refused call is also made on an
+ * unwritable queue.
  *
  *     queue_test EVENTS ANSWERS          the stored runs, and what they print
  */
@@ -39,7 +40,7 @@ static bool is_number(uint32_t got, uint32_t number)
     return got == number;
 }
 
-/* The queue to be written at a place, or not to be written. */
+/* The queue at a place, writable or not. */
 static uint8_t *written(enum place place, const struct queue *q)
 {
     return memcpy(lend_room(queue_arena, place, sizeof q->bytes), q->bytes, sizeof q->bytes);
@@ -55,7 +56,7 @@ static bool left(enum place place, const struct queue *after)
     return holds(queue_arena, place, sizeof after->bytes, after->bytes, sizeof after->bytes);
 }
 
-/* A post is answered so, and leaves these bytes. */
+/* A post has this answer and leaves these bytes. */
 static bool post_leaves(const struct queue *q, uint32_t area, uint32_t hour, uint32_t number, const struct queue *after)
 {
     bool ok = true;
@@ -81,7 +82,7 @@ static bool serve_leaves(const struct queue *q, uint32_t number, uint32_t area, 
 /* Where an area's cells begin. */
 static size_t cells_of(uint32_t area) { return (size_t)LTA_QUEUE_HOURS * area; }
 
-/* What waits in an area, zeros behind it. */
+/* What waits in an area, then zeros. */
 static size_t waiting(const struct queue *q, uint32_t area)
 {
     size_t count = 0;
@@ -90,7 +91,7 @@ static size_t waiting(const struct queue *q, uint32_t area)
     return count;
 }
 
-/* Checks a post that is taken, or refused, by a queue that calls left; then makes it. */
+/* Checks a post, taken or refused, on a queue that calls left; then makes it. */
 static void posted(struct queue *q, uint32_t area, uint32_t hour)
 {
     struct queue after = *q;
@@ -188,7 +189,7 @@ static void limits(void)
     refused(&q, 4, 24, LTA_QUEUE_AREA);
 }
 
-/* All hours of the long day wait: no post is taken, and the last is served last, by the hundredth serve. */
+/* All hours of the long day wait: no post is taken, and the hundredth serve serves the last one. */
 static void longest(void)
 {
     struct queue q = empty;
@@ -207,7 +208,7 @@ static void longest(void)
     }
     about("all were served");
     nothing_served(&q);
-    /* as long with every other hour posted again as soon as it is served */
+    /* the same if every other hour is posted again as soon as it is served */
     for (uint32_t serve = 0; serve < 99; serve++) {
         about("serve %" PRIu32 ", and posted again", serve + 1);
         served(&again, serve % 4, serve / 4);
@@ -258,7 +259,7 @@ static void any_bytes(void)
     check(serve_leaves(&q, 0, 3, 1, &after));
 }
 
-/* THE STORED RUNS: an event to a line, and each line with its answer behind it. */
+/* THE STORED RUNS: one event per line, with its answer after it. */
 static bool same_line(FILE *answers, const char *expected)
 {
     char line[LINE];

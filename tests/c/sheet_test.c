@@ -1,6 +1,7 @@
-/* lta_sheet_branches through the archive: the sample sheet, what is a number and what is none, each limit and one past it, each cause and
- * their order, outputs of several lengths, null pointers. Calls on a sheet are made with sheet and output at both places between unreadable
- * pages, the sheet unwritable, and every byte of the output is compared afterwards.
+/* lta_sheet_branches through the library: the sample sheet, which texts are numbers and which are not, each limit and
+ * one past it, each cause and their order, outputs of several lengths, null pointers. Calls are made with sheet and
+ * output at both places between unreadable pages, the sheet unwritable, and every byte of the output is compared
+ * afterwards.
  *
  *     sheet_test SHEET     the three-zone hour's sheet
  */
@@ -51,7 +52,7 @@ static struct sheet sheet_of(const char *text)
     return s;
 }
 
-/* A line with one field of a text in a place, and zeros in the others. */
+/* A line with a text in one field, and zeros in the others. */
 static void add_line(struct sheet *s, size_t zones, size_t place, const char *field)
 {
     for (size_t k = 0; k <= zones; k++) {
@@ -229,7 +230,7 @@ static void no_numbers(void)
     refused_text("0,0\r\n0,0\r\n", 1, LTA_SHEET_FIELD, 0);
 }
 
-/* Texts that are refused by one number, each as the margin or as the last PTDF of the second line. */
+/* Texts refused by one number, each as the margin or as the last PTDF of the second line. */
 static void refused_fields(uint32_t number, const char *const *texts, size_t count, size_t place)
 {
     for (size_t k = 0; k < count; k++) {
@@ -248,7 +249,8 @@ static void measures(void)
     refused_fields(LTA_SHEET_DECIMAL, margin_decimals, COUNT(margin_decimals), 0);
     static const char *const ptdf_decimals[] = {"0.000001", "-0.000001", "1.1234567", "0.00000000000000001", "2.000001", "99999.000001"};
     refused_fields(LTA_SHEET_DECIMAL, ptdf_decimals, COUNT(ptdf_decimals), 3);
-    /* among them 2^31, 2^32, 2^63 and 2^64 in tenths or hundred-thousandths, which narrower numbers would wrap into the range */
+    /* among them 2^31, 2^32, 2^63 and 2^64 in tenths or hundred-thousandths, which narrower numbers would wrap
+     * into the range */
     static const char *const margins[] = {"50000.1", "-50000.1", "500000", "214748364.8", "429496729.6", "-429496729.6",
                                           "922337203685477580.8", "1844674407370955161.6", "340282366920938463463374607431768211456"};
     refused_fields(LTA_SHEET_RANGE, margins, COUNT(margins), 0);
@@ -316,7 +318,7 @@ static void rooms(void)
     refused_in(LTA_SHEET_ROOM - 1, &s, ZONES_MOST, LTA_SHEET_NO_ROOM, 0);
 }
 
-/* Several causes at once: the one asked first, of the whole sheet, and its first line. */
+/* Several causes together: the one asked first, over the whole sheet, and its first line. */
 static void causes(void)
 {
     const char *const all = "1,3\n1.01,1\n1,1\n1,x\n\n1.01,3\n";

@@ -1,8 +1,8 @@
-/* lta_shortfalls through the archive: P1 and P2, P1's hour a 125th as large with an order, a branch, a link and a flow against the spread
- * that fall short by numbers found by hand, a part of a microcent, contracted volumes, no link, hours that are refused by the judgement's
- * numbers, outputs of every length, null pointers, the largest hour. Calls are made with every argument at both places between unreadable
- * pages, the files unwritable, and every number of the output is compared afterwards. Each answer is held to the gap that lta_judge
- * reports. */
+/* lta_shortfalls through the library: P1 and P2; P1's hour a 125th as large, with an order, a branch, a link and a
+ * flow against the spread whose shortfalls were found by hand; a part of a microcent; contracted volumes; no link;
+ * hours that the judgement refuses; outputs of every length; null pointers; the largest hour. Calls are made with
+ * every argument at both places between unreadable pages, the files unwritable, and every number of the output is
+ * compared afterwards. Each answer is compared with the gap that lta_judge reports. */
 #include "harness.h"
 #include "hours.h"
 #include "lta_judgement.h"
@@ -14,7 +14,7 @@
 #define ROOM (LTA_SHORTFALL_ROOM + 24)
 #define PARTS LTA_SHORTFALLS_PER_MICROCENT
 
-/* What is due for an hour: so many numbers. */
+/* The numbers expected for an hour, and how many. */
 struct due {
     size_t count;
     int64_t number[LTA_SHORTFALL_ROOM];
@@ -43,24 +43,25 @@ static void refused_in(size_t room, const struct hour *h, uint32_t number, uint6
     asked(&c, &p, room, number, index, &(struct due){0});
 }
 
-/* With room enough and with none, by the judgement's number. */
+/* With enough room and with none: the judgement's number. */
 static void refused(const struct hour *h, uint32_t number, uint64_t index)
 {
     refused_in(ROOM, h, number, index);
     refused_in(0, h, number, index);
 }
 
-/* No shortfall of an hour: as many zeros as it has numbers. */
+/* An hour without shortfalls: all its numbers are zero. */
 static struct due nothing(const struct hour *h) { return (struct due){.count = LTA_SHORTFALL_COUNT((size_t)h->orders, h->branches, h->links)}; }
 
-/* One that falls short, by its place among all: orders, branches, links. */
+/* One shortfall, by its place among all: orders, branches, links. */
 static void falls_short(struct due *due, size_t place, int64_t microcents, int64_t parts)
 {
     due->number[2 * place] = microcents;
     due->number[2 * place + 1] = parts;
 }
 
-/* The numbers that are due, with just enough room and with more, and none with one too few; and what they are to the gap. */
+/* The expected numbers, with just enough room and with more, and none with one too few; and their relation to the
+ * gap. */
 static void answered(const struct hour *h, const struct due *due)
 {
     struct file c = case_file(h), p = proposal_file(h);
@@ -82,7 +83,8 @@ static void answered(const struct hour *h, const struct due *due)
     check(ok);
 }
 
-/* P1's hour with every volume, margin, capacity and flow a 125th. Prices 20, 63.75 and 50 euros; a tolerance of 100 euros. */
+/* P1's hour with every volume, margin, capacity and flow divided by 125. Prices 20, 63.75 and 50 euros; a tolerance of
+ * 100 euros. */
 static struct hour small_hour(void)
 {
     struct hour h = divided(three_zone_hour(), 125);
@@ -90,7 +92,7 @@ static struct hour small_hour(void)
     return h;
 }
 
-/* P3's in the same way: nothing flows, and no share is LTA. */
+/* P3's hour in the same way: nothing flows, and the LTA share is 0. */
 static struct hour small_unused_link_hour(void)
 {
     struct hour h = divided(unused_link_hour(), 125);
@@ -98,7 +100,7 @@ static struct hour small_unused_link_hour(void)
     return h;
 }
 
-/* Microcents of some cents per MWh on so many tenths. */
+/* Microcents of a price in cents per MWh on this many tenths. */
 static int64_t on(int64_t tenths, int64_t price) { return tenths * price * LTA_GRAINS_PER_CENT; }
 
 static void layout(void)
@@ -167,7 +169,7 @@ static void branches(void)
     about("the second branch");
     answered(&h, &due);
 
-    /* a margin that makes zone 1 import nine tenths, and ten are, from 50 euros to 40 */
+    /* a margin that makes zone 1 import nine tenths from 50 euros to 40; it imports ten */
     h = (struct hour){.version = 1, .zones = 2, .branches = 1, .orders = 2, .tolerance = 100, .branch = {{-9, {0, -100000}}},
                       .order = {{0, LTA_SELLS, 10, 5000}, {1, LTA_BUYS, 10, 4000}}, .system = 5000, .volume = {10, 10}, .shadow = {1000}};
     due = nothing(&h);
@@ -227,7 +229,7 @@ static void links(void)
     answered(&h, &due);
 }
 
-/* An hour that is not accepted has the judgement's number and index, whatever the room. */
+/* An hour that is not accepted has the judgement's number and index, for any room. */
 static void refusals(void)
 {
     struct hour h = unused_link_hour();
@@ -353,8 +355,9 @@ static void call_entry(void)
     call.answer = lta_shortfalls(call.hour.bytes, call.hour.length, call.proposal.bytes, call.proposal.length, call.out, LTA_SHORTFALL_ROOM);
 }
 
-/* The largest hour with share 99,999, a sell and a buy of zone 0 a tenth short, the last branch with a margin of 5 free at a cent, and a
- * grain on the price of zone 3, which four links lead to and four from; the last link to it has a tenth less capacity. */
+/* The largest hour with share 99,999: a sell and a buy of zone 0 are a tenth short, the last branch has a margin
+ * of 5 free at a cent, and the price of zone 3 is a grain higher. Four links lead to zone 3 and four from it; the
+ * last link to it has a tenth less capacity. */
 static void largest(void)
 {
     for (uint16_t version = 1; version <= 2; version++) {

@@ -1,5 +1,6 @@
-/* How much stack each entry takes over every stored input, the largest hours among them, measured on a painted stack:
- * no more than the header says is enough. A line for each entry has its bytes, which include some hundred of the caller.
+/* How much stack each entry takes over every stored input, including the largest hours, measured on a painted stack:
+ * no more than the header says is enough. A line for each entry has its bytes, which include some hundred of the
+ * caller.
  *
  *     stack_test RECORDS          the records of the stored inputs
  */
@@ -19,7 +20,7 @@ static size_t inputs;
 
 static void call_entry(void) { call.entry->ask(&call.in, &call.answer); }
 
-/* An entry that takes more than this ends at the page below it, or writes past it. */
+/* An entry that takes more than this stops at the page below it, or writes past it. */
 #define STACK_MOST ((size_t)64 * STACK_ENOUGH)
 
 static void depths(void)

@@ -1,5 +1,6 @@
-/* Every entry from eight threads at once. Over every stored input each thread must get just what one caller alone gets,
- * in every byte. The threads begin at different inputs, so that different entries and hours run at the same time.
+/* Every entry from eight threads at the same time. Over every stored input each thread must get exactly what a single
+ * caller gets, in every byte. The threads begin at different inputs, so that different entries and hours run
+ * together.
  *
  *     threads_test RECORDS ROUNDS          the records of the stored inputs, and how often each thread asks them all
  */
@@ -17,7 +18,7 @@
 static size_t inputs, rounds;
 static uint64_t alone[INPUTS_MOST][ENTRIES];
 
-/* What a thread has of its own, and the first answer that was another. */
+/* What a thread has of its own, and the first answer that differed. */
 struct caller {
     size_t first, differing, input;
     const struct entry *entry;
@@ -65,7 +66,7 @@ static void ask_alone(void)
     }
 }
 
-/* An entry that gives the same to every input would not be tested, but for one that takes none. */
+/* An entry that gives every input the same answer would not be tested, unless it takes no argument. */
 static void several_answers(void)
 {
     for (size_t e = 0; e < ENTRIES; e++) {
