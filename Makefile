@@ -1,4 +1,4 @@
-# For those who type make. Each target only calls what the README names.
+# For those who type make. docs/INTEGRATE.md says what is built and what is installed where.
 #
 #   make                       the static library, the shared object and the program desk, in target/
 #   make install PREFIX=..     all that a release has; DESTDIR is put before all paths

@@ -1,4 +1,4 @@
-//! Has the plain C built that the entries are timed against.
+//! Builds the plain C that the entries are timed against.
 
 use std::path::PathBuf;
 use std::process::Command;

@@ -10,10 +10,15 @@ import contextlib
 import functools
 import os
 import pathlib
+import random
 import re
+from collections.abc import Sequence
 from dataclasses import dataclass
 
-from lta import cli, columns, dump_format, hour
+from lta import commands, dump_format, hour, judge_report, library, schema, usage
+from lta.amounts import Grains, Microcents
+from lta.results import Result
+from records.columns import in_columns
 
 ROOT = pathlib.Path(__file__).resolve().parent.parent
 
@@ -26,22 +31,18 @@ OTHERS = sorted((ROOT / "samples").iterdir()) + sorted((ROOT / "queue").iterdir(
 
 
 @functools.lru_cache(maxsize=None)
-def stored_hour(path):
+def stored_hour(path: pathlib.Path) -> dict[str, bytes]:
     """The files that a stored text gives, by kind, the text among them."""
     text = path.read_text(encoding="utf-8")
     if dump_format.is_text(text):
         case, dump = dump_format.build(text, path.parent)
-        return {"text": text.encode(), "case": case, "dump": dump, "columned": columned(case)}
+        return {"text": text.encode(), "case": case, "dump": dump, "columned": in_columns(case)}
     case, proposal, families = hour.build_families(text, path.parent)
     made = {"text": text.encode(), "case": case, "proposal": proposal, "joined": case + proposal}
-    made["columned"] = columned(case)
+    made["columned"] = in_columns(case)
     if families is not None:
         made["families"] = families
     return made
-
-
-def columned(case):
-    return columns.MARK + case[3:] if columns.order_part(case) is None else columns.columned(case)
 
 
 # Damage.
@@ -69,12 +70,12 @@ OPENING = re.compile(rb"case|proposal|families|dump|# expect|# totals|# becomes|
 LONG_LINES = (100, 10_000, 500_000, 3_000_000)
 
 
-def odd_number(numbers):
+def odd_number(numbers: random.Random) -> str:
     # One of a MB is rare, since it makes a turn slow.
     return numbers.choice(numbers.choice(ODD_NUMBERS)) if numbers.random() < 0.99 else "9" * 1_100_000
 
 
-def near_number(numbers, word):
+def near_number(numbers: random.Random, word: bytes) -> bytes:
     """A number like another: one more or less, ten times as much, or its sign changed."""
     digits = word.replace(b".", b"")
     if len(digits) > 20:
@@ -83,7 +84,7 @@ def near_number(numbers, word):
     return str(numbers.choice((value + 1, value - 1, 10 * value, -value, value // 2))).encode()
 
 
-def with_number(numbers, lines, _):
+def with_number(numbers: random.Random, lines: list[bytes], _: list[bytes]) -> None:
     at = numbers.randrange(len(lines))
     if numbers.random() < 0.5:
         # The first lines have the counts and what is expected.
@@ -96,47 +97,47 @@ def with_number(numbers, lines, _):
         lines[at] = lines[at][:start] + word + lines[at][end:]
 
 
-def with_word(numbers, lines, others):
+def with_word(numbers: random.Random, lines: list[bytes], others: list[bytes]) -> None:
     at = numbers.randrange(len(lines))
     words, other = lines[at].split(b" "), numbers.choice(others).split(b" ")
     words[numbers.randrange(len(words))] = numbers.choice(other)
     lines[at] = b" ".join(words)
 
 
-def with_sheet(numbers, lines, _):
+def with_sheet(numbers: random.Random, lines: list[bytes], _: list[bytes]) -> None:
     """The branches from the sheet that lies in the folder, for as many zones as it may have."""
     opening = b"case version %d zones %d tolerance 0" % (numbers.choice((1, 2)), numbers.choice((0, 1, 1, 2, 3, 16)))
     lines[:] = [line for line in lines if not line.startswith((b"branch", b"case"))]
     lines[:0] = [opening, b"sheet s.csv"]
 
 
-def with_line(numbers, lines, others):
+def with_line(numbers: random.Random, lines: list[bytes], others: list[bytes]) -> None:
     line = numbers.choice(LINES).format(numbers.randrange(300), numbers.choice((0, 1, 255, 70_000)))
     lines.insert(numbers.randrange(len(lines) + 1), numbers.choice((line.encode(), numbers.choice(others))))
 
 
-def dropped(numbers, lines, _):
+def dropped(numbers: random.Random, lines: list[bytes], _: list[bytes]) -> None:
     at = numbers.randrange(len(lines))
     del lines[at : at + numbers.choice((1, 1, 1, 5, 1000))]
 
 
-def doubled(numbers, lines, _):
+def doubled(numbers: random.Random, lines: list[bytes], _: list[bytes]) -> None:
     at = numbers.randrange(len(lines))
     lines[at:at] = lines[at : at + numbers.choice((1, 1, 3, 300))]
 
 
-def swapped(numbers, lines, _):
+def swapped(numbers: random.Random, lines: list[bytes], _: list[bytes]) -> None:
     first, second = numbers.randrange(len(lines)), numbers.randrange(len(lines))
     lines[first], lines[second] = lines[second], lines[first]
 
 
-def with_character(numbers, lines, _):
+def with_character(numbers: random.Random, lines: list[bytes], _: list[bytes]) -> None:
     at = numbers.randrange(len(lines))
     place = numbers.randrange(len(lines[at]) + 1)
     lines[at] = lines[at][:place] + numbers.choice(ODD_CHARACTERS).encode() + lines[at][place:]
 
 
-def with_long_line(numbers, lines, _):
+def with_long_line(numbers: random.Random, lines: list[bytes], _: list[bytes]) -> None:
     word = numbers.choice((b"# ", b"", b"branch ", b"append case ", b"order 0 buy "))
     piece = numbers.choice((b"0", b"9", b" 1", b"ab", b"#", b"\xe2\x82\xac"))
     # The longest are rare, since they make a turn slow.
@@ -148,7 +149,7 @@ LINE_DAMAGE = [with_number] * 5 + [with_line] * 3
 LINE_DAMAGE += [with_sheet, with_word, dropped, doubled, swapped, with_character, with_long_line]
 
 
-def damaged_text(numbers, text, other):
+def damaged_text(numbers: random.Random, text: bytes, other: bytes) -> bytes:
     """A text with lines, words and numbers changed, and perhaps other ends of lines or other bytes."""
     lines, others = text.split(b"\n"), other.split(b"\n")
     for _ in range(numbers.choice((1, 1, 1, 2, 4))):
@@ -167,7 +168,7 @@ def damaged_text(numbers, text, other):
     return damaged_bytes(numbers, text, other) if way < 6 else text
 
 
-def damaged_bytes(numbers, data, other):
+def damaged_bytes(numbers: random.Random, data: bytes, other: bytes) -> bytes:
     """A file with bytes changed, cut, doubled, put in, or followed by another."""
     made = bytearray(data)
     for _ in range(numbers.choice((1, 1, 2, 5))):
@@ -189,7 +190,7 @@ def damaged_bytes(numbers, data, other):
     return bytes(made)
 
 
-def damaged(numbers, kind, data, other):
+def damaged(numbers: random.Random, kind: str, data: bytes, other: bytes) -> bytes:
     """A file of a kind, often as it is stored: else a command would seldom come past its first file."""
     if numbers.random() < (0.4 if kind == "text" else 0.66):
         return data
@@ -221,7 +222,7 @@ PLACES = ["", "", "", "", "sub", "sub/deeper", "with space", "\udcff"]
 DEPTH = 1200
 
 
-def pairs(numbers):
+def pairs(numbers: random.Random) -> bytes:
     """Pairs of zones, of which an hour may have the first."""
     zones = [numbers.choice((0, 0, 1, 1, 2, 3, 200)) for _ in range(2 * numbers.choice((1, 2, 4, 40)))]
     return b"".join(b"%d %d\n" % pair for pair in zip(zones[::2], zones[1::2]))
@@ -232,7 +233,7 @@ class Folder:
     from the folder. One that is to stay has no entry that is hard to remove: what is unreadable or deep is only named.
     """
 
-    def __init__(self, numbers, top, stays=False):
+    def __init__(self, numbers: random.Random, top: str, stays: bool = False) -> None:
         self.numbers, self.top, self.stays = numbers, top, stays
         self.command = numbers.choice(list(parsers()))
         self.hours: list[dict[str, str]] = []
@@ -250,10 +251,10 @@ class Folder:
         for name in self.unreadable if not stays else ():
             os.chmod(self.path(name), 0)
 
-    def path(self, name):
+    def path(self, name: str) -> str:
         return os.path.join(self.top, name)
 
-    def put(self, name, data):
+    def put(self, name: str, data: bytes) -> str:
         """Writes a file, unless its name is taken."""
         path = self.path(name)
         os.makedirs(os.path.dirname(path), exist_ok=True)
@@ -262,11 +263,11 @@ class Folder:
                 file.write(data)
         return name
 
-    def new_name(self, kinds):
+    def new_name(self, kinds: Sequence[str]) -> str:
         place, stem = self.numbers.choice(PLACES), self.numbers.choice(STEMS)
         return os.path.join(place, stem + self.numbers.choice(kinds))
 
-    def add_hour(self):
+    def add_hour(self) -> None:
         """The files of a stored hour, some with damage, under one name with the endings of their kinds, mostly."""
         numbers = self.numbers
         stored = (HOURS, HOURS, ACCEPTED, ACCEPTED, FAMILIES, DUMPS) if self.command != "dump" else (DUMPS,)
@@ -287,7 +288,7 @@ class Folder:
             made[kind] = self.put(os.path.join(place, stem + suffix), damaged_data)
         self.hours.append(made)
 
-    def add_odd(self):
+    def add_odd(self) -> None:
         """An entry that is no file of an hour, or one that cannot be read."""
         numbers = self.numbers
         name = self.new_name((".case", ".proposal", ".txt", ".bin", ".families", "", ".png", "~"))
@@ -317,7 +318,7 @@ class Folder:
                 self.unreadable.append(name)
         self.odd.append(name)
 
-    def remove(self):
+    def remove(self) -> None:
         """Removes the folder. What cannot be entered is made so that it can, and a deep one is removed from its end."""
         for name in self.unreadable:
             with contextlib.suppress(FileNotFoundError):
@@ -337,20 +338,20 @@ class Folder:
 # Command lines.
 
 # The options whose value is a file that is written, by the name that the parser has for them.
-OUTPUTS = ("out", *cli.BUILT)
+OUTPUTS = ("out", "answer", "junit", *commands.BUILT)
+# What starts a program.
+NOT_TRIED = {"library"}
 # How often an option is given; of those of build one is enough.
 LIKELY = {"out": 0.6, "force": 0.3, "case": 0.3}
 UNKNOWN = ("--nope", "-x", "--json=1", "--js", "--forc", "-o", "--pairs", "--case", "--", "-", "", "-h", "--help", "-9")
 
 
-@functools.lru_cache(maxsize=None)
-def parsers():
+def parsers() -> dict[str, argparse.ArgumentParser]:
     """The parser of each command, by its name, from lta's own: a new command is tried too."""
-    (found,) = (action for action in cli.parser()._actions if isinstance(action, argparse._SubParsersAction))
-    return found.choices
+    return {command.name: usage.parser(command) for command in commands.COMMANDS}
 
 
-def output_options(command):
+def output_options(command: str) -> set[str]:
     """The options of a command that name a file to be written; of no command there are none."""
     actions = parsers()[command]._actions if command in parsers() else ()
     return {name for action in actions if action.dest in OUTPUTS for name in action.option_strings}
@@ -360,15 +361,15 @@ def output_options(command):
 class Line:
     """A command line: its words, and what stands on standard input."""
 
-    words: list
+    words: list[str]
     stdin: bytes | None
 
     @property
-    def command(self):
+    def command(self) -> str:
         return self.words[0] if self.words else ""
 
     @property
-    def outputs(self):
+    def outputs(self) -> list[str]:
         """The files that it names to be written."""
         options = output_options(self.command)
         found = [after for word, after in zip(self.words, self.words[1:]) if word in options]
@@ -376,7 +377,7 @@ class Line:
         return found + [value for name, equals, value in parts if equals and name in options]
 
 
-def hour_words(numbers, made):
+def hour_words(numbers: random.Random, made: dict[str, str]) -> list[str]:
     """An hour as a command line names it."""
     ways = [("case", "proposal"), ("case", "proposal", "families"), ("joined",), ("joined", "families")] * 4
     ways += [("text",)] * 8 + [("case",), ("proposal", "case"), ("case", "dump"), ("case", "families")]
@@ -384,7 +385,7 @@ def hour_words(numbers, made):
     return [made[kind] for kind in numbers.choice(ways)]
 
 
-def words_of(numbers, command, folder):
+def words_of(numbers: random.Random, command: str, folder: Folder) -> list[str]:
     """The files that a command is given, most of the time such as it asks for."""
     made = numbers.choice(folder.hours)
     if command == "judge":
@@ -397,35 +398,52 @@ def words_of(numbers, command, folder):
         return [made["case" if command == "column" else "columned"]]
     if command == "build":
         return [made["text"]]
+    if command == "diff":
+        return [folder.put(name, result_file(numbers)) for name in ("one", "other")]
     if command == "help":
-        return numbers.choice(([], ["text"]))
+        return ["text"] if numbers.random() < 0.5 else []
     if command == "field":
         offset = numbers.choice((str(numbers.randrange(60)), hex(numbers.randrange(60)), odd_number(numbers)))
         return [*hour_words(numbers, made), offset]
     return hour_words(numbers, made)
 
 
-def any_file(numbers, folder):
+def result_file(numbers: random.Random) -> bytes:
+    """A result file of judge, in any form, for diff; often damaged."""
+    welfare, bound, gap, rent, owed = map(Microcents, (1, -(2**60), 3, 4, 5))
+    accepted = library.Judgement(0, 0, welfare, bound, gap, rent, owed, (Grains(6), Grains(-7)))
+    judgements = [accepted, library.Judgement(24, 3)]
+    choices = [Result("a.case", judgement, families="none") for judgement in judgements]
+    choices += [Result("=b", judgements[0], way="apart"), Result("a.case", error="a.case: gone")]
+    made = [judge_report.record(numbers.choice(choices)) for _ in range(numbers.randrange(4))]
+    lines = "".join(map(schema.json_line, made))
+    text = schema.in_form(numbers.choice(("json", "jsonl", "csv")), schema.JUDGE, made).encode()
+    return damaged_text(numbers, text, lines.encode()) if numbers.random() < 0.6 else text
+
+
+def any_file(numbers: random.Random, folder: Folder) -> str:
     return numbers.choice(list(numbers.choice(folder.hours).values()))
 
 
-def any_word(numbers, folder):
+def any_word(numbers: random.Random, folder: Folder) -> str:
     """A word of any kind: a file, an odd entry, a folder, or none of them."""
     odd = numbers.choice(folder.odd or ["."])
     return numbers.choice((any_file(numbers, folder), odd, ".", "none.case", "-", "", "sub"))
 
 
-def output_name(numbers, folder):
+def output_name(numbers: random.Random, folder: Folder) -> str:
     """A file to be written: a new one, most of the time."""
     others = ("none/out", "new\nout", "-", any_file(numbers, folder), any_word(numbers, folder))
     return numbers.choice(("out", "out", "out", "out.html", "sub/out", *others))
 
 
-def options_of(numbers, parser, folder):
+def options_of(numbers: random.Random, parser: argparse.ArgumentParser, folder: Folder) -> list[list[str]]:
     """Some of a command's options, each as one or two words."""
     groups = []
     for action in parser._actions:
-        if not action.option_strings or numbers.random() > LIKELY.get(action.dest, 0.15):
+        if not action.option_strings or action.dest in NOT_TRIED:
+            continue
+        if numbers.random() > LIKELY.get(action.dest, 0.15):
             continue
         name = numbers.choice(action.option_strings)
         if action.nargs == 0:
@@ -438,7 +456,7 @@ def options_of(numbers, parser, folder):
     return groups
 
 
-def command_line(numbers, folder):
+def command_line(numbers: random.Random, folder: Folder) -> Line:
     """A command over a folder's files."""
     command = folder.command
     words = [[word] for word in words_of(numbers, command, folder)]
@@ -450,11 +468,12 @@ def command_line(numbers, folder):
         groups.append([numbers.choice(UNKNOWN)])
     for group in groups:
         words.insert(numbers.randrange(len(words) + 1), group)
-    first = [command] if numbers.random() < 0.98 else numbers.choice(([], ["nonsense"], ["--help"], ["-h"], [""]))
+    odd: list[list[str]] = [[], ["nonsense"], ["--help"], ["-h"], [""]]
+    first = [command] if numbers.random() < 0.98 else numbers.choice(odd)
     return Line(first + [word for group in words for word in group], standard_input(numbers))
 
 
-def standard_input(numbers):
+def standard_input(numbers: random.Random) -> bytes | None:
     """What a command reads where it is given -, or None where standard input is closed."""
     if numbers.random() < 0.05:
         return None

@@ -14,7 +14,8 @@ added() { # NAME PASSED FAILED SECONDS
     noted "$1" "$(printf '%5d passed %3d failed %5d s' "$2" "$3" "$4")"
 }
 
-# Starts a part, which then runs beside those that follow. It is shown and counted where its name comes again, with no command.
+# Starts a part, which then runs beside those that follow. It is shown and counted where its name comes again, with no
+# command.
 declare -A logs=() processes=()
 start() { # NAME COMMAND..
     local name=$1 log
@@ -44,7 +45,8 @@ stop_started() {
 }
 trap stop_started EXIT
 
-# Runs a part and shows what it prints, or waits for one that was started. Leaves its status, its seconds and its last line.
+# Runs a part and shows what it prints, or waits for one that was started. Leaves its status, its seconds and its last
+# line.
 ran() { # NAME [COMMAND..]
     local name=$1 began=$SECONDS log
     shift
@@ -65,8 +67,8 @@ ran() { # NAME [COMMAND..]
     rm -f "$log" "$log.seconds"
 }
 
-# A part whose last line is 'N passed, M failed'. One that ends without that line, with another status than it says, or having
-# counted nothing, counts as one failed.
+# A part whose last line is 'N passed, M failed'. One that ends without that line, with another status than it says, or
+# having counted nothing, counts as one failed.
 counted() { # NAME [COMMAND..]
     local name=$1 status seconds last good=0 bad=0
     ran "$@"

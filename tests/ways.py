@@ -5,13 +5,20 @@ The program is run in a temporary folder that has its input and what it must pri
 links there: the repository is only read.
 """
 
+from __future__ import annotations
+
 import concurrent.futures
 import os
 import pathlib
 import re
 import subprocess
 import tempfile
+from collections.abc import Iterable, Sequence
 from dataclasses import dataclass
+from typing import TYPE_CHECKING
+
+if TYPE_CHECKING:
+    from stored import Count
 
 ROOT = pathlib.Path(__file__).resolve().parent.parent
 CRATES = ROOT / "crates"
@@ -38,14 +45,14 @@ class Piece:
 class Tried:
     """Pieces that were run together, and all that `rt try` said, with its status."""
 
-    pieces: tuple
+    pieces: tuple[Piece, ...]
     said: str
     status: int
 
     @property
-    def faults(self):
+    def faults(self) -> dict[str, str]:
         """A line for each way that did not end with what is due, by its name."""
-        lines, found = self.said.splitlines(), {}
+        lines, found = self.said.splitlines(), dict[str, str]()
         for way in WAYS:
             if lines.count(f"ok: {way} ended and wrote what is expected") != 1:
                 told = [line for line in lines if line.startswith(f"FAIL: {way} ")]
@@ -55,12 +62,12 @@ class Tried:
         return found
 
     @property
-    def only_steps_over(self):
+    def only_steps_over(self) -> bool:
         """Whether all that is amiss is that the interpreter had not enough steps."""
         return list(self.faults) == [WAYS[0]] and STEPS_OVER.search(self.said) is not None
 
     @property
-    def first_different(self):
+    def first_different(self) -> Piece | None:
         """The piece that one of the ways printed something else for; None where no way did."""
         places = [int(place) for place in DIFFERS_AT.findall(self.said)]
         if not places:
@@ -73,17 +80,17 @@ class Tried:
         return piece
 
 
-def programs():
+def programs() -> list[str]:
     """The names of all programs of the repository."""
     return sorted(source.parent.parent.name for source in CRATES.glob("*/src/main.rt"))
 
 
-def joined(pieces):
+def joined(pieces: Iterable[Piece]) -> dict[str, bytes]:
     """The files that a program is run with, by name."""
     return {"stdin": b"".join(piece.given for piece in pieces), "stdout": b"".join(piece.due for piece in pieces)}
 
 
-def lay_out(folder, program, pieces):
+def lay_out(folder: pathlib.Path, program: str, pieces: Sequence[Piece]) -> None:
     """The repository in a folder, with these pieces for the program's stored files."""
     (folder / "crates.txt").symlink_to(ROOT / "crates.txt")
     own = folder / "crates" / program
@@ -99,7 +106,7 @@ def lay_out(folder, program, pieces):
             (own / path.name).symlink_to(path)
 
 
-def tried(program, pieces):
+def tried(program: str, pieces: Sequence[Piece]) -> Tried:
     """Runs the pieces together."""
     with tempfile.TemporaryDirectory() as folder:
         lay_out(pathlib.Path(folder), program, pieces)
@@ -115,7 +122,7 @@ def tried(program, pieces):
     return Tried(tuple(pieces), run.stdout, run.returncode)
 
 
-def tried_in_turn(program, pieces):
+def tried_in_turn(program: str, pieces: Sequence[Piece]) -> list[Tried]:
     """Runs the pieces together or, if they take the interpreter more steps than it makes, each half by itself."""
     one = tried(program, pieces)
     if not one.only_steps_over or len(pieces) == 1:
@@ -123,14 +130,14 @@ def tried_in_turn(program, pieces):
     return [*tried_in_turn(program, pieces[::2]), *tried_in_turn(program, pieces[1::2])]
 
 
-def tried_side_by_side(parts):
+def tried_side_by_side(parts: Iterable[tuple[str, Sequence[Piece]]]) -> list[list[Tried]]:
     """Runs each part, a program and its pieces, several at a time; what comes back is in the parts' order."""
     jobs = int(os.environ.get("RT_JOBS") or min(os.cpu_count() or 1, 4))
     with concurrent.futures.ThreadPoolExecutor(max(jobs, 1)) as pool:
         return list(pool.map(lambda part: tried_in_turn(*part), parts))
 
 
-def check(count, name, one):
+def check(count: Count, name: str, one: Tried) -> None:
     """Counts a check for each way, and shows what is said of one that fails."""
     faults = one.faults
     for way in WAYS:

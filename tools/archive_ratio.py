@@ -3,13 +3,15 @@
 
   archive_ratio.py [SEED]
 
-The hours are made, 25 of them with 16 zones, 64 branches, 64 links and 512 orders, since no real day is at hand. Of each
-zone half of the orders are buys; a zone's orders stand side by side as an exchange's curve has them, the buys from the
-dearest on and the sells from the cheapest, with quantities of some MW. A second day has the same orders in any order, a
-third the same hours with 40 orders. Printed are the bytes of the cases, packed as they are and in columns, and the second
-over the first, of each hour packed alone and of the day packed as one file. Nothing is asked of the archive: the columns
-are those of tools/lta/columns.py, which tests/lta holds to it. zstd is left out where there is no such command.
+The hours are made, 25 of them with 16 zones, 64 branches, 64 links and 512 orders, since no real day is at hand. Of
+each zone half of the orders are buys; a zone's orders stand side by side as an exchange's curve has them, the buys from
+the dearest on and the sells from the cheapest, with quantities of some MW. A second day has the same orders in any
+order, a third the same hours with 40 orders. Printed are the bytes of the cases, packed as they are and in columns, and
+the second over the first, of each hour packed alone and of the day packed as one file. The columns are the library's.
+zstd is left out where there is no such command.
 """
+
+from __future__ import annotations
 
 import lzma
 import random
@@ -17,7 +19,7 @@ import shutil
 import subprocess
 import sys
 
-from lta import columns, hour
+from lta import hour, library
 
 HOURS, ZONES, BRANCHES, LINKS = 25, 16, 64, 64
 DAYS = (
@@ -27,7 +29,7 @@ DAYS = (
 )
 
 
-def order_lines(numbers, count, sorted_by_price):
+def order_lines(numbers: random.Random, count: int, sorted_by_price: bool) -> list[str]:
     """The orders of an hour, zone by zone as curves, or in any order."""
     orders = []
     for zone in range(ZONES):
@@ -44,7 +46,7 @@ def order_lines(numbers, count, sorted_by_price):
     return orders
 
 
-def day(seed, count, sorted_by_price):
+def day(seed: int, count: int, sorted_by_price: bool) -> list[bytes]:
     """The cases of a day. Its branches and links change little from hour to hour."""
     numbers = random.Random(seed)
     pairs = [(a, b) for a in range(ZONES) for b in range(ZONES) if a != b]
@@ -62,27 +64,29 @@ def day(seed, count, sorted_by_price):
     return cases
 
 
-def xz(data):
+def xz(data: bytes) -> int:
     return len(lzma.compress(data, preset=9 | lzma.PRESET_EXTREME))
 
 
-def zstd(data):
+def zstd(data: bytes) -> int:
     return len(subprocess.run(["zstd", "-19", "-c", "-q"], input=data, stdout=subprocess.PIPE, check=True).stdout)
 
 
-def main(arguments):
+def day_files(cases: list[bytes], made: list[bytes]) -> tuple[list[bytes], list[bytes]]:
+    return [b"".join(cases)], [b"".join(made)]
+
+
+def main(arguments: list[str]) -> int:
     seed = int(arguments[0]) if arguments else 1
     packers = {"xz": xz, **({"zstd": zstd} if shutil.which("zstd") else {})}
     print(f"seed {seed}, {HOURS} hours a day" + ("" if "zstd" in packers else "; there is no zstd"))
     print(f"{'':52}{'bytes':>9}{'rows':>9}{'columns':>9}{'ratio':>7}")
     for name, count, ordered in DAYS:
         cases = day(seed, count, ordered)
-        made = [columns.columned(case) for case in cases]
-        if [columns.restored(file) for file in made] != cases:
-            raise ValueError("a case does not come back")
+        made = [library.case_columned(case).file or b"" for case in cases]
         for packer, packed in packers.items():
-            for what, join in (("each hour alone", list), ("the day as one file", lambda files: [b"".join(files)])):
-                one, other = (sum(map(packed, join(files))) for files in (cases, made))
+            for what, parts in (("each hour alone", (cases, made)), ("the day as one file", day_files(cases, made))):
+                one, other = (sum(map(packed, files)) for files in parts)
                 size = sum(map(len, cases))
                 print(f"{f'{name}, {packer}, {what}':52}{size:>9,}{one:>9,}{other:>9,}{other / one:>7.2f}")
     return 0

@@ -1,14 +1,18 @@
 #!/usr/bin/env python3
-"""build_numbers.py writes docs/NUMBERS.md, the table of the numbers for readers, from tools/lta/numbers.txt.
-tests/numbers says when that is due.
+"""build_numbers.py writes docs/NUMBERS.md, the table of the numbers for readers, and tools/lta/verdict.py, the
+judgement's numbers by name for Python, from tools/lta/numbers.txt. tests/numbers says when that is due.
 """
+
+from __future__ import annotations
 
 import pathlib
 import sys
+from collections.abc import Iterator
 
+import generated
 from lta import numbers
 
-PAGE = pathlib.Path(__file__).resolve().parent.parent / "docs" / "NUMBERS.md"
+ROOT = pathlib.Path(__file__).resolve().parent.parent
 
 OPENING = """\
 # The numbers
@@ -26,33 +30,41 @@ counted from 0, offsets in bytes. `include/lta_judgement.h` says more of each nu
 """
 
 
-def section(entries, rows):
-    yield "## " + ", ".join(f"`{entry}`" for entry in entries)
+VERDICT = '''\
+"""The judgement's numbers by name. tools/build_numbers.py writes this module from numbers.txt."""
+
+from enum import IntEnum
+
+
+class Verdict(IntEnum):
+    """What lta_judge and lta_judge_families answer, in the order of asking. The names are those of the C header."""
+
+'''
+
+
+def section(of_enum: numbers.Section) -> Iterator[str]:
+    yield "## " + ", ".join(f"`{entry}`" for entry in of_enum.entries)
     yield ""
     yield "| Number | Name | Index | Meaning |"
     yield "|---|---|---|---|"
-    for row in rows:
+    for row in of_enum.rows:
         yield f"| {row.number} | `{row.name}` | {row.index or '0'} | {row.words} |"
 
 
-def page():
+def page() -> str:
     """The page's text."""
-    parts = ["\n".join(section(*of_enum)) + "\n" for of_enum in numbers.SECTIONS.values()]
+    parts = ["\n".join(section(of_enum)) + "\n" for of_enum in numbers.SECTIONS.values()]
     return "\n".join([OPENING, *parts])
 
 
-def is_written():
-    """Whether the page is there, as it would be written."""
-    return PAGE.is_file() and PAGE.read_text(encoding="utf-8") == page()
+def verdict_module() -> str:
+    """The module's text."""
+    rows = numbers.SECTIONS["lta_number"].rows
+    return VERDICT + "".join(f"    {row.name[len('LTA_') :]} = {row.number}\n" for row in rows)
 
 
-def main(arguments):
-    if arguments:
-        sys.stderr.write(__doc__)
-        return 2
-    PAGE.write_text(page(), encoding="utf-8")
-    return 0
+FILES = {ROOT / "docs" / "NUMBERS.md": page, ROOT / "tools" / "lta" / "verdict.py": verdict_module}
 
 
 if __name__ == "__main__":
-    sys.exit(main(sys.argv[1:]))
+    sys.exit(generated.run(FILES, __doc__, sys.argv[1:]))

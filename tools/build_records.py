@@ -8,8 +8,11 @@ stdin has a record for each stored input, kind by kind, as tools/records says. s
 heading, `== KIND`. They are found here from the stored inputs, beside the library.
 """
 
+from __future__ import annotations
+
 import pathlib
 import sys
+from collections.abc import Iterator, Mapping
 
 import records
 from records import columns, dumps, exchanges, families, hours, queues, sheets, shortfalls
@@ -26,11 +29,11 @@ KINDS = {
 }
 
 
-def heading(kind):
+def heading(kind: str) -> str:
     return f"== {kind}"
 
 
-def lines_of(kind, printed):
+def lines_of(kind: str, printed: str) -> list[str]:
     """The lines of a kind in what the program prints."""
     lines = printed.splitlines()
     start = lines.index(heading(kind)) + 1
@@ -38,7 +41,7 @@ def lines_of(kind, printed):
     return lines[start : ends[0] if ends else len(lines)]
 
 
-def runs():
+def runs() -> Iterator[tuple[bytes, bytes]]:
     """Some records and what the program must print for them, in turn: the heading of a kind, then each run of it."""
     for kind, module in KINDS.items():
         opening = f"{heading(kind)}\n"
@@ -47,13 +50,13 @@ def runs():
             yield b"".join(record.data for record in run), "".join(f"{line}\n" for line in lines).encode()
 
 
-def run_files():
+def run_files() -> dict[str, bytes]:
     """Standard input and output of the program, by file name."""
     given, due = zip(*runs())
     return {"stdin": b"".join(given), "stdout": b"".join(due)}
 
 
-def differences(made, folder):
+def differences(made: Mapping[str, bytes], folder: pathlib.Path) -> Iterator[str]:
     """The files in which the folder is not what would be written, each with why."""
     for name, data in made.items():
         path = folder / name
@@ -63,7 +66,7 @@ def differences(made, folder):
             yield f"{name} differs from what the stored inputs give"
 
 
-def main(arguments):
+def main(arguments: list[str]) -> int:
     check = arguments[:1] == ["--check"]
     folders = arguments[1:] if check else arguments
     if len(folders) != 1 or folders[0].startswith("-"):

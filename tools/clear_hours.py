@@ -17,13 +17,17 @@ clearing keeps every row to TOLERANCE, and rule 10's bound at HiGHS's prices exc
 With scipy 1.10.1 of Debian 12, the same seed gave the same bytes in each run.
 """
 
+from __future__ import annotations
+
 import argparse
 import lzma
 import os
 import random
 import struct
 import sys
+from collections.abc import Iterable, Iterator, Sequence
 from fractions import Fraction
+from typing import Any
 
 try:
     from scipy.optimize import linprog  # type: ignore[import] # scipy has no types, and may be missing
@@ -45,11 +49,11 @@ ONE = 100_000
 class Market:
     """Zones; branches: RAM, PTDFs; links: from, to, capacity; orders: zone, side, quantity, price. In 01's units."""
 
-    def __init__(self, zones, branches, links, orders):
+    def __init__(self, zones: int, branches: Sequence[tuple[int, Sequence[int]]], links: Sequence[tuple[Any, ...]], orders: Sequence[tuple[Any, ...]]) -> None:
         self.zones, self.branches, self.links, self.orders = zones, branches, links, orders
 
     @classmethod
-    def made(cls, draw):
+    def made(cls, draw: random.Random) -> Market:
         count = draw.randint(2, 8)
         zones = range(count)
         branches = [
@@ -76,7 +80,7 @@ class Market:
         return cls(count, branches, links, orders)
 
     @classmethod
-    def read(cls, case):
+    def read(cls, case: bytes) -> Market:
         """The market of a case that is readable."""
         zones, branches, links, _ = struct.unpack_from("<BBBH", case, 5)
         links_at = 14 + branches * 4 * (1 + zones)
@@ -89,7 +93,7 @@ class Market:
             list(struct.iter_unpack("<BBIi", case[orders_at:])),
         )
 
-    def case(self):
+    def case(self) -> bytes:
         counts = [self.zones, len(self.branches), len(self.links), len(self.orders)]
         parts = [b"LTC", struct.pack("<HBBBHI", 1, *counts, 10_000)]
         parts += [struct.pack(f"<i{self.zones}i", ram, *ptdfs) for ram, ptdfs in self.branches]
@@ -97,7 +101,7 @@ class Market:
         parts += [struct.pack("<BBIi", *order) for order in self.orders]
         return b"".join(parts)
 
-    def cleared(self, spare=0):
+    def cleared(self, spare: int = 0) -> Clearing | None:
         """The clearing of greatest welfare where each branch has so much less room, or None where there is none."""
         orders, links = len(self.orders), len(self.links)
         signs = [1 if side == BUYS else -1 for _, side, _, _ in self.orders]
@@ -119,13 +123,13 @@ class Market:
             raise RuntimeError(f"HiGHS: {found.message}")
         return Clearing(found, orders, links) if found.status == 0 else None
 
-    def worth(self, volumes):
+    def worth(self, volumes: Iterable[Any]) -> Any:
         """Rule 7, in microcents."""
         return ONE * sum(
             (volume if side == BUYS else -volume) * price for volume, (_, side, _, price) in zip(volumes, self.orders)
         )
 
-    def keeps_rows(self, volumes, flows, share, within):
+    def keeps_rows(self, volumes: Iterable[Any], flows: Iterable[Any], share: Any, within: float) -> bool:
         """Whether a clearing keeps rules 3 to 5 and the bounds of its numbers, each to within so much."""
         volumes, flows, share = [*map(Fraction, volumes)], [*map(Fraction, flows)], Fraction(share)
         net = [0] * self.zones
@@ -140,16 +144,16 @@ class Market:
         over += [flow - share * link[2] for flow, link in zip(flows, self.links)]
         for ram, ptdfs in self.branches:
             over.append(sum(ptdf * part for ptdf, part in zip(ptdfs, based)) / ONE - (1 - share) * ram)
-        return max(over) <= within
+        return bool(max(over) <= within)
 
-    def zone_prices(self, system, shadows):
+    def zone_prices(self, system: Any, shadows: Sequence[Any]) -> list[Any]:
         """Rule 6, in grains."""
         prices = [ONE * system] * self.zones
         for shadow, (_, ptdfs) in zip(shadows, self.branches):
             prices = [price + ptdf * shadow for price, ptdf in zip(prices, ptdfs)]
         return prices
 
-    def priced(self, system, shadows):
+    def priced(self, system: Any, shadows: Sequence[Any]) -> tuple[list[Any], list[Any], Any, Any]:
         """At such prices: what each order gains by a tenth, the price difference of each link, branch total, owed."""
         prices = self.zone_prices(system, shadows)
         gains = [(ONE * price - prices[zone]) * (1 if side == BUYS else -1) for zone, side, _, price in self.orders]
@@ -158,12 +162,12 @@ class Market:
         owed = sum(max(0, spread) * link[2] for spread, link in zip(spreads, self.links))
         return gains, spreads, total, owed
 
-    def bound(self, system, shadows):
+    def bound(self, system: Any, shadows: Sequence[Any]) -> Any:
         """Rule 10, in microcents."""
         gains, _, total, owed = self.priced(system, shadows)
         return sum(max(0, gain) * order[2] for gain, order in zip(gains, self.orders)) + max(total, owed)
 
-    def over(self, system, shadows):
+    def over(self, system: Any, shadows: Sequence[Any]) -> float:
         """By how many microcents HiGHS's optimum can exceed the bound at such prices: TOLERANCE times the price of
         each row and of each number's limits, since it keeps each of those to TOLERANCE.
         """
@@ -171,12 +175,12 @@ class Market:
         rows = ONE * (abs(system) + sum(shadows)) + sum(map(abs, spreads))
         return TOLERANCE * float(rows + sum(map(abs, gains)) + abs(owed - total))
 
-    def short(self):
+    def short(self) -> float:
         """By how many microcents HiGHS's optimum can fall short: TOLERANCE cents for each tenth of an order."""
-        return TOLERANCE * ONE * sum(quantity for _, _, quantity, _ in self.orders)
+        return TOLERANCE * ONE * float(sum(quantity for _, _, quantity, _ in self.orders))
 
 
-def made_ptdfs(draw, zones):
+def made_ptdfs(draw: random.Random, zones: int) -> list[int]:
     """To five decimals, as published, or in tenths, with zones that do not bear on the branch."""
     step = draw.choice([1, 10_000])
     most = 60_000 // step
@@ -186,7 +190,7 @@ def made_ptdfs(draw, zones):
 class Clearing:
     """What HiGHS found: volumes, flows and share; system price and shadow prices, its duals."""
 
-    def __init__(self, found, orders, links):
+    def __init__(self, found: Any, orders: int, links: int) -> None:
         numbers = found.x.tolist()
         self.volumes, self.flows, self.share = numbers[:orders], numbers[orders:-1], numbers[-1]
         # The duals are of costs, and prices of gains.
@@ -194,7 +198,7 @@ class Clearing:
         self.shadows = [max(0.0, -dual) for dual in found.ineqlin.marginals.tolist()[links:]]
         self.found = found
 
-    def degenerate(self, market):
+    def degenerate(self, market: Market) -> bool:
         """Whether a basic number is at its bound: fewer numbers and slacks lie between their bounds than there are
         rows. Links without room are left out, since each would count.
         """
@@ -202,17 +206,17 @@ class Clearing:
         between = sum(TOLERANCE < number < upper - TOLERANCE for number, upper in zip(self.found.x, uppers))
         between += sum(self.found.slack > TOLERANCE)
         open_links = sum(self.share * link[2] > TOLERANCE for link in market.links)
-        return between < 1 + len(market.branches) + open_links
+        return bool(between < 1 + len(market.branches) + open_links)
 
-    def tied(self):
+    def tied(self) -> bool:
         """Whether other volumes may be worth as much: more numbers and slacks have price zero than there are rows."""
         numbers = (self.found.lower.marginals + self.found.upper.marginals).tolist()
         # Without links the share is no number of the program.
         prices = [*(numbers if self.flows else numbers[:-1]), *self.found.ineqlin.marginals]
-        return sum(abs(price) <= TOLERANCE for price in prices) > 1 + len(self.found.slack)
+        return bool(sum(abs(price) <= TOLERANCE for price in prices) > 1 + len(self.found.slack))
 
 
-def rounded(market, clearing):
+def rounded(market: Market, clearing: Clearing) -> tuple[list[int], list[int], int]:
     """Volumes and flows in tenths and the share in hundred-thousandths, balanced by single tenths."""
     share = max(0, min(ONE, round(clearing.share * ONE)))
     flows = [
@@ -228,7 +232,7 @@ def rounded(market, clearing):
     return volumes, flows, share
 
 
-def proposal(market, prices):
+def proposal(market: Market, prices: Clearing) -> bytes:
     """The proposal with the rounded prices of a clearing, and its rounded numbers or those of smaller margins."""
     volumes, flows, share = rounded(market, prices)
     if not market.keeps_rows(volumes, flows, Fraction(share, ONE), 0):
@@ -238,7 +242,7 @@ def proposal(market, prices):
     return b"LTP" + struct.pack(f"<HIi{len(numbers)}I", 1, share, round(prices.system), *numbers)
 
 
-def optimum(market, clearing):
+def optimum(market: Market, clearing: Clearing) -> int:
     """The welfare of HiGHS's clearing, checked in fractions: it keeps the rows, and no clearing is worth more."""
     if not market.keeps_rows(clearing.volumes, clearing.flows, clearing.share, TOLERANCE):
         raise RuntimeError(f"HiGHS misses a row by more than {TOLERANCE}")
@@ -246,10 +250,10 @@ def optimum(market, clearing):
     bound = market.bound(Fraction(clearing.system), list(map(Fraction, clearing.shadows)))
     if bound - found > market.short():
         raise RuntimeError(f"HiGHS misses the optimum by up to {float(bound - found)} microcents")
-    return round(found)
+    return int(round(found))
 
 
-def hours(count, seed):
+def hours(count: int, seed: int) -> Iterator[tuple[Market, Clearing, str]]:
     """Market, clearing and line of each hour."""
     draw = random.Random(seed)
     while count > 0:
@@ -263,7 +267,7 @@ def hours(count, seed):
             count -= 1
 
 
-def arguments():
+def arguments() -> argparse.Namespace:
     parser = argparse.ArgumentParser(description=__doc__.split("\n")[0])
     parser.add_argument("--hours", type=int, default=3_000, metavar="N", help="how many hours (3000)")
     parser.add_argument("--seed", type=int, default=1, metavar="S", help="seed of the hours (1)")
@@ -272,7 +276,7 @@ def arguments():
     return parser.parse_args()
 
 
-def main():
+def main() -> int:
     given = arguments()
     if linprog is None:
         print(MISSING, file=sys.stderr)

@@ -13,14 +13,17 @@ from __future__ import annotations
 
 import math
 import sys
-from typing import Callable
+from collections.abc import Callable, Iterable, Sequence
 
 ZONES, BRANCHES, LINKS, ORDERS = 16, 64, 64, 512
 ORDERS_PER_ZONE = ORDERS // ZONES
+# RAM, PTDFs and shadow price; and from, to, capacity and flow.
+Branch = tuple[int, list[int], int]
+Link = tuple[int, int, int, int]
 LOW_ZONES, HIGH_ZONES = range(0, 8), range(8, 16)
 
 
-def hour_text(comment, tolerance, share, system, branches, links, orders, contracted=None):
+def hour_text(comment: Iterable[str], tolerance: int, share: int, system: int, branches: Sequence[Branch], links: Sequence[Link], orders: Sequence[tuple[str, int]], contracted: Sequence[int] | None = None) -> str:
     """The text: a branch is (RAM, PTDFs, shadow), a link (from, to, capacity, flow), an order (line, volume). What is
     contracted, a volume for each link, is there in a case of version 2.
     """
@@ -38,7 +41,7 @@ def hour_text(comment, tolerance, share, system, branches, links, orders, contra
     return "\n".join(lines) + "\n"
 
 
-def two_price_hour(comment, ram, low_side, high_side, contracted=None, linked=True):
+def two_price_hour(comment: Iterable[str], ram: int, low_side: str, high_side: str, contracted: Sequence[int] | None = None, linked: bool = True) -> str:
     """Zones 0 to 7 at -50,000 cents and 8 to 15 at 400,000, every order accepted whole at its zone's price.
 
     64 branches with PTDF 1,000 in the high zones and shadow price 703,125 make the spread of 450,000 cents.
@@ -52,7 +55,7 @@ def two_price_hour(comment, ram, low_side, high_side, contracted=None, linked=Tr
     return hour_text(comment, 0, 0, -50000, branches, links, orders, contracted)
 
 
-def largest_welfare():
+def largest_welfare() -> str:
     comment = (
         "The largest welfare, rent and owed: every buy at 400,000 and every sell at -50,000 cents is accepted.",
         "expect 0 0",
@@ -61,7 +64,7 @@ def largest_welfare():
     return two_price_hour(comment, 256000, "sell", "buy")
 
 
-def largest_welfare_contracted():
+def largest_welfare_contracted() -> str:
     comment = (
         "largest-welfare of version 2 with all of each capacity contracted: the same totals.",
         "expect 0 0",
@@ -70,7 +73,7 @@ def largest_welfare_contracted():
     return two_price_hour(comment, 256000, "sell", "buy", [100000] * LINKS)
 
 
-def largest_loss():
+def largest_loss() -> str:
     comment = (
         "The most negative welfare and rent, with negative margins: largest-welfare with buys and sells exchanged.",
         "expect 26 0",
@@ -79,7 +82,7 @@ def largest_loss():
     return two_price_hour(comment, -256000, "buy", "sell")
 
 
-def largest_loss_no_link():
+def largest_loss_no_link() -> str:
     comment = (
         "largest-loss without its links: the least bound of all, which the branches alone make (S-6), and no gap.",
         "expect 0 0",
@@ -88,7 +91,7 @@ def largest_loss_no_link():
     return two_price_hour(comment, -256000, "buy", "sell", linked=False)
 
 
-def largest_bound():
+def largest_bound() -> str:
     """512 unserved buys at 400,000 in zones at -50,000 cents, and the largest branch total.
 
     PTDFs of 200,000 in all zones and -200,000 in all zones cancel in the prices and load no branch.
@@ -104,10 +107,10 @@ def largest_bound():
     return hour_text(comment, 0, 100000, -50000, branches, links, orders)
 
 
-def sequence(state=1):
+def sequence(state: int = 1) -> Callable[[int], int]:
     """Numbers with no pattern, the same at every run: numbers(n) gives the next one below n."""
 
-    def numbers(count):
+    def numbers(count: int) -> int:
         nonlocal state
         state = (state * 6364136223846793005 + 1442695040888963407) % 2**64
         return (state >> 33) % count
@@ -115,7 +118,7 @@ def sequence(state=1):
     return numbers
 
 
-def varied_orders(numbers, price, target):
+def varied_orders(numbers: Callable[[int], int], price: int, target: int) -> list[tuple[int, int, int, int]]:
     """One zone's orders as (sign, quantity, price, volume): in the money whole, out of the money not at all,
     the last at the zone price for what the target net position still lacks. Buys have sign 1, sells -1."""
     orders, rest = [], target
@@ -131,12 +134,12 @@ def varied_orders(numbers, price, target):
     return orders + [(1 if rest > 0 else -1, 100000, price, abs(rest))]
 
 
-def euros(amount):
+def euros(amount: int) -> str:
     """A whole amount in tenths of a cent, the product of tenths and cents, as euros."""
     return f"{amount // 1000}.{amount % 1000:03}"
 
 
-def met_total(links, price, total):
+def met_total(links: Sequence[tuple[int, int, int]], price: Sequence[int], total: int) -> list[tuple[int, int, int]]:
     """The links with capacities, even ones, by which their total is just below another."""
     spreads = [max(0, price[sink] - price[source]) for source, sink, _ in links]
     whole = sum(capacity * spread for (_, _, capacity), spread in zip(links, spreads))
@@ -149,7 +152,7 @@ def met_total(links, price, total):
     return [(source, sink, capacity) for (source, sink, _), capacity in zip(links, capacities)]
 
 
-def largest_varied(contracting=False):
+def largest_varied(contracting: bool = False) -> str:
     """LTA share one half. The flow-based part is chosen first and each RAM is twice the load it makes, so that
     every branch is full; each link is full where its spread is positive and empty elsewhere. With all orders right
     at the zone prices, rent is half of branch total plus half of owed, and the gap half of what lies between them. The
@@ -202,17 +205,17 @@ def largest_varied(contracting=False):
     return hour_text(comment, -(-gap // 10), 50000, system, branches, links, orders, contracted)
 
 
-def largest_contracted():
+def largest_contracted() -> str:
     return largest_varied(contracting=True)
 
 
-def accepted_share(volume, quantity):
-    """A share whose product with the quantity, rounded once and cut, is the volume: the nearest, or the next above it."""
+def accepted_share(volume: int, quantity: int) -> float:
+    """A share whose product with the quantity, rounded once and cut, is the volume: the nearest or the next."""
     share = volume / quantity
     return share if int(share * quantity) == volume else math.nextafter(share, 2)
 
 
-def dump_text(comment, text):
+def dump_text(comment: Iterable[str], text: str) -> str:
     """The text of a dump that gives the proposal of an hour's text, for its case."""
     rows = [line.split() for line in text.split("\n") if line and not line.startswith("#")]
     quantities = iter(int(words[3]) for words in rows if words[0] == "order")
@@ -230,7 +233,7 @@ def dump_text(comment, text):
     return "\n".join(lines) + "\n"
 
 
-def refused_60_largest():
+def refused_60_largest() -> str:
     comment = (
         "The dump of largest-varied: its proposal has 2,573 bytes, and the output that it is run with one less.",
         "expect 60 0 0",
@@ -238,7 +241,7 @@ def refused_60_largest():
     return dump_text(comment, largest_varied())
 
 
-def largest_less_an_order():
+def largest_less_an_order() -> str:
     """The last order that is not accepted is left out: it is out of the money, and nothing is changed by that."""
     comment = (
         "The dump of largest-varied without one order, so that there is room for its proposal.",
@@ -257,9 +260,9 @@ DUMPS = {
     "largest-less-an-order": largest_less_an_order,
 }
 
-def family_hour(comment, parents):
-    """512 orders of one zone at its price, a buy and a sell by turns. Each pair is accepted in a tenth less than the one
-    before.
+def family_hour(comment: Iterable[str], parents: Iterable[int | str]) -> str:
+    """512 orders of one zone at its price, a buy and a sell by turns. Each pair is accepted in a tenth less than the
+    one before.
     """
     lines = [f"# {line}" for line in comment]
     lines += ["# Printed by tools/largest_hour.py, which says how it is made.", "case version 1 zones 1 tolerance 0"]
@@ -272,12 +275,12 @@ def family_hour(comment, parents):
 NO_TOTALS = "totals welfare 0 bound 0 gap 0 rent 0 owed 0"
 
 
-def largest_chain():
+def largest_chain() -> str:
     comment = ("512 orders in one chain, each leaning on the one before it.", "expect 0 0", NO_TOTALS)
     return family_hour(comment, ["none", *range(ORDERS - 1)])
 
 
-def largest_circle():
+def largest_circle() -> str:
     comment = (
         "512 orders in one circle: the chain, with the first leaning on the last. 512 steps lead back to where they began.",
         "expect 18 0",
@@ -287,7 +290,7 @@ def largest_circle():
     return family_hour(comment, [ORDERS - 1, *range(ORDERS - 1)])
 
 
-def largest_tail():
+def largest_tail() -> str:
     comment = (
         "Each order leans on the one behind it and the last but one on the last, which is its own parent: 511 orders lead",
         "into a circle, and the last alone is on it.",
@@ -311,7 +314,7 @@ HOURS: dict[str, Callable[[], str]] = {
 }
 
 
-def main(arguments):
+def main(arguments: list[str]) -> int:
     makers: dict[str, Callable[[], str]] = {**HOURS, **DUMPS, **FAMILIES}
     if len(arguments) != 1 or arguments[0] not in makers:
         sys.stderr.write(__doc__)

@@ -27,7 +27,9 @@ import subprocess
 import sys
 import tarfile
 import tempfile
+from collections.abc import Iterable, Iterator, Mapping
 from dataclasses import dataclass
+from typing import Any
 
 import built
 from lta import origin
@@ -75,19 +77,23 @@ class File:
     link: str | None = None
 
     @property
-    def sha256(self):
+    def sha256(self) -> str:
         return hashlib.sha256(self.data).hexdigest()
+
+
+# All files of a release by their path.
+Tree = dict[str, File]
 
 
 # Which release.
 
 
-def listed_versions():
+def listed_versions() -> list[tuple[str, str]]:
     """The versions of CHANGELOG.md, newest first, each with its date."""
     return re.findall(r"^## (\d+\.\d+\.\d+), (\d{4}-\d{2}-\d{2})$", CHANGES.read_text(encoding="utf-8"), re.MULTILINE)
 
 
-def marks():
+def marks() -> Iterator[tuple[str, str]]:
     """What speaks against a release of this tree: a word that marks it, and what to do."""
     version = origin.version()
     if not origin.is_checkout():
@@ -98,14 +104,14 @@ def marks():
         yield "unlisted", f"CHANGELOG.md has no version {version}, which is the header's: add it"
 
 
-def refusal():
+def refusal() -> str:
     """Why there can be no release, in one line; empty where there can."""
     against = list(marks())
     why = "; ".join(words for _, words in against)
     return f"{why}; or FORCE=1, which marks the release as {' and '.join(mark for mark, _ in against)}" if why else ""
 
 
-def seconds():
+def seconds() -> int:
     """The time that every file of the release has: SOURCE_DATE_EPOCH, else the commit's, else the version's day."""
     given = os.environ.get("SOURCE_DATE_EPOCH")
     if not given and origin.is_checkout():
@@ -118,35 +124,35 @@ def seconds():
     return int(datetime.datetime.fromisoformat(f"{day}T00:00:00+00:00").timestamp())
 
 
-def day_of(version):
+def day_of(version: str) -> str:
     """The day of a version, as its manual pages have it."""
     at = datetime.datetime.fromtimestamp(seconds(), datetime.timezone.utc)
     return dict(listed_versions()).get(version, f"{at:%Y-%m-%d}")
 
 
-def clean_tree():
+def clean_tree() -> str:
     """Git's name of this tree; empty if the tree has changes or is not git's."""
-    return origin.git("rev-parse", "HEAD^{tree}") if origin.is_checkout() and not origin.is_dirty() else ""
+    return (origin.git("rev-parse", "HEAD^{tree}") or "") if origin.is_checkout() and not origin.is_dirty() else ""
 
 
-def keep_gate(tree, line):
+def keep_gate(tree: str, line: str) -> None:
     """Keeps the last line of the gate that ran on a tree, if that is still this tree."""
     if tree and tree == clean_tree():
         GATE.write_text(json.dumps({"tree": tree, "line": line}) + "\n", encoding="utf-8")
 
 
-def gate_line():
+def gate_line() -> str:
     """The last line of the gate, if it ran on this very tree."""
     try:
         record = json.loads(GATE.read_text(encoding="utf-8"))
-        return record["line"] if record["tree"] == clean_tree() else GATE_NOT_RUN
+        return str(record["line"]) if record["tree"] == clean_tree() else GATE_NOT_RUN
     except (OSError, ValueError, KeyError, TypeError):
         return GATE_NOT_RUN
 
 
-def proved_functions():
+def proved_functions() -> int:
     """How many functions rt proved of the crates that the library and the program are built of."""
-    counts = {}
+    counts: dict[str, int] = {}
     for product in (built.LIBRARY, built.DESK):
         counts.update(built.read_record(product.path).get("functions", {}))
     unknown = sorted(crate for crate, count in counts.items() if count is None)
@@ -155,7 +161,7 @@ def proved_functions():
     return sum(counts.values())
 
 
-def believed_paths():
+def believed_paths() -> Iterator[str]:
     """The files that a reader must believe, in the order of the list; a pattern stands for all that it fits."""
     for line in BELIEVED.read_text(encoding="utf-8").splitlines():
         if line and not line.startswith("#"):
@@ -165,13 +171,13 @@ def believed_paths():
             yield from (path.relative_to(ROOT).as_posix() for path in found)
 
 
-def believed():
+def believed() -> dict[str, Any]:
     paths = list(believed_paths())
     lines = "".join(f"{built.sha256_of(ROOT / path)}  {path}\n" for path in paths)
     return {"sha256": hashlib.sha256(lines.encode()).hexdigest(), "paths": paths}
 
 
-def glibc_needed(files):
+def glibc_needed(files: Iterable[bytes]) -> str:
     """The newest version of the GNU C library that the release's machine code asks for."""
     found = [word for data in files for word in re.findall(rb"GLIBC_([0-9.]+)\0", data)]
     return ".".join(map(str, max(tuple(map(int, word.decode().split("."))) for word in found)))
@@ -180,11 +186,11 @@ def glibc_needed(files):
 # Its files.
 
 
-def of_tree(path, mode=PLAIN):
+def of_tree(path: str | pathlib.Path, mode: int = PLAIN) -> File:
     return File((ROOT / path).read_bytes(), mode)
 
 
-def filled(path, **words):
+def filled(path: str | pathlib.Path, **words: str) -> File:
     """A file in which @WORDS@ stand for what is known only here."""
     text = (ROOT / path).read_text(encoding="utf-8")
     for name, word in words.items():
@@ -192,12 +198,12 @@ def filled(path, **words):
     return File(text.encode())
 
 
-def folder_files(folder, *patterns):
+def folder_files(folder: str, *patterns: str) -> list[pathlib.Path]:
     """The files of a folder of the tree, by name."""
     return sorted(path for pattern in patterns for path in (ROOT / folder).glob(pattern))
 
 
-def libraries(version):
+def libraries(version: str) -> Iterator[tuple[str, File]]:
     """The library for hosts: header, archive, shared object with its names."""
     name, major = "lib/liblta_judgement", version.partition(".")[0]
     yield "include/lta_judgement.h", of_tree("include/lta_judgement.h")
@@ -207,25 +213,26 @@ def libraries(version):
     yield f"{name}.so", File(link=f"liblta_judgement.so.{major}")
 
 
-def commands():
+def commands() -> Iterator[tuple[str, File]]:
     """desk and lta: the launchers, the proved program and the Python package."""
     yield "bin/desk", of_tree("desk", EXECUTABLE)
     yield "bin/lta", of_tree("lta", EXECUTABLE)
     yield PROGRAM, of_tree(built.DESK.path, EXECUTABLE)
-    for name in ("run_lta.py", "version.py"):
-        yield f"{PACKAGE_FOLDER}/{name}", of_tree(f"tools/{name}")
-    for path in folder_files("tools/lta", "*.py", "*.txt", "*.css"):
+    yield f"{PACKAGE_FOLDER}/version.py", of_tree("tools/version.py")
+    for path in folder_files("tools/lta", "*.py", "*.txt", "*.css", "py.typed"):
         yield f"{PACKAGE_FOLDER}/lta/{path.name}", of_tree(path)
     # A file where Python would make a folder for bytecode, of which no removal would know.
     yield f"{PACKAGE_FOLDER}/lta/__pycache__", File()
 
 
-def documents(version, glibc):
+def documents(version: str, glibc: str) -> Iterator[tuple[str, File]]:
     for path in folder_files("docs/man", "*.1"):
         page = filled(path, VERSION=version, DATE=day_of(version), GLIBC=glibc)
         yield f"share/man/man1/{path.name}", page
-    for path in ("docs/GUARANTEE.md", "docs/NUMBERS.md", "CHANGELOG.md"):
-        yield f"share/doc/mbirukaze/{pathlib.PurePath(path).name}", of_tree(path)
+    yield "share/bash-completion/completions/lta", of_tree("tools/lta_completion.sh")
+    for name in ("COMMANDS.md", "GUARANTEE.md", "INTEGRATE.md", "FORMATS.md", "NUMBERS.md", "SCHEMA.md", "schema.json"):
+        yield f"share/doc/mbirukaze/{name}", of_tree(f"docs/{name}")
+    yield "share/doc/mbirukaze/CHANGELOG.md", of_tree("CHANGELOG.md")
     for path in folder_files("host", "*.c", "*.h"):
         yield f"share/doc/mbirukaze/examples/{path.name}", of_tree(path)
     for path in folder_files("host", "*.tsv"):
@@ -234,13 +241,13 @@ def documents(version, glibc):
         yield f"share/mbirukaze/samples/{path.name}", of_tree(path)
 
 
-def pkg_config(version, prefix):
+def pkg_config(version: str, prefix: str) -> File:
     """The file for pkg-config. Without a prefix it counts from where it stands, as pkg-config names and quotes that."""
     words = {"PREFIX": prefix, "QUOTE": '"'} if prefix else {"PREFIX": "${pcfiledir}/../..", "QUOTE": ""}
     return filled("host/lta_judgement.pc.in", VERSION=version, **words)
 
 
-def release_tree(prefix=""):
+def release_tree(prefix: str = "") -> Tree:
     """All files of the release by their path, with the prefix under which they stay if they do."""
     version = origin.version()
     glibc = glibc_needed(path.read_bytes() for path in (built.SHARED, built.DESK.path))
@@ -265,7 +272,7 @@ def release_tree(prefix=""):
     return tree
 
 
-def folders_of(paths):
+def folders_of(paths: Iterable[str]) -> list[str]:
     """The folders in which paths stand, outer ones first."""
     found = {parent.as_posix() for path in paths for parent in pathlib.PurePosixPath(path).parents}
     return sorted(found - {"."})
@@ -274,12 +281,12 @@ def folders_of(paths):
 # Tarball and package.
 
 
-def tar_bytes(tree, top, time):
+def tar_bytes(tree: Mapping[str, File], top: str, time: int) -> bytes:
     """The tree as a tar under one folder: names in order, owner 0, given modes and one time."""
     out = io.BytesIO()
     with tarfile.open(fileobj=out, mode="w", format=tarfile.USTAR_FORMAT) as tar:
 
-        def add(path, kind, mode, data=b"", link=""):
+        def add(path: str, kind: bytes, mode: int, data: bytes = b"", link: str = "") -> None:
             info = tarfile.TarInfo(path)
             info.type, info.mode, info.mtime, info.size, info.linkname = kind, mode, time, len(data), link
             info.uname = info.gname = "root"
@@ -297,14 +304,14 @@ def tar_bytes(tree, top, time):
     return out.getvalue()
 
 
-def missing_folders(folder):
+def missing_folders(folder: pathlib.Path) -> Iterator[pathlib.Path]:
     """A folder and those above it that are not there, inner ones first."""
     while not folder.exists():
         yield folder
         folder = folder.parent
 
 
-def write_tree(tree, folder, time=None):
+def write_tree(tree: Mapping[str, File], folder: pathlib.Path, time: int | None = None) -> None:
     """Writes a tree into a folder, each file whole; with the given modes, whatever the umask is."""
     for name in folders_of(tree):
         for path in reversed(list(missing_folders(folder / name))):
@@ -325,7 +332,7 @@ def write_tree(tree, folder, time=None):
             os.utime(folder / name, (time, time), follow_symlinks=False)
 
 
-def write_package(tree, version, glibc, path, time):
+def write_package(tree: Mapping[str, File], version: str, glibc: str, path: pathlib.Path, time: int) -> None:
     """The Debian package, by dpkg-deb."""
     files = {f"usr/{name}": file for name, file in tree.items()}
     kilobytes = sum(-(-len(file.data) // 1024) for file in files.values())
@@ -349,7 +356,7 @@ def write_package(tree, version, glibc, path, time):
             raise ReleaseError(f"dpkg-deb: {built.one_line(done.stderr)}")
 
 
-def dist(force):
+def dist(force: bool) -> None:
     """Writes the artefacts, and prints their names."""
     against = [mark for mark, _ in marks()]
     if against and not force:
@@ -375,12 +382,12 @@ def dist(force):
 # Installed without a package.
 
 
-def place(prefix, destination):
+def place(prefix: str, destination: str) -> pathlib.Path:
     """The folder that stands for the prefix."""
     return pathlib.Path(f"{destination}{prefix}")
 
 
-def install(prefix, destination):
+def install(prefix: str, destination: str) -> None:
     """Puts the tree in place of what an earlier install put there, and notes what uninstall is to remove."""
     folder, tree = place(prefix, destination), release_tree(prefix)
     if (folder / INSTALLED_FILE).exists():
@@ -395,7 +402,7 @@ def install(prefix, destination):
     write_tree(tree, folder)
 
 
-def uninstall(prefix, destination):
+def uninstall(prefix: str, destination: str) -> None:
     """Removes the files that install put in place, and the folders that it made and that are empty now."""
     folder = place(prefix, destination)
     try:
@@ -410,7 +417,7 @@ def uninstall(prefix, destination):
             path.rmdir()
 
 
-def parsed(arguments):
+def parsed(arguments: list[str]) -> argparse.Namespace:
     parser = argparse.ArgumentParser(prog="release.py", allow_abbrev=False)
     commands_taken = parser.add_subparsers(dest="command", required=True)
     for name in ("refusal", "dist"):
@@ -426,7 +433,7 @@ def parsed(arguments):
     return parser.parse_args(arguments)
 
 
-def main(arguments):
+def main(arguments: list[str]) -> int:
     options = parsed(arguments)
     try:
         if options.command == "refusal":

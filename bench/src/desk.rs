@@ -1,6 +1,6 @@
-//! A day's print, a hundred of P1's reports, by lta_desk_lines: against the second judge, against lta_judge and
-//! snprintf in plain C, and where LTA_BEFORE names a shared object of another version, as tools/link_shared makes
-//! them, against its.
+//! A day's print, a hundred of P1's reports, by lta_desk_lines: against the second judge, and against lta_judge
+//! with snprintf in plain C. If LTA_BEFORE names a shared object of another version, made by tools/link_shared,
+//! also against that.
 
 use crate::{heading, heading_against, measure, print, Times};
 use comparison::library;
@@ -38,7 +38,7 @@ fn plain(case: &[u8], proposal: &[u8], out: &mut [u8]) -> usize {
 /// lta_desk_lines of the shared object that LTA_BEFORE names.
 fn before() -> Option<Lines> {
     let file = CString::new(std::env::var_os("LTA_BEFORE")?.into_vec()).expect("a path");
-    // Safe: both names end with a zero byte; an entry of that name is declared so.
+    // Safe: both names end with a zero byte, and an entry of that name has this declaration.
     unsafe {
         let object = dlopen(file.as_ptr(), NOW);
         assert!(!object.is_null(), "{file:?} is not loaded");
@@ -48,8 +48,8 @@ fn before() -> Option<Lines> {
     }
 }
 
-/// Both less the judgement, of which the share of the entry's time is given: a share, since the machine's speed is
-/// not the same from one row to the next.
+/// Both times less the judgement's, whose share of the entry's time is known. It is a share, because the machine's
+/// speed changes from one row to the next.
 fn printing(times: &Times, share: f64) -> Times {
     Times {
         proved: times.proved * (1.0 - share),

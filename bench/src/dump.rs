@@ -27,7 +27,7 @@ fn plain(case: &[u8], dump: &[u8], out: &mut [u8]) -> OutputAnswer {
     OutputAnswer { number: written.number, index: written.index, length: written.length }
 }
 
-/// An hour's proposal as a solver has it, every value a little above what is written.
+/// An hour's proposal as a solver has it, with every value a little above what is written.
 fn solved(hour: &Hour) -> Vec<f64> {
     let little = 1.0 + 1e-9;
     let orders = hour.orders.iter().zip(&hour.volumes);
@@ -43,7 +43,7 @@ fn bytes(values: &[f64]) -> Vec<u8> {
     values.iter().flat_map(|value| value.to_le_bytes()).collect()
 }
 
-/// Measures a dump, of which all three must say the same.
+/// Measures a dump; all three must give the same answer.
 fn of(case: &[u8], dump: &[u8], number: u32, index: u64) -> Times {
     let (mut one, mut other, mut due) = ([0; ROOM], [0; ROOM], [0; ROOM]);
     let answer = dump_proposal(case, dump, &mut due);

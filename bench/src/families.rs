@@ -1,4 +1,4 @@
-//! The judgement with a family list: against the judgement without one of the same hour, which S-11 asks to cost at
+//! The judgement with a family list: against the judgement of the same hour without one, which S-11 asks to cost at
 //! least half as much, and against the second judge's. 512 orders in one chain, in one circle, in none.
 
 use crate::{heading, heading_against, measure, print, sized, Times, CLASSES};
@@ -12,7 +12,7 @@ const ORDERS: u16 = 512;
 /// Their gap is above the tolerance, and the report is written.
 const REPORTED: u64 = 26;
 
-/// The parents of each shape: its name, the number that is due, and the list.
+/// The parents of each shape: its name, the expected number, and the list.
 fn shapes() -> Vec<(&'static str, u64, Vec<Option<u16>>)> {
     let last = ORDERS - 1;
     vec![

@@ -1,5 +1,5 @@
 //! S-3's entries against plain Rust on the same inputs: annex 5.1's two price sets, no pairs, random exchanges, the
-//! worst that a search finds, and hours. Then S-13's, with the smaller scratch, against them on the same.
+//! worst that a search finds, and hours. Then S-13's, with the smaller scratch, against S-3's on the same inputs.
 
 use crate::plain_flow::{by_dinic, by_edmonds_karp};
 use crate::{accepted, heading_against, measure, print};
@@ -16,7 +16,7 @@ const SMALL_SCRATCH: usize = 96;
 const ZONES: usize = 16;
 const PAIRS: usize = 64;
 const SEED: u64 = 3;
-/// The search by paths: starts and the steps of each; then that by time.
+/// The search for many paths: the number of starts, and the steps of each; then the search for a long time.
 const STARTS: usize = 4;
 const STEPS: usize = 40_000;
 const TIMED_STEPS: usize = 2_000;
@@ -44,12 +44,12 @@ impl Exchange {
         by(&self.net, &self.prices, &self.pairs, scratch)
     }
 
-    /// Paths that Edmonds and Karp's takes.
+    /// Paths that Edmonds and Karp's algorithm takes.
     fn paths(&self) -> usize {
         self.plain(by_edmonds_karp, &mut [0; SCRATCH]).1
     }
 
-    /// Nanoseconds of the library's call, the least of some tries.
+    /// Nanoseconds of the library's call, the least of several.
     fn time(&self) -> f64 {
         let mut scratch = [0; SCRATCH];
         let mut one = || {
@@ -63,7 +63,7 @@ impl Exchange {
     }
 }
 
-/// Measures the exchanges together, of which all must say the same.
+/// Measures the exchanges together; all must give the same answer.
 fn of(name: &str, exchanges: &[Exchange]) {
     for (other, by) in PLAIN {
         let (mut one, mut two, mut due) = ([1; SCRATCH], [2; SCRATCH], [3; SCRATCH]);
@@ -146,7 +146,7 @@ fn annex(euros: [i64; 5]) -> Exchange {
     }
 }
 
-/// Different pairs, as many as there is room for.
+/// As many different pairs as there is room for.
 fn some_pairs(rng: &mut Rng, zones: usize, count: usize) -> Vec<u8> {
     let mut every: Vec<[u8; 2]> = (0..zones as u8)
         .flat_map(|from| (0..zones as u8).map(move |to| [from, to]))
@@ -200,7 +200,7 @@ fn changed(rng: &mut Rng, given: &Exchange) -> Exchange {
     made
 }
 
-/// Climbs from an exchange, by steps that do not make it lower.
+/// Hill climbing from an exchange, by steps that do not make it lower.
 fn worst(rng: &mut Rng, start: Exchange, steps: usize, of: impl Fn(&Exchange) -> f64) -> (Exchange, f64) {
     let mut found = start;
     let mut height = of(&found);
@@ -214,7 +214,7 @@ fn worst(rng: &mut Rng, start: Exchange, steps: usize, of: impl Fn(&Exchange) ->
     (found, height)
 }
 
-/// The hour by the second judge, then Edmonds and Karp's.
+/// The hour by the second judge, then by Edmonds and Karp's algorithm.
 fn plain_hour(hour: &Hour, case: &[u8], proposal: &[u8], pairs: &[u8], scratch: &mut [i64]) -> i64 {
     let mut report = [0; LEAST_BUFFER];
     let verdict = judge(case, proposal, &mut report);

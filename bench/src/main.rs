@@ -1,6 +1,6 @@
-//! Measures the proved judge against the second one, the desk's lines, the margin sheet's and the dump's entry
-//! against plain C, S-3's and S-8's against plain Rust, S-14's against the judgement too, on the same inputs; prints
-//! only.
+//! Measures the proved judge against the second one; the desk's lines, the margin sheet's and the dump's entry
+//! against plain C; S-3's and S-8's against plain Rust; S-14's against the judgement too. All run on the same
+//! inputs. Prints only.
 
 mod columns;
 mod desk;
@@ -21,10 +21,10 @@ use std::time::{Duration, Instant};
 
 /// Odd, so that the median is one of them.
 const REPETITIONS: usize = 401;
-/// A repetition lasts about so long: short, so that the two halves of a pair meet the same machine, and one that is
-/// disturbed falls out of the median.
+/// A repetition lasts about this long. It is short, so that the two halves of a pair meet the same machine and the
+/// median drops a disturbed one.
 const LENGTH: Duration = Duration::from_micros(60);
-/// In a case of sixteen zones and 64 branches: a branch, and what stands before the links.
+/// In a case of sixteen zones and 64 branches: the bytes of a branch, and of all before the links.
 const BRANCH_BYTES: u32 = 4 + 4 * 16;
 const LINKS_AT: u32 = 14 + 64 * BRANCH_BYTES;
 
@@ -58,7 +58,7 @@ fn median(mut list: Vec<f64>) -> f64 {
     list[list.len() / 2]
 }
 
-/// Both by turns, each of them first in every other pair.
+/// Both in turn, each of them first in every other pair.
 fn measure(mut proved: impl FnMut(), mut other: impl FnMut()) -> Times {
     let calls_for = |one: f64| (LENGTH.as_nanos() as f64 / one).clamp(1.0, 1e5) as u32;
     let warm = |call: &mut dyn FnMut()| median((0..9).map(|_| nanoseconds(9, &mut || call())).collect());
@@ -98,7 +98,7 @@ fn measure_judges(case: &[u8], proposal: &[u8], number: u32, index: u32) -> Time
     )
 }
 
-/// The same of an hour that comes through to its report, accepted or not.
+/// The same for an hour that reaches its report, accepted or not.
 fn measure_reported(hour: &Hour) -> Times {
     let (case, proposal) = (hour.case(), hour.proposal());
     let verdict = judge(&case, &proposal, &mut [0; LEAST_BUFFER]);
@@ -106,7 +106,7 @@ fn measure_reported(hour: &Hour) -> Times {
     measure_judges(&case, &proposal, verdict.number, verdict.index)
 }
 
-/// An hour of these counts that comes through to its report, with no field left at zero. Its gap is above the widest
+/// An hour of these counts that reaches its report, with no field left at zero. Its gap is above the widest
 /// tolerance that is judged (S-12).
 fn sized(zones: usize, branches: usize, links: usize, orders: usize) -> Hour {
     Hour {
@@ -131,7 +131,7 @@ fn sized(zones: usize, branches: usize, links: usize, orders: usize) -> Hour {
                 price: 17_500 + (o % 50) as i32 * 100,
             })
             .collect(),
-        // without links there is no LTA domain to lean on (S-6)
+        // without links there is no LTA domain (S-6)
         share: if links > 0 { 50_000 } else { 0 },
         system_price: 20_000,
         volumes: (0..orders).map(|o| if o == orders - orders % 2 { 0 } else { 50 }).collect(),

@@ -1,4 +1,4 @@
-/* The desk's lines as one would print them in plain C, by lta_judge and snprintf, for the benchmark. Case and proposal come apart, so
+/* The desk's lines in plain C, by lta_judge and snprintf, for the benchmark. Case and proposal are separate, so
  * nothing is cut. */
 #include "lta_judgement.h"
 

@@ -1,5 +1,5 @@
-/* A dump turned into a proposal as one would in plain C, with doubles, for the benchmark: the case read field by field, then two passes
- * over the dump, every cause of lta_dump_proposal honoured. */
+/* A dump turned into a proposal in plain C, with doubles, for the benchmark: the case is read field by field, then
+ * two passes go over the dump, with every cause of lta_dump_proposal. */
 #include "lta_judgement.h"
 
 #include <math.h>

@@ -1,5 +1,5 @@
-//! S-3's question as one would answer it in plain Rust, for the benchmark, with every cause honoured: Edmonds and
-//! Karp's shortest augmenting paths, and Dinic's layers, over a matrix of what is left on each edge.
+//! S-3's question as plain Rust would answer it, for the benchmark, with every cause: Edmonds and Karp's shortest
+//! augmenting paths, and Dinic's layers, over a matrix of the residual capacities.
 
 use second_judge::CarriedAnswer;
 
@@ -35,7 +35,7 @@ impl Network {
     }
 }
 
-/// The most that can be carried, and in how many paths it was.
+/// The most that can be carried, and how many paths it took.
 type MaxFlow = fn(&mut Network) -> (i64, usize);
 
 fn answer(
@@ -193,7 +193,7 @@ fn answered(answer: Result<(CarriedAnswer, usize), (u32, usize)>) -> (CarriedAns
     })
 }
 
-/// By Edmonds and Karp; with the answer the paths that it took.
+/// By Edmonds and Karp; also gives the number of paths.
 pub fn by_edmonds_karp(net: &[i64], prices: &[i64], pairs: &[u8], scratch: &mut [i64]) -> (CarriedAnswer, usize) {
     answered(answer(net, prices, pairs, scratch, edmonds_karp))
 }

@@ -1,5 +1,5 @@
-/* A margin sheet read as one would in plain C, for the benchmark: one pass, numbers taken digit by digit, every cause of lta_sheet_branches
- * honoured. */
+/* A margin sheet read in plain C, for the benchmark: one pass, numbers digit by digit, with every cause of
+ * lta_sheet_branches. */
 #include "lta_judgement.h"
 
 #include <stdbool.h>
@@ -7,10 +7,11 @@
 
 #define ZONES_MOST 16
 #define LINES_MOST 64
-/* A whole part that has reached it is out of every range, and its further digits are not added: nothing overflows. */
+/* A whole part from here on is out of every range, and its further digits are not added, so that nothing
+ * overflows. */
 #define WHOLE_ENOUGH 1000000
 
-/* Reads a number in units of its last decimal; gives the byte after it, or null where there is none. */
+/* Reads a number in units of its last decimal; returns the byte after it, or null if there is no number. */
 static const uint8_t *read_number(const uint8_t *at, const uint8_t *end, int decimals, int64_t *units, bool *past)
 {
     bool negative = at < end && *at == '-';

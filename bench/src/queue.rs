@@ -1,4 +1,4 @@
-//! The desk queue's entries against plain Rust over the same bytes, which any bytes are a queue for too.
+//! The desk queue's entries against plain Rust over the same bytes, for which any bytes are a queue too.
 
 use crate::{heading_against, measure, print, Times};
 use comparison::library;
@@ -55,7 +55,7 @@ fn plain_serve(bytes: &mut Bytes) -> ServedAnswer {
     ServedAnswer { number: 64, index: 0, area: 0, hour: 0 }
 }
 
-/// So many hours posted, one of each area in turn, then all served and one serve more; what was answered, added up.
+/// Posts this many hours, one of each area in turn, then serves all and once more; returns the sum of the answers.
 fn day(
     hours: u32,
     post: impl Fn(&mut Bytes, u32, u32) -> u32,

@@ -42,7 +42,7 @@ fn published(zones: usize, lines: usize) -> String {
     sheet
 }
 
-/// Measures a sheet, of which all three must say the same.
+/// Measures a sheet; all three must give the same answer.
 fn of(sheet: &str, zones: usize, number: u32) -> Times {
     let sheet = sheet.as_bytes();
     let (mut one, mut other, mut due) = ([0; ROOM], [0; ROOM], [0; ROOM]);

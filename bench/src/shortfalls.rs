@@ -1,5 +1,5 @@
 //! The shortfalls' entry against the second judge's, and against the judgement alone, which it asks first: what is
-//! over 1 there is the time of the shortfalls themselves.
+//! above 1 there is the time of the shortfalls themselves.
 
 use crate::{heading, heading_against, measure, print, sized, Times, CLASSES};
 use comparison::library;
@@ -10,8 +10,8 @@ use std::hint::black_box;
 
 const ROOM: usize = 2 * (512 + 64 + 64);
 
-/// An hour of these counts that is accepted with a gap within 100 euros: every order at the system price, and a cent
-/// on the first branch, by which the zone prices are off it.
+/// An hour of these counts that is accepted with a gap within 100 euros: every order is at the system price, and
+/// the first branch has a shadow price of a cent, which moves the zone prices off it.
 fn near(counts: [usize; 4]) -> Hour {
     let [zones, branches, links, orders] = counts;
     let mut hour = sized(zones, branches, links, orders);

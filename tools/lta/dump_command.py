@@ -1,17 +1,16 @@
-"""lta dump: the proposal that a solver's dump gives for a case, as the library writes it; and what becomes of each
-value. The second is found beside the library and held to it: to its number and index, and to every byte that it wrote.
+"""lta dump: the proposal that a solver's dump gives for a case, as the library writes it, and what becomes of each
+value. Why the library refuses a value is computed next to it and held to its number and index.
 """
 
 from __future__ import annotations
 
 import os
-import struct
 from dataclasses import dataclass
 
 from . import causes, dump_format, hour, library
 from .amounts import counted
 from .causes import Disagreement
-from .inputs import InputError, why_not
+from .inputs import CASE, DUMP, JOINED, TEXT, UNREAD, Input, InputError, read, read_binary, why_not
 
 
 @dataclass(frozen=True)
@@ -24,43 +23,58 @@ class DumpResult:
     words: str
 
     @property
-    def shown(self):
-        return dump_format.show(self.case, self.dump, self.words, known=self.answer.number not in (56, 57))
+    def shown(self) -> str:
+        known = self.answer.number not in (56, 57)
+        return dump_format.show(self.case, self.dump, self.answer.proposal, self.words, known)
 
 
-def text_dump(path, data):
+def text_dump(path: str, data: bytes) -> tuple[bytes, bytes]:
     """The case and the dump of a text."""
     try:
-        return dump_format.build(data.decode(), os.path.dirname(path))
+        return dump_format.build(hour.decoded(data), os.path.dirname(path))
     except ValueError as fault:
         raise InputError(path, why_not(fault)) from None
 
 
-def is_text(data):
+def is_text(data: bytes) -> bool:
     """Whether a file is the text of a dump."""
     try:
-        return dump_format.is_text(data.decode())
+        return dump_format.is_text(hour.decoded(data))
     except ValueError:
         return False
 
 
-def ask(case, data):
-    """Has the library answer, and finds the words."""
+def files_of(source: Input) -> tuple[bytes, bytes]:
+    """The case and the dump that are named."""
+    if source.kind == UNREAD:
+        raise InputError(source.name, source.paths[0])
+    if source.kind == JOINED:
+        raise InputError(source.name, "dump takes a case and a dump, or the text of a dump; see --pairs")
+    if source.kind != TEXT:
+        (case, _), (dump, _) = map(read_binary, source.paths, (CASE, DUMP))
+        return case, dump
+    data = read(source.name)
+    if not is_text(data):
+        raise InputError(source.name, "the text of an hour, and not of a dump")
+    return text_dump(source.name, data)
+
+
+def ask(case: bytes, data: bytes) -> DumpResult:
+    """Has the library answer, and finds the words of a refusal."""
     answer = library.dump_proposal(case, data)
-    found = own_reading(case, data)
-    if answer.number != found[0] or answer.index != found[1]:
-        raise Disagreement(f"{answer.number} {answer.index}", f"{found[0]} {found[1]}")
-    if answer.written and answer.proposal != own_proposal(case, data):
-        raise Disagreement("a proposal", "another one")
-    return DumpResult(case, data, answer, found[2])
+    number, index, words = refusal(case, data)
+    if (answer.number, answer.index) != (number, index):
+        raise Disagreement(f"{answer.number} {answer.index}", f"{number} {index}")
+    if answer.proposal is not None:
+        words = f"written: a proposal of {counted(len(answer.proposal), 'byte')}"
+    return DumpResult(case, data, answer, words)
 
 
-def own_reading(case, data):
-    """Number, index and words as they are read here."""
-    # With an empty proposal a readable case is refused by 9.
-    found = causes.own_reading(case, b"")
-    if found.number < 9:
-        return 56, found.number, f"56: the case is refused; {found.words}"
+def refusal(case: bytes, data: bytes) -> tuple[int, int, str]:
+    """Number, index and words of what is wrong, as it is read here; 0 where nothing is."""
+    cause = causes.case_cause(case)
+    if cause is not None:
+        return 56, cause.number, f"56: the case is refused; {cause.words}"
     due = dump_format.demanded_length(hour.case_counts(case))
     if len(data) != due:
         more = f"{counted(len(data) - due, 'byte')} too many" if len(data) > due else f"{due - len(data):,} missing"
@@ -71,11 +85,4 @@ def own_reading(case, data):
         for reading in readings:
             if reading.number == number:
                 return number, reading.place, reading.words
-    return 0, 0, f"written: a proposal of {counted(len(own_proposal(case, data)), 'byte')}"
-
-
-def own_proposal(case, data):
-    """The proposal's bytes as they are read here."""
-    share, system, *rest = (reading.becomes for reading in dump_format.readings(case, data))
-    header = hour.header_layout("proposal").pack(hour.MARKS["proposal"], 1, share, system)
-    return header + b"".join(struct.pack("<I", number) for number in rest)
+    return 0, 0, ""

@@ -1,6 +1,7 @@
 """A solver's dump of request S-5 between readable text and bytes, both ways, and what becomes of each of its values.
-Whatever a case and a dump are, building what is shown gives back their bytes. What a value becomes is found here by one
-float product of Python's own, beside the library, and dump_command.py holds it to that.
+Whatever a case and a dump are, building what is shown gives back their bytes. What a value becomes stands in the
+proposal that the library writes; why it refuses a value is computed here, next to it, and dump_command.py holds that to
+it.
 """
 
 from __future__ import annotations
@@ -9,6 +10,7 @@ import math
 import re
 import struct
 from dataclasses import dataclass
+from typing import Iterator, Mapping
 
 from . import hour
 from .hour import short
@@ -28,7 +30,7 @@ dump of no bytes the text has append dump, with nothing behind it.
 A stored dump, dumps/NAME.txt, opens with what it protects and says in comments what the request says of it:
 
   # expect N I L                           number, index and length, with an output of 2572 bytes
-  # expect 0 0 L judged V                  the same of one that is written, and the judgement's number on what is written
+  # expect 0 0 L judged V                  the same of one that is written, and the judgement's number on it
   # becomes share S system P volumes V .. flows F .. shadows S ..    the proposal's numbers, where something is written
 
 tests/stored_dumps holds each of these to both judges.
@@ -69,15 +71,15 @@ BECOMES = re.compile(
 # Values and words.
 
 
-def value_of(bits):
-    return struct.unpack("<d", struct.pack("<Q", bits))[0]
+def value_of(bits: int) -> float:
+    return float(struct.unpack("<d", struct.pack("<Q", bits))[0])
 
 
-def bits_of(value):
-    return struct.unpack("<Q", struct.pack("<d", value))[0]
+def bits_of(value: float) -> int:
+    return int(struct.unpack("<Q", struct.pack("<d", value))[0])
 
 
-def word_of(bits):
+def word_of(bits: int) -> str:
     """A value as the shortest word that gives it back."""
     value = value_of(bits)
     if math.isnan(value):
@@ -85,7 +87,7 @@ def word_of(bits):
     return repr(value)
 
 
-def bits_of_word(word, name):
+def bits_of_word(word: str, name: str) -> int:
     if word in WORDS:
         return WORDS[word]
     pattern = PATTERN.fullmatch(word)
@@ -113,12 +115,12 @@ class Dump(hour.Hour):
 
     FILES = ("case", "dump")
 
-    def __init__(self, folder):
+    def __init__(self, folder: hour.Folder) -> None:
         super().__init__(folder)
-        self.opening = None
-        self.values: dict[str, list] = {kind: [] for kind, _, _ in KINDS}
+        self.opening: list[int] | None = None
+        self.values: dict[str, list[int]] = {kind: [] for kind, _, _ in KINDS}
 
-    def take(self, line, words):
+    def take(self, line: int, words: list[str]) -> None:
         keyword, *rest = words
         if keyword == "dump":
             self.take_opening(rest)
@@ -129,36 +131,37 @@ class Dump(hour.Hour):
         else:
             super().take(line, words)
 
-    def take_opening(self, words):
+    def take_opening(self, words: list[str]) -> None:
         if self.opening is not None:
             raise ValueError("a second dump line")
         if words[::2] != list(OPENING) or len(words) != 2 * len(OPENING):
             raise ValueError("dump takes share and a value, system and a value")
         self.opening = [bits_of_word(word, name) for name, word in zip(OPENING, words[1::2])]
 
-    def take_value(self, kind, words):
+    def take_value(self, kind: str, words: list[str]) -> None:
         if self.opening is None:
             raise ValueError(f"{kind} before the dump line")
         if len(words) != 1:
             raise ValueError(f"{kind} takes 1 value, not {len(words)}")
         self.values[kind].append(bits_of_word(words[0], kind))
 
-    def file_bytes(self, file):
+    def file_bytes(self, file: str) -> bytearray:
         if file != "dump":
             return super().file_bytes(file)
         values = (self.opening or []) + [bits for kind, _, _ in KINDS for bits in self.values[kind]]
         return bytearray(b"".join(struct.pack("<Q", bits) for bits in values))
 
 
-def is_text(text):
+def is_text(text: str) -> bool:
     """Whether a text is a dump's: it has a dump line, or one that changes the dump's bytes."""
     lines = (line.split("#", 1)[0].split() for line in text.split("\n"))
     return any(words[:1] == ["dump"] or (words[:1] and words[1:2] == ["dump"]) for words in lines)
 
 
-def build(text, folder=""):
+def build(text: str, folder: hour.Folder = "") -> tuple[bytes, bytes]:
     """The case and the dump of a text. The files that it names count from the folder."""
-    return hour.built(text, folder, Dump)
+    case, dump = hour.built(text, folder, Dump)
+    return case, dump
 
 
 # What a stored dump expects.
@@ -166,22 +169,22 @@ def build(text, folder=""):
 
 @dataclass(frozen=True)
 class Expected:
-    """Number, index, length, the judgement's number and the numbers written; the last two are None where none is said."""
+    """Number, index, length, the judgement's number and the numbers written; the last two may be None."""
 
     number: int
     index: int
     length: int
     judged: int | None
-    becomes: tuple | None
+    becomes: tuple[int, ...] | None
 
     @property
-    def line(self):
+    def line(self) -> str:
         """The line that crates/prog_records prints."""
         judged = "" if self.judged is None else f" judged {self.judged}"
         return f"{self.number} {self.index} {self.length}{judged}"
 
 
-def expected(text):
+def expected(text: str) -> Expected:
     found = hour.expectations(text, EXPECTATION, lambda name, _: ANSWER if name == "expect" else BECOMES)
     number, index, length = map(int, found["expect"][:3])
     judged = None if found["expect"][3] is None else int(found["expect"][3])
@@ -198,7 +201,9 @@ def expected(text):
 
 @dataclass(frozen=True)
 class Reading:
-    """A value of a dump: its place, what it is, its bits, what it becomes, or the number and the words of its fault."""
+    """A value of a dump: its place, what it is, its bits, what it becomes in the library's proposal, or the number and
+    the words of its fault.
+    """
 
     place: int
     kind: str
@@ -209,92 +214,96 @@ class Reading:
     fault: str = ""
 
     @property
-    def name(self):
+    def name(self) -> str:
         return NAMES[self.kind].format(self.index)
 
     @property
-    def words(self):
+    def words(self) -> str:
         return f"{self.number}, value {self.place}, {self.name}: {self.fault}"
 
 
-# Of each kind: what it is multiplied by, and what is written is from the least to the greatest; in words, the measure.
+# What flows and prices are multiplied by, the least and the greatest that is written, and the measure. A share from 0
+# to 1 gives nothing that is out of range.
 FACTORS = {
-    "share": (100_000, 0, 100_000, "hundred-thousandths"),
     "system": (100, -(2**31), 2**31 - 1, "cents"),
     "flow": (10, 0, 2**32 - 1, "tenths"),
     "shadow": (100, 0, 1_000_000, "cents"),
 }
 
 
-def nearest(product):
+def nearest(product: float) -> int:
     """The whole number nearest to a float, halves away from zero."""
     whole = int(abs(product))
     whole += abs(product) - whole >= 0.5
     return -whole if product < 0 else whole
 
 
-def become(kind, bits, quantity=None):
-    """What a value becomes, or the number and the words of its fault."""
+def fault_of(kind: str, bits: int) -> tuple[int, str]:
+    """The number and the words of what is wrong with a value; 0 and none where nothing is."""
     value, word = value_of(bits), word_of(bits)
     if not math.isfinite(value):
-        return None, 58, f"{word} is not finite"
-    factor, least, greatest, measure = FACTORS.get(kind, (quantity, 0, quantity, "tenths"))
+        return 58, f"{word} is not finite"
     if kind != "system" and value < 0:
-        return None, 59, f"{word} is negative"
-    if kind in ("share", "accepted") and value > 1:
-        return None, 59, f"{word} is over 1"
+        return 59, f"{word} is negative"
+    if kind in ("share", "accepted"):
+        return (59, f"{word} is over 1") if value > 1 else (0, "")
+    factor, least, greatest, measure = FACTORS[kind]
     product = value * factor
     if math.isinf(product):
-        return None, 59, f"{word} times {factor} is infinite"
-    number = nearest(product) if kind in ("system", "shadow") else int(product)
-    if not least <= number <= greatest:
-        side, limit = ("over", greatest) if number > greatest else ("under", least)
-        shown = f"{number:,}" if abs(number) < 10**18 else f"{product!r}"
-        return None, 59, f"{word} is {shown} {measure}, {side} {limit:,}"
-    return number, 0, ""
+        return 59, f"{word} times {factor} is infinite"
+    number = int(product) if kind == "flow" else nearest(product)
+    if least <= number <= greatest:
+        return 0, ""
+    side, limit = ("over", greatest) if number > greatest else ("under", least)
+    shown = f"{number:,}" if abs(number) < 10**18 else f"{product!r}"
+    return 59, f"{word} is {shown} {measure}, {side} {limit:,}"
 
 
-def readings(case, dump):
-    """Every whole value of a dump that the case's header counts, in file order."""
+def proposal_numbers(proposal: bytes | None) -> list[int]:
+    """The numbers of a proposal in the order of a dump's values, none without one."""
+    if proposal is None:
+        return []
+    header = hour.header_values("proposal", proposal)
+    rest = struct.iter_unpack("<I", proposal[hour.header_layout("proposal").size :])
+    return [header["share"], header["system"], *(number for (number,) in rest)]
+
+
+def readings(case: bytes, dump: bytes, proposal: bytes | None = None) -> list[Reading]:
+    """Every whole value of a dump that the case's header counts, in file order, with what it becomes."""
     counts = hour.case_counts(case)
-    orders = hour.whole_records("case", case, counts)[0]["order"]
-    quantities: dict[int | None, int] = {index: row[2] for index, row in enumerate(orders)}
     named: list[tuple[str, int | None]] = [(kind, None) for kind in OPENING]
     named += [(kind, index) for kind, name, _ in KINDS for index in range(counts.get(name, 0))]
+    becomes = dict(enumerate(proposal_numbers(proposal)))
     found = []
     for place, ((kind, index), (bits,)) in enumerate(zip(named, struct.iter_unpack("<Q", whole_values(dump)))):
-        quantity = quantities.get(index) if kind == "accepted" else None
-        if kind == "accepted" and quantity is None:
-            found.append(Reading(place, kind, index, bits, None))
-        else:
-            found.append(Reading(place, kind, index, bits, *become(kind, bits, quantity)))
+        found.append(Reading(place, kind, index, bits, becomes.get(place), *fault_of(kind, bits)))
     return found
 
 
-def whole_values(dump):
+def whole_values(dump: bytes) -> bytes:
     return dump[: len(dump) - len(dump) % VALUE_BYTES]
 
 
-def demanded_length(counts):
+def demanded_length(counts: Mapping[str, int]) -> int:
     return VALUE_BYTES * (len(OPENING) + sum(counts[name] for _, name, _ in KINDS))
 
 
 # Bytes to text.
 
 
-def outcome(reading, known, before):
-    """What a value becomes, or why it does not, with what stands before it; of a case that is refused nothing is known."""
+def outcome(reading: Reading, known: bool, before: str) -> str:
+    """What a value becomes, or why not, with what stands before it; nothing is known if the case is refused."""
     if not known or (reading.becomes is None and not reading.number):
         return ""
     fault = f"is refused by {reading.number}: {reading.fault}"
     return before + (fault if reading.number else f"becomes {reading.becomes}")
 
 
-def show_dump(case, dump, known):
+def show_dump(case: bytes, dump: bytes, proposal: bytes | None, known: bool) -> Iterator[str]:
     """The lines of a dump, as far as the case's header counts its values."""
     counts = hour.case_counts(case)
     rows = hour.whole_records("case", case, counts)[0]
-    shown = readings(case, dump)
+    shown = readings(case, dump, proposal)
     if len(shown) < len(OPENING):
         yield f"# The dump ends after {len(dump)} bytes, before the end of its second value."
         yield from hour.show_hex("dump", dump) if dump else ["append dump"]
@@ -307,7 +316,7 @@ def show_dump(case, dump, known):
         width = max((len(word_of(one.bits)) for one in own), default=0)
         for one in own:
             note = f"at {VALUE_BYTES * one.place}, value {one.place}, {owner} {one.index}"
-            if one.index < len(rows[owner]):
+            if one.index is not None and one.index < len(rows[owner]):
                 words = hour.show_row(owner, rows[owner][one.index])
                 note += f": RAM {words[0]}" if owner == "branch" else f": {' '.join(words)}"
             yield f"{kind} {word_of(one.bits).rjust(width)}  # {note}{outcome(one, known, '; ')}"
@@ -319,8 +328,10 @@ def show_dump(case, dump, known):
     yield from hour.show_hex("dump", rest)
 
 
-def show(case, dump, remark="", known=True):
-    """The text of a case and a dump, whatever their bytes; remark is a line for the reader."""
-    lines = list(show_dump(case, dump, known))
+def show(case: bytes, dump: bytes, proposal: bytes | None = None, remark: str = "", known: bool = True) -> str:
+    """The text of a case and a dump, whatever their bytes, with what each value becomes in the library's proposal, if
+    there is one; remark is a line for the reader.
+    """
+    lines = list(show_dump(case, dump, proposal, known))
     comment = f"# {remark}\n" if remark else ""
     return hour.show(case) + "\n" + UNITS + comment + "".join(f"{line}\n" for line in lines)

@@ -1,21 +1,21 @@
 """lta intuitive: whether an accepted hour's exchanges can all go from a lower or equal price to a higher one. Yes or no
-and the total are the library's. Which zones are cut off is found beside it and held to its answer: no counted pair
+and the total are the library's. Which zones are cut off is found next to it and held to its answer: no counted pair
 leaves them, and what they export above what they import is just what cannot be carried.
 """
 
 from __future__ import annotations
 
-import json
 from collections import deque
-from dataclasses import dataclass
+from collections.abc import Iterable, Iterator, Mapping, Sequence
+from dataclasses import dataclass, replace
 
-from . import amounts, explain_text, hour, library, numbers, provenance, rules
+from . import amounts, explain_text, hour, library, numbers, rules, schema
 from .causes import Disagreement, explain
-from .inputs import InputError, printable, why_not
+from .inputs import Hashed, HourFiles, InputError, printable, why_not
 
-NOT_PROVED = "Yes or no and the total are the library's. All else is computed beside it and is not proved."
+RECORD_TYPE = schema.INTUITIVE
+NOT_PROVED = "Yes or no and the total are the library's. All else is computed next to it and is not proved."
 LINKS = "the case's links"
-MW_DECIMALS = 1
 
 
 # Pairs.
@@ -26,39 +26,39 @@ class Pairs:
     """The pairs of zones that are asked about: where they come from, and of a text the line of each."""
 
     name: str
-    zones: tuple
-    lines: tuple = ()
+    zones: tuple[tuple[int, int], ...]
+    lines: tuple[int, ...] = ()
 
-    def place(self, index):
+    def place(self, index: int) -> str:
         return f"pair {index}" + (f", line {self.lines[index]} of {printable(self.name)}" if self.lines else "")
 
 
-def links(case):
+def links(case: bytes) -> Pairs:
     return Pairs(LINKS, tuple(hour.link_pairs(case)))
 
 
-def read_pairs(name, data):
+def read_pairs(name: str, data: bytes) -> Pairs:
     """The pairs of a text: two zones to a line, with # before a comment. Which zones there are, the library asks."""
     zones, lines = [], []
     try:
-        for line, content in enumerate(data.decode().split("\n"), 1):
+        for line, content in enumerate(hour.decoded(data).split("\n"), 1):
             words = content.split("#", 1)[0].split()
             if not words:
                 continue
             try:
                 if len(words) != 2:
                     raise ValueError(f"a pair takes two zones, not {len(words)}")
-                pair = tuple(hour.number(word, "zone", "B") for word in words)
+                first, second = (hour.number(word, "zone", "B") for word in words)
             except ValueError as fault:
                 raise hour.TextError(line, str(fault)) from None
-            zones.append(pair)
+            zones.append((first, second))
             lines.append(line)
     except ValueError as fault:
         raise InputError(name, why_not(fault)) from None
     return Pairs(name, tuple(zones), tuple(lines))
 
 
-def pair_fault(pairs, index, zones):
+def pair_fault(pairs: Sequence[tuple[int, int]], index: int, zones: int) -> str | None:
     """What is wrong with a pair, or None: 84's causes."""
     first, second = pairs[index]
     unknown = [zone for zone in (first, second) if zone >= zones]
@@ -80,20 +80,20 @@ def pair_fault(pairs, index, zones):
 class Graph:
     """Annex 5.1's graph: what each zone exports, in tenths, and the pairs that count at the zone prices."""
 
-    def __init__(self, exports, prices, pairs):
-        self.exports = list(exports)
+    def __init__(self, exports: Iterable[int], prices: Sequence[int], pairs: Iterable[tuple[int, int]]) -> None:
+        self.exports, self.prices = list(exports), prices
         self.counted = [(first, second) for first, second in pairs if prices[first] <= prices[second]]
 
     @property
-    def to_carry(self):
+    def to_carry(self) -> int:
         return sum(export for export in self.exports if export > 0)
 
-    def sent(self, zones):
+    def sent(self, zones: Iterable[int]) -> tuple[int, int]:
         """What these zones export, and what they import."""
         exports = [self.exports[zone] for zone in zones]
         return sum(export for export in exports if export > 0), -sum(export for export in exports if export < 0)
 
-    def cut_off(self):
+    def cut_off(self) -> list[int]:
         """The zones that are reached from exports that are left when as much is carried as can be; in order."""
         left = [max(export, 0) for export in self.exports]
         room = [max(-export, 0) for export in self.exports]
@@ -104,9 +104,10 @@ class Graph:
             if not ends:
                 return sorted(came)
             steps, zone = [], ends[0]
-            while came[zone] is not None:
-                steps.append((came[zone], zone))
-                zone = came[zone]
+            before = came[zone]
+            while before is not None:
+                steps.append((before, zone))
+                zone, before = before, came[before]
             # A step along a counted pair has no limit; one back takes at most what goes there.
             limits = [flow[(second, first)] for first, second in steps if (first, second) not in flow]
             amount = min(left[zone], room[ends[0]], *limits)
@@ -118,7 +119,7 @@ class Graph:
                 else:
                     flow[(second, first)] -= amount
 
-    def reached(self, left, flow):
+    def reached(self, left: Sequence[int], flow: Mapping[tuple[int, int], int]) -> dict[int, int | None]:
         """The zones reached from those that have exports left, each with the zone before it."""
         came: dict[int, int | None] = {zone: None for zone, export in enumerate(left) if export}
         waiting = deque(came)
@@ -133,11 +134,11 @@ class Graph:
         return came
 
 
-def yes_or_no(intuitive, total):
-    return f"{'yes' if intuitive else 'no'} and {amounts.mw(total)}"
+def yes_or_no(intuitive: bool | None, total: int | None) -> str:
+    return f"{'yes' if intuitive else 'no'} and {amounts.mw(total or 0)}"
 
 
-def cross_checked(graph, answer):
+def cross_checked(graph: Graph, answer: library.Carried) -> list[int]:
     """The zones that are cut off, once they bear out the library's answer; for a yes there are none."""
     zones = graph.cut_off()
     exports, imports = graph.sent(zones)
@@ -154,62 +155,85 @@ def cross_checked(graph, answer):
 
 @dataclass(frozen=True)
 class IntuitiveResult:
-    """The library's answer on an hour, and what is found beside it."""
+    """The library's answer on an hour, and what is found next to it; or why there is no answer."""
 
     name: str
-    pairs: Pairs
-    answer: library.Carried
+    pairs: Pairs | None = None
+    answer: library.Carried | None = None
     # In words, of a refusal.
     cause: str = ""
-    sums: rules.Sums | None = None
     graph: Graph | None = None
-    cut_off: tuple = ()
-    inputs: tuple = ()
+    cut_off: tuple[int, ...] = ()
+    inputs: tuple[Hashed, ...] = ()
+    families: str = ""
+    error: str = ""
+
+    @property
+    def intuitive(self) -> bool:
+        return self.answer is not None and bool(self.answer.intuitive)
+
+    @property
+    def answered(self) -> tuple[Graph, int]:
+        """The graph and the total of an hour that is answered."""
+        if self.graph is None or self.answer is None or self.answer.total is None:
+            raise ValueError(f"{self.name} is not answered")
+        return self.graph, self.answer.total
 
 
-def ask(name, case, proposal, pairs, inputs=()):
-    """Has the library answer, and finds the rest."""
+def ask(name: str, read: HourFiles, pairs: Pairs, pairs_read: Sequence[Hashed] = ()) -> IntuitiveResult:
+    """Has the library answer on an hour as it was read, and finds the rest. An hour that is refused with its family
+    list is not accepted, and not answered.
+    """
+    case, proposal, families = read.case, read.proposal, read.families
     answer = library.intuitive(case, proposal, pairs.zones)
+    if families is not None:
+        judgement = library.judge(case, proposal, families)
+        if not judgement.accepted:
+            answer = library.Carried(*judgement.verdict)
+    made = IntuitiveResult(name, pairs, answer, inputs=(*read.inputs, *pairs_read), families=read.list_use)
     if answer.number in numbers.VERDICTS and not answer.answered:
-        return IntuitiveResult(name, pairs, answer, refused_hour(case, proposal, answer), inputs=inputs)
+        return replace(made, cause=refused_hour(read, answer))
     sums = rules.Sums(case, proposal)
     if not answer.answered:
-        return IntuitiveResult(name, pairs, answer, refused_pair(pairs, answer, sums.zones), inputs=inputs)
+        return replace(made, cause=refused_pair(pairs, answer, sums.zones))
     graph = Graph([-net for net in sums.net], sums.prices, pairs.zones)
-    return IntuitiveResult(name, pairs, answer, "", sums, graph, tuple(cross_checked(graph, answer)), inputs)
+    return replace(made, graph=graph, cut_off=tuple(cross_checked(graph, answer)))
 
 
-def refused_hour(case, proposal, answer):
+def refused_hour(read: HourFiles, answer: library.Carried) -> str:
     """Why the hour is not accepted: the judgement's words, of the same number and index."""
-    found = explain(case, proposal)
+    found = explain(read.case, read.proposal, families=read.families)
     if (found.number, found.index) != (answer.number, answer.index):
         raise Disagreement(f"{answer.number} {answer.index}", f"{found.number} {found.index}")
     return found.words
 
 
-def refused_pair(pairs, answer, zones):
+def refused_pair(pairs: Pairs, answer: library.Carried, zones: int) -> str:
     if answer.number != 84:
         return f"{answer.number}: {answer.text}"
     faults = ((index, pair_fault(pairs.zones, index, zones)) for index in range(len(pairs.zones)))
-    first, fault = next(((index, fault) for index, fault in faults if fault), (None, ""))
-    if first != answer.index:
-        raise Disagreement(f"84 {answer.index}", "no pair at fault" if first is None else f"84 {first}")
-    return f"84, {pairs.place(first)}: {fault}"
+    for first, fault in faults:
+        if fault and first != answer.index:
+            raise Disagreement(f"84 {answer.index}", f"84 {first}")
+        if fault:
+            return f"84, {pairs.place(first)}: {fault}"
+    raise Disagreement(f"84 {answer.index}", "no pair at fault")
 
 
-def zones_words(zones):
+def zones_words(zones: Sequence[int]) -> str:
     return f"zone {zones[0]}" if len(zones) == 1 else f"zones {', '.join(map(str, zones[:-1]))} and {zones[-1]}"
 
 
-def answer_lines(result):
+def answer_lines(result: IntuitiveResult) -> Iterator[str]:
     """Yes or no, the total, and for a no what is cut off."""
     way = "from a lower or equal price to a higher one"
-    to_carry, total = result.graph.to_carry, result.answer.total
-    if result.answer.intuitive:
+    graph, total = result.answered
+    to_carry = graph.to_carry
+    if result.intuitive:
         yield f"yes: all {amounts.mw(total)} of exports can go {way}"
         return
     yield f"no: {amounts.mw(total)} of {amounts.mw(to_carry)} of exports can go {way}"
-    exports, imports = result.graph.sent(result.cut_off)
+    exports, imports = graph.sent(result.cut_off)
     one = len(result.cut_off) == 1
     yield ""
     yield f"  cut off  {zones_words(result.cut_off)}, which no counted pair leaves"
@@ -219,58 +243,55 @@ def answer_lines(result):
     )
 
 
-def zone_lines(result):
+def zone_lines(result: IntuitiveResult) -> Iterator[str]:
+    graph, _ = result.answered
     rows = [
         (
             f"zone {zone}",
             amounts.grains(price),
-            amounts.scaled(result.graph.exports[zone], 1, 1),
+            amounts.scaled(graph.exports[zone], 1, 1),
             "cut off" if zone in result.cut_off else "",
         )
-        for zone, price in enumerate(result.sums.prices)
+        for zone, price in enumerate(graph.prices)
     ]
     yield from explain_text.columns(("zone", "price, euros/MWh", "net position, MW", ""), rows)
 
 
-def pair_lines(result):
-    counted = set(result.graph.counted)
+def pair_lines(pairs: Pairs, graph: Graph) -> Iterator[str]:
     rows = []
-    for index, (first, second) in enumerate(result.pairs.zones):
-        prices = [amounts.grains(result.sums.prices[zone]) for zone in (first, second)]
-        counts = "counts" if (first, second) in counted else "does not count"
+    for index, (first, second) in enumerate(pairs.zones):
+        prices = [amounts.grains(graph.prices[zone]) for zone in (first, second)]
+        counts = "counts" if (first, second) in graph.counted else "does not count"
         rows.append((f"pair {index}", f"{first} to {second}", *prices, counts))
     yield from explain_text.columns(("pair", "zones", "first price", "second price", ""), rows, left=2)
 
 
-def as_text(result):
-    if not result.answer.answered:
+def as_text(result: IntuitiveResult) -> str:
+    if result.graph is None or result.pairs is None:
         return f"not answered; {result.cause}\n"
     lines = list(answer_lines(result))
     lines += explain_text.titled("Zones, export positive", zone_lines(result))
     title = f"Pairs, {printable(result.pairs.name)}"
-    lines += explain_text.titled(title, pair_lines(result) if result.pairs.zones else ["  none"])
+    lines += explain_text.titled(title, pair_lines(result.pairs, result.graph) if result.pairs.zones else ["  none"])
     return "\n".join([*lines, "", NOT_PROVED]) + "\n"
 
 
-def as_json(result):
-    """For machines: MW with all their decimals, as text, as judge has euros."""
+def record(result: IntuitiveResult) -> schema.Record:
+    """An hour for machines: MW with all their decimals, as text, as judge has euros."""
     answer, graph = result.answer, result.graph
 
-    def mw(tenths):
-        return None if tenths is None else amounts.fixed(tenths, MW_DECIMALS)
+    def mw(tenths: int | None) -> str | None:
+        return None if tenths is None else amounts.fixed(tenths, schema.MW_DECIMALS)
 
-    made = {
-        "file": result.name,
-        "number": answer.number,
-        "index": answer.index,
-        "text": answer.text,
-        "intuitive": answer.intuitive,
-        "total": mw(answer.total),
-        "exports": mw(graph.to_carry if graph else None),
-        "not_carried": mw(graph.to_carry - answer.total if graph else None),
-        "cut_off": list(result.cut_off) if graph else None,
-        "pairs": [list(pair) for pair in result.pairs.zones],
-        "counted": [list(pair) for pair in graph.counted] if graph else None,
-        **provenance.fields(result.inputs),
-    }
-    return json.dumps(made, indent=1) + "\n"
+    return schema.answer_record(
+        schema.INTUITIVE,
+        result,
+        intuitive=answer.intuitive if answer else None,
+        carried_mw=mw(answer.total if answer else None),
+        exports_mw=mw(graph.to_carry if graph else None),
+        not_carried_mw=mw(graph.to_carry - result.answered[1] if graph else None),
+        cut_off=list(result.cut_off) if graph else None,
+        pairs=[list(pair) for pair in result.pairs.zones] if result.pairs else None,
+        counted=[list(pair) for pair in graph.counted] if graph else None,
+        explanation=(f"0: {next(answer_lines(result))}" if graph else result.cause) or None,
+    )

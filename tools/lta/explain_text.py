@@ -1,18 +1,22 @@
 """lta explain: the verdict in words with the field at fault, and of an hour that could be cleared what is in it: zones,
-branches, links, and the gap's parts. The verdict, the totals and, of an accepted hour, the shortfalls are the library's;
-all else is computed beside it.
+branches, links, and the gap's parts. The verdict, the totals and, of an accepted hour, the shortfalls are the
+library's; all else is computed next to it.
 """
 
-from . import amounts, gap, hour, rules
+from __future__ import annotations
 
-NOT_PROVED = "Verdict, totals and prices are the library's. All else is computed beside it and is not proved."
+from collections.abc import Iterable, Iterator, Mapping, Sequence
+
+from . import amounts, causes, further, gap, hour, library, rules
+
+NOT_PROVED = "Verdict, totals and prices are the library's. All else is computed next to it and is not proved."
 NOT_PROVED_ACCEPTED = (
-    "Verdict, totals, prices and shortfalls are the library's. All else is computed beside it and is not proved."
+    "Verdict, totals, prices and shortfalls are the library's. All else is computed next to it and is not proved."
 )
 HEX_ROW = 16
 
 
-def columns(head, rows, left=1):
+def columns(head: Sequence[str], rows: Iterable[Sequence[str]], left: int = 1) -> Iterator[str]:
     """A table as lines; the first columns, as many as left says, begin at their left."""
     table = [head, *rows]
     widths = [max(len(row[at]) for row in table) for at in range(len(head))]
@@ -23,7 +27,7 @@ def columns(head, rows, left=1):
         yield ("  " + "  ".join(cells)).rstrip()
 
 
-def hex_rows(data, field):
+def hex_rows(data: bytes, field: causes.Field) -> Iterator[tuple[int, list[tuple[int, bool]]]]:
     """The bytes around a field, sixteen to a row: where the row begins, and of each byte whether it is the field's."""
     start, end = field.offset, field.offset + field.size
     first = max(0, start // HEX_ROW - 1) * HEX_ROW
@@ -33,7 +37,7 @@ def hex_rows(data, field):
         yield row, [(data[at], start <= at < end) for at in range(row, min(row + HEX_ROW, len(data)))]
 
 
-def hex_lines(data, field):
+def hex_lines(data: bytes, field: causes.Field) -> Iterator[str]:
     """The same as lines, the field's own bytes in brackets."""
     for row, row_bytes in hex_rows(data, field):
         line, inside = f"    {row:>6} 0x{row:04x} ", False
@@ -43,7 +47,7 @@ def hex_lines(data, field):
         yield line + "]" * inside
 
 
-def field_lines(field):
+def field_lines(field: causes.Field) -> Iterator[str]:
     yield f"  field   {field.name}"
     yield f"  value   {field.value}"
     if field.limit:
@@ -51,12 +55,12 @@ def field_lines(field):
     yield f"  place   {field.place()}"
 
 
-def joined_words(case):
+def joined_words(case: bytes) -> str:
     """Where to look for the proposal's offsets in a joined file."""
     return f"the proposal begins at offset {len(case)} (0x{len(case):x}) of the file"
 
 
-def fault_lines(explanation, files, joined):
+def fault_lines(explanation: causes.Explanation, files: Mapping[str, bytes | None], joined: bool) -> Iterator[str]:
     """The field at fault, the bytes around it, and the fields that it is held to."""
     if not explanation.fields:
         return
@@ -64,14 +68,14 @@ def fault_lines(explanation, files, joined):
     yield ""
     yield from field_lines(first)
     if first.size:
-        yield from hex_lines(files[first.file], first)
+        yield from hex_lines(files[first.file] or b"", first)
     for other in others:
         yield f"  with    {other.name}: {other.value}; {other.place()}"
     if joined and any(field.file == "proposal" for field in explanation.fields):
-        yield f"  joined  {joined_words(files['case'])}"
+        yield f"  joined  {joined_words(files['case'] or b'')}"
 
 
-def totals_lines(judgement, sums):
+def totals_lines(judgement: library.Judgement, sums: rules.Sums) -> Iterator[str]:
     yield from columns(
         ("total", "euros"), [(name, amounts.microcents(total)) for name, total in judgement.totals.items()]
     )
@@ -81,32 +85,32 @@ def totals_lines(judgement, sums):
         yield f"  {no_link_words(sums)}"
 
 
-def no_link_words(sums):
+def no_link_words(sums: rules.Sums) -> str:
     """Request S-6: what an hour without links is bounded by, and that nothing is promised of its rent."""
     total = amounts.microcents(sums.branch_total)
     return f"No link: the bound has the branch total alone, {total} euros, and the coverage rule says nothing here."
 
 
-def has_contracted(sums):
+def has_contracted(sums: rules.Sums) -> bool:
     """Whether the links say what is contracted, as those of a case of version 2 do."""
     return sums.version == hour.CONTRACTED_VERSION and bool(sums.links)
 
 
-def link_total_name(sums):
+def link_total_name(sums: rules.Sums) -> str:
     """In version 1, where all is contracted, it is what is owed."""
-    return "link total" if has_contracted(sums) else "owed"
+    return "the link total" if has_contracted(sums) else "owed"
 
 
-def link_total(sums):
+def link_total(sums: rules.Sums) -> str:
     return f"{amounts.microcents(sums.link_total)} euros"
 
 
-def contracted_of(link):
+def contracted_of(link: rules.Link) -> str:
     """What is contracted of a link, in MW."""
     return f"{amounts.scaled(link.contracted, 1, 1)} of {amounts.scaled(link.capacity, 1, 1)}"
 
 
-def zone_lines(sums):
+def zone_lines(sums: rules.Sums) -> Iterator[str]:
     parts = (sums.net, sums.lta, sums.flow_based)
     rows = [
         (f"zone {zone}", amounts.grains(price), *(amounts.scaled(part[zone], 1, 1) for part in parts))
@@ -115,7 +119,7 @@ def zone_lines(sums):
     yield from columns(("zone", "price, euros/MWh", "net position, MW", "LTA part", "flow-based part"), rows)
 
 
-def standing(amount, room, priced, step=1):
+def standing(amount: int, room: int, priced: bool, step: int = 1) -> str:
     """How an amount stands to its room, in steps of which the next must fit: broken, full or not, and priced or not."""
     if amount > room:
         return "BROKEN"
@@ -124,7 +128,7 @@ def standing(amount, room, priced, step=1):
     return "priced, not full" if priced else ""
 
 
-def use_of(amount, room):
+def use_of(amount: int, room: int) -> str:
     """An amount in per cent of its room; 100 only where it is just that."""
     if room <= 0:
         return ""
@@ -134,7 +138,7 @@ def use_of(amount, room):
     return shown
 
 
-def branch_lines(sums):
+def branch_lines(sums: rules.Sums) -> Iterator[str]:
     rows = [
         (
             f"branch {index}",
@@ -149,7 +153,7 @@ def branch_lines(sums):
     yield from columns(("branch", "load, MW", "room, MW", "use", "shadow price, euros/MWh", ""), rows)
 
 
-def link_lines(sums):
+def link_lines(sums: rules.Sums) -> Iterator[str]:
     contracted = has_contracted(sums)
     rows = [
         (
@@ -168,8 +172,10 @@ def link_lines(sums):
     yield from columns(head, rows, left=2)
 
 
-def part_name(sums, kind, place):
+def part_name(sums: rules.Sums, kind: str, place: int | None) -> str:
     """A part of the gap, named by what falls short."""
+    if place is None:
+        return share_part_name(sums, kind)
     if kind == "order":
         order = sums.orders[place]
         side = "buys" if order.buys else "sells"
@@ -179,24 +185,31 @@ def part_name(sums, kind, place):
     if kind == "branch":
         free = amounts.load_mw(sums.branch_rooms[place] - sums.loads[place])
         return f"branch {place}: {free} free at a shadow price of {amounts.cents(sums.branches[place].shadow)}"
-    if kind == "link":
-        link, spread = sums.links[place], sums.spreads[place]
-        free = amounts.load_mw(sums.link_rooms[place] - sums.uses[place])
-        if spread < 0:
-            return f"link {place}: {amounts.mw(link.flow)} against a spread of {amounts.grains(spread)}"
-        return f"link {place}: {free} free at a spread of {amounts.grains(spread)}"
+    link, spread = sums.links[place], sums.spreads[place]
+    free = amounts.load_mw(sums.link_rooms[place] - sums.uses[place])
+    if spread < 0:
+        return f"link {place}: {amounts.mw(link.flow)} against a spread of {amounts.grains(spread)}"
+    return f"link {place}: {free} free at a spread of {amounts.grains(spread)}"
+
+
+def share_part_name(sums: rules.Sums, kind: str) -> str:
+    """The part of the gap that the LTA share makes: the bound takes the larger of branch total and link total whole,
+    and the hour takes each by its share.
+    """
+    behind = amounts.microcents(abs(sums.branch_total - sums.link_total))
     if kind == "branch total":
         rest = amounts.per_cent(rules.WHOLE - sums.share)
-        return f"left: branch total below {link_total_name(sums)}, by the {rest} that is flow-based"
-    return f"left: {link_total_name(sums)} below branch total, by the LTA share of {amounts.per_cent(sums.share)}"
+        return f"LTA share: {rest} is flow-based, and the branch total is {behind} below {link_total_name(sums)}"
+    share = amounts.per_cent(sums.share)
+    return f"LTA share: {share} goes by links, and {link_total_name(sums)} is {behind} below the branch total"
 
 
-def fraction_of(order):
+def fraction_of(order: rules.Order) -> str:
     """What is accepted of an order, in per cent, cut to a thousandth."""
     return f"{amounts.scaled(100_000 * order.volume // order.quantity, 3, 1)} %"
 
 
-def family_rows(sums, parents):
+def family_rows(sums: rules.Sums, parents: Sequence[int | None]) -> Iterator[tuple[str, ...]]:
     """Of each order that has a parent: it, its parent, and what is accepted of the two."""
     for child, parent in enumerate(parents):
         if parent is not None:
@@ -205,7 +218,7 @@ def family_rows(sums, parents):
             yield f"order {child}", f"order {parent}", fraction_of(one), fraction_of(other), "AHEAD" if ahead else ""
 
 
-def family_lines(sums, parents):
+def family_lines(sums: rules.Sums, parents: Sequence[int | None]) -> Iterator[str]:
     rows = list(family_rows(sums, parents))
     if not rows:
         yield "  No order has a parent."
@@ -213,36 +226,41 @@ def family_lines(sums, parents):
         yield from columns(("order", "parent", "accepted", "of its parent", ""), rows, left=2)
 
 
-def titled(title, lines):
+def titled(title: str, lines: Iterable[str]) -> Iterator[str]:
     yield ""
     yield title
     yield from lines
 
 
-def part_rows(sums, parts):
+def part_rows(sums: rules.Sums, parts: gap.Parts) -> list[tuple[str, int]]:
     """The parts that are not zero, the shortfalls largest first: each with its name and amount."""
     return [(part_name(sums, part.kind, part.place), part.amount) for part in parts.nonzero]
 
 
-def part_lines(sums, parts):
+def part_lines(sums: rules.Sums, parts: gap.Parts) -> Iterator[str]:
     whole = rules.WHOLE * parts.gap
     rows = [(name, amounts.gap_part(amount), f"{100 * amount / whole:.1f} %") for name, amount in part_rows(sums, parts)]
     yield from columns(("what falls short", "euros", "of the gap"), rows)
 
 
-def gap_title(parts):
+def gap_title(parts: gap.Parts) -> str:
     """On a refusal by 26 the library gives no shortfalls."""
     whence = "" if parts.from_library else ", found beside the library, which gives none of a refusal"
     return f"Gap: shortfalls, largest first, and what is left{whence}"
 
 
-def gap_lines(sums, parts):
+def gap_lines(sums: rules.Sums, parts: gap.Parts) -> Iterator[str]:
     if parts.gap:
         return titled(gap_title(parts), part_lines(sums, parts))
     return titled("Gap", ["  0.00: no order, branch or link falls short."])
 
 
-def hour_lines(judgement, sums, parts, parents=None):
+def hour_lines(
+    judgement: library.Judgement,
+    sums: rules.Sums,
+    parts: gap.Parts | None,
+    parents: Sequence[int | None] | None = None,
+) -> Iterator[str]:
     if judgement.number in hour.REPORTED:
         yield from titled("Totals", totals_lines(judgement, sums))
     yield from titled(f"Zones, import positive; LTA share {amounts.per_cent(sums.share)}", zone_lines(sums))
@@ -252,18 +270,27 @@ def hour_lines(judgement, sums, parts, parents=None):
         yield from titled("Links", link_lines(sums))
     if parents is not None:
         yield from titled("Families", family_lines(sums, parents))
-    if judgement.number in hour.REPORTED:
+    if parts is not None:
         yield from gap_lines(sums, parts)
 
 
-def clearable(number):
+def clearable(number: int) -> bool:
     """Whether an hour of this number has volumes, flows and prices that can be looked at."""
     return number == 0 or 21 <= number <= 28
 
 
-def full_text(case, proposal, judgement, explanation, joined=False, families=None):
+def full_text(
+    case: bytes,
+    proposal: bytes,
+    judgement: library.Judgement,
+    explanation: causes.Explanation,
+    joined: bool = False,
+    families: bytes | None = None,
+) -> str:
     """All that lta explain prints, of two files or of a joined one, with a family list if there is one."""
     lines = [explanation.words]
+    if not judgement.accepted:
+        lines.append(further.also(case, proposal, families, judgement).line)
     lines += fault_lines(explanation, {"case": case, "proposal": proposal, "families": families}, joined)
     if clearable(judgement.number):
         sums = rules.Sums(case, proposal)

@@ -1,6 +1,6 @@
-"""The gap's parts: by how much each order, branch and link of an accepted hour falls short (request S-14), as the library
-writes it, and what is left, the larger total's lead. The shortfalls are found here too, beside the library, and held to
-it; the lead is computed here, from both totals, and held to what the shortfalls leave of the reported gap.
+"""The gap's parts: by how much each order, branch and link of an accepted hour falls short (request S-14), as the
+library writes it, and what is left, the larger total's lead. The lead is computed here, from both totals, and held to
+what the shortfalls leave of the reported gap.
 """
 
 from __future__ import annotations
@@ -31,74 +31,70 @@ class Part:
 
 @dataclass(frozen=True)
 class Parts:
-    """An hour's gap in microcents and its parts: the shortfalls in file order, the library's or found beside it, and
+    """An hour's gap in microcents and its parts: the shortfalls in file order, the library's or found next to it, and
     what is left.
     """
 
     gap: int
-    shortfalls: tuple
-    left: tuple
+    shortfalls: tuple[Part, ...]
+    left: tuple[Part, ...]
     from_library: bool
 
     @property
-    def short(self):
+    def short(self) -> list[Part]:
         """The shortfalls that are not zero, largest first."""
         return sorted((part for part in self.shortfalls if part.amount), key=lambda part: -part.amount)
 
     @property
-    def lead(self):
+    def lead(self) -> int:
         return sum(part.amount for part in self.left)
 
     @property
-    def nonzero(self):
+    def nonzero(self) -> list[Part]:
         """What a reader sees: the shortfalls that are not zero, largest first, and what is left."""
         return [*self.short, *(part for part in self.left if part.amount)]
 
 
-def own_parts(sums):
-    """The shortfalls and what is left, found here."""
-    found = [Part(*part) for part in sums.gap_parts()]
-    return tuple(part for part in found if part.kind in KINDS), tuple(part for part in found if part.kind not in KINDS)
+def own_shortfalls(sums: rules.Sums) -> tuple[Part, ...]:
+    """The shortfalls in file order, computed here."""
+    return tuple(Part(*found) for found in sums.shortfalls())
 
 
-def of_answer(answer):
+def of_answer(answer: library.Shortfalls) -> tuple[Part, ...]:
     """The library's shortfalls in file order."""
     lists = zip(KINDS, (answer.orders, answer.branches, answer.links))
-    return tuple(Part(kind, place, amount) for kind, found in lists for place, amount in enumerate(found))
+    return tuple(Part(kind, place, amount) for kind, found in lists for place, amount in enumerate(found or ()))
 
 
-def cross_checked(answer, judgement, sums):
-    """The parts of an accepted hour, once what is found here bears out the library's answer."""
-    written, (found, left) = of_answer(answer), own_parts(sums)
-    for pair in zip(written, found):
-        if pair[0] != pair[1]:
-            raise Disagreement(*(f"{part.kind} {part.place} short by {amounts.gap_part(part.amount)}" for part in pair))
-    rest = rules.WHOLE * judgement.gap - sum(part.amount for part in written)
-    lead = sum(part.amount for part in left)
-    if len(written) != len(found) or rest != lead:
+def cross_checked(judgement: library.Judgement, shortfalls: tuple[Part, ...], sums: rules.Sums) -> Parts:
+    """The parts of a gap, if shortfalls and leads together are the gap that the library reports."""
+    left = tuple(Part(kind, None, amount) for kind, amount in sums.leads())
+    gap, lead = judgement.gap or 0, sum(part.amount for part in left)
+    rest = rules.WHOLE * gap - sum(part.amount for part in shortfalls)
+    if rest != lead:
         raise Disagreement(f"shortfalls that leave {amounts.gap_part(rest)}", f"a lead of {amounts.gap_part(lead)}")
-    return Parts(judgement.gap, written, left, True)
+    return Parts(gap, shortfalls, left, judgement.accepted)
 
 
-def parts(case, proposal, judgement, sums):
-    """The parts of an hour that has a gap: of an accepted one the library's shortfalls; of one refused by 26, on which
-    the library gives none, those found here.
+def parts(case: bytes, proposal: bytes, judgement: library.Judgement, sums: rules.Sums) -> Parts:
+    """The parts of an hour that has a gap. If it is accepted, the shortfalls are the library's. If it is refused by 26,
+    the library gives none, and they are computed here.
     """
     if not judgement.accepted:
-        shortfalls, left = own_parts(sums)
-        return Parts(judgement.gap, shortfalls, left, False)
+        return cross_checked(judgement, own_shortfalls(sums), sums)
     answer = library.shortfalls(case, proposal)
     if not answer.answered:
         raise Disagreement(f"{answer.number} {answer.index} for the shortfalls", "0 0")
-    return cross_checked(answer, judgement, sums)
+    return cross_checked(judgement, of_answer(answer), sums)
 
 
 # What a stored hour expects.
 
 
-def expected(text):
+def expected(text: str) -> dict[tuple[str, int], int] | None:
     """What falls short by the text of a stored hour, by kind and place, or None where it says nothing of that."""
-    found, expectation_lines = {}, []
+    found: dict[tuple[str, int], int] = {}
+    expectation_lines = []
     for line, content in enumerate(text.split("\n"), 1):
         match = EXPECTATION.match(content)
         if match is None:

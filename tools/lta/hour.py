@@ -8,8 +8,11 @@ from __future__ import annotations
 import os
 import re
 import struct
+from collections.abc import Callable, Iterable, Iterator, Mapping, Sequence
 from decimal import Decimal
-from typing import NoReturn
+from typing import Any, Union
+
+from . import reading
 
 TEXT_HELP = """\
 The text of an hour: one item per line; blank lines and what follows a # are passed over. Numbers are whole.
@@ -32,8 +35,9 @@ of version 1 all of a link's capacity is contracted. Links of every version but 
 A text without families has no list; for a list of no bytes it has append families, with nothing behind it.
 
 A margin sheet has a line per branch, its fields with commas between them: the margin in MW to one decimal, then one
-PTDF per zone to five. Sheets count export positive, so the PTDFs change sign. A sheet's FILE counts from the text's
-folder; a sheet that is refused is named with the number and index of request S-1, and 51 to 53 with the line.
+PTDF per zone to five. Sheets count export positive, so the PTDFs change sign. A sheet's FILE lies in the text's folder
+or below, and has at most 1 MiB; a sheet that is refused is named with the number and index of request S-1, and 51 to 53
+with the line.
 
 For wrong hours any value that fits its bits is taken, a side as a number too, and these change what is written:
 
@@ -69,6 +73,15 @@ UNITS = """\
 # After "at": the offset in its file of each field of the line.
 """
 
+Counts = Mapping[str, int]
+# The fields of a record or a header: the name and the struct code of each.
+Fields = tuple["tuple[str, str]", ...]
+# Records of one kind, each as its fields' numbers.
+Rows = list["tuple[int, ...]"]
+# The verdicts that a text expects, joined and apart, or with families and without, and the totals by name.
+Expected = tuple["tuple[int, int]", "tuple[int, int]", "dict[str, int]"]
+Folder = Union[str, "os.PathLike[str]"]
+
 # Least and greatest value of each struct code.
 RANGES = {"B": (0, 2**8 - 1), "H": (0, 2**16 - 1), "I": (0, 2**32 - 1), "i": (-(2**31), 2**31 - 1)}
 
@@ -91,7 +104,7 @@ FILE_OF = {kind: file for file, kinds in RECORDS.items() for kind, _ in kinds}
 COUNTS = ("branches", "links", "orders")
 
 # Fields of a record; a branch goes on with one PTDF per zone, a link of a case of version 2 with what is contracted.
-FIELDS = {
+FIELDS: dict[str, Fields] = {
     "branch": (("RAM", "i"),),
     "link": (("from zone", "B"), ("to zone", "B"), ("capacity", "I")),
     "order": (("zone", "B"), ("side", "B"), ("quantity", "I"), ("price", "i")),
@@ -101,8 +114,8 @@ FIELDS = {
     "parent": (("parent", "H"),),
 }
 
-PTDF = (("PTDF", "i"),)
-CONTRACTED = (("contracted", "I"),)
+PTDF: Fields = (("PTDF", "i"),)
+CONTRACTED: Fields = (("contracted", "I"),)
 CONTRACTED_VERSION = 2
 
 # Records of a proposal and of a family list: the record of the case that each belongs to.
@@ -133,15 +146,13 @@ EUROS = re.compile("".join(rf" {name} (-?[0-9]{{1,12}}(?:\.[0-9]{{1,8}})?)" for 
 MICROCENT_DECIMALS = 8
 REPORTED = (0, 26)
 HEX_BYTES_PER_LINE = 32
-LONGEST = 64 * 2**20  # bytes that are read of a file; a legal hour has at most 12,699, and 1,029 of families
-CHUNK = 2**20
 MOST_QUOTED = 40  # characters of a wrong word that a message repeats
 
 
 class TextError(ValueError):
     """A line of the text that cannot be built."""
 
-    def __init__(self, line, message):
+    def __init__(self, line: int, message: str) -> None:
         super().__init__(f"line {line}: {message}")
 
 
@@ -149,7 +160,7 @@ class OffsetError(ValueError):
     """An offset that is not one of the file."""
 
 
-def record_fields(kind, counts):
+def record_fields(kind: str, counts: Counts) -> Fields:
     """The fields of a record, by the zones and the version of the case's header; without one there are no more."""
     if kind == "branch":
         return FIELDS[kind] + PTDF * counts.get("zones", 0)
@@ -158,21 +169,21 @@ def record_fields(kind, counts):
     return FIELDS[kind]
 
 
-def record_layout(kind, counts):
+def record_layout(kind: str, counts: Counts) -> struct.Struct:
     return struct.Struct("<" + "".join(code for _, code in record_fields(kind, counts)))
 
 
-def header_layout(file):
+def header_layout(file: str) -> struct.Struct:
     return struct.Struct("<3s" + "".join(code for _, code in HEADERS[file]))
 
 
-def offsets_from(position, fields):
+def offsets_from(position: int, fields: Fields) -> list[int]:
     """The offset of each field, the first of which stands at the position."""
     sizes = [struct.calcsize("<" + code) for _, code in fields]
     return [position + sum(sizes[:n]) for n in range(len(sizes))]
 
 
-def record_offset(kind, index, counts):
+def record_offset(kind: str, index: int, counts: Counts) -> int:
     """Where the first field of a record stands in its file, by the case's header."""
     file = FILE_OF[kind]
     position = header_layout(file).size
@@ -183,7 +194,7 @@ def record_offset(kind, index, counts):
     return position + index * record_layout(kind, counts).size
 
 
-def demanded_length(file, counts):
+def demanded_length(file: str, counts: Counts) -> int:
     """The length of a file that the case's header demands."""
     kind, name = RECORDS[file][-1]
     return record_offset(kind, counts[name], counts)
@@ -192,12 +203,12 @@ def demanded_length(file, counts):
 # Text to bytes.
 
 
-def short(word, most=MOST_QUOTED):
+def short(word: str, most: int = MOST_QUOTED) -> str:
     """A word as a message quotes it: of a long one the beginning."""
     return word if len(word) <= most else word[:most] + "..."
 
 
-def number(word, name, code):
+def number(word: str, name: str, code: str) -> int:
     """The whole number of a word, refused when the field's bits cannot hold it."""
     if not WHOLE_NUMBER.fullmatch(word):
         raise ValueError(f"{name} {short(word)!r} is not a whole number")
@@ -207,7 +218,7 @@ def number(word, name, code):
     return int(word)
 
 
-def value(word, name, code):
+def value(word: str, name: str, code: str) -> int:
     """A record's field: a side by its word, no parent too, all else as a number."""
     if name == "parent" and word == NO_PARENT_WORD:
         return NO_PARENT
@@ -220,9 +231,9 @@ def value(word, name, code):
     return number(word, name, code)
 
 
-def named_numbers(words, codes):
+def named_numbers(words: Sequence[str], codes: Mapping[str, str]) -> dict[str, int]:
     """The numbers of words that go in pairs, name and number."""
-    found = {}
+    found: dict[str, int] = {}
     for name, word in zip(words[::2], words[1::2]):
         if name not in codes:
             raise ValueError(f"{short(name)!r} is not one of {', '.join(codes)}")
@@ -234,65 +245,57 @@ def named_numbers(words, codes):
     return found
 
 
-def hex_bytes(words):
+def hex_bytes(words: Sequence[str]) -> bytes:
     digits = "".join(words)
     if not HEX_PAIRS.fullmatch(digits):
         raise ValueError(f"{short(digits)!r} is not pairs of hex digits")
     return bytes.fromhex(digits)
 
 
-def refuse_line(number, index, message) -> NoReturn:
-    """Refuses a sheet at a line, named as an editor counts it and as request S-1 does."""
-    raise ValueError(f"line {index + 1} ({number} index {index}): {message}")
+def sheet_lines(sheet: bytes) -> int:
+    """How many lines a sheet has; what follows the last newline is one only if something stands there."""
+    return sheet.count(b"\n") + (sheet[-1:] not in (b"", b"\n"))
 
 
-def sheet_numbers(sheet, columns):
-    """The numbers of each line, each as its text, sign, digits and decimals; else 51."""
-    lines = sheet.split(b"\n")
-    # What follows the last newline is a line only if something stands there.
-    if not lines[-1]:
-        lines.pop()
-    table = []
-    for index, line in enumerate(lines):
-        fields = line.split(b",") if line else []
-        if len(fields) != len(columns):
-            wanted = f"{len(columns)} fields (margin and {len(columns) - 1} PTDFs)"
-            refuse_line(51, index, f"the line takes {wanted}, not {len(fields)}")
-        row = []
-        for field, (name, _, _) in zip(fields, columns):
-            text, found = field.decode("ascii", "backslashreplace"), SHEET_NUMBER.fullmatch(field)
-            if found is None:
-                refuse_line(51, index, f"{name} {short(text)!r} is no number")
-            row.append((text, *found.groups(b"")))
-        table.append(row)
-    return table
-
-
-def sheet_branches(sheet, zones):
-    """The branches of a published margin sheet. Request S-1: its causes in its order, each over the whole sheet."""
-    if not 1 <= zones <= SHEET_ZONES:
-        raise ValueError(f"(50) a sheet takes 1 to {SHEET_ZONES} zones, not {zones}")
+def sheet_fault(number: int, index: int, sheet: bytes, zones: int) -> str:
+    """Why the library refuses a sheet, in words: the line as an editor counts it, and as request S-1 does."""
+    if number == 50:
+        return f"(50) a sheet takes 1 to {SHEET_ZONES} zones, not {zones}"
+    if number == 54:
+        return f"(54) a sheet takes at most {SHEET_LINES} lines, not {sheet_lines(sheet)}"
     columns = (SHEET_MARGIN,) + (SHEET_PTDF,) * zones
-    table = sheet_numbers(sheet, columns)
-    for index, row in enumerate(table):
-        for (text, _, _, fraction), (name, decimals, _) in zip(row, columns):
-            if fraction[decimals:].strip(b"0"):
-                refuse_line(52, index, f"{name} {short(text)} goes past {decimals} decimals")
-    branches = []
-    for index, row in enumerate(table):
-        branch = []
-        for (text, sign, whole, fraction), (name, decimals, most) in zip(row, columns):
-            digits = (whole + fraction[:decimals].ljust(decimals, b"0")).lstrip(b"0") or b"0"
-            if len(digits) > len(str(most)) or int(digits) > most:
-                limit = most // 10**decimals
-                refuse_line(53, index, f"{name} {short(text)} is not from -{limit} to {limit}")
-            # Sheets count export positive, a case import: the PTDFs turn, and the margin does not.
-            negative = bool(sign) != (name == "PTDF")
-            branch.append(-int(digits) if negative else int(digits))
-        branches.append(branch)
-    if len(branches) > SHEET_LINES:
-        raise ValueError(f"(54) a sheet takes at most {SHEET_LINES} lines, not {len(branches)}")
-    return branches
+    line = sheet.split(b"\n", index + 1)[index]
+    fields = line.split(b",") if line else []
+    where = f"line {index + 1} ({number} index {index})"
+    if len(fields) != len(columns):
+        return f"{where}: the line takes {len(columns)} fields (margin and {zones} PTDFs), not {len(fields)}"
+    faults = (sheet_field_fault(number, field, *column) for field, column in zip(fields, columns))
+    return f"{where}: {next(filter(None, faults), 'refused')}"
+
+
+def sheet_field_fault(number: int, field: bytes, name: str, decimals: int, most: int) -> str:
+    """What is wrong with a field of a line that a number refuses; empty where it is not this one."""
+    text, found = field.decode("ascii", "backslashreplace"), SHEET_NUMBER.fullmatch(field)
+    if number == 51:
+        return "" if found else f"{name} {short(text)!r} is no number"
+    assert found is not None
+    whole, fraction = found[2], found[3] or b""
+    if number == 52:
+        return f"{name} {short(text)} goes past {decimals} decimals" if fraction[decimals:].strip(b"0") else ""
+    digits = (whole + fraction[:decimals].ljust(decimals, b"0")).lstrip(b"0") or b"0"
+    limit = most // 10**decimals
+    outside = len(digits) > len(str(most)) or int(digits) > most
+    return f"{name} {short(text)} is not from -{limit} to {limit}" if outside else ""
+
+
+def sheet_branches(sheet: bytes, zones: int) -> list[list[int]]:
+    """The branches that the library makes of a published margin sheet, request S-1."""
+    from . import library
+
+    answer = library.sheet_branches(sheet, zones)
+    if answer.branches is None:
+        raise ValueError(sheet_fault(answer.number, answer.index, sheet, zones))
+    return [list(row) for row in record_layout("branch", {"zones": zones}).iter_unpack(answer.branches)]
 
 
 class Hour:
@@ -300,22 +303,22 @@ class Hour:
 
     FILES = tuple(HEADERS)
 
-    def __init__(self, folder):
+    def __init__(self, folder: Folder) -> None:
         self.folder = folder
-        self.sheet = None
-        self.files_read = {}  # by path
-        self.headers = {}
-        self.header_lines = {}
+        self.sheet: str | None = None
+        self.files_read: dict[str, bytes] = {}  # by path
+        self.headers: dict[str, dict[str, int]] = {}
+        self.header_lines: dict[str, int] = {}
         self.marks = dict(MARKS)
-        self.counts = {}
-        self.records: dict[str, list] = {kind: [] for kind in FIELDS}
-        self.edits = []
+        self.counts: dict[str, int] = {}
+        self.records: dict[str, list[list[int]]] = {kind: [] for kind in FIELDS}
+        self.edits: list[tuple[int, str, str, tuple[Any, ...]]] = []
 
-    def layout(self):
+    def layout(self) -> dict[str, int]:
         """What the case line says of the records: zones and version. A counts line changes no record."""
         return self.headers.get("case", {})
 
-    def take(self, line, words):
+    def take(self, line: int, words: list[str]) -> None:
         keyword, *words = words
         if keyword in HEADERS:
             self.take_header(line, keyword, words)
@@ -332,7 +335,7 @@ class Hour:
         else:
             raise ValueError(f"{short(keyword)!r} is not an item of an hour")
 
-    def take_header(self, line, file, words):
+    def take_header(self, line: int, file: str, words: list[str]) -> None:
         if file in self.headers:
             raise ValueError(f"a second {file} line")
         codes = {name: code for name, code in HEADERS[file] if name not in COUNTS}
@@ -343,7 +346,7 @@ class Hour:
         self.headers[file] = header
         self.header_lines[file] = line
 
-    def take_record(self, kind, words):
+    def take_record(self, kind: str, words: list[str]) -> None:
         file = FILE_OF[kind]
         if file not in self.headers:
             raise ValueError(f"{kind} before the {file} line")
@@ -358,7 +361,7 @@ class Hour:
         row = [value(word, name, code) for word, (name, code) in zip(words, fields)]
         self.records[kind].append(row)
 
-    def take_sheet(self, words):
+    def take_sheet(self, words: list[str]) -> None:
         if "case" not in self.headers:
             raise ValueError("sheet before the case line")
         if len(words) != 1:
@@ -367,15 +370,15 @@ class Hour:
             raise ValueError(f"sheet beside {'another sheet' if self.sheet is not None else 'branch lines'}")
         self.sheet = words[0]
         try:
-            path = os.path.join(self.folder, self.sheet)
-            self.files_read[path] = read_bytes(path)
-            self.records["branch"] = sheet_branches(self.files_read[path], self.layout()["zones"])
+            path, data = reading.read_below(str(self.folder), self.sheet, reading.MOST_OF_A_TEXT)
+            self.files_read[path] = data
+            self.records["branch"] = sheet_branches(data, self.layout()["zones"])
         except OSError as fault:
             raise ValueError(f"{short(self.sheet)}: {fault.strerror}") from None
         except ValueError as fault:
             raise ValueError(f"{short(self.sheet)}: {fault}") from None
 
-    def take_mark(self, words):
+    def take_mark(self, words: list[str]) -> None:
         if not self.headers:
             raise ValueError("mark before the case line")
         if len(words) != 1:
@@ -385,13 +388,13 @@ class Hour:
         mark = words[0].encode("ascii") if len(words[0]) == 3 else hex_bytes(words)
         self.marks[list(self.headers)[-1]] = mark
 
-    def take_counts(self, words):
+    def take_counts(self, words: list[str]) -> None:
         if "case" not in self.headers:
             raise ValueError("counts before the case line")
         codes = {name: code for name, code in HEADERS["case"] if name in COUNTS or name == "zones"}
         self.counts.update(named_numbers(words, codes))
 
-    def take_edit(self, line, edit, words):
+    def take_edit(self, line: int, edit: str, words: list[str]) -> None:
         file, *words = words or [""]
         if file not in self.FILES:
             *others, last = self.FILES
@@ -399,7 +402,7 @@ class Hour:
         wanted = {"cut": 1, "byte": 2}.get(edit, len(words))
         if len(words) != wanted:
             raise ValueError(f"{edit} {file} takes {wanted} values, not {len(words)}")
-        values: tuple
+        values: tuple[Any, ...]
         if edit == "cut":
             values = (number(words[0], "cut", "I"),)
         elif edit == "byte":
@@ -408,7 +411,7 @@ class Hour:
             values = (hex_bytes(words),)
         self.edits.append((line, edit, file, values))
 
-    def file_bytes(self, file):
+    def file_bytes(self, file: str) -> bytearray:
         """The file as its header and records say it, before any edit."""
         if file not in self.headers:
             return bytearray()
@@ -427,7 +430,7 @@ class Hour:
                 out += layout.pack(*row)
         return out
 
-    def files(self):
+    def files(self) -> tuple[bytes, ...]:
         out = {file: self.file_bytes(file) for file in self.FILES}
         edited = {file for _, _, file, _ in self.edits}
         for line, edit, file, values in self.edits:
@@ -445,7 +448,7 @@ class Hour:
         return tuple(bytes(data) for data in out.values())
 
 
-def taken(text, folder="", taker=Hour):
+def taken(text: str, folder: Folder = "", taker: type[Hour] = Hour) -> Hour:
     """A text as its taker has it. The files that it names count from the folder."""
     hour = taker(folder)
     for line, content in enumerate(text.split("\n"), 1):
@@ -458,23 +461,23 @@ def taken(text, folder="", taker=Hour):
     return hour
 
 
-def built(text, folder="", taker=Hour):
+def built(text: str, folder: Folder = "", taker: type[Hour] = Hour) -> tuple[bytes, ...]:
     """The files of a text: the case, the proposal and the family list if it has one, or what else its taker gives."""
     return taken(text, folder, taker).files()
 
 
-def build(text, folder="") -> tuple[bytes, bytes]:
+def build(text: str, folder: Folder = "") -> tuple[bytes, bytes]:
     """The case and the proposal of a text, be there a family list or not."""
     case, proposal = built(text, folder)[:2]
     return case, proposal
 
 
-def build_families(text, folder=""):
+def build_families(text: str, folder: Folder = "") -> tuple[bytes, bytes, bytes | None]:
     """The case, the proposal and the family list of a text; None where it has no list."""
     return with_families(built(text, folder))
 
 
-def with_families(files):
+def with_families(files: Sequence[bytes]) -> tuple[bytes, bytes, bytes | None]:
     """The files of a text as three, the last None where it has no family list."""
     case, proposal, *families = files
     return case, proposal, families[0] if families else None
@@ -483,9 +486,12 @@ def with_families(files):
 # What a stored hour expects.
 
 
-def expectations(text, pattern, form_of):
-    """What the lines of a text say that have the pattern, by name; each is of its form and stands once, and expect does."""
-    found = {}
+def expectations(
+    text: str, pattern: re.Pattern[str], form_of: Callable[[str, int], re.Pattern[str]]
+) -> dict[str, tuple[Any, ...]]:
+    """What the lines of a text say that have the pattern, by name; each has its form and stands once, and so does
+    expect."""
+    found: dict[str, tuple[Any, ...]] = {}
     for line, content in enumerate(text.split("\n"), 1):
         content = content.rstrip("\r")
         match = pattern.match(content)
@@ -503,19 +509,24 @@ def expectations(text, pattern, form_of):
     return found
 
 
-def expected(text, other="expect-apart"):
-    """The verdict of the joined file, that of the two files apart, and the totals in microcents by name. Of an hour with
-    families the two are the verdicts with the list and without it, and the other line is expect-without.
+def verdict_of(words: Sequence[Any]) -> tuple[int, int]:
+    number, index = map(int, words)
+    return number, index
+
+
+def expected(text: str, other: str = "expect-apart") -> Expected:
+    """The verdict of the joined file, that of the two files apart, and the totals in microcents by name. Of an hour
+    with families the two are the verdicts with the list and without it, and the other line is expect-without.
     """
 
-    def form_of(name, line):
+    def form_of(name: str, line: int) -> re.Pattern[str]:
         if name not in ("expect", other, "totals"):
             raise TextError(line, f"{name} stands where {other} would")
         return EUROS if name == "totals" else VERDICT
 
     found = expectations(text, EXPECTATION, form_of)
-    joined = tuple(map(int, found["expect"]))
-    apart = tuple(map(int, found.get(other, joined)))
+    joined = verdict_of(found["expect"])
+    apart = verdict_of(found.get(other, joined))
     if other in found and apart == joined:
         raise ValueError(f"{other} says what expect does")
     if ("totals" in found) != (joined[0] in REPORTED or apart[0] in REPORTED):
@@ -527,13 +538,13 @@ def expected(text, other="expect-apart"):
 # Bytes to text.
 
 
-def show_mark(mark):
+def show_mark(mark: bytes) -> str:
     if all(0x21 <= byte <= 0x7E and byte != ord("#") for byte in mark):
         return mark.decode("ascii")
     return mark.hex()
 
 
-def show_row(kind, row):
+def show_row(kind: str, row: Sequence[int]) -> list[str]:
     words = [str(number) for number in row]
     if kind == "order" and row[1] < len(SIDES):
         words[1] = SIDES[row[1]]
@@ -542,7 +553,7 @@ def show_row(kind, row):
     return words
 
 
-def show_records(kind, rows, notes):
+def show_records(kind: str, rows: Rows, notes: Sequence[str]) -> Iterator[str]:
     """The lines of one kind of record in columns, each with a note on what it is."""
     table = [show_row(kind, row) for row in rows]
     widths = [max(map(len, column)) for column in zip(*table)]
@@ -551,16 +562,16 @@ def show_records(kind, rows, notes):
         yield f"{kind} {columns}  # {note}"
 
 
-def show_hex(file, data):
+def show_hex(file: str, data: bytes) -> Iterator[str]:
     for start in range(0, len(data), HEX_BYTES_PER_LINE):
         yield f"append {file} {data[start : start + HEX_BYTES_PER_LINE].hex()}"
 
 
-def show_offsets(offsets):
+def show_offsets(offsets: Iterable[int]) -> str:
     return "at " + " ".join(map(str, offsets))
 
 
-def show_header(file, mark, header):
+def show_header(file: str, mark: bytes, header: Counts) -> Iterator[str]:
     places = dict(zip((name for name, _ in HEADERS[file]), offsets_from(3, HEADERS[file])))
     names = [name for name in places if name not in COUNTS]
     note = show_offsets(places[name] for name in names)
@@ -571,7 +582,7 @@ def show_header(file, mark, header):
         yield f"mark {show_mark(mark)}"
 
 
-def show_short_header(file, data):
+def show_short_header(file: str, data: bytes) -> Iterator[str]:
     """A file that ends inside its header: its whole fields in a comment, its bytes as hex."""
     whole, position = [], 3
     if len(data) >= 3:
@@ -586,7 +597,7 @@ def show_short_header(file, data):
     yield from show_hex(file, data)
 
 
-def notes_of(kind, rows, position, counts, case_rows):
+def notes_of(kind: str, rows: Rows, position: int, counts: Counts, case_rows: Mapping[str, Rows]) -> list[str]:
     """What each record is: its offsets, its index, and for a proposal the record of the case it belongs to."""
     owner, size = OWNERS.get(kind), record_layout(kind, counts).size
     notes = []
@@ -600,13 +611,14 @@ def notes_of(kind, rows, position, counts, case_rows):
     return notes
 
 
-def whole_records(file, data, counts):
+def whole_records(file: str, data: bytes, counts: Counts) -> tuple[dict[str, Rows], str | None, int]:
     """The records of a file up to the first that is not whole, its name if there is one, and where the walk ends."""
-    tables: dict[str, list] = {}
+    tables: dict[str, Rows] = {}
     missing, position = None, header_layout(file).size
     for kind, name in RECORDS[file]:
         layout = record_layout(kind, counts)
-        rows = tables[kind] = []
+        rows: Rows = []
+        tables[kind] = rows
         while missing is None and len(rows) < counts.get(name, 0):
             if position + layout.size > len(data):
                 missing = f"{kind} {len(rows)}"
@@ -616,7 +628,7 @@ def whole_records(file, data, counts):
     return tables, missing, position
 
 
-def show_file(file, data, counts, case_rows):
+def show_file(file: str, data: bytes, counts: dict[str, int], case_rows: dict[str, Rows]) -> Iterator[str]:
     """The lines of one file. Counts and case_rows are those of the case; showing the case fills them."""
     layout, called = header_layout(file), CALLED.get(file, file)
     if len(data) < layout.size:
@@ -648,11 +660,11 @@ def show_file(file, data, counts, case_rows):
     yield from show_hex(file, rest)
 
 
-def show(case, proposal=b"", families=None):
+def show(case: bytes, proposal: bytes = b"", families: bytes | None = None) -> str:
     """The text of a case, a proposal and, if there is one, a family list, whatever their bytes."""
     counts: dict[str, int] = {}
-    case_rows: dict[str, list] = {}
-    files = [("case", case), ("proposal", proposal)] + [("families", families)] * (families is not None)
+    case_rows: dict[str, Rows] = {}
+    files = [("case", case), ("proposal", proposal), *([] if families is None else [("families", families)])]
     shown = [list(show_file(file, data, counts, case_rows)) for file, data in files]
     return UNITS + "".join("\n" + "\n".join(lines) + "\n" for lines in shown if lines)
 
@@ -660,20 +672,31 @@ def show(case, proposal=b"", families=None):
 # The field at an offset.
 
 
-def case_counts(case):
-    """The header of a case, empty where it is not whole."""
-    layout = header_layout("case")
-    if len(case) < layout.size:
+def header_values(file: str, data: bytes) -> dict[str, int]:
+    """The header of a file after its mark, empty where it is not whole."""
+    layout = header_layout(file)
+    if len(data) < layout.size:
         return {}
-    return dict(zip((name for name, _ in HEADERS["case"]), layout.unpack_from(case)[1:]))
+    return dict(zip((name for name, _ in HEADERS[file]), layout.unpack_from(data)[1:]))
 
 
-def link_pairs(case):
+def with_header(file: str, data: bytes, name: str, number: int) -> bytes:
+    """A file with another number in its header, which is whole."""
+    layout, values = header_layout(file), {**header_values(file, data), name: number}
+    return layout.pack(data[:3], *values.values()) + data[layout.size :]
+
+
+def case_counts(case: bytes) -> dict[str, int]:
+    """The header of a case, empty where it is not whole."""
+    return header_values("case", case)
+
+
+def link_pairs(case: bytes) -> list[tuple[int, int]]:
     """The zones that each whole link of a case leads from and to."""
     return [(row[0], row[1]) for row in whole_records("case", case, case_counts(case))[0]["link"]]
 
 
-def whole_fields(file, data, counts):
+def whole_fields(file: str, data: bytes, counts: Counts) -> Iterator[tuple[int, int, str]]:
     """Every whole field of a file in file order, each with its offset, its size and its name and value."""
     header = (("mark", "3s"),) + HEADERS[file]
     position = header_layout(file).size
@@ -692,13 +715,13 @@ def whole_fields(file, data, counts):
                 yield places[n], struct.calcsize("<" + code), f"{OWNERS.get(kind, kind)} {index}, {name} {word}"
 
 
-def parents_of(case, families):
+def parents_of(case: bytes, families: bytes) -> list[int | None]:
     """The parent of each order of a case by its list, None for none; as far as both go."""
     rows = whole_records("families", families, case_counts(case))[0]["parent"]
     return [None if parent == NO_PARENT else parent for (parent,) in rows]
 
 
-def field_at(offset, case, proposal=None, families=None):
+def field_at(offset: int, case: bytes, proposal: bytes | None = None, families: bytes | None = None) -> str:
     """What stands at an offset of the family list, without one of the proposal, and without that of the case."""
     file, data = ("case", case) if proposal is None else ("proposal", proposal)
     if families is not None:
@@ -720,29 +743,17 @@ def field_at(offset, case, proposal=None, families=None):
 # Files.
 
 
-def read_text(path):
+def decoded(data: bytes) -> str:
+    """The characters of a text. A byte order mark in front is no part of it."""
+    return data.decode().removeprefix("\ufeff")
+
+
+def read_text(path: Folder) -> str:
     with open(path, encoding="utf-8", newline="") as file:
         return file.read()
 
 
-def read_whole(file):
-    """What an open file has to its end; one that goes on past all that an hour can have is refused."""
-    data = bytearray()
-    while True:
-        chunk = file.read(CHUNK)
-        data += chunk
-        if not chunk:
-            return bytes(data)
-        if len(data) > LONGEST:
-            raise ValueError(f"over {LONGEST // 2**20} MiB, and no hour is that long")
-
-
-def read_bytes(path):
-    with open(path, "rb", buffering=0) as file:
-        return read_whole(file)
-
-
-def offset_of(word):
+def offset_of(word: str) -> int:
     """The offset that a word says, a number or hex digits after 0x."""
     if not OFFSET.fullmatch(word):
         raise OffsetError(f"offset {short(word)!r} is not a whole number, nor hex digits after 0x")

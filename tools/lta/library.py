@@ -9,13 +9,21 @@ import ctypes
 import functools
 import os
 import pathlib
+import sys
 import tempfile
+from collections.abc import Callable, Iterable
 from dataclasses import dataclass
+from typing import Any, Union, cast
 
 from . import hour, numbers, origin, rules
-from .stderr_log import write_stderr
+from .amounts import GapPart, Grains, Microcents
+from .stderr_log import write_to_both
 
 REPORTED = hour.REPORTED
+
+# What holds bytes, and pairs of zones, which may be bytes already.
+Buffer = Union[bytes, bytearray, memoryview]
+Pairs = Union[Buffer, Iterable["tuple[int, int]"]]
 
 
 class BuildError(Exception):
@@ -24,32 +32,34 @@ class BuildError(Exception):
 
 @dataclass(frozen=True)
 class Judgement:
-    """What lta_judge or lta_judge_families answers. Totals are in microcents and prices in grains; without a report they are None and ()."""
+    """What lta_judge or lta_judge_families answers. Totals are in microcents and prices in grains; without a report
+    they are None and (). Each amount has euros().
+    """
 
     number: int
     index: int
-    welfare: int | None = None
-    bound: int | None = None
-    gap: int | None = None
-    rent: int | None = None
-    owed: int | None = None
-    prices: tuple = ()
+    welfare: Microcents | None = None
+    bound: Microcents | None = None
+    gap: Microcents | None = None
+    rent: Microcents | None = None
+    owed: Microcents | None = None
+    prices: tuple[Grains, ...] = ()
 
     @property
-    def accepted(self):
+    def accepted(self) -> bool:
         return self.number == 0
 
     @property
-    def verdict(self):
+    def verdict(self) -> tuple[int, int]:
         return self.number, self.index
 
     @property
-    def text(self):
+    def text(self) -> str:
         """What the number means, in words."""
         return numbers.text(self.number)
 
     @property
-    def totals(self):
+    def totals(self) -> dict[str, Microcents]:
         """The totals by name; empty without a report."""
         return {name: getattr(self, name) for name in hour.TOTALS} if self.number in REPORTED else {}
 
@@ -64,11 +74,11 @@ class Carried:
     total: int | None = None
 
     @property
-    def answered(self):
+    def answered(self) -> bool:
         return self.number == 0
 
     @property
-    def text(self):
+    def text(self) -> str:
         """What the number means, in words."""
         return numbers.text(self.number, "answered")
 
@@ -82,13 +92,22 @@ class Dumped:
     proposal: bytes | None = None
 
     @property
-    def written(self):
+    def written(self) -> bool:
         return self.number == 0
 
     @property
-    def text(self):
+    def text(self) -> str:
         """What the number means, in words."""
         return numbers.text(self.number, "written")
+
+
+@dataclass(frozen=True)
+class SheetBranches:
+    """What lta_sheet_branches answers, and the branches as a case has them; in a refusal they are None."""
+
+    number: int
+    index: int
+    branches: bytes | None = None
 
 
 @dataclass(frozen=True)
@@ -100,11 +119,11 @@ class Columned:
     file: bytes | None = None
 
     @property
-    def written(self):
+    def written(self) -> bool:
         return self.number == 0
 
     @property
-    def text(self):
+    def text(self) -> str:
         """What the number means, in words."""
         return numbers.text(self.number, "written")
 
@@ -117,16 +136,16 @@ class Shortfalls:
 
     number: int
     index: int
-    orders: tuple | None = None
-    branches: tuple | None = None
-    links: tuple | None = None
+    orders: tuple[GapPart, ...] | None = None
+    branches: tuple[GapPart, ...] | None = None
+    links: tuple[GapPart, ...] | None = None
 
     @property
-    def answered(self):
+    def answered(self) -> bool:
         return self.number == 0
 
     @property
-    def text(self):
+    def text(self) -> str:
         """What the number means, in words."""
         return numbers.text(self.number, "answered")
 
@@ -144,14 +163,21 @@ class Loaded:
     belongs: bool
 
 
-def say(line):
-    write_stderr(f"lta: {line}\n")
+def say(line: str) -> None:
+    """Says what takes minutes, or whose the library is: to the process's standard error too where a test runner holds
+    back what is written to sys.stderr.
+    """
+    write_to_both(f"lta: {line}\n")
 
 
-def of_repository(given, ends):
+def of_repository(given: str | None, ends: contextlib.ExitStack) -> tuple[pathlib.Path, bool]:
     """The shared object of the repository: its own, or that of a library from elsewhere, which is linked anew and does
     not stay, so that no later call is answered by it.
     """
+    tools = str(origin.REPOSITORY / "tools")
+    if tools not in sys.path:
+        # An editable installation puts this package alone on the path.
+        sys.path.append(tools)
     import built
 
     try:
@@ -170,7 +196,7 @@ def of_repository(given, ends):
         raise BuildError(str(fault)) from None
 
 
-def of_release(given):
+def of_release(given: str | None) -> tuple[pathlib.Path, bool]:
     """The shared object of a release: its own, or one from elsewhere."""
     shared = pathlib.Path(given) / SHARED if given else origin.release_library()
     if not shared.is_file():
@@ -178,7 +204,7 @@ def of_release(given):
     return shared, origin.sha256_of(shared) == origin.release()["files"].get(origin.release()["library"])
 
 
-def load():
+def load() -> tuple[ctypes.CDLL, Loaded]:
     """Loads the shared object. One that does not belong to this command is named on standard error."""
     given, shared = os.environ.get("LTA_ARCHIVE_DIR"), None
     with contextlib.ExitStack() as ends:
@@ -223,6 +249,7 @@ ENTRIES = {
     "lta_intuitive": (CarriedStruct, _AMOUNTS * 2 + _BYTES + _AMOUNTS),
     "lta_hour_intuitive": (CarriedStruct, _BYTES * 3 + _AMOUNTS),
     "lta_dump_proposal": (WrittenStruct, _BYTES * 3),
+    "lta_sheet_branches": (WrittenStruct, [*_BYTES, ctypes.c_size_t, *_BYTES]),
     "lta_case_columned": (WrittenStruct, _BYTES * 2),
     "lta_case_restored": (WrittenStruct, _BYTES * 2),
     "lta_shortfalls": (WrittenStruct, _BYTES * 2 + _AMOUNTS),
@@ -230,13 +257,13 @@ ENTRIES = {
 
 
 @functools.lru_cache(maxsize=None)
-def library_loaded():
+def library_loaded() -> tuple[ctypes.CDLL, Loaded]:
     """The library and what it is. It is loaded once."""
     return load()
 
 
 @functools.lru_cache(maxsize=None)
-def entry(name="lta_judge"):
+def entry(name: str = "lta_judge") -> Callable[..., Any]:
     """An entry of the library."""
     library, _ = library_loaded()
     try:
@@ -244,22 +271,22 @@ def entry(name="lta_judge"):
     except AttributeError as fault:
         raise BuildError(f"{library._name}: it cannot be loaded: {fault}") from None
     found.restype, found.argtypes = ENTRIES[name]
-    return found
+    return cast("Callable[..., Any]", found)
 
 
-def identity():
+def identity() -> dict[str, Any]:
     """Which build answers, for machines: the version, the library's hash, and whether it belongs to this command."""
     _, loaded = library_loaded()
     return {"version": origin.version(), "library_sha256": loaded.sha256, "library_belongs": loaded.belongs}
 
 
-def version_text():
+def version_text() -> str:
     """What lta --version prints."""
     _, loaded = library_loaded()
     return origin.version_text("lta", "library", loaded.sha256, loaded.belongs)
 
 
-def bytes_of(data):
+def bytes_of(data: Buffer) -> bytes:
     """The bytes of what holds bytes. A number would be as many zeros, and a name is not its file."""
     try:
         return bytes(memoryview(data))
@@ -267,7 +294,9 @@ def bytes_of(data):
         raise TypeError(f"bytes are judged, not a path or a number: {type(data).__name__}") from None
 
 
-def judge(case, proposal, families=None, room=rules.REPORT_ROOM):
+def judge(
+    case: Buffer, proposal: Buffer, families: Buffer | None = None, room: int = rules.REPORT_ROOM
+) -> Judgement:
     """Has a case and a proposal, as bytes, judged by the library, with a family list if there is one, and with a report
     buffer of the room's bytes. An empty list is a list, and refused; None is none.
     """
@@ -282,16 +311,17 @@ def judge(case, proposal, families=None, room=rules.REPORT_ROOM):
         return Judgement(number, index)
     data = report.raw
     amounts = [int.from_bytes(data[at : at + 8], "little", signed=True) for at in range(8, 48 + 8 * data[6], 8)]
-    welfare, bound, gap, rent, owed, *prices = amounts
-    return Judgement(number, index, welfare, bound, gap, rent, owed, tuple(prices))
+    welfare, bound, gap, rent, owed = map(Microcents, amounts[: len(hour.TOTALS)])
+    prices = tuple(map(Grains, amounts[len(hour.TOTALS) :]))
+    return Judgement(number, index, welfare, bound, gap, rent, owed, prices)
 
 
-def judge_joined(joined, families=None):
+def judge_joined(joined: Buffer, families: Buffer | None = None) -> Judgement:
     """The same of a joined file, the case and at once the proposal, cut as the desk cuts it."""
     return judge(*rules.cut(bytes_of(joined)), families)
 
 
-def amounts_of(numbers, name):
+def amounts_of(numbers: Iterable[int], name: str) -> ctypes.Array[ctypes.c_int64]:
     """Whole numbers as an array of signed 64 bits; one that has no room there is refused and not wrapped."""
     numbers = list(numbers)
     for number in numbers:
@@ -300,7 +330,7 @@ def amounts_of(numbers, name):
     return (ctypes.c_int64 * len(numbers))(*numbers)
 
 
-def pair_bytes(pairs):
+def pair_bytes(pairs: Pairs) -> bytes:
     """Ordered pairs of zones, two bytes each; bytes stay as they are."""
     if isinstance(pairs, (bytes, bytearray, memoryview)):
         return bytes(pairs)
@@ -314,18 +344,18 @@ def pair_bytes(pairs):
     return bytes(made)
 
 
-def answer_of(carried):
+def answer_of(carried: CarriedStruct) -> Carried:
     if carried.number:
         return Carried(carried.number, carried.index)
     return Carried(0, carried.index, carried.intuitive == 1, carried.total)
 
 
-def new_scratch():
+def new_scratch() -> ctypes.Array[ctypes.c_int64]:
     """Room for the wide entries, which the command and lta.carried ask; the small ones answer the same."""
     return (ctypes.c_int64 * rules.INTUITIVE_SCRATCH)()
 
 
-def carried(net_exports, zone_prices, pairs):
+def carried(net_exports: Iterable[int], zone_prices: Iterable[int], pairs: Pairs) -> Carried:
     """Has the library answer whether net positions, in tenths and export positive, are intuitive at zone prices in
     grains along these pairs.
     """
@@ -335,7 +365,7 @@ def carried(net_exports, zone_prices, pairs):
     return answer_of(call(net, len(net), prices, len(prices), pairs, len(pairs), scratch, len(scratch)))
 
 
-def intuitive(case, proposal, pairs=None):
+def intuitive(case: Buffer, proposal: Buffer, pairs: Pairs | None = None) -> Carried:
     """Has the library answer whether an hour, as two files' bytes, is intuitive along these pairs; without them along
     the case's links.
     """
@@ -345,7 +375,7 @@ def intuitive(case, proposal, pairs=None):
     return answer_of(call(case, len(case), proposal, len(proposal), pairs, len(pairs), scratch, len(scratch)))
 
 
-def dump_proposal(case, dump, room=rules.PROPOSAL_ROOM):
+def dump_proposal(case: Buffer, dump: Buffer, room: int = rules.PROPOSAL_ROOM) -> Dumped:
     """Has the library write the proposal that a solver's dump gives for a case, both as bytes, with an output of the
     room's bytes.
     """
@@ -359,7 +389,16 @@ def dump_proposal(case, dump, room=rules.PROPOSAL_ROOM):
     return Dumped(0, written.index, out.raw[: written.length])
 
 
-def rearranged(name, data, room):
+def sheet_branches(sheet: Buffer, zones: int) -> SheetBranches:
+    """Has the library make the branches of a case of a published margin sheet's bytes."""
+    data, out = bytes_of(sheet), ctypes.create_string_buffer(rules.SHEET_ROOM)
+    written = entry("lta_sheet_branches")(data, len(data), zones, out, rules.SHEET_ROOM)
+    if written.number:
+        return SheetBranches(written.number, written.index)
+    return SheetBranches(0, written.index, out.raw[: written.length])
+
+
+def rearranged(name: str, data: Buffer, room: int | None) -> Columned:
     data = bytes_of(data)
     room = len(data) if room is None else room
     if room < 0:
@@ -371,19 +410,19 @@ def rearranged(name, data, room):
     return Columned(0, written.index, out.raw[: written.length])
 
 
-def case_columned(case, room=None):
+def case_columned(case: Buffer, room: int | None = None) -> Columned:
     """Has the library write a case in columns, as bytes, with an output of the room's bytes or of the case's length."""
     return rearranged("lta_case_columned", case, room)
 
 
-def case_restored(file, room=None):
+def case_restored(file: Buffer, room: int | None = None) -> Columned:
     """The way back, of a columned file's bytes."""
     return rearranged("lta_case_restored", file, room)
 
 
-def shortfalls(case, proposal, room=rules.SHORTFALL_ROOM):
-    """Has the library write by how much each order, branch and link of an accepted hour, as two files' bytes, falls short,
-    with an output of the room's numbers.
+def shortfalls(case: Buffer, proposal: Buffer, room: int = rules.SHORTFALL_ROOM) -> Shortfalls:
+    """Has the library write by how much each order, branch and link of an accepted hour, as two files' bytes, falls
+    short, with an output of the room's numbers.
     """
     case, proposal = bytes_of(case), bytes_of(proposal)
     if room < 0:
@@ -393,7 +432,7 @@ def shortfalls(case, proposal, room=rules.SHORTFALL_ROOM):
     if written.number:
         return Shortfalls(written.number, written.index)
     # Of each two, whole microcents and hundred-thousandths.
-    amounts = [rules.WHOLE * out[at] + out[at + 1] for at in range(0, written.length, 2)]
+    amounts = tuple(GapPart(rules.WHOLE * out[at] + out[at + 1]) for at in range(0, written.length, 2))
     counts = hour.case_counts(case)
     orders, branches = counts["orders"], counts["orders"] + counts["branches"]
-    return Shortfalls(0, written.index, *map(tuple, (amounts[:orders], amounts[orders:branches], amounts[branches:])))
+    return Shortfalls(0, written.index, amounts[:orders], amounts[orders:branches], amounts[branches:])

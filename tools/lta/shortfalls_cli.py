@@ -1,47 +1,58 @@
-"""lta shortfalls: by how much each order, branch and link of an accepted hour falls short, as the library writes it, and
-what is left of the gap. What falls short is named beside it.
+"""lta shortfalls: by how much each order, branch and link of an accepted hour falls short, as the library writes it,
+and what is left of the gap. What falls short is named next to it.
 """
 
 from __future__ import annotations
 
-import csv
-import io
-import json
-from dataclasses import dataclass
+from dataclasses import dataclass, replace
+from typing import Any
 
-from . import amounts, explain_text, gap, library, provenance, rules
+from . import amounts, explain_text, gap, library, rules, schema
 from .causes import Disagreement, explain
+from .inputs import Hashed, HourFiles
 
-NOT_PROVED = "Shortfalls and gap are the library's. All else is computed beside it and is not proved."
+RECORD_TYPE = schema.SHORTFALLS
+NOT_PROVED = "Shortfalls and gap are the library's. All else is computed next to it and is not proved."
 
 
 @dataclass(frozen=True)
 class ShortfallsResult:
-    """The library's answer on an hour, and its parts, or of a refusal the words."""
+    """The library's answer on an hour, and its parts, or of a refusal the words; or why there is no answer."""
 
     name: str
-    answer: library.Shortfalls
+    answer: library.Shortfalls | None = None
     cause: str = ""
     sums: rules.Sums | None = None
     parts: gap.Parts | None = None
-    inputs: tuple = ()
+    inputs: tuple[Hashed, ...] = ()
+    families: str = ""
+    error: str = ""
+
+    @property
+    def answered(self) -> bool:
+        return self.answer is not None and self.answer.answered
 
 
-def ask(name, case, proposal, inputs=()):
-    """Has the library answer, and finds the rest."""
-    judgement, answer = library.judge(case, proposal), library.shortfalls(case, proposal)
-    found = explain(case, proposal, judgement)
+def ask(name: str, read: HourFiles) -> ShortfallsResult:
+    """Has the library answer on an hour as it was read, and finds the rest. An hour that is refused with its family
+    list is not accepted, and has no shortfalls.
+    """
+    case, proposal, families = read.case, read.proposal, read.families
+    judgement, answer = library.judge(case, proposal, families), library.shortfalls(case, proposal)
+    if families is not None and not judgement.accepted:
+        answer = library.Shortfalls(*judgement.verdict)
+    found = explain(case, proposal, judgement, families=families)
     if (answer.number, answer.index) != (found.number, found.index):
         raise Disagreement(f"{answer.number} {answer.index}", f"{found.number} {found.index}")
+    made = ShortfallsResult(name, answer, inputs=read.inputs, families=read.list_use)
     if not answer.answered:
-        return ShortfallsResult(name, answer, found.words, inputs=inputs)
+        return replace(made, cause=found.words)
     sums = rules.Sums(case, proposal)
-    return ShortfallsResult(name, answer, "", sums, gap.cross_checked(answer, judgement, sums), inputs)
+    return replace(made, sums=sums, parts=gap.cross_checked(judgement, gap.of_answer(answer), sums))
 
 
-def first_line(result):
+def first_line(found: gap.Parts) -> str:
     """How many fall short, by how much together, and what is left."""
-    found = result.parts
     whole = f"gap {amounts.microcents(found.gap)} euros"
     if not found.gap:
         return f"{whole}: no order, branch or link falls short"
@@ -52,42 +63,34 @@ def first_line(result):
     return f"{whole}: {short}; {left}"
 
 
-def as_text(result):
-    if result.parts is None:
+def as_text(result: ShortfallsResult) -> str:
+    if result.parts is None or result.sums is None:
         return f"not answered; {result.cause}\n"
     body = ["", *explain_text.part_lines(result.sums, result.parts)] if result.parts.nonzero else []
-    return "\n".join([first_line(result), *body, "", NOT_PROVED]) + "\n"
+    return "\n".join([first_line(result.parts), *body, "", NOT_PROVED]) + "\n"
 
 
-def record(part):
+def part_record(part: gap.Part) -> dict[str, Any]:
     """A part for machines: the entry's two numbers, and euros with all their decimals, as text."""
     whole, rest = divmod(part.amount, rules.WHOLE)
-    euros = amounts.fixed(part.amount, gap.DECIMALS)
-    return {"kind": part.kind, "index": part.place, "microcents": whole, "hundred_thousandths": rest, "euros": euros}
-
-
-def as_json(result):
-    """For machines: every shortfall in file order, and what is left."""
-    answer, found = result.answer, result.parts
-    made = {
-        "file": result.name,
-        "number": answer.number,
-        "index": answer.index,
-        "text": answer.text,
-        "gap": None if found is None else amounts.fixed(found.gap, 8),
-        "left": None if found is None else amounts.fixed(found.lead, gap.DECIMALS),
-        "shortfalls": None if found is None else [record(part) for part in found.shortfalls],
-        **provenance.fields(result.inputs),
+    return {
+        "part_kind": part.kind,
+        "part_index": part.place,
+        "part_microcents": whole,
+        "part_hundred_thousandths": rest,
+        "part_euros": amounts.fixed(part.amount, gap.DECIMALS),
     }
-    return json.dumps(made, indent=1) + "\n"
 
 
-def as_csv(result):
-    """A row for each shortfall, in file order; of a refusal none."""
-    out = io.StringIO()
-    writer = csv.writer(out, lineterminator="\n")
-    writer.writerow(["file", "kind", "index", "microcents", "hundred_thousandths", "euros", *provenance.COLUMNS])
-    last_cells = provenance.cells(result.inputs).values()
-    for part in result.parts.shortfalls if result.parts else ():
-        writer.writerow([result.name, *record(part).values(), *last_cells])
-    return out.getvalue()
+def record(result: ShortfallsResult) -> schema.Record:
+    """An hour for machines: every shortfall in file order, and what is left."""
+    found = result.parts
+    return schema.answer_record(
+        schema.SHORTFALLS,
+        result,
+        gap_microcents=None if found is None else found.gap,
+        gap_euros=None if found is None else schema.euros(found.gap),
+        left_euros=None if found is None else amounts.fixed(found.lead, gap.DECIMALS),
+        shortfalls=None if found is None else [part_record(part) for part in found.shortfalls],
+        explanation=(result.cause if found is None else f"0: {first_line(found)}") or None,
+    )

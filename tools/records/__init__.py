@@ -1,13 +1,19 @@
-"""The records that crates/prog_records reads: their bytes, and the stored texts that they are made from. Each module has
-the records of one kind, and the lines that the program must print for them.
+"""The records that crates/prog_records reads: their bytes, and the stored texts that they are made from. Each module
+has the records of one kind, and the lines that the program must print for them.
 """
 
+from __future__ import annotations
+
+import pathlib
 import struct
+from collections.abc import Callable
 from dataclasses import dataclass
+from typing import Any, TypeVar
 
 from lta import hour
 
 KEPT = 65_536  # bytes of a record's parts that the program keeps
+T = TypeVar("T")
 OPENING = struct.Struct("<c5I")
 
 
@@ -16,12 +22,12 @@ class Record:
     """A letter that says which entry the record is for, up to three parts, and two numbers."""
 
     letter: bytes
-    parts: tuple
+    parts: tuple[bytes, ...]
     number: int = 0
     room: int = 0
 
     @property
-    def data(self):
+    def data(self) -> bytes:
         parts = b"".join(self.parts)
         if len(parts) > KEPT:
             raise ValueError(f"a record has {len(parts)} bytes, and the program keeps {KEPT}")
@@ -29,12 +35,12 @@ class Record:
         return OPENING.pack(self.letter, self.number, self.room, *lengths) + parts
 
 
-def text(words):
+def text(words: str) -> Record:
     """The record that has the program print these words as they stand."""
     return Record(b"t", (words.encode(),))
 
 
-def read(data):
+def read(data: bytes) -> list[Record]:
     """The records of a program's input, each with its three parts."""
     found, at = [], 0
     while at < len(data):
@@ -50,12 +56,12 @@ def read(data):
     return found
 
 
-def texts(folder):
+def texts(folder: pathlib.Path) -> dict[str, str]:
     """The stored texts of a folder by name, sorted."""
     return {path.stem: hour.read_text(path) for path in sorted(folder.glob("*.txt"))}
 
 
-def named(name, make, *words):
+def named(name: str, make: Callable[..., T], *words: Any) -> T:
     """What `make` gives for a stored text; where it refuses the text, its name is said."""
     try:
         return make(*words)

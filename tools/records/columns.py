@@ -4,7 +4,11 @@ the three-zone case of either version with other marks, lengths and rooms. Each 
 with number, index and length and what is written, in hex.
 """
 
-from lta import columns, hour
+from __future__ import annotations
+
+from collections.abc import Iterator
+
+from lta import causes, columns, hour
 
 from . import Record
 from .hours import HOURS, stored_hours
@@ -12,7 +16,7 @@ from .hours import HOURS, stored_hours
 LONGEST = 256  # bytes of a stored hour's case that is taken
 
 
-def stored_cases():
+def stored_cases() -> dict[str, bytes]:
     """The cases of the stored hours by name, sorted, each once."""
     cases: dict[str, bytes] = {}
     for name, words in stored_hours().items():
@@ -22,12 +26,14 @@ def stored_cases():
     return cases
 
 
-def in_columns(case):
-    """A case's columns, be it readable or not; where its length is wrong its mark alone is changed."""
-    return columns.MARK + case[3:] if columns.order_part(case) is None else columns.columned(case)
+def in_columns(case: bytes) -> bytes:
+    """A case's columns, readable or not; if its length is wrong only its mark is changed."""
+    start, count = columns.order_part(case) or (len(case), 0)
+    orders = [case[at : at + columns.ORDER_BYTES] for at in range(start, len(case), columns.ORDER_BYTES)]
+    return columns.MARK + case[3:start] + b"".join(map(bytes, zip(*orders)))
 
 
-def files():
+def files() -> dict[str, tuple[int, bytes]]:
     """The room and the bytes of each file, by name."""
     found = {}
     for name, case in stored_cases().items():
@@ -51,14 +57,17 @@ def files():
     return found
 
 
-def lines(room, file):
-    """What is printed for a file."""
-    for name, own_answer in (("columned", columns.own_columned), ("restored", columns.own_restored)):
-        number, _, data = own_answer(file, room)
-        data = data or b""
+def lines(room: int, file: bytes) -> Iterator[str]:
+    """What is printed for a file, either way."""
+    restored = columns.would_restore(file)
+    for name, case, made in (("columned", file, in_columns(file)), ("restored", restored, restored)):
+        number = 72 if room < len(file) else 0
+        if causes.case_cause(case) is not None or (name == "restored" and file[:3] != columns.MARK):
+            number = 71
+        data = b"" if number else made
         yield f"{name} {number} 0 {len(data)} {data.hex()}"
 
 
-def runs():
+def runs() -> Iterator[tuple[tuple[Record, ...], list[str]]]:
     for room, file in files().values():
         yield (Record(b"c", (file,), room=room),), list(lines(room, file))

@@ -5,7 +5,10 @@ cause, with what is due beside each. The line has, with the wide scratch and aft
 1 for a yes or 0, the total in tenths, and how many numbers at the scratch's start are zero; all are 7 before.
 """
 
+from __future__ import annotations
+
 import struct
+from collections.abc import Iterator, Sequence
 from dataclasses import dataclass
 
 from . import Record, text
@@ -19,14 +22,14 @@ class Exchange:
     """An input and what is due for it: a refusal's number and index, or 0, 0, 1 for a yes or 0, and the total."""
 
     name: str
-    net: tuple
-    prices: tuple
-    pairs: tuple
-    due: tuple
+    net: tuple[int, ...]
+    prices: tuple[int, ...]
+    pairs: tuple[tuple[int, ...], ...]
+    due: tuple[int, ...]
     more: int = MORE
 
 
-def both_ways(*pairs):
+def both_ways(*pairs: tuple[int, int]) -> tuple[tuple[int, int], ...]:
     return tuple(way for first, second in pairs for way in ((first, second), (second, first)))
 
 
@@ -79,18 +82,18 @@ EXCHANGES = (
 )
 
 
-def numbers(values):
+def numbers(values: Sequence[int]) -> bytes:
     """The numbers' bytes, by their size and sign."""
     return struct.pack(f"<{len(values)}Q", *(abs(value) | (value < 0) << 63 for value in values))
 
 
-def record(exchange):
+def record(exchange: Exchange) -> Record:
     pairs = bytes(zone for pair in exchange.pairs for zone in pair)
     parts = (numbers(exchange.net), numbers(exchange.prices), pairs)
     return Record(b"i", parts, SCRATCH + exchange.more, SMALL_SCRATCH + exchange.more)
 
 
-def line(exchange):
+def line(exchange: Exchange) -> str:
     """What is printed. Both entries answer alike; after an answer the scratch is zeros, after a refusal as it was."""
     number, index, yes, total = (*exchange.due, 0, 0)[:4]
     wide, small = (0, 0) if number else (SCRATCH, SMALL_SCRATCH)
@@ -98,6 +101,6 @@ def line(exchange):
     return f"{exchange.name}: {answer_words} {wide}; {answer_words} {small}"
 
 
-def runs():
+def runs() -> Iterator[tuple[tuple[Record, ...], list[str]]]:
     for exchange in EXCHANGES:
         yield (text(f"{exchange.name}: "), record(exchange)), [line(exchange)]

@@ -1,13 +1,14 @@
 """The stored runs of the desk queue, letter q: the events of a run, which begins with an empty queue, behind its name.
-queue/events.txt has an event to a line, `post AREA HOUR`, `serve` or `byte PLACE VALUE`, which changes a byte to what no
-call would leave; a line `# NAME` opens a run. queue/answers.txt has the lines that are due: each event, behind a post its
-number, and behind a serve number, index, area and hour. The second judge and the library are held to it too.
+queue/events.txt has an event to a line, `post AREA HOUR`, `serve` or `byte PLACE VALUE`, which changes a byte to what
+no call would leave; a line `# NAME` opens a run. queue/answers.txt has the lines that are due: each event, behind a
+post its number, and behind a serve number, index, area and hour. The second judge and the library are held to it too.
 """
 
 from __future__ import annotations
 
 import pathlib
 import struct
+from collections.abc import Iterator
 
 from . import Record, text
 
@@ -15,7 +16,7 @@ QUEUE = pathlib.Path(__file__).resolve().parent.parent.parent / "queue"
 EVENT = struct.Struct("<cII")
 
 
-def stored_runs():
+def stored_runs() -> dict[str, tuple[list[str], list[str]]]:
     """The events and the answers of each run by its name."""
     events, answers = ((QUEUE / name).read_text().splitlines() for name in ("events.txt", "answers.txt"))
     if len(events) != len(answers):
@@ -30,13 +31,13 @@ def stored_runs():
     return found
 
 
-def event_bytes(event):
+def event_bytes(event: str) -> bytes:
     word, *numbers = event.split()
     first, second = (*map(int, numbers), 0, 0)[:2]
     return EVENT.pack(word[:1].encode(), first, second)
 
 
-def runs():
+def runs() -> Iterator[tuple[tuple[Record, ...], list[str]]]:
     for name, (events, answers) in stored_runs().items():
         record = Record(b"q", (b"".join(map(event_bytes, events)),))
         yield (text(f"{name}\n"), record), [name, *answers]

@@ -4,7 +4,11 @@ number of room too few, more than enough and none; and some that are refused, wi
 and length, and the numbers that are written. tests/stored_shortfalls holds it to both judges.
 """
 
-from lta import causes, gap, hour, rules
+from __future__ import annotations
+
+from collections.abc import Iterator, Sequence
+
+from lta import gap, hour, rules
 
 from . import Record, named
 from .hours import HOURS, stored_hours
@@ -15,14 +19,14 @@ MORE = 7  # numbers of room past the last
 REFUSED = ("p03-link-unused-tolerance-0", "p05-volume-above-quantity", "p09-share-one-above", "refused-13-share-above")
 
 
-def due_room(case):
+def due_room(case: bytes) -> int:
     """How many numbers the case's counts ask for, at most as many as an hour can have."""
     counts = hour.case_counts(case)
     rows = sum(counts[name] for _, name in hour.RECORDS["case"]) if counts else 0
     return min(2 * rows, rules.SHORTFALL_ROOM)
 
 
-def records():
+def records() -> dict[str, tuple[int, bytes, bytes]]:
     """The room, the case and the proposal of each record by name."""
     found = {}
     for name, words in stored_hours().items():
@@ -40,21 +44,21 @@ def records():
     return found
 
 
-def answered(room, case, proposal):
-    """Number, index, and the numbers that are written, found beside the library."""
-    verdict = causes.own_reading(case, proposal)
-    if verdict.number:
-        return verdict.number, verdict.index, []
-    shortfalls, _ = gap.own_parts(rules.Sums(case, proposal))
-    numbers = [number for part in shortfalls for number in divmod(part.amount, rules.WHOLE)]
+def answered(verdict: tuple[int, int], room: int, case: bytes, proposal: bytes) -> tuple[int, int, list[int]]:
+    """Number, index, and the numbers that are written, of an hour with this verdict."""
+    if verdict != (0, 0):
+        return *verdict, []
+    numbers = [number for *_, amount in rules.Sums(case, proposal).shortfalls() for number in divmod(amount, rules.WHOLE)]
     return (86, 0, []) if room < len(numbers) else (0, 0, numbers)
 
 
-def line_of(number, index, numbers):
+def line_of(number: int, index: int, numbers: Sequence[int]) -> str:
     """The line that is printed for an answer."""
     return " ".join(map(str, (number, index, len(numbers), *numbers)))
 
 
-def runs():
-    for room, case, proposal in records().values():
-        yield (Record(b"s", (case, proposal), room=room),), [line_of(*answered(room, case, proposal))]
+def runs() -> Iterator[tuple[tuple[Record, ...], list[str]]]:
+    texts = stored_hours()
+    for name, (room, case, proposal) in records().items():
+        _, apart, _ = hour.expected(texts[name.split(",")[0]])
+        yield (Record(b"s", (case, proposal), room=room),), [line_of(*answered(apart, room, case, proposal))]
