@@ -7,7 +7,7 @@ ghost use Rattle.rules.specs.Meaning.Verdict.{exceedsParent, excessFraction};
 ghost use Rattle.base_causes.specs.Meaning.Causes.{failing};
 ghost use Rattle.base_causes.specs.Meaning.Place.{placeOf};
 ghost use Rattle.proposal_file.specs.Meaning.ProposalValid.{ProposalValid};
-ghost use Rattle.judge_clearing.specs.Meaning.InRange.{VolumesInRange};
+ghost use Rattle.proposal_file.specs.Meaning.InRange.{VolumesInRange};
 ghost use Rattle.family_list.specs.Meaning.Answer.{FamiliesReadable};
 use base_causes::Place;
 use case_header::Counts;

@@ -1,4 +1,3 @@
 -- THE MEANING of what the contracts cite
 pub mod Read
 pub mod TenthsHold
-pub mod InRange

@@ -15,7 +15,7 @@ ghost use Rattle.base_causes.specs.Meaning.Place.{placeOf};
 ghost use Rattle.rules.specs.Meaning.Verdict.{excessVolume, overusedLink};
 ghost use Rattle.judge_clearing.specs.Meaning.TenthsHold.{tenthsAt, TenthsHold};
 ghost use Rattle.judge_clearing.specs.Meaning.Read.{HourReadFrom};
-ghost use Rattle.judge_clearing.specs.Meaning.InRange.{VolumesInRange};
+ghost use Rattle.proposal_file.specs.Meaning.InRange.{VolumesInRange};
 use base_causes::Place;
 use base_measures::Microcents;
 use base_measures::Tenths;

@@ -1,3 +1,2 @@
 -- Prices by zone
-pub mod Meaning
 pub mod Steps

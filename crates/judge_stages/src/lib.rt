@@ -23,7 +23,7 @@ ghost use Rattle.case_file.specs.Steps.Files.{proposalStart};
 ghost use Rattle.family_list.specs.Meaning.Answer.{FamiliesReadable};
 ghost use Rattle.judge_clearing.specs.Meaning.TenthsHold.{tenthsAt};
 ghost use Rattle.judge_clearing.specs.Meaning.Read.{HourReadFrom};
-ghost use Rattle.judge_clearing.specs.Meaning.InRange.{VolumesInRange};
+ghost use Rattle.proposal_file.specs.Meaning.InRange.{VolumesInRange};
 ghost use Rattle.judge_stages.specs.declared.FamilyList.the-variants.{Given};
 ghost use Rattle.judge_stages.specs.Meaning.Found.{Finds, FindsIn, HourCleared, hourCauses, listOf};
 ghost use Rattle.judge_stages.specs.Steps.Found.{readCauses, clearCauses, orderCauses, linkAnswer, valueCauses, unreadAs, unclearedAs, refusedAs};

@@ -6,7 +6,8 @@ ghost use lib.ListN.{length, drop};
 ghost use lib.Seq.{sets};
 ghost use Rattle.rules.specs.Meaning.Layout.{welfareAt, pricesAt, zonePriceAt};
 ghost use Rattle.rules.specs.Meaning.Report.{headerBytes, totalBytes, priceBytes, reportText};
-ghost use Rattle.report_file.specs.Meaning.Written.{totalsIn, priceIn};
+ghost use Rattle.report_file.specs.Meaning.Written.{totalsIn};
+ghost use Rattle.report_file.specs.Meaning.Prices.{grainsAt};
 use base_measures::Grains;
 use base_measures::Microcents;
 use bytes_write::put_signed64;
@@ -47,7 +48,7 @@ fn put_totals(report: &mut [u8], totals: Totals)
 fn put_prices(report: &mut [u8], zones: usize, prices: [Grains; layout::ZONES])
     requires { ⌜ zones ≤ 16 ⌝ }
     requires { ⌜ zonePriceAt zones ≤ length (now report) ⌝ }
-    ensures { λ _. ⌜ now (report .exit) ≡ sets (now (report .entry)) pricesAt (priceBytes zones (priceIn prices)) ⌝ }
+    ensures { λ _. ⌜ now (report .exit) ≡ sets (now (report .entry)) pricesAt (priceBytes zones (grainsAt prices)) ⌝ }
 {
     for z in 0..zones {
         let price = prices[z];
@@ -69,7 +70,7 @@ pub fn write_report(
 )
     requires { ⌜ zones ≤ 16 ⌝ }
     requires { ⌜ zonePriceAt zones ≤ length (now report) ⌝ }
-    ensures { λ _. ⌜ now (report .exit) ≡ reportText number zones (totalsIn totals) (priceIn prices) ++ drop (zonePriceAt zones) (now (report .entry)) ⌝ }
+    ensures { λ _. ⌜ now (report .exit) ≡ reportText number zones (totalsIn totals) (grainsAt prices) ++ drop (zonePriceAt zones) (now (report .entry)) ⌝ }
 {
     put_header(report, number, zones);
     put_totals(report, totals);

@@ -1,70 +1,24 @@
 // The lines that the desk prints for one input. The driver cuts the input into case and proposal and judges it; the
 // lines come from the totals and prices that it finds, and go into a lent buffer.
 ghost use mathlib.Core.Path.{_≡_};
-ghost use mathlib.Core.List.{_++_};
 ghost use Prim.Native.Nat.{_+_, _≤_};
 ghost use lib.ListN.{length};
-ghost use Rattle.text_rules.specs.Meaning.Ascii.{ascii};
-ghost use Rattle.text_rules.specs.Meaning.Text.{countText};
 ghost use Rattle.text_rules.specs.Meaning.Put.{Put};
 ghost use Rattle.rules.specs.Meaning.Verdict.{_under_};
-ghost use Rattle.rules.specs.Meaning.Lines.{verdictLine, totalLine, totalLines, priceLine, priceLines, hourLines, deskText};
-ghost use Rattle.report_file.specs.Meaning.Written.{totalsIn, priceIn};
+ghost use Rattle.rules.specs.Meaning.Lines.{totalLines, priceLines, hourLines, deskText};
+ghost use Rattle.report_file.specs.Meaning.Written.{totalsIn};
+ghost use Rattle.report_file.specs.Meaning.Prices.{grainsAt};
 ghost use Rattle.text_lines.specs.Meaning.Printed.{deskRoom, DeskPrinted};
-use base_causes::Outcome;
 use base_measures::Grains;
-use base_measures::Microcents;
 use base_output::Written;
 use base_output::refused;
 use case_file::Files;
 use judge_stages::FamilyList;
 use judge_stages::find_in;
 use report_file::Totals;
-use text_decimal::put_count;
-use text_decimal::put_money;
-use text_decimal::put_price;
-
-fn put_text(out: &mut [u8], at: usize, text: &[u8]) -> usize
-    requires { ⌜ at + length (now text) ≤ length (now out) ⌝ }
-    ensures { λ r. ⌜ Put (now (out .entry)) at (now (text .entry)) (now (out .exit)) r ⌝ }
-{
-    let mut i = 0;
-    while i < text.len() {
-        out[at + i] = text[i];
-        i += 1;
-    }
-    at + text.len()
-}
-
-// A line's name, a count and a space.
-fn put_named(out: &mut [u8], at: usize, name: &[u8], n: u64) -> usize
-    requires { ⌜ at + length (now name ++ countText n ++ ascii " ") ≤ length (now out) ⌝ }
-    ensures { λ r. ⌜ Put (now (out .entry)) at (now (name .entry) ++ countText n ++ ascii " ") (now (out .exit)) r ⌝ }
-{
-    let count = put_text(out, at, name);
-    let end = put_count(out, count, n);
-    put_text(out, end, b" ")
-}
-
-// First line: number, index.
-fn put_verdict(out: &mut [u8], at: usize, v: Outcome) -> usize
-    requires { ⌜ at + length (verdictLine v) ≤ length (now out) ⌝ }
-    ensures { λ r. ⌜ Put (now (out .entry)) at (verdictLine v) (now (out .exit)) r ⌝ }
-{
-    let index = put_named(out, at, b"verdict ", v.number as u64);
-    let end = put_count(out, index, v.index as u64);
-    put_text(out, end, b"\n")
-}
-
-// A total's name, and its amount in euros.
-fn put_total(out: &mut [u8], at: usize, name: &[u8], total: Microcents) -> usize
-    requires { ⌜ at + length (totalLine (now name) (total .0)) ≤ length (now out) ⌝ }
-    ensures { λ r. ⌜ Put (now (out .entry)) at (totalLine (now (name .entry)) (total .0)) (now (out .exit)) r ⌝ }
-{
-    let amount = put_text(out, at, name);
-    let end = put_money(out, amount, total.bits());
-    put_text(out, end, b"\n")
-}
+use text_single::put_total;
+use text_single::put_verdict;
+use text_single::put_zone;
 
 fn put_totals(out: &mut [u8], at: usize, totals: Totals) -> usize
     requires { ⌜ at + length (totalLines (totalsIn totals)) ≤ length (now out) ⌝ }
@@ -77,20 +31,10 @@ fn put_totals(out: &mut [u8], at: usize, totals: Totals) -> usize
     put_total(out, owed, b"owed ", totals.owed)
 }
 
-// A zone, and its price in euros per MWh.
-fn put_zone(out: &mut [u8], at: usize, zone: usize, price: Grains) -> usize
-    requires { ⌜ at + length (priceLine zone (price .0)) ≤ length (now out) ⌝ }
-    ensures { λ r. ⌜ Put (now (out .entry)) at (priceLine zone (price .0)) (now (out .exit)) r ⌝ }
-{
-    let amount = put_named(out, at, b"price ", zone as u64);
-    let end = put_price(out, amount, price.bits());
-    put_text(out, end, b"\n")
-}
-
 fn put_prices(out: &mut [u8], at: usize, zones: usize, prices: [Grains; 16]) -> usize
     requires { ⌜ zones ≤ 16 ⌝ }
-    requires { ⌜ at + length (priceLines zones (priceIn prices)) ≤ length (now out) ⌝ }
-    ensures { λ r. ⌜ Put (now (out .entry)) at (priceLines zones (priceIn prices)) (now (out .exit)) r ⌝ }
+    requires { ⌜ at + length (priceLines zones (grainsAt prices)) ≤ length (now out) ⌝ }
+    ensures { λ r. ⌜ Put (now (out .entry)) at (priceLines zones (grainsAt prices)) (now (out .exit)) r ⌝ }
 {
     let mut next = at;
     for z in 0..zones {
@@ -102,8 +46,8 @@ fn put_prices(out: &mut [u8], at: usize, zones: usize, prices: [Grains; 16]) -> 
 // The lines after the first.
 fn put_hour(out: &mut [u8], at: usize, zones: usize, totals: Totals, prices: [Grains; 16]) -> usize
     requires { ⌜ zones ≤ 16 ⌝ }
-    requires { ⌜ at + length (hourLines zones (totalsIn totals) (priceIn prices)) ≤ length (now out) ⌝ }
-    ensures { λ r. ⌜ Put (now (out .entry)) at (hourLines zones (totalsIn totals) (priceIn prices)) (now (out .exit)) r ⌝ }
+    requires { ⌜ at + length (hourLines zones (totalsIn totals) (grainsAt prices)) ≤ length (now out) ⌝ }
+    ensures { λ r. ⌜ Put (now (out .entry)) at (hourLines zones (totalsIn totals) (grainsAt prices)) (now (out .exit)) r ⌝ }
 {
     let first_price = put_totals(out, at, totals);
     put_prices(out, first_price, zones, prices)

@@ -14,7 +14,7 @@ use Rattle.base_integers.specs.Steps.Size.{near-fits, near-mul, near-unsigned}
 use Rattle.base_integers.specs.Steps.Machine.{sfits-by}
 use Rattle.rules.specs.Meaning.Hour.{Case, Plan}
 use Rattle.rules.specs.Steps.Passed.{CaseSound}
-use Rattle.judge_clearing.specs.Meaning.InRange.{VolumesInRange}
+use Rattle.proposal_file.specs.Meaning.InRange.{VolumesInRange}
 use Rattle.rules.specs.Meaning.Families.{noParent, named, parentIn, parentOf}
 use Rattle.rules.specs.Meaning.Verdict.{exceedsParent}
 

@@ -18,7 +18,7 @@ use Rattle.base_causes.specs.Promised.CauseLaws.{not-below}
 use Rattle.rules.specs.Meaning.Verdict.{excessVolume, overusedLink}
 use Rattle.rules.specs.Steps.Passed.{CaseSound}
 use Rattle.rules.specs.Promised.Fits.{flow-in}
-use Rattle.judge_clearing.specs.Meaning.InRange.{VolumesInRange, FlowsInRange}
+use Rattle.proposal_file.specs.Meaning.InRange.{VolumesInRange, FlowsInRange}
 
 pub volumes-in : {c : Case} {p : Plan} → failing (excessVolume c p) ≡ none → VolumesInRange c p
 volumes-in {c} {p} e = record { within = λ i h. nltb→le (c .quantity i) (p .volume i) (not-below _ _ e i h) }

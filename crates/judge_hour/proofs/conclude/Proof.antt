@@ -6,7 +6,8 @@ use denote.Ref.{now}
 use lib.ListN.{drop}
 use Rattle.rules.specs.Meaning.Layout.{zonePriceAt}
 use Rattle.rules.specs.Meaning.Report.{reportText}
-use Rattle.report_file.specs.Meaning.Written.{totalsIn, priceIn}
+use Rattle.report_file.specs.Meaning.Written.{totalsIn}
+use Rattle.report_file.specs.Meaning.Prices.{grainsAt}
 use Rattle.judge_hour.specs.Steps.Judged.{number-small, unwritten, written-out}
 use Rattle.judge_hour.proofs.conclude.Statement.{statement}
 use Rattle.judge_hour.proofs.conclude.Tie as tie
@@ -35,7 +36,7 @@ returns-2 c =
     let f = a .args .found in (
       refl,
       w .write-report .ensures
-          ∙ (λ j. reportText (w .before .before .number-of .ensures j) (w .before .byte-of .ensures j) (totalsIn (f .totals)) (priceIn (f .prices)) ++ drop (zonePriceAt (w .before .byte-of .ensures j)) (now (a .args .report)))
+          ∙ (λ j. reportText (w .before .before .number-of .ensures j) (w .before .byte-of .ensures j) (totalsIn (f .totals)) (grainsAt (f .prices)) ++ drop (zonePriceAt (w .before .byte-of .ensures j)) (now (a .args .report)))
           ∙ written-out f (now (a .args .report)) (w .before .before .before .before .before .before .if1 .left),
     )
 

@@ -15,7 +15,8 @@ use Rattle.base_causes.specs.declared.Outcome.{Outcome}
 use Rattle.base_causes.specs.Meaning.Causes.{Cause, verdict, refusal, answer}
 use Rattle.rules.specs.Meaning.Report.{Totals, headerBytes, totalBytes, priceBytes, reportText, totalsOf, reports, reportBytes, reportSize, written, bufferAfter, familyBufferAfter}
 use Rattle.rules.specs.Meaning.Verdict.{table, outcome, familyOutcome}
-use Rattle.report_file.specs.Meaning.Written.{totalsIn, priceIn}
+use Rattle.report_file.specs.Meaning.Written.{totalsIn}
+use Rattle.report_file.specs.Meaning.Prices.{grainsAt}
 use Rattle.judge_stages.specs.declared.Found.{Found}
 use Rattle.judge_stages.specs.Meaning.Found.{Finds}
 use Rattle.judge_hour.specs.Meaning.HourJudged.{HourJudged, FamilyHourJudged}
@@ -68,7 +69,7 @@ same-report number zones x price c p d b e t h =
 
 -- THE BUFFER after what was found
 abbrev pub reportOf : Found → List ℕ → List ℕ
-reportOf r b = reportText (r .verdict .number) (r .hour .counts .zones) (totalsIn (r .totals)) (priceIn (r .prices)) ++ drop (zonePriceAt (r .hour .counts .zones)) b
+reportOf r b = reportText (r .verdict .number) (r .hour .counts .zones) (totalsIn (r .totals)) (grainsAt (r .prices)) ++ drop (zonePriceAt (r .hour .counts .zones)) b
 
 abbrev pub concluded : Found → List ℕ → List ℕ
 concluded r b = cond (r .valued) (reportOf r b) b
@@ -101,7 +102,7 @@ judged rows s t b f h e q = record {
 }
   where
     by : (v : Bool) → f .valued ≡ v → cond v (reportOf f b) b ≡ written (f .verdict) (caseOf s) (planOf s t) (pricesOf s t) b
-    by true q = same-report (f .verdict .number) (f .hour .counts .zones) (totalsIn (f .totals)) (priceIn (f .prices)) (caseOf s) (planOf s t) (pricesOf s t) b (h .zones-are q) (h .totals-are q) ((h .prices-are q) .each)
+    by true q = same-report (f .verdict .number) (f .hour .counts .zones) (totalsIn (f .totals)) (grainsAt (f .prices)) (caseOf s) (planOf s t) (pricesOf s t) b (h .zones-are q) (h .totals-are q) ((h .prices-are q) .each)
         ∙ ap (λ (x : Bool). cond x (reportBytes (f .verdict .number) (caseOf s) (planOf s t) (pricesOf s t) ++ drop (reportSize (caseOf s)) b) b) (sym q ∙ h .valued-is)
     by false q = ap (λ (x : Bool). cond x (reportBytes (f .verdict .number) (caseOf s) (planOf s t) (pricesOf s t) ++ drop (reportSize (caseOf s)) b) b) (sym q ∙ h .valued-is)
 

@@ -24,7 +24,7 @@ use Rattle.base_causes.specs.Promised.CauseLaws.{place-below}
 use Rattle.judge_clearing.specs.Meaning.TenthsHold.{TenthsHold}
 use Rattle.judge_clearing.specs.Meaning.Read.{HourReadFrom}
 use Rattle.judge_clearing.specs.Steps.Read.{sound, zones-is, few-zones, links-is, share-is, share-in}
-use Rattle.judge_clearing.specs.Meaning.InRange.{VolumesInRange}
+use Rattle.proposal_file.specs.Meaning.InRange.{VolumesInRange}
 use Rattle.judge_clearing.specs.Steps.InRange.{volumes-in, flows-in, fit-ext}
 use Rattle.judge_stages.specs.declared.Cleared.{Cleared}
 use Rattle.judge_stages.specs.Meaning.Found.{listOf}

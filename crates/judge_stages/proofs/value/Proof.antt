@@ -29,9 +29,9 @@ use Rattle.rules.specs.Meaning.Report.{totalsOf, reports}
 use Rattle.case_header.specs.declared.Counts.{Counts}
 use Rattle.judge_clearing.specs.Meaning.TenthsHold.{tenthsAt, TenthsHold}
 use Rattle.judge_clearing.specs.Steps.Read.{case-opened, sound, zones-is, few-zones, shadow-in}
-use Rattle.judge_clearing.specs.Meaning.InRange.{VolumesInRange}
+use Rattle.proposal_file.specs.Meaning.InRange.{VolumesInRange}
 use Rattle.judge_clearing.specs.Steps.InRange.{fit-ext}
-use Rattle.judge_network.specs.Meaning.Prices.{grainsAt, PricesHold}
+use Rattle.report_file.specs.Meaning.Prices.{grainsAt, PricesHold}
 use Rattle.judge_stages.specs.Steps.Found.{valueCauses, refusedAs, finds-refused, gap-answers, gap-reports}
 use Rattle.judge_stages.proofs.value.Statement.{statement}
 use Rattle.judge_stages.proofs.value.Tie as tie

@@ -12,8 +12,8 @@ use Rattle.case_file.specs.declared.Files.{Files}
 use Rattle.case_file.specs.Meaning.Files.{caseIn, proposalIn}
 use Rattle.judge_clearing.specs.Meaning.TenthsHold.{TenthsHold}
 use Rattle.judge_clearing.specs.Meaning.Read.{HourReadFrom}
-use Rattle.judge_clearing.specs.Meaning.InRange.{VolumesInRange, FlowsInRange}
-use Rattle.judge_network.specs.Meaning.Prices.{PricesHold}
+use Rattle.proposal_file.specs.Meaning.InRange.{VolumesInRange, FlowsInRange}
+use Rattle.report_file.specs.Meaning.Prices.{PricesHold}
 use Rattle.report_file.specs.Meaning.Written.{totalsIn}
 use Rattle.judge_stages.specs.declared.FamilyList.{FamilyList}
 use Rattle.judge_stages.specs.declared.FamilyList.the-variants.{Given, Absent}

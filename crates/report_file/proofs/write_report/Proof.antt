@@ -3,7 +3,8 @@ use mathlib.Core.Path.{_∙_}
 use denote.Ref.{now}
 use lib.Seq.{sets}
 use Rattle.rules.specs.Meaning.Report.{totalBytes, priceBytes}
-use Rattle.report_file.specs.Meaning.Written.{totalsIn, priceIn}
+use Rattle.report_file.specs.Meaning.Written.{totalsIn}
+use Rattle.report_file.specs.Meaning.Prices.{grainsAt}
 use Rattle.report_file.specs.Steps.Written.{report-run}
 use borrow.Author.Needs.{needs}
 use Rattle.report_file.proofs.write_report.Statement.{statement}
@@ -29,8 +30,8 @@ returns c =
     let a = h .before .before .before in
     let e = t .put-totals .ensures ∙ (λ j. sets (h .put-header .ensures j) 8 (totalBytes (totalsIn (a .args .totals)))) in
     p .put-prices .ensures
-    ∙ (λ j. sets (e j) 48 (priceBytes (a .args .zones) (priceIn (a .args .prices))))
-    ∙ report-run (now (a .args .report)) (a .args .number) (a .args .zones) (totalsIn (a .args .totals)) (priceIn (a .args .prices)) (a .pre .1)
+    ∙ (λ j. sets (e j) 48 (priceBytes (a .args .zones) (grainsAt (a .args .prices))))
+    ∙ report-run (now (a .args .report)) (a .args .number) (a .args .zones) (totalsIn (a .args .totals)) (grainsAt (a .args .prices)) (a .pre .1)
 
 pub write-report-spec : {M : Type 1} → statement M
 write-report-spec =

@@ -7,7 +7,7 @@ use Rattle.rules.specs.Meaning.Hour.{caseOf, planOf, pricesOf, gap}
 use Rattle.rules.specs.Meaning.Clearing.{Clearing}
 use Rattle.judge_clearing.specs.declared.HourRead.{HourRead}
 use Rattle.judge_clearing.specs.Meaning.Read.{HourReadFrom}
-use Rattle.judge_network.specs.Meaning.Prices.{PricesInRange}
+use Rattle.report_file.specs.Meaning.Prices.{PricesInRange}
 use Rattle.short_rules.specs.Meaning.Shortfalls.{Accounted}
 
 -- what was read of the case s and the proposal t; the proposal is accepted

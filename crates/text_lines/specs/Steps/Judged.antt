@@ -14,7 +14,8 @@ use Rattle.base_causes.specs.Promised.CauseLaws.{field-passes}
 use Rattle.rules.specs.Meaning.Verdict.{roomCauses, table, outcome}
 use Rattle.rules.specs.Meaning.Report.{Totals, totalsOf, reports}
 use Rattle.rules.specs.Meaning.Lines.{verdictLine, priceLines, totalLines, hourLines, linesOf, hourText}
-use Rattle.report_file.specs.Meaning.Written.{totalsIn, priceIn}
+use Rattle.report_file.specs.Meaning.Written.{totalsIn}
+use Rattle.report_file.specs.Meaning.Prices.{grainsAt}
 use Rattle.judge_stages.specs.declared.Found.{Found}
 use Rattle.judge_stages.specs.Meaning.Found.{Finds, hourCauses}
 use Rattle.text_lines.specs.Steps.Texts.{prices-same}
@@ -51,9 +52,9 @@ module _ {s t : List ℕ} {f : Found} (h : Finds (hourCauses none s t) s t f) wh
   pub line-found : f .valued ≡ false → verdictLine (f .verdict) ≡ hourText s t
   line-found v = ap verdictLine verdict-found ∙ sym (one-line s t (reports-found v))
 
-  pub lines-found : f .valued ≡ true → verdictLine (f .verdict) ++ hourLines (f .hour .counts .zones) (totalsIn (f .totals)) (priceIn (f .prices)) ≡ hourText s t
+  pub lines-found : f .valued ≡ true → verdictLine (f .verdict) ++ hourLines (f .hour .counts .zones) (totalsIn (f .totals)) (grainsAt (f .prices)) ≡ hourText s t
   unfolding hourLines
   lines-found v =
-      (λ i. verdictLine (verdict-found i) ++ (totalLines (h .totals-are v i) ++ priceLines (h .zones-are v i) (priceIn (f .prices))))
-      ∙ ap (λ (l : List ℕ). verdictLine (outcome s t reportRoom) ++ (totalLines (totals s t) ++ l)) (prices-same (zones s t) (priceIn (f .prices)) (price s t) ((h .prices-are v) .each))
+      (λ i. verdictLine (verdict-found i) ++ (totalLines (h .totals-are v i) ++ priceLines (h .zones-are v i) (grainsAt (f .prices))))
+      ∙ ap (λ (l : List ℕ). verdictLine (outcome s t reportRoom) ++ (totalLines (totals s t) ++ l)) (prices-same (zones s t) (grainsAt (f .prices)) (price s t) ((h .prices-are v) .each))
       ∙ sym (all-lines s t (reports-found v))

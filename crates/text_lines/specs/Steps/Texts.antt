@@ -1,4 +1,4 @@
--- An amount's text from its bits, and the price lines zone by zone. Assumes nothing.
+-- The price lines zone by zone. Assumes nothing.
 use mathlib.Core.Path.{_≡_, refl, sym, ap, _∙_}
 use mathlib.Core.List.{List, _++_}
 use Prim.Native.Nat.{ℕ, zero, suc, _+_, _≤_, _<_}
@@ -7,15 +7,7 @@ use native.Mathlib.Decide.{decLt}
 use native.Mathlib.Omega.{arith}
 use lib.ListN.{length, length-append}
 use lib.IntN.{ℤ}
-use mir.Syntax.{w64}
-use mir.Val.{SFits, toZ, ofZ}
-use mir.Facts.{toZ-ofZ}
-use Rattle.text_rules.specs.Meaning.Text.{amountText}
 use Rattle.rules.specs.Meaning.Lines.{priceLine, priceLines}
-
--- an amount's text, from the bits that are printed
-pub bits-text : (decimals : ℕ) {b : ℕ} {z : ℤ} → SFits w64 z → b ≡ ofZ w64 z → amountText decimals (toZ w64 b) ≡ amountText decimals z
-bits-text decimals {b} {z} f e = ap (λ (n : ℕ). amountText decimals (toZ w64 n)) e ∙ ap (λ (x : ℤ). amountText decimals x) (toZ-ofZ {w = w64} {z = z} f)
 
 -- one zone more
 pub prices-more : (z : ℕ) (price : ℕ → ℤ) → priceLines z price ++ priceLine z (price z) ≡ priceLines (z + 1) price

@@ -11,8 +11,9 @@ use lib.Dec.{T, ltb}
 use lib.IntN.{ℤ, pos, negsuc, natAbs}
 use lib.Signed.{ltZ}
 use mir.Syntax.{w64}
-use mir.Val.{sel, toZ}
-use mir.Facts.{toZ-pos, toZ-neg}
+use mir.Val.{sel, SFits, toZ, ofZ}
+use mir.Facts.{toZ-pos, toZ-neg, toZ-ofZ}
+use Rattle.text_rules.specs.Meaning.Text.{amountText}
 
 below : (n : ℕ) → 9223372036854775807 < n → n < 18446744073709551616 → toZ w64 n ≡ negsuc (18446744073709551615 - n)
 below n h l = ap (λ (m : ℕ). toZ w64 m) back ∙ toZ-neg w64 (18446744073709551615 - n) (omega arith)
@@ -42,3 +43,7 @@ size-above n e = by (ltb n (2 ^ 63)) e
     by : (b : Bool) → ltZ (sel b (pos n) (negsuc (2 ^ 64 - suc n))) (pos 0) ≡ false → n ≡ natAbs (sel b (pos n) (negsuc (2 ^ 64 - suc n)))
     by true e = refl
     by false e = absurd (subst T e tt)
+
+-- an amount's text, from the bits that are printed
+pub bits-text : (decimals : ℕ) {b : ℕ} {z : ℤ} → SFits w64 z → b ≡ ofZ w64 z → amountText decimals (toZ w64 b) ≡ amountText decimals z
+bits-text decimals {b} {z} f e = ap (λ (n : ℕ). amountText decimals (toZ w64 n)) e ∙ ap (λ (x : ℤ). amountText decimals x) (toZ-ofZ {w = w64} {z = z} f)

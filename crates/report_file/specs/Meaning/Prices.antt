@@ -1,4 +1,5 @@
--- Sixteen prices that hold the zone prices, and zone prices within their limits.
+-- Prices of zones in the code: the number of each in an array, an array that holds the zone prices of a case, and zone
+-- prices within their limits.
 use mathlib.Core.Path.{_≡_}
 use mathlib.Core.List.{List}
 use Prim.Native.Nat.{ℕ, _<_}

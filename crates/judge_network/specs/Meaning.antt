@@ -1,2 +1,0 @@
--- THE MEANING of what the contracts cite
-pub mod Prices
