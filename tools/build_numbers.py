@@ -17,14 +17,15 @@ ROOT = pathlib.Path(__file__).resolve().parent.parent
 OPENING = """\
 # The numbers
 
-Every number that an entry of the library returns, in the order in which the entry asks for their causes: the first cause
-that holds is the answer, and 0 is returned where none does. Orders, branches, links, zones, lines, values and pairs are
-counted from 0, offsets in bytes. `include/lta_judgement.h` says more of each number.
+This page lists every number that an entry of the library returns. An entry tests the causes in the order of its table:
+the number of the first cause that holds is the answer, and 0 is the answer if none holds. Orders, branches, links,
+zones, lines, values and pairs are counted from 0, and offsets in bytes. `include/lta_judgement.h` says more about each
+number.
 
-- `LTA_FAMILY_..` are asked by `lta_judge_families` alone.
-- `lta_hour_intuitive`, `lta_hour_intuitive_small` and `lta_shortfalls` judge the hour first. They return the judgement's
-  numbers too, but for 30.
-- `lta_book_surplus` returns 4, 8 and 25. Its 8 names the row of the book and not an offset.
+- Only `lta_judge_families` returns the numbers `LTA_FAMILY_..`.
+- `lta_hour_intuitive`, `lta_hour_intuitive_small` and `lta_shortfalls` judge the hour first. They return the
+  judgement's numbers too, except 30.
+- `lta_book_surplus` returns 4, 8 and 25. The index of its 8 is a row of the book, not an offset.
 
 `tools/build_numbers.py` writes this page from `tools/lta/numbers.txt`.
 """

@@ -32,7 +32,7 @@ KINDS: dict[str, tuple[str, dict[str, Any], str]] = {
     schema.INPUTS: (
         "array of objects",
         {"type": "array", "items": "INPUT"},
-        "text: `inputs_sha256`, the hashes with blanks between",
+        "text: `inputs_sha256`, the hashes separated by blanks",
     ),
     schema.ZONES: ("array of zones", {"type": "array", "items": ZONE}, "none"),
     schema.PAIRS: ("array of pairs", {"type": "array", "items": {"type": "array", "items": ZONE}}, "none"),
@@ -97,25 +97,25 @@ version. A new field does not: skip the fields that you do not know.
 | `--jsonl` | JSON Lines: a record on each line, written as soon as its hour is judged |
 | `--csv` | a line of column names, then a line for each record |
 
-All three have the same fields under the same names. `docs/schema.json` is the same as a JSON Schema.
+All three have the same fields under the same names. `docs/schema.json` describes the records as a JSON Schema.
 
-- **Money** is in microcents, hundred-millionths of a euro, as an integer, and in euros as a decimal. Decimals are
-  strings in JSON, since a binary float cannot hold them. Integers of microcents can pass 2^53, 90 million euros: jq 1.6
-  and JavaScript round such a number. Take the decimal if that matters.
+- **Money** is given twice: as an integer of microcents, hundred-millionths of a euro, and as a decimal in euros.
+  Decimals are strings in JSON, since a binary float cannot hold them. Above 90 million euros the microcents pass 2^53,
+  and jq 1.6 and JavaScript round such a number. Take the decimal if that matters.
 - **No value**: `null` in JSON, an empty cell in CSV.
-- **An hour that could not be read** has a record with `error`; its other fields have no value.
-- **Names** of fields are no words of SQL, so they need no quotes in a query.
+- **An hour that could not be read** has a record with `error`, and the fields of an answer have no value.
+- **Names** of fields are not keywords of SQL, so they need no quotes in a query.
 - **Spreadsheets**: a text cell of the CSV that begins with `=`, `+`, `-`, `@`, a tab, a carriage return or an
-  apostrophe has an apostrophe before it, so no program takes it for a formula. Take off one apostrophe to have the
-  text. Numbers stay numbers, also negative ones.
+  apostrophe has an apostrophe before it, so no program takes it for a formula. Remove one apostrophe to get the text.
+  Numbers stay numbers, also negative ones.
 - **Proved**: `verdict`, `verdict_index`, totals, prices, shortfalls, `intuitive` and `carried_mw` come from the proved
-  library if `library_belongs` is true. `explanation` and what is marked so are computed next to it.
+  library if `library_belongs` is true. `lta` itself computes `explanation` and the fields marked "not proved".
 
 `tools/build_schema.py` writes this page from `tools/lta/schema.py`, and `tests/lta_output` runs its examples.
 """
 
 TITLES = {
-    schema.JUDGE: ("lta judge", "A record for each hour, or two if a text is answered differently joined and apart."),
+    schema.JUDGE: ("lta judge", "A record for each hour, or two if a text has different answers joined and apart."),
     schema.SHORTFALLS: (
         "lta shortfalls",
         "A record for each hour. In CSV each order, branch and link has a row, with the fields of the hour. An hour that is"
@@ -132,8 +132,8 @@ JUNIT = """\
 
 | In the file | What it says |
 |---|---|
-| a test without more | the hour is accepted, or as its text expects; with `--strict` only an accepted hour passes |
-| `failure` | it is not so; `type` is the name of the number, the text is the explanation |
+| neither of these | the hour is accepted, or as its text expects; with `--strict`, the hour is accepted |
+| `failure` | the hour does not pass; `type` is the name of the number, the text is the explanation |
 | `error` | the hour could not be read, and why |
 """
 

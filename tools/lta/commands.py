@@ -84,18 +84,18 @@ FILES = (
     ("a folder", "all of these in it and in its folders"),
 )
 FILES_NOTES = (
-    """A file is what its ending says, in capitals or not. For other endings an option says what the files are. X.case
-    takes the X.proposal, X.dump and X.families that are named. Else it takes the file with such an ending that follows
-    it, and else the file of its own name that lies next to it.""",
-    """In a folder, hidden files are left aside and links to folders are not followed. One line on standard error names
-    the files that are no hour's. An hour that cannot be read stops no other.""",
+    """The ending of a file, in capitals or not, says what it is. For other endings an option says what the files are.
+    For X.case, lta takes the X.proposal, X.dump and X.families that you name. If you name none, it takes the file with
+    such an ending that follows X.case, or else the file of the same name that lies next to X.case.""",
+    """In a folder, lta skips hidden files and follows no links to folders. One line on standard error names the files
+    that belong to no hour. An hour that cannot be read does not stop the others.""",
 )
 
 # What lta is, and what its answers rest on, for the overview and the manual page.
 PURPOSE = "judge, explain, show, build and draw hours of the day-ahead coupling"
 PROVED = """Verdicts, totals, prices, shortfalls, yes or no, proposals and columned files come from the proved library.
-    Explanations, zones that are cut off, what is left of a gap, and pages are computed next to it, are not proved, and
-    say so."""
+    Explanations, zones that are cut off, what is left of a gap, and pages are computed by lta itself. They are not
+    proved, and say so."""
 STATUSES = {
     0: "every hour is accepted, or as its text expects; other commands: it is answered or written",
     1: "an hour is refused, or not as its text expects; other commands: the library refuses what it was given",
@@ -109,18 +109,18 @@ ENVIRONMENT = {
 READ_FAILED = STATUSES[2]
 
 # Options that several commands share.
-PAIRS = Option("--pairs", "take all files as cases and proposals by turns", name="way", sets="pairs")
+PAIRS = Option("--pairs", "take the files in pairs, a case and then its proposal", name="way", sets="pairs")
 JOINED = Option("--joined", "take all files as joined files", name="way", sets="joined")
 TEXT = Option("--text", "take all files as texts", name="way", sets="text")
 FAMILIES = Option(
     "--families", "judge the one hour named with this family list", value="FILE", name="family_list", apart="lists"
 )
 NO_FAMILIES = Option(
-    "--no-families", "judge without family lists; a line on standard error says of which hours", apart="lists"
+    "--no-families", "judge without family lists; a line on standard error names those left out", apart="lists"
 )
 IGNORE = Option(
     "--ignore",
-    "pass over files and folders of this name in a folder, or with a / of this path; may be repeated",
+    "in a folder, skip files and folders of this name, or of this path if it has a /; may be repeated",
     value="GLOB",
     many=True,
 )
@@ -186,7 +186,7 @@ COMMANDS = (
         "FILE...",
         (
             """Says the verdict in words: the field, its offset in decimal and hex, its value and its limit. The line
-            under a refusal lists what else is wrong, and the numbers that cannot be asked before these are mended. If
+            under a refusal lists what else is wrong, and the numbers that cannot be decided until these are mended. If
             the files are in order it also prints the zones, branches, links and families, and the parts of the gap.""",
         ),
         (PAIRS, *HOURS, *ANSWER),
@@ -215,8 +215,8 @@ COMMANDS = (
             """Says whether the exports of an accepted hour can all be carried to imports, each from a zone to one whose
             price is not lower, by annex 5.1 of Annex 16.18: yes or no, how much can be carried, and for a no which zones
             are cut off.""",
-            """Flow goes along pairs of zones: the case's links, or the pairs of a text, two zones to a line as in 0 1,
-            with # before a comment.""",
+            """Flow goes along pairs of zones: the case's links, or the pairs of a text. Such a text has two zones to a
+            line, as in 0 1, and # before a comment.""",
         ),
         (
             Option("--links", "take the case's links as the pairs of zones; this is the default", apart="pairs"),
@@ -236,14 +236,14 @@ COMMANDS = (
         (
             """Writes the proposal that a solver's dump gives for a case. Without -o it prints how long the proposal would
             be. The text of a dump stands for both files.""",
-            """Of several files, and of folders, it takes every X.case with its X.dump, and every text. -o then names a
-            folder, in which X.proposal is written.""",
+            """If you name several files or a folder, it takes every X.case with its X.dump, and every text. -o then
+            names the folder in which it writes each X.proposal.""",
         ),
         (
             output("PROPOSAL", "write the proposal to this file, or the proposals to this folder; - is standard output"),
             FORCE,
             QUIET,
-            Option("--pairs", "take all files as cases and dumps by turns", name="way", sets="pairs"),
+            Option("--pairs", "take the files in pairs, a case and then its dump", name="way", sets="pairs"),
             TEXT,
             IGNORE,
         ),
@@ -255,8 +255,9 @@ COMMANDS = (
         "rearrange a case for the archive, its orders column by column",
         "CASE",
         (
-            """Writes a case with its orders column by column, under the mark LTK. Such a file packs better. Without -o it
-            prints how long the file would be. Where a case is asked for, a columned file is refused by 2.""",
+            """Writes a case with its orders column by column, under the mark LTK. Such a file compresses better.
+            Without -o it prints how long the file would be. A columned file that is given as a case is refused by
+            2.""",
         ),
         (output("FILE", "write the columned file here; - is standard output"), FORCE, QUIET),
         ("lta column three-zone.case -o three-zone.columned",),
@@ -267,8 +268,8 @@ COMMANDS = (
         "turn a columned file back into its case",
         "FILE",
         (
-            """Writes the case of which a columned file was made, byte for byte. Without -o it prints how long the case
-            would be.""",
+            """Writes the case from which a columned file was made, byte for byte. Without -o it prints how long the
+            case would be.""",
         ),
         (output("CASE", "write the case to this file; - is standard output"), FORCE, QUIET),
         ("lta restore three-zone.columned -o three-zone.case",),
@@ -320,7 +321,8 @@ COMMANDS = (
         "build",
         "write the files that a text describes",
         "TEXT",
-        ("""Writes the files asked for. Without one it prints their sizes. lta help text explains the lines of a text.""",),
+        ("""Writes the files that you ask for. If you ask for none, it prints their sizes. lta help text explains the
+            lines of a text.""",),
         (
             Option("--case", "write the case to this file; - is standard output", value="FILE"),
             Option("--proposal", "write the proposal", value="FILE"),
@@ -341,11 +343,11 @@ COMMANDS = (
         (
             """Lists the hours whose error, verdict, index, totals or prices differ between two result files of lta judge,
             and those that only one of them has. A and B are JSON, JSON Lines or CSV; hours are matched by their names.""",
-            """With --library twice it judges the hours of the files by two libraries, in two processes, and compares
-            their results. The folders are as LTA_ARCHIVE_DIR names them.""",
+            """With --library twice it judges the hours of the files with two libraries, in two processes, and compares
+            their results. DIR is a folder as for LTA_ARCHIVE_DIR.""",
         ),
         (
-            Option("--library", "judge by the library in this folder; once for A, once for B", value="DIR", many=True),
+            Option("--library", "use the library in this folder; once for A, once for B", value="DIR", many=True),
             CSV,
             JSON,
             JSONL,

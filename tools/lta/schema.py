@@ -94,8 +94,8 @@ PART_FIELDS = (
     Field("part_kind", TEXT, "what falls short: order, branch or link"),
     Field("part_index", INTEGER, "its place in the case, from 0"),
     Field("part_microcents", INTEGER, "by how much, whole microcents"),
-    Field("part_hundred_thousandths", INTEGER, "and hundred-thousandths of a microcent"),
-    Field("part_euros", DECIMAL, "both in euros, 13 decimals"),
+    Field("part_hundred_thousandths", INTEGER, "the rest, in hundred-thousandths of a microcent"),
+    Field("part_euros", DECIMAL, "both together in euros, 13 decimals"),
 )
 JUDGE, SHORTFALLS, INTUITIVE, DIFFERENCE = "judge", "shortfalls", "intuitive", "difference"
 # The fields of each type of record, in their order.
@@ -110,7 +110,7 @@ FIELDS: dict[str, tuple[Field, ...]] = {
         Field("prices_euros", PRICES, "each zone's price in euros per MWh, 7 decimals; empty without a report", null=False),
         EXPLANATION,
         Field("expected_verdict", INTEGER, "the number that the hour's text expects; null if it expects nothing"),
-        Field("expected_index", INTEGER, "and the index"),
+        Field("expected_index", INTEGER, "the index that it expects"),
         *(Field(f"expected_{name}_euros", DECIMAL, f"the {name} that it expects") for name in hour.TOTALS),
         Field("as_expected", BOOLEAN, "whether verdict and totals are as the text expects; null if it expects nothing"),
         *BUILD,
@@ -143,7 +143,7 @@ FIELDS: dict[str, tuple[Field, ...]] = {
     DIFFERENCE: (
         *FIRST,
         Field("way", TEXT, "as in the records of judge"),
-        Field("differs_in", TEXT, "the column of judge's CSV that differs; hour if only one has the hour", null=False),
+        Field("differs_in", TEXT, "the column of judge's CSV that differs; `hour` if only one has it", null=False),
         Field("value_a", TEXT, "its value in A"),
         Field("value_b", TEXT, "its value in B"),
     ),
