@@ -1,5 +1,5 @@
-//! The judgement with a family list: against the judgement of the same hour without one, which S-11 asks to cost at
-//! least half as much, and against the second judge's. 512 orders in one chain, in one circle, in none.
+//! Times the judgement with a family list against the judgement of the same hour without one, and against the second
+//! judge's. S-11 asks for at most twice the time without a list. 512 orders in one chain, in one circle, in none.
 
 use crate::{heading, heading_against, measure, print, sized, Times, CLASSES};
 use comparison::library;

@@ -10,8 +10,8 @@ use std::hint::black_box;
 
 const ROOM: usize = 2 * (512 + 64 + 64);
 
-/// An hour of these counts that is accepted with a gap within 100 euros: every order is at the system price, and
-/// the first branch has a shadow price of a cent, which moves the zone prices off it.
+/// An hour of these counts that is accepted with a gap of at most 100 euros. Every order is at the system price. The
+/// first branch has a shadow price of a cent, which moves the zone prices away from the system price.
 fn near(counts: [usize; 4]) -> Hour {
     let [zones, branches, links, orders] = counts;
     let mut hour = sized(zones, branches, links, orders);

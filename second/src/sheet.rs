@@ -1,7 +1,6 @@
-//! Published margin sheets, request S-1: lines of text as the branch part of a case.
+//! Published margin sheets (S-1): turns lines of text into the branch part of a case.
 //!
-//! A number stays text until it is known to have no more digits than its limit, so no argument about widths is
-//! needed.
+//! A number stays text until it is known to have no more digits than its limit. So no step can overflow.
 
 use crate::limits::*;
 use crate::{OutputAnswer, Papers};

@@ -75,10 +75,10 @@ fn cents_on_a_tenth(cents: i128) -> i128 {
 
 #[test]
 fn p1_falls_short_nowhere() {
-    // Prices 20, 63.75 and 50 euros. Order 0 sells 4,000 at 10: surplus 4,000 times 10
-    // euros, and all 4,000 earn it; order 1 sells at its price; order 2 buys 1,000 of
-    // 1,000 at 70; order 3 at 60 has no surplus and no volume; order 4 buys at its price.
-    // Branch 0: 5,500 times (12,500 * 2,500 - 31,250,000), which is 0; branch 1: 250
+    // Prices 20, 63.75 and 50 euros. Order 0 sells 4,000 at 10, a surplus of 10 euros on
+    // each, and all 4,000 are accepted. Order 1 sells at its price. Order 2 buys 1,000 of
+    // 1,000 at 70. Order 3, at 60, has no surplus and no volume. Order 4 buys at its price.
+    // Branch 0: 5,500 times (12,500 * 2,500 - 31,250,000), which is 0. Branch 1: 250
     // times (12,500 * 15,000 - 187,500,000). The link: 4,000 * 87,500 - 100,000 * 3,500.
     for hour in [three_zone_hour(), contracted_hour(), small_hour()] {
         let (gap, found) = accepted(&hour);

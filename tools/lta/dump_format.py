@@ -1,7 +1,7 @@
-"""A solver's dump of request S-5 between readable text and bytes, both ways, and what becomes of each of its values.
-Whatever a case and a dump are, building what is shown gives back their bytes. What a value becomes stands in the
-proposal that the library writes; why it refuses a value is computed here, next to it, and dump_command.py holds that to
-it.
+"""Turns a solver's dump (S-5) into readable text and back, and says what each of its values becomes. Whatever a case
+and a dump are, building what is shown gives back their bytes. What a value becomes is read from the proposal that the
+library writes. Why the library refuses a value is computed here; dump_command.py compares that with the library's
+answer.
 """
 
 from __future__ import annotations
@@ -16,24 +16,24 @@ from . import hour
 from .hour import short
 
 TEXT_HELP = """\
-The text of a solver's dump: the lines of its case, as above, and then
+The text of a solver's dump has the lines of its case, as above, and then:
 
   dump share S system P                    opens the dump; LTA share, 1 is all; euros per MWh
   accepted A                               share accepted of an order, 1 is all, one per order
   flow F                                   flow in MW, one per link
   shadow S                                 shadow price in euros per MWh, one per branch
 
-A value is a binary64: a decimal as 0.875 or -1e-300, which is taken to the nearest; a hexadecimal one as 0x1.cp-1; inf,
--inf or nan; or any pattern as bits: and sixteen hex digits. cut, append and byte take dump in place of proposal; for a
-dump of no bytes the text has append dump, with nothing behind it.
+A value is a binary64: a decimal as 0.875 or -1e-300, rounded to the nearest; a hexadecimal one as 0x1.cp-1; inf, -inf
+or nan; or any pattern as bits: and sixteen hex digits. cut, append and byte take dump instead of proposal. For a dump
+of no bytes, write append dump with nothing after it.
 
-A stored dump, dumps/NAME.txt, opens with what it protects and says in comments what the request says of it:
+A stored dump, dumps/NAME.txt, opens with what it protects. Its comments say what the answer must be by the request:
 
   # expect N I L                           number, index and length, with an output of 2572 bytes
-  # expect 0 0 L judged V                  the same of one that is written, and the judgement's number on it
-  # becomes share S system P volumes V .. flows F .. shadows S ..    the proposal's numbers, where something is written
+  # expect 0 0 L judged V                  the same for a dump that is written, and the judgement's number on it
+  # becomes share S system P volumes V .. flows F .. shadows S ..    the proposal's numbers, if something is written
 
-tests/stored_dumps holds each of these to both judges.
+tests/stored_dumps compares both judges with each of these.
 """
 
 UNITS = """\

@@ -31,7 +31,7 @@ def hex_rows(data: bytes, field: causes.Field) -> Iterator[tuple[int, list[tuple
     """The bytes around a field, sixteen to a row: where the row begins, and of each byte whether it is the field's."""
     start, end = field.offset, field.offset + field.size
     first = max(0, start // HEX_ROW - 1) * HEX_ROW
-    # Of a long field, as all volumes are, the first rows.
+    # A long field, such as all volumes together, is shown by its first rows only.
     last = min(len(data), (min(end - 1, start + 3 * HEX_ROW) // HEX_ROW + 2) * HEX_ROW)
     for row in range(first, last, HEX_ROW):
         yield row, [(data[at], start <= at < end) for at in range(row, min(row + HEX_ROW, len(data)))]

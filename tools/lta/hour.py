@@ -1,6 +1,6 @@
-"""An hour between readable text and its binary files, the case, the proposal and perhaps a family list, both ways: the
-one reading of the formats that every tool here has. Wrong hours can be written too. Whatever files are shown, building
-the text gives back their bytes.
+"""Turns an hour's binary files, the case, the proposal and perhaps a family list, into readable text and back. Every
+tool here reads the formats through this module. It can write wrong hours too. Whatever files are shown, building the
+text gives back their bytes.
 """
 
 from __future__ import annotations
@@ -15,11 +15,11 @@ from typing import Any, Union
 from . import reading
 
 TEXT_HELP = """\
-The text of an hour: one item per line; blank lines and what follows a # are passed over. Numbers are whole.
+The text of an hour has one item per line. Blank lines and what follows a # are skipped. Numbers are whole.
 
-  case version V zones Z tolerance T       opens the case; tolerance in cents, of which 10000 are judged
+  case version V zones Z tolerance T       opens the case; tolerance in cents, over 10000 is refused by 15
   branch RAM PTDF ...                      RAM in tenths of a MW; one PTDF per zone, 100000 is 1
-  sheet FILE                               all branches, from a published margin sheet, in place of branch lines
+  sheet FILE                               all branches, from a published margin sheet, instead of branch lines
   link FROM TO CAPACITY                    zones from 0; capacity in tenths of a MW
   link FROM TO CAPACITY CONTRACTED         the same in a case of version 2; contracted in tenths of a MW
   order ZONE SIDE QUANTITY PRICE           buy or sell; tenths of a MWh; cents per MWh
@@ -28,42 +28,42 @@ The text of an hour: one item per line; blank lines and what follows a # are pas
   flow F                                   flow in tenths of a MW, one per link
   shadow S                                 shadow price in cents per MWh, one per branch
   families version V                       opens the family list, in an hour that has one
-  parent N                                 the order on which an order leans, counted from 0, or none; one per order
+  parent N                                 the parent of an order, counted from 0, or none; one per order
 
-The header counts the branches, links and orders of the text. A text without a proposal has one of no bytes. In a case
+The header counts the branches, links and orders of the text. A text without a proposal gives one of no bytes. In a case
 of version 1 all of a link's capacity is contracted. Links of every version but 2 are written and shown as version 1's.
-A text without families has no list; for a list of no bytes it has append families, with nothing behind it.
+A text without families gives no list; for a list of no bytes, write append families with nothing after it.
 
-A margin sheet has a line per branch, its fields with commas between them: the margin in MW to one decimal, then one
-PTDF per zone to five. Sheets count export positive, so the PTDFs change sign. A sheet's FILE lies in the text's folder
-or below, and has at most 1 MiB; a sheet that is refused is named with the number and index of request S-1, and 51 to 53
-with the line.
+A margin sheet has a line per branch, with its fields separated by commas: the margin in MW to one decimal, then one
+PTDF per zone to five. Sheets count export positive, so the PTDFs change sign. FILE must be in the text's folder or
+below it, and has at most 1 MiB. If a sheet is refused, the message has the number and index of request S-1, and for 51
+to 53 the line.
 
-For wrong hours any value that fits its bits is taken, a side as a number too, and these change what is written:
+To make wrong hours, write any value that fits its bits; a side may be a number. These lines change what is written:
 
   mark XYZ                                 the mark of the file opened last: three characters or six hex digits
   counts zones N branches N links N orders N    any of the header's counts; the records stay as they are
   cut FILE N                               takes the last N bytes off; FILE is case, proposal or families
   append FILE HEX ...                      adds bytes at the end
-  byte FILE OFFSET VALUE                   puts VALUE in place of one byte
+  byte FILE OFFSET VALUE                   replaces one byte by VALUE
 
-cut, append and byte act in the order of the text, on the files as written by all other lines.
+cut, append and byte act in the order of the text, on the files that all other lines give.
 
-A stored hour, hours/NAME.txt, opens with what it protects and says in comments what the paper says of it:
+A stored hour, hours/NAME.txt, opens with what it protects. Its comments say what the answer must be by the paper:
 
   # expect N I                             number and index for the joined file, as the desk cuts it
-  # expect-apart N I                       those for the two files handed over apart, where they are others
-  # totals welfare W bound B gap G rent R owed O    the report's totals in euros, where a number is 0 or 26
-  # shortfall KIND N EUROS                 by how much order, branch or link N falls short; all others do not. One of:
-  # shortfall none                         nothing does
+  # expect-apart N I                       the same for the two files passed separately, if that differs
+  # totals welfare W bound B gap G rent R owed O    the report's totals in euros, if a number is 0 or 26
+  # shortfall KIND N EUROS                 by how much order, branch or link N falls short, one of the three words;
+                                           all that have no such line do not fall short
+  # shortfall none                         nothing falls short
 
-tests/stored_hours holds the first three to both judges, tests/stored_shortfalls the last. A stored hour with families, families/NAME.txt, has in their place
+tests/stored_hours compares both judges with the first three, and tests/stored_shortfalls with the shortfalls. A stored
+hour with families, families/NAME.txt, has these instead, with which tests/stored_families compares both judges:
 
   # expect N I                             number and index with the list
-  # expect-without N I                     those without it, where they are others
+  # expect-without N I                     the same without the list, if that differs
   # totals ..                              as above
-
-and tests/stored_families holds these to both.
 """
 
 UNITS = """\

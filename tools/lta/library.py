@@ -431,7 +431,7 @@ def shortfalls(case: Buffer, proposal: Buffer, room: int = rules.SHORTFALL_ROOM)
     written = entry("lta_shortfalls")(case, len(case), proposal, len(proposal), out, room)
     if written.number:
         return Shortfalls(written.number, written.index)
-    # Of each two, whole microcents and hundred-thousandths.
+    # The numbers come in pairs: whole microcents, then hundred-thousandths of one.
     amounts = tuple(GapPart(rules.WHOLE * out[at] + out[at + 1]) for at in range(0, written.length, 2))
     counts = hour.case_counts(case)
     orders, branches = counts["orders"], counts["orders"] + counts["branches"]

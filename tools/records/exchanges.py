@@ -47,7 +47,7 @@ LARGE_NET = (*range(1000, 9000, 1000), *(-4500,) * 8)
 LARGE_RISING = tuple(range(10000000, 170000000, 10000000))
 LARGE_PAIRS = tuple((zone, (zone + step) % 16) for step in range(1, 5) for zone in range(16))
 
-# Of the inputs that are refused, what is not at fault.
+# The parts of a refused input that are not at fault.
 NET, PRICES, PAIRS = (10, 0, -10), (3, 4, 5), ((0, 1), (1, 2))
 
 EXCHANGES = (

@@ -1,8 +1,10 @@
-//! What both judges answer for the dumps on standard input, for tests/stored_dumps.
+//! Prints what both judges answer for the dumps on standard input, for tests/stored_dumps.
 //!
-//! A dump is a line: its name, the bytes of its output, its case and the dump itself, both in hexadecimal digits.
-//! For each judge two lines are printed: the name, the judge and the line that crates/prog_records prints; and the
-//! name, the judge, `written` and the bytes of the output that were changed, from its first on.
+//! Each line of the input has a dump: its name, the size of its output in bytes, and the case and the dump as
+//! hexadecimal digits. For each judge it prints two lines:
+//!
+//! - the name, the judge, and the line that crates/prog_records prints;
+//! - the name, the judge, `written`, and the bytes of the output that were changed, from the first on.
 
 use comparison::library;
 use comparison::records::dump_line;

@@ -1,9 +1,10 @@
-//! What both judges answer for the shortfalls of the hours on standard input, for tests/stored_shortfalls.
+//! Prints what both judges answer for the shortfalls of the hours on standard input, for tests/stored_shortfalls.
 //!
-//! An hour is a line: its name, the numbers of its output, its case and its proposal, both in hexadecimal digits, a
-//! dash for an empty one. For each judge two lines are printed: the name, the judge and the line that
-//! crates/prog_records prints; and the name, the judge, `written` and the numbers of the output that were changed,
-//! from its first on.
+//! Each line of the input has an hour: its name, the size of its output in numbers, and the case and the proposal as
+//! hexadecimal digits, or a dash for an empty one. For each judge it prints two lines:
+//!
+//! - the name, the judge, and the line that crates/prog_records prints;
+//! - the name, the judge, `written`, and the numbers of the output that were changed, from the first on.
 
 use comparison::library;
 use comparison::records::{numbers_words, shortfall_line};

@@ -1,6 +1,6 @@
-//! The entry for a solver's dump, of both judges: dumps that give an hour's own proposal, values of every kind,
-//! each cause alone and with others, every limit and the values next to it, every exponent, and random bits. Both
-//! judges judge what is written.
+//! Compares the entry for a solver's dump of both judges. The dumps give an hour's own proposal; have values of every
+//! kind, each cause alone and with others, every limit and the values next to it, and every exponent; or are random
+//! bits. Both judges judge what is written.
 
 use crate::lent::Lent;
 use crate::library;

@@ -1,6 +1,6 @@
-//! The shortfalls' entry of both judges (S-14): hours with gap zero and solver-like ones with a gap, with links and
-//! without, changed contracted volumes, hours refused by every number, rooms around the needed length, and the
-//! largest hours. Every answer 0 is checked by `promises`.
+//! Compares the shortfalls' entry of both judges (S-14). The hours have gap zero, or a gap as a solver leaves it; have
+//! links or none; have changed contracted volumes; are refused by every number; or are the largest. Outputs are about
+//! as long as needed. `promises` checks every answer 0.
 
 use super::promises::{Answered, Files, MET};
 use crate::lent::Lent;

@@ -1,10 +1,15 @@
 //! Makes hours: optimal ones, feasible ones and random ones, half of them of either case version.
 //!
-//! An optimal hour is made from its prices. Take shadow prices and a system price, hence zone prices. Let every
-//! link with a positive spread be full, and call the sum of their capacities in and out of a zone its net position.
-//! Let each branch's RAM be exactly what these net positions use. Then branch total, owed and rent are equal for
-//! any share, and if only orders in the money are taken, the gap is zero. Without links (S-6) the share is 0 and
-//! the net positions are random: branch total and rent are equal, and often negative.
+//! An optimal hour is made from its prices:
+//!
+//! - Shadow prices and a system price give the zone prices.
+//! - Every link with a positive spread is full. The capacities of these links, in and out of a zone, sum to its net
+//!   position.
+//! - Each branch's RAM is exactly what these net positions use.
+//!
+//! Then branch total, owed and rent are equal for any share. If only orders in the money are accepted, the gap is
+//! zero. Without links (S-6) the share is 0 and the net positions are random; branch total and rent are equal, and
+//! often negative.
 
 use crate::rng::Rng;
 use paper_hours::{Branch, Hour, Link, Version};
