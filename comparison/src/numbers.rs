@@ -100,7 +100,7 @@ mod tests {
     use super::*;
 
     #[test]
-    fn the_table_is_read() {
+    fn each_entry_has_its_numbers_of_the_table() {
         assert_eq!(DESK.numbers, [31, 0]);
         assert_eq!(INTUITIVE.numbers, [81, 82, 83, 84, 85, 0]);
         assert_eq!(JUDGE_FAMILIES.numbers.first(), Some(&30));

@@ -60,7 +60,7 @@ mod tests {
     use super::*;
 
     #[test]
-    fn amounts() {
+    fn amounts_have_all_decimals_and_their_sign() {
         assert_eq!(amount(0, MONEY), "0.00000000");
         assert_eq!(amount(-1, MONEY), "-0.00000001");
         assert_eq!(amount(99_999_999, MONEY), "0.99999999");

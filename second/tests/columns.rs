@@ -4,7 +4,7 @@ use paper_hours::Hour;
 use second_judge::*;
 
 #[test]
-fn columns_by_hand() {
+fn columns_by_hand_restore_to_the_case() {
     // Two orders of P1's first zone, in a case of nothing else.
     let hour = Hour {
         zones: 1,

@@ -67,7 +67,7 @@ fn desk_cuts_version_2_at_its_own_length() {
 }
 
 #[test]
-fn outputs() {
+fn desk_refuses_an_output_under_1024_bytes() {
     for room in [0, 12, 1_023, 1_024, 1_025] {
         let mut out = vec![7; room];
         let answer = desk_output(b"", &mut out);
@@ -84,7 +84,7 @@ fn outputs() {
 }
 
 #[test]
-fn book_answers() {
+fn book_is_answered_in_the_papers_order() {
     let row = |zone, side, quantity, price| Row { zone, side, quantity, price };
     let answer = |number, index, sum| BookAnswer { number, index, sum };
     let p1 = three_zone_hour();

@@ -78,7 +78,7 @@ fn becomes(at: usize, quantity: u32, value: f64) -> Option<i64> {
 }
 
 #[test]
-fn the_three_zone_hour() {
+fn three_zone_dump_gives_its_proposal() {
     for hour in [three_zone_hour(), contracted_hour()] {
         let mut out = vec![FILL; ROOM];
         let answer = dump_proposal(&hour.case(), &bytes(&THREE_ZONES), &mut out);
@@ -126,7 +126,7 @@ fn prices_go_to_the_nearest_cent_halves_away_from_zero() {
 }
 
 #[test]
-fn each_limit_and_the_next_value_past_it() {
+fn limit_is_taken_and_the_next_value_refused() {
     let next = |value: f64, steps: i64| f64::from_bits((value.to_bits() as i64 + steps) as u64);
     for at in [LTA_SHARE, ACCEPTED] {
         let whole = [100_000, 0, 77, 0, 0][at].into();
@@ -165,7 +165,7 @@ fn each_limit_and_the_next_value_past_it() {
 
 /// The machine's own product and its result, for patterns of every kind.
 #[test]
-fn by_hand_as_by_the_machine() {
+fn products_and_results_are_the_machines() {
     let mut state = 1u64;
     let mut number = || {
         state = state.wrapping_mul(6_364_136_223_846_793_005).wrapping_add(1_442_695_040_888_963_407);
@@ -200,7 +200,7 @@ fn by_hand_as_by_the_machine() {
 }
 
 #[test]
-fn what_is_not_finite() {
+fn value_not_finite_is_refused_before_any_range() {
     let case = three_zone_hour().case();
     let patterns = [
         f64::INFINITY.to_bits(),
@@ -228,7 +228,7 @@ fn what_is_not_finite() {
 }
 
 #[test]
-fn causes_in_their_order() {
+fn causes_are_asked_in_their_order() {
     let (hour, mut dump) = (three_zone_hour(), bytes(&THREE_ZONES));
     let case = hour.case();
     assert_eq!(read_in(44, Papers, &case, &dump), (60, 0, vec![]));

@@ -29,7 +29,7 @@ fn on_circles(parents: &[Option<u16>]) -> Vec<bool> {
 }
 
 #[test]
-fn every_list_of_up_to_five_orders() {
+fn every_small_list_is_refused_by_its_first_cause() {
     for count in 0..=5usize {
         let choices = count + 2;
         for mut code in 0..choices.pow(count as u32) {
@@ -54,7 +54,7 @@ fn every_list_of_up_to_five_orders() {
 }
 
 #[test]
-fn circles_as_the_paper_counts_them() {
+fn order_that_only_leads_into_a_circle_is_not_named() {
     // Leading into a circle is not leading back.
     assert_eq!(refused(&[Some(1), Some(2), Some(1)]), (18, 1));
     assert_eq!(refused(&[Some(0)]), (18, 0));
@@ -68,7 +68,7 @@ fn circles_as_the_paper_counts_them() {
 }
 
 #[test]
-fn lists_of_wrong_shape() {
+fn list_of_wrong_shape_is_refused_by_16() {
     let good = list_of(&[None, Some(0)]);
     let number = |list: &[u8], orders| answered(list, orders).0;
     assert_eq!(number(&good, 2), 0);
@@ -87,7 +87,7 @@ fn lists_of_wrong_shape() {
 }
 
 #[test]
-fn fractions_as_ratios_compare_them() {
+fn fractions_are_compared_as_ratios_not_volumes() {
     let exceeds = |one: (u32, u32), other: (u32, u32)| {
         let order = |quantity| Row { zone: 0, side: 0, quantity, price: 0 };
         let hour = Hour {
@@ -128,7 +128,7 @@ fn with_list(hour: &Hour, list: &[u8]) -> (u32, u32) {
 }
 
 #[test]
-fn families_of_the_three_zone_hour() {
+fn lists_of_the_three_zone_hour_are_answered_by_hand() {
     // Accepted are 4,000 of 4,000, 1,375 of 6,000, 1,000 of 1,000, 0 of 9,000 and 4,375 of 10,000.
     let hour = three_zone_hour();
     let none = [None; 5];
@@ -156,7 +156,7 @@ fn families_of_the_three_zone_hour() {
 }
 
 #[test]
-fn families_asked_out_of_their_turn() {
+fn families_are_asked_out_of_their_turn() {
     let list = |o: usize, parent: u16| {
         let mut parents = [None; 5];
         parents[o] = Some(parent);

@@ -37,7 +37,7 @@ fn refuses(net: &[i64], prices: &[i64], pairs: &[u8], number: u32, index: u32) {
 }
 
 #[test]
-fn five_zones_of_001() {
+fn five_zones_are_answered_as_001_says() {
     let first = [10, 20, 40, 50, 30].map(|euros| euros * EURO);
     let second = [20, 10, 40, 50, 30].map(|euros| euros * EURO);
     assert_eq!(asked(&FIVE, &first, &TOPOLOGY), answer(0, 0, 0, 8_000));
@@ -95,7 +95,7 @@ fn exports_make_way_for_each_other() {
 }
 
 #[test]
-fn sixty_four_pairs_and_the_widest_positions() {
+fn sixty_four_pairs_carry_the_widest_positions_and_the_next_is_refused() {
     let mut net = [51_200_000; 16];
     net[8..].fill(-51_200_000);
     let prices: Vec<i64> = (0..16).map(|z| if z < 8 { -5 } else { 5 }).collect();
@@ -107,7 +107,7 @@ fn sixty_four_pairs_and_the_widest_positions() {
 }
 
 #[test]
-fn counts() {
+fn wrong_zone_counts_are_asked_first() {
     refuses(&[], &[], &[], 81, 0);
     refuses(&[0; 17], &[0; 17], &[], 81, 0);
     refuses(&[0; 2], &[0; 3], &[], 81, 0);
@@ -118,7 +118,7 @@ fn counts() {
 }
 
 #[test]
-fn positions() {
+fn position_out_of_range_is_asked_before_the_sum() {
     let most = 51_200_000;
     assert_eq!(asked(&[most, -most], &[0; 2], &[]).number, 0);
     refuses(&[0, most + 1, -most], &[0; 3], &[], 82, 1);
@@ -132,7 +132,7 @@ fn positions() {
 }
 
 #[test]
-fn prices() {
+fn first_price_out_of_range_is_named() {
     let (least, greatest) = (-50_000 * GRAINS, 400_000 * GRAINS);
     assert_eq!(asked(&[0; 2], &[least, greatest], &[]).number, 0);
     refuses(&[0; 2], &[least, greatest + 1], &[], 83, 1);
@@ -141,7 +141,7 @@ fn prices() {
 }
 
 #[test]
-fn pairs() {
+fn first_wrong_pair_is_named() {
     let of = |pairs: &[u8], index| refuses(&[0; 3], &[0; 3], pairs, 84, index);
     of(&[3, 0], 0);
     of(&[0, 3], 0);
@@ -156,7 +156,7 @@ fn pairs() {
 }
 
 #[test]
-fn scratch() {
+fn short_scratch_is_asked_last_and_a_used_one_is_cleared() {
     for room in [0, 1, 323] {
         let mut scratch = vec![FILL; room];
         let short = intuitive(&[0], &[0], &[], &mut scratch);
@@ -172,7 +172,7 @@ fn scratch() {
 }
 
 #[test]
-fn small_scratch() {
+fn small_scratch_needs_96_numbers_and_changes_no_more() {
     for room in [0, 1, 80, 95] {
         let mut scratch = vec![FILL; room];
         let short = intuitive_small(&[0], &[0], &[], &mut scratch);
@@ -197,7 +197,7 @@ fn small_scratch() {
 }
 
 #[test]
-fn hours() {
+fn hour_is_judged_first_and_answered_by_its_positions_and_prices() {
     let asked = |hour: &Hour, pairs: &[u8], room| {
         let mut scratch = vec![FILL; room];
         let answer = hour_intuitive(&hour.case(), &hour.proposal(), pairs, &mut scratch);

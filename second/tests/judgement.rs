@@ -14,7 +14,7 @@ fn named(name: &str) -> Stored {
 }
 
 #[test]
-fn stored_hours() {
+fn stored_hours_have_their_verdicts_totals_and_prices() {
     for hour in stored() {
         let mut report = [0xA5; 200];
         let verdict = judge(&hour.case, &hour.proposal, &mut report);
@@ -44,7 +44,7 @@ fn stored_hours() {
 }
 
 #[test]
-fn bytes_of_the_three_zone_hour() {
+fn three_zone_hour_is_the_bytes_by_hand() {
     let hour = three_zone_hour();
     let (case, proposal) = (hour.case(), hour.proposal());
     assert_eq!((case.len(), proposal.len()), (102, 45));
@@ -71,7 +71,7 @@ fn buffer_is_asked_first() {
 }
 
 #[test]
-fn header_refusals() {
+fn header_refusals_have_their_numbers_and_offsets() {
     let hour = named("P1");
     let with = |at: usize, value: u8| {
         let mut case = hour.case.clone();
@@ -115,7 +115,7 @@ fn repeated_pair_is_sought_among_all_earlier_links() {
 }
 
 #[test]
-fn smallest_number_then_smallest_index() {
+fn smallest_number_goes_before_smallest_index() {
     let mut hour = three_zone_hour();
     hour.shadow_prices[1] = 1_000_001;
     hour.share = 100_001;
@@ -178,7 +178,7 @@ fn all_contracted(case: &[u8]) -> Option<Vec<u8>> {
 }
 
 #[test]
-fn bytes_of_version_2() {
+fn version_2_has_links_of_ten_bytes() {
     let case = contracted_hour().case();
     assert_eq!(case.len(), 106);
     assert_eq!(case[3..5], [2, 0]);
@@ -187,7 +187,7 @@ fn bytes_of_version_2() {
 }
 
 #[test]
-fn version_2_with_the_most_links() {
+fn offsets_of_version_2_count_ten_bytes_to_a_link() {
     let mut hour = contracted_hour();
     hour.zones = 16;
     hour.branches = vec![Branch { ram: 500_000, ptdfs: vec![0; 16] }; 64];

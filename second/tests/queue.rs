@@ -18,7 +18,7 @@ fn queue_bounds_are_reached() {
 }
 
 #[test]
-fn queue_in_bytes() {
+fn queue_bytes_are_cells_and_turn_and_refusals_change_none() {
     let mut bytes = [0; QUEUE_BYTES];
     assert_eq!(queue_serve(&mut bytes).number, 64);
     assert_eq!(bytes, [0; QUEUE_BYTES]);

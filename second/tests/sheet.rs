@@ -55,7 +55,7 @@ fn newline_ends_a_line_and_the_last_may_lack_it() {
 }
 
 #[test]
-fn zeros_before_and_behind_in_any_count() {
+fn any_number_of_zeros_before_and_behind_is_taken() {
     let zeros = "0".repeat(1_000);
     gives(&format!("{zeros}7.5{zeros},-{zeros}.00001{zeros}"), 1, &[75, 1]);
     gives(&format!("-{zeros},-{zeros}.{zeros}"), 1, &[0, 0]);
@@ -65,7 +65,7 @@ fn zeros_before_and_behind_in_any_count() {
 }
 
 #[test]
-fn what_is_no_number() {
+fn field_that_is_no_number_is_refused() {
     let broken = "|-|+1|.5|1.|-.5|-1.|--1|1-|1e3|1E3| 1|1 |1\r|1\t|1.2.3|1..2|.|-.|0x1|1_0|NaN|inf\
         |1\0|\u{661}|1\u{2212}|\u{feff}1|1;2|\"1\"|1'0|/|:";
     for field in broken.split('|') {
@@ -78,7 +78,7 @@ fn what_is_no_number() {
 }
 
 #[test]
-fn wrong_number_of_fields() {
+fn wrong_number_of_fields_is_refused() {
     for sheet in ["0", "0,0,0", "0,0,", ",0,0", "0,,0", ","] {
         refuses(&format!("0,0\n{sheet}\n0,0"), 1, 51, 1);
     }
@@ -88,7 +88,7 @@ fn wrong_number_of_fields() {
 }
 
 #[test]
-fn decimals_past_ours() {
+fn decimals_beyond_those_that_count_must_be_zeros() {
     gives("0.10,0.123450", 1, &[1, -12_345]);
     refuses("0.01,0", 1, 52, 0);
     refuses("0.101,0", 1, 52, 0);
@@ -101,7 +101,7 @@ fn decimals_past_ours() {
 }
 
 #[test]
-fn ranges() {
+fn number_past_its_limit_is_refused_whatever_its_length() {
     gives("50000.0,2.00000\n-50000.0,-2", 1, &[500_000, -200_000, -500_000, 200_000]);
     for line in ["50000.1,0", "-50000.1,0", "100000,0", "0,2.00001", "0,-2.00001", "0,10"] {
         refuses(&format!("0,0\n{line}"), 1, 53, 1);
@@ -117,7 +117,7 @@ fn ranges() {
 }
 
 #[test]
-fn zones() {
+fn zone_count_is_asked_first() {
     for zones in [0, 17, 18, 255, 256, 257, 1 << 32, (1 << 32) + 1, 1 << 62, usize::MAX] {
         refuses("", zones, 50, 0);
         refuses("x", zones, 50, 0);
@@ -126,7 +126,7 @@ fn zones() {
 }
 
 #[test]
-fn lines_and_room() {
+fn line_65_and_a_short_output_are_refused() {
     let of = |lines: usize| "1,1\n".repeat(lines);
     gives(&of(64), 1, &[10, -100_000].repeat(64));
     refuses(&of(65), 1, 54, 0);

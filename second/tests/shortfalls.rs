@@ -109,7 +109,7 @@ fn without_its_link_p3_is_p2_with_gap_zero() {
 }
 
 #[test]
-fn an_order_left_out_for_a_dearer_one() {
+fn order_left_out_falls_short_by_its_surplus() {
     // Ten tenths of order 0 at 10 euros are left to order 1 at 20: a MWh at 10 euros.
     let hour = Hour { volumes: vec![22, 21, 8, 0, 35], ..small_hour() };
     let (gap, found) = accepted(&hour);
@@ -119,7 +119,7 @@ fn an_order_left_out_for_a_dearer_one() {
 }
 
 #[test]
-fn an_order_accepted_at_a_loss() {
+fn order_accepted_at_a_loss_falls_short_by_the_loss() {
     // A tenth goes from order 2, which would have gained 6.25 euros per MWh, to order 3, which loses 3.75: its
     // volume earns a negative amount.
     let hour = Hour { volumes: vec![32, 11, 7, 1, 35], ..small_hour() };
@@ -130,7 +130,7 @@ fn an_order_accepted_at_a_loss() {
 }
 
 #[test]
-fn a_margin_left_free() {
+fn margin_left_free_falls_short_by_its_shadow_price() {
     // P2's hour with five tenths more on the branch that has a price of 60 euros.
     let mut hour = Hour { links: vec![], flows: vec![], ..small_unused_link_hour() };
     hour.branches[0].ram += 5;
@@ -155,7 +155,7 @@ fn what_is_left_is_the_lead_weighed_by_the_shares() {
 }
 
 #[test]
-fn a_link_not_full() {
+fn link_not_full_falls_short_by_its_spread() {
     // Two tenths more capacity: seven eighths of them could flow, at 43.75 euros. The
     // link total leads by the two tenths, of which an eighth counts.
     let mut hour = small_hour();
@@ -181,7 +181,7 @@ fn grain_hour() -> Hour {
 }
 
 #[test]
-fn a_part_of_a_microcent() {
+fn part_of_a_microcent_is_not_lost() {
     // The link falls short by a hundred-thousandth of a microcent. The link total of a
     // microcent leads by 99,999 of them.
     let hour = grain_hour();
@@ -194,7 +194,7 @@ fn a_part_of_a_microcent() {
 }
 
 #[test]
-fn a_flow_against_the_spread() {
+fn flow_against_the_spread_falls_short() {
     // A tenth flows from zone 1 at 63.75 to zone 0 at 20 euros; a tenth less is bought
     // in zone 1 and sold in zone 0, so that the margins hold.
     let mut hour = small_hour();
@@ -209,7 +209,7 @@ fn a_flow_against_the_spread() {
 }
 
 #[test]
-fn a_negative_margin_left_free() {
+fn negative_margin_left_free_falls_short() {
     // S-6's hour a hundredth as large, made to import nine tenths; it imports ten.
     let mut hour = forced_hour();
     hour.tolerance = 100;

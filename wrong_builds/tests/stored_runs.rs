@@ -92,7 +92,7 @@ const QUEUE_EVENTS: &str = include_str!("../../queue/events.txt");
 const QUEUE_PRINTED: &str = include_str!("../../queue/answers.txt");
 
 #[test]
-fn stored_queue_runs() {
+fn stored_queue_runs_tell_every_wrong_queue_but_one() {
     assert_eq!(queue_runs(&|| Box::new(Papers), QUEUE_EVENTS), QUEUE_PRINTED);
     assert_eq!(printed_of("== queues"), QUEUE_PRINTED);
     // Wrong bytes in cells are no answer: that build shows only in the bytes.
@@ -124,7 +124,7 @@ fn column_line(name: &str, answer: OutputAnswer, out: &[u8]) -> String {
 }
 
 #[test]
-fn stored_columns() {
+fn stored_columns_tell_every_wrong_build() {
     let printed = printed_of("== columns");
     assert_eq!(column_runs([case_columned, case_restored]), printed);
     for (build, name) in columns::BUILDS {
@@ -214,7 +214,7 @@ fn shortfall_runs(build: Value) -> String {
 }
 
 #[test]
-fn stored_shortfalls() {
+fn stored_shortfalls_tell_every_wrong_build() {
     let printed = printed_of("== shortfalls");
     assert_eq!(shortfall_runs(shortfalls), printed);
     for (build, name) in wrong_builds::shortfalls::BUILDS {
