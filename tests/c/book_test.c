@@ -200,7 +200,7 @@ static void refusals(void)
     }
 }
 
-/* Two causes at once: the one asked first, and of one number the smallest index. */
+/* Two causes together: the one asked first is named, and for one number the smallest index. */
 static void causes(void)
 {
     struct book b = rows_alike(ROWS_MOST + 1, (struct lta_order){0, 2, 1, 0}, INT64_MAX);
@@ -315,13 +315,13 @@ int main(void)
     row_arena = arena(sizeof((struct book *)0)->row);
     price_arena = arena(sizeof((struct book *)0)->price);
 
-    group("layout of the structs", layout);
-    group("sums", sums);
-    group("the widest books", widest);
-    group("refusals", refusals);
-    group("which cause and which index", causes);
-    group("null with count 0", nulls);
-    group("rows that no answer needs", unread);
-    group("a small stack", small_stack);
+    group("structs are laid out as the header says", layout);
+    group("the sum is that of rule 8", sums);
+    group("the widest books do not overflow", widest);
+    group("each wrong count, row and price is refused", refusals);
+    group("the first cause and its first index are named", causes);
+    group("null is taken with count 0", nulls);
+    group("rows that no answer needs are not read", unread);
+    group("the stack that the header names is enough", small_stack);
     return closing();
 }

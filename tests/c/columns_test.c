@@ -288,12 +288,12 @@ int main(int count, char **words)
     file_arena = arena(CASE_ROOM + 1);
     out_arena = arena(ROOM);
 
-    group("numbers and sizes", layout);
-    group("the sample", samples);
-    group("hours and back", hours);
-    group("causes", causes);
-    group("lengths", lengths);
-    group("null with length 0", nulls);
-    group("the largest case", largest);
+    group("numbers and sizes are the header's", layout);
+    group("the sample is columned to its file", samples);
+    group("a columned case comes back and is not judged", hours);
+    group("each cause is refused and writes nothing", causes);
+    group("a file or an output of wrong length is refused", lengths);
+    group("null is taken with length 0", nulls);
+    group("the largest case comes back on a small stack", largest);
     return closing();
 }

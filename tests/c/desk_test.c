@@ -317,12 +317,12 @@ int main(int count, char **words)
     input_arena = arena(sizeof sample.bytes);
     out_arena = arena(4096);
 
-    group("hours with a report", hours);
-    group("hours without", refused);
-    group("inputs of 0 to 200 bytes", lengths);
-    group("inputs of version 2, of 0 to 150 bytes", contracted_lengths);
-    group("outputs", rooms);
-    group("null with length 0", nulls);
-    group("a small stack", small_stack);
+    group("totals and prices have every decimal", hours);
+    group("a refused hour has its verdict alone", refused);
+    group("inputs of 0 to 200 bytes are cut at the length demanded", lengths);
+    group("inputs of version 2 are cut at their own length", contracted_lengths);
+    group("an output under 1024 bytes is refused", rooms);
+    group("null is taken with length 0", nulls);
+    group("the stack that the header names is enough", small_stack);
     return closing();
 }

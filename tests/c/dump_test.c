@@ -488,20 +488,20 @@ int main(int count, char **words)
     dump_arena = arena((size_t)DUMP_ROOM);
     out_arena = arena(ROOM);
 
-    group("numbers and sizes", layout);
-    group("the three-zone hour", three_zones);
-    group("products that are cut", cut);
-    group("prices to the nearest cent", nearest);
-    group("limits", limits);
-    group("what is not finite", not_finite);
+    group("numbers and sizes are the header's", layout);
+    group("the three-zone dump gives its proposal", three_zones);
+    group("products are rounded once and cut", cut);
+    group("prices go to the nearest cent, halves away from zero", nearest);
+    group("a limit is taken and the next value refused", limits);
+    group("a value that is not finite is refused", not_finite);
     if (raises_flags())
-        group("floating-point flags", flags);
+        group("only the flags that the header names are raised", flags);
     else
         puts("floating-point flags left out: none is raised here, as under valgrind");
-    group("which cause and which value", causes);
-    group("lengths", lengths);
-    group("one array", one_array);
-    group("null with length 0", nulls);
-    group("the largest hour", largest);
+    group("the first cause and its first value are named", causes);
+    group("a dump or an output of wrong length is refused", lengths);
+    group("case and dump may share an array, at any alignment", one_array);
+    group("null is taken with length 0", nulls);
+    group("the largest hour is written on a small stack", largest);
     return closing();
 }

@@ -453,17 +453,17 @@ int main(int count, char **words)
     list_arena = arena(LTA_FAMILIES_ROOM);
     report_arena = arena(300);
 
-    group("numbers and sizes", constants);
-    group("the sample", sample);
-    group("each parent of each order", each_parent);
-    group("fractions", fractions);
-    group("lists of wrong mark, version or length", lists);
-    group("parents that do not exist", parents);
-    group("circles", circles);
-    group("which cause", order_of_causes);
-    group("report buffers", rooms);
-    group("null with length 0", nulls);
-    group("without a list", without_a_list);
-    group("the largest hours", largest);
+    group("numbers and sizes are the header's", constants);
+    group("the sample list refuses nothing", sample);
+    group("each parent of each order is answered by its fraction", each_parent);
+    group("fractions are compared, not volumes", fractions);
+    group("a list of wrong mark, version or length is refused by 16", lists);
+    group("the first parent that does not exist is refused by 17", parents);
+    group("the first order on a circle is refused by 18", circles);
+    group("16 to 18 and 28 are asked in their turn", order_of_causes);
+    group("a short report buffer is refused first", rooms);
+    group("null is taken with length 0", nulls);
+    group("lta_judge answers as before after a refused list", without_a_list);
+    group("the largest hours are answered on a small stack", largest);
     return closing();
 }

@@ -35,6 +35,6 @@ int main(int count, char **words)
         return 2;
     }
     kind = words[1];
-    group("faults", fault);
+    group("valgrind finds each fault", fault);
     return closing();
 }

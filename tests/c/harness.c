@@ -90,7 +90,7 @@ void group(const char *name, void (*checks)(void))
         wrong("checked nothing");
         check(false);
     }
-    printf("%-48s %5u passed %3u failed\n", name, counts()->passed - before.passed, counts()->failed - before.failed);
+    printf("%-72s %5u passed %3u failed\n", name, counts()->passed - before.passed, counts()->failed - before.failed);
 }
 
 bool is_verdict(uint64_t verdict, uint32_t number, uint32_t index)

@@ -66,8 +66,8 @@ static void number_texts(void)
 
 int main(void)
 {
-    group("version", versions);
-    group("readers", readers);
-    group("numbers in words", number_texts);
+    group("header and library have the same version", versions);
+    group("each reader reads its own field", readers);
+    group("no two numbers have the same words", number_texts);
     return closing();
 }

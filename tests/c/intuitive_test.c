@@ -351,7 +351,7 @@ static void scratches(void)
     }
 }
 
-/* Several causes at once: the one asked first, of the whole input, and its first place. */
+/* Several causes together: the one asked first, over the whole input, is named with its first place. */
 static void causes(void)
 {
     struct exchange e = {.zones = 3, .prices = 4, .bytes = 3, .net = {0, 1, INT64_MAX}, .price = {0, 0, INT64_MIN}, .pair = {1, 1, 9}};
@@ -597,22 +597,22 @@ int main(void)
     case_arena = arena(sizeof((struct file *)0)->bytes);
     proposal_arena = arena(sizeof((struct file *)0)->bytes);
 
-    group("layout of the struct", layout);
+    group("the struct is laid out as the header says", layout);
     for (size_t k = 0; k < COUNT(sizes); k++) {
         entries = sizes + k;
-        with_scratch("annex 5.1", annex);
-        with_scratch("which pairs count", counted_pairs);
-        with_scratch("what is carried", carried);
-        with_scratch("counts of zones", zone_counts);
-        with_scratch("net positions", positions);
-        with_scratch("prices", prices);
-        with_scratch("pairs", pairs);
-        with_scratch("scratches", scratches);
-        with_scratch("which cause and which place", causes);
-        with_scratch("hours", hours);
-        with_scratch("hours that are refused", refused_hours);
-        with_scratch("null with length 0", nulls);
-        with_scratch("a small stack", small_stack);
+        with_scratch("annex 5.1 is answered as it says", annex);
+        with_scratch("a pair counts from a lower or equal price up", counted_pairs);
+        with_scratch("as much is carried as can be", carried);
+        with_scratch("a wrong count of zones is refused", zone_counts);
+        with_scratch("a wrong net position or sum is refused", positions);
+        with_scratch("a price out of range is refused", prices);
+        with_scratch("the first wrong pair is named", pairs);
+        with_scratch("a short scratch is refused and stays", scratches);
+        with_scratch("the first cause and its place are named", causes);
+        with_scratch("an hour is answered by its positions", hours);
+        with_scratch("a refused hour has its verdict", refused_hours);
+        with_scratch("null is taken with length 0", nulls);
+        with_scratch("the header's stack is enough", small_stack);
     }
     return closing();
 }

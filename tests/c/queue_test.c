@@ -339,12 +339,12 @@ int main(int count, char **words)
     answers_name = words[2];
     queue_arena = arena(LTA_QUEUE_SIZE);
 
-    group("layout", layout);
-    group("turns", turns);
-    group("limits and causes", limits);
-    group("the longest waits", longest);
-    group("bytes that no call left", any_bytes);
-    group("stored runs", stored_runs);
-    group("a small stack", small_stack);
+    group("struct and queue have the header's sizes", layout);
+    group("areas are served by turns, hours in the order posted", turns);
+    group("a wrong area, a wrong hour and a second post are refused", limits);
+    group("the longest waits are 4 and 100 serves", longest);
+    group("any bytes are a queue", any_bytes);
+    group("stored runs are answered as stored", stored_runs);
+    group("the stack that the header names is enough", small_stack);
     return closing();
 }

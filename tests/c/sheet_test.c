@@ -411,16 +411,16 @@ int main(int count, char **words)
     sheet_arena = arena(SHEET_MOST);
     out_arena = arena(ROOM);
 
-    group("layout of the struct", layout);
-    group("the three-zone sheet", three_zones);
-    group("lines", lines);
-    group("numbers that are taken", taken);
-    group("what is no number", no_numbers);
-    group("decimals and ranges", measures);
-    group("zones", zone_counts);
-    group("outputs", rooms);
-    group("which cause and which line", causes);
-    group("null with length 0", nulls);
-    group("a small stack", small_stack);
+    group("the struct is laid out as the header says", layout);
+    group("the three-zone sheet gives the branches of its case", three_zones);
+    group("a newline ends a line, and the last may lack it", lines);
+    group("every legal number is read", taken);
+    group("what is no number is refused by 51", no_numbers);
+    group("further decimals and numbers out of range are refused", measures);
+    group("zone counts of 0 and over 16 are refused", zone_counts);
+    group("an output that is too short is refused and stays", rooms);
+    group("the first cause and its first line are named", causes);
+    group("null is taken with length 0", nulls);
+    group("the stack that the header names is enough", small_stack);
     return closing();
 }

@@ -401,14 +401,14 @@ int main(void)
     proposal_arena = arena(sizeof((struct file *)0)->bytes);
     out_arena = arena((size_t)8 * ROOM);
 
-    group("numbers and sizes", layout);
-    group("gap zero", gap_zero);
-    group("orders that fall short", orders);
-    group("branches that fall short", branches);
-    group("links that fall short", links);
-    group("hours that are refused", refusals);
-    group("lengths", lengths);
-    group("null with length 0", nulls);
-    group("the largest hour", largest);
+    group("numbers and sizes are the header's", layout);
+    group("at gap zero nothing falls short", gap_zero);
+    group("orders fall short by surplus forgone or lost", orders);
+    group("branches fall short by margin left free", branches);
+    group("links fall short by capacity left free", links);
+    group("a refused hour has the judgement's answer alone", refusals);
+    group("a case, proposal or output of wrong length is refused", lengths);
+    group("null is taken with length 0", nulls);
+    group("the largest hour is answered on a small stack", largest);
     return closing();
 }

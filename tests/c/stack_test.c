@@ -59,6 +59,6 @@ int main(int count, char **words)
         return 2;
     }
     inputs = read_inputs(words[1]);
-    group("the deepest stacks", depths);
+    group("no entry takes more stack than the header says", depths);
     return closing();
 }

@@ -113,7 +113,7 @@ int main(int count, char **words)
     }
     printf("%zu inputs, %zu rounds\n", inputs, rounds);
     ask_alone();
-    group("several answers", several_answers);
-    group("eight at once", at_once);
+    group("each entry answers different inputs differently", several_answers);
+    group("eight threads at once get the answers of one", at_once);
     return closing();
 }
