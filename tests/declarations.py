@@ -1,7 +1,7 @@
 """The declarations of a crate's specs/, its functions, and which of them may rest on which.
 
 antt shuts every definition: a declaration sees the clauses of another only if it unfolds them (a line `unfolding`, an
-`unfold .. in`), or if that other is an abbrev, a record or a data type. Of a law that it cites it sees the statement. A
+`unfold .. in`), or if that other is an abbrev, a record or a data type. It sees the statement of a law that it cites. A
 word that is the name of a declaration in scope counts as citing it, so this finds more than there is and never less.
 """
 

@@ -223,7 +223,7 @@ DEPTH = 1200
 
 
 def pairs(numbers: random.Random) -> bytes:
-    """Pairs of zones, of which an hour may have the first."""
+    """Pairs of zones, some of which an hour may have."""
     zones = [numbers.choice((0, 0, 1, 1, 2, 3, 200)) for _ in range(2 * numbers.choice((1, 2, 4, 40)))]
     return b"".join(b"%d %d\n" % pair for pair in zip(zones[::2], zones[1::2]))
 
