@@ -1,14 +1,15 @@
 #!/usr/bin/env python3
-"""What columning does for the archive: a day's hours packed by xz and by zstd, as they are and in columns.
+"""Measures what columns save in the archive: compresses a day's hours with xz and zstd, in rows and in columns.
 
   archive_ratio.py [SEED]
 
-The hours are made, 25 of them with 16 zones, 64 branches, 64 links and 512 orders, since no real day is at hand. Of
-each zone half of the orders are buys; a zone's orders stand side by side as an exchange's curve has them, the buys from
-the dearest on and the sells from the cheapest, with quantities of some MW. A second day has the same orders in any
-order, a third the same hours with 40 orders. Printed are the bytes of the cases, packed as they are and in columns, and
-the second over the first, of each hour packed alone and of the day packed as one file. The columns are the library's.
-zstd is left out where there is no such command.
+The hours are generated, since no real day is available: 25 hours with 16 zones, 64 branches, 64 links and 512 orders.
+Half of the orders of each zone are buys. A zone's orders stand together as in an exchange's curve, the buys from the
+dearest on and the sells from the cheapest on, with quantities of some MW. A second day has the same orders in any
+order, a third the same hours with 40 orders.
+
+It prints the compressed bytes of the cases in rows, in columns, and the second divided by the first: for each hour
+compressed alone and for the day as one file. The library makes the columns. zstd is left out if it is not installed.
 """
 
 from __future__ import annotations

@@ -5,7 +5,7 @@
   build_records.py --check OUTDIR    writes nothing; fails if one of the two is missing or different
 
 stdin has a record for each stored input, kind by kind, as tools/records says. stdout has the lines of each kind under a
-heading, `== KIND`. They are found here from the stored inputs, beside the library.
+heading, `== KIND`. They are computed here from the stored inputs, without the library.
 """
 
 from __future__ import annotations

@@ -1,10 +1,10 @@
 #!/usr/bin/env python3
-"""built.py COMMAND PRODUCT...: has products of this tree built: library, desk, shared.
+"""built.py COMMAND PRODUCT...: builds products of this tree: library, desk, shared.
 
-A product is built anew only if it was built of something else than what stands here. Content decides that, and not
-time stamps: next to each product stands PRODUCT.built, with the hash of what it was built of and its own hash.
-Products share their crates: what is proved for one is not proved again for another. In one clone one build runs at a
-time, and a second waits for it. COMMAND is the name under which messages are written: desk, lta or make.
+A product is built again only if its sources have changed in content; time stamps do not count. Next to each product is
+PRODUCT.built, with the hash of what it was built from and its own hash. Products share their crates: what is proved for
+one is not proved again for another. Only one build runs at a time in a clone, and a second waits for it. COMMAND is the
+name under which messages are written: desk, lta or make.
 """
 
 from __future__ import annotations
@@ -291,7 +291,7 @@ def run_rt(words: Sequence[str], what: str, progress: Progress, lock: IO[str]) -
 
 
 def forget(product: Proved) -> None:
-    """Removes the record of a product that is to be built."""
+    """Removes the record of a product that will be built."""
     if record_of(product.path).exists() and not is_intact(product.path):
         # rt knows only that it proved the crate: without its stamp it makes the file again.
         (TARGET / "stamp" / product.crate).unlink(missing_ok=True)

@@ -1,12 +1,12 @@
 #!/usr/bin/env python3
-"""Prints the stored hours of full size, 16 zones, 64 branches, 64 links and 512 orders, from how they are made, the
-stored dumps of such hours, and the stored hours of 512 orders in one family.
+"""Makes and prints a stored hour of full size, with 16 zones, 64 branches, 64 links and 512 orders; a stored dump of
+such an hour; or a stored hour with 512 orders in one family.
 
-  largest_hour.py NAME        NAME is largest-varied, largest-contracted, largest-welfare, largest-welfare-contracted,
-                              largest-loss, largest-loss-no-link or largest-bound; of a dump refused-60-largest or
-                              largest-less-an-order; with families largest-chain, largest-circle or largest-tail
+  largest_hour.py NAME        hours: largest-varied, largest-contracted, largest-welfare, largest-welfare-contracted,
+                              largest-loss, largest-loss-no-link or largest-bound; dumps: refused-60-largest or
+                              largest-less-an-order; with families: largest-chain, largest-circle or largest-tail
 
-The two contracted ones are of case version 2 and have the greatest length of all. largest-loss-no-link has no link.
+The two contracted hours are of case version 2 and are the longest of all. largest-loss-no-link has no link.
 """
 
 from __future__ import annotations

@@ -8,8 +8,9 @@
   release.py tree                          prints git's name of this tree, or nothing if the tree has changes
   release.py gate TREE LINE                keeps the last line of the gate that ran on TREE, if that is still this tree
 
-A release of a tree with changes, or of a version that CHANGELOG.md does not have, is refused. With --force it is marked
-so, in its names and in RELEASE.json. Tarball and package are the same bytes wherever and whenever they are written.
+It refuses to release a tree with changes, or a version that CHANGELOG.md does not have. With --force it releases and
+marks that in the names and in RELEASE.json. Tarball and package are the same bytes wherever and whenever they are
+written.
 """
 
 from __future__ import annotations
@@ -221,7 +222,7 @@ def commands() -> Iterator[tuple[str, File]]:
     yield f"{PACKAGE_FOLDER}/version.py", of_tree("tools/version.py")
     for path in folder_files("tools/lta", "*.py", "*.txt", "*.css", "py.typed"):
         yield f"{PACKAGE_FOLDER}/lta/{path.name}", of_tree(path)
-    # A file where Python would make a folder for bytecode, of which no removal would know.
+    # A file where Python would make a folder for bytecode, which no removal would find.
     yield f"{PACKAGE_FOLDER}/lta/__pycache__", File()
 
 

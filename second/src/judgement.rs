@@ -483,7 +483,7 @@ fn case_without(causes: RangeInclusive<u32>, bytes: &[u8]) -> Result<Case<'_>, V
     }
 }
 
-/// The hour of two files of which none of 1 to 14 holds.
+/// The hour of two files that none of 1 to 14 refuses.
 pub fn hour_in_order<'a>(case: &'a [u8], proposal: &'a [u8]) -> Result<Hour<'a>, Verdict> {
     let hour = Papers.hour(case, proposal, None, 0);
     match Papers.first_cause(1..=14, &hour) {

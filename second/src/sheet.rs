@@ -32,7 +32,7 @@ pub trait MarginSheet: Sized {
     /// A newline ends a line and the last may lack it. An empty sheet has none.
     fn lines<'a>(&self, sheet: &'a [u8]) -> Vec<&'a [u8]> {
         let mut lines: Vec<&[u8]> = sheet.split(|byte| *byte == b'\n').collect();
-        // After the last newline there is a line only if it is not empty.
+        // What follows the last newline is a line only if it is not empty.
         if lines.last().is_some_and(|last| last.is_empty()) {
             lines.pop();
         }

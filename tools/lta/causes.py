@@ -368,7 +368,7 @@ class Table:
         self.unasked: list[int] = []
 
     def causes(self) -> Iterator[Explanation]:
-        """Every cause, in the table's order. A row of which something that it needs did not pass is not asked."""
+        """Every cause, in the table's order. A row is not asked if something that it needs did not pass."""
         for row in ROWS:
             if self.families is None and row.number in numbers.FAMILY_VERDICTS:
                 continue

@@ -19,8 +19,8 @@ Complain = Callable[[object], None]
 
 
 class Answered(Protocol):
-    """What notices and the status are made of: the hour's name, what became of its family list, the files that were
-    read, and why it could not be read.
+    """What notices and the status need: the hour's name, what became of its family list, the files that were read, and
+    why it could not be read.
     """
 
     @property

@@ -120,7 +120,7 @@ def zone_lines(sums: rules.Sums) -> Iterator[str]:
 
 
 def standing(amount: int, room: int, priced: bool, step: int = 1) -> str:
-    """How an amount stands to its room, in steps of which the next must fit: broken, full or not, and priced or not."""
+    """How an amount compares with its room: over it, full if not one more step fits, or free; and whether priced."""
     if amount > room:
         return "BROKEN"
     if amount + step > room:
@@ -210,7 +210,7 @@ def fraction_of(order: rules.Order) -> str:
 
 
 def family_rows(sums: rules.Sums, parents: Sequence[int | None]) -> Iterator[tuple[str, ...]]:
-    """Of each order that has a parent: it, its parent, and what is accepted of the two."""
+    """A row for each order that has a parent: the order, its parent, and the accepted fractions of both."""
     for child, parent in enumerate(parents):
         if parent is not None:
             one, other = sums.orders[child], sums.orders[parent]

@@ -61,7 +61,7 @@ def places_words(places: list[str]) -> str:
     """The first of some places, and how many more there are: 'branches 1, 4, 9 and 2 more'."""
     if len(places) < 2:
         return "".join(places)
-    # Records and zones have a number; the header's fields, of which there are five, do not.
+    # Records and zones have a number; the five fields of the header do not.
     shown = list(places)
     if " " in places[0]:
         noun = plural(places[0].split()[0])

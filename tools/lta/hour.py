@@ -178,7 +178,7 @@ def header_layout(file: str) -> struct.Struct:
 
 
 def offsets_from(position: int, fields: Fields) -> list[int]:
-    """The offset of each field, the first of which stands at the position."""
+    """The offset of each field, if the first is at the position."""
     sizes = [struct.calcsize("<" + code) for _, code in fields]
     return [position + sum(sizes[:n]) for n in range(len(sizes))]
 
@@ -515,8 +515,8 @@ def verdict_of(words: Sequence[Any]) -> tuple[int, int]:
 
 
 def expected(text: str, other: str = "expect-apart") -> Expected:
-    """The verdict of the joined file, that of the two files apart, and the totals in microcents by name. Of an hour
-    with families the two are the verdicts with the list and without it, and the other line is expect-without.
+    """The verdict of the joined file, that of the two files apart, and the totals in microcents by name. For an hour
+    with families these are the verdicts with and without the list, and the other line is expect-without.
     """
 
     def form_of(name: str, line: int) -> re.Pattern[str]:

@@ -146,10 +146,10 @@ class HourFiles:
 
 @dataclass(frozen=True)
 class Input:
-    """Where an hour is to be read from: the paths, or why it cannot be read.
+    """Where an hour is read from: the paths, or why it cannot be read.
 
     families   the path of its family list
-    beside     whether no word named that list, nor its folder: it lies next to the hour
+    beside     whether the list was found next to the hour, and not named by a word of the command line or in a folder
     leave_out  whether the hour is judged without its list
     """
 
@@ -276,9 +276,9 @@ class Gathering:
 
     way       "pairs", "joined" or "text" where an option says what all files are
     leave_out whether family lists are left out
-    ignore    patterns of names in folders that are passed over without a word
-    fellows   what goes with a case, the first that is there
-    passed    files of folders that are no hour's, once the hours are gathered
+    ignore    patterns of names in folders that are skipped silently
+    fellows   what goes with a case: the first of these that exists
+    passed    files of folders that belong to no hour, once the hours are gathered
     """
 
     def __init__(
@@ -327,7 +327,7 @@ class Gathering:
         return any(fnmatch.fnmatchcase(path if "/" in glob else entry.name, glob) for glob in self.ignore)
 
     def counted(self, entries: Iterable[os.DirEntry[str]]) -> Iterator[os.DirEntry[str]]:
-        """The entries of a folder, of which a terminal sees how many were found."""
+        """The entries of a folder; a terminal shows how many were found."""
         for entry in entries:
             self.seen += 1
             self.progress.step(self.seen)

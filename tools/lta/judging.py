@@ -27,9 +27,9 @@ def sentence(judgement: library.Judgement, files: Files) -> str:
 
 
 def rows_of(name: str, read: HourFiles, explained: bool = False) -> list[Result]:
-    """The results of an hour, each with a sentence if they are to be explained. A joined file and its two parts can be
-    answered otherwise; then a text has two, apart last. A text with families is held to what it expects of all three
-    files.
+    """The results of an hour, each with a sentence if `explained`. A joined file and its two parts can have different
+    answers; then a text has two results, apart last. For a text with families, the answer for all three files is
+    compared with what the text expects.
     """
     apart_files = (read.case, read.proposal, read.families)
 
@@ -64,8 +64,8 @@ def results(
     explained: bool = False,
     with_progress: bool = True,
 ) -> Iterator[Result]:
-    """The results of all inputs, each as soon as it is judged, with a sentence if they are to be explained. One that
-    could not be read is a result with an error, of which complain is told too.
+    """The results of all inputs, each as soon as it is judged, with a sentence if `explained`. An input that could not
+    be read is a result with an error, and is also passed to `complain`.
     """
     progress = Progress(f"{{:,}} of {len(sources):,} hours judged", with_progress)
     library.entry()

@@ -66,7 +66,9 @@ class Judgement:
 
 @dataclass(frozen=True)
 class Carried:
-    """What lta_intuitive and lta_hour_intuitive answer, the total in tenths. In a refusal it and the yes are None."""
+    """What lta_intuitive and lta_hour_intuitive answer, with the total in tenths. In a refusal it and the yes are
+    None.
+    """
 
     number: int
     index: int
@@ -130,7 +132,7 @@ class Columned:
 
 @dataclass(frozen=True)
 class Shortfalls:
-    """What lta_shortfalls answers: of each order, branch and link, in file order, by how much it falls short, in whole
+    """What lta_shortfalls answers: by how much each order, branch and link falls short, in file order and in whole
     hundred-thousandths of a microcent. In a refusal all three are None.
     """
 
@@ -171,8 +173,8 @@ def say(line: str) -> None:
 
 
 def of_repository(given: str | None, ends: contextlib.ExitStack) -> tuple[pathlib.Path, bool]:
-    """The shared object of the repository: its own, or that of a library from elsewhere, which is linked anew and does
-    not stay, so that no later call is answered by it.
+    """The shared object of the repository: its own, or one linked from a library elsewhere. The latter is removed
+    afterwards, so that it answers no later call.
     """
     tools = str(origin.REPOSITORY / "tools")
     if tools not in sys.path:
@@ -317,7 +319,7 @@ def judge(
 
 
 def judge_joined(joined: Buffer, families: Buffer | None = None) -> Judgement:
-    """The same of a joined file, the case and at once the proposal, cut as the desk cuts it."""
+    """The same for a joined file, the case with the proposal directly after it, cut as the desk cuts it."""
     return judge(*rules.cut(bytes_of(joined)), families)
 
 

@@ -46,7 +46,7 @@ def inputs_list(inputs: Sequence[Hashed]) -> str:
 
 
 def footer(inputs: Sequence[Hashed], judged_at: str) -> str:
-    """Whose the answers are, which build answered, and of which files."""
+    """Where the answers come from, which build answered, and for which files."""
     identity = library.identity()
     answers = "Verdict, totals, zone prices and the shortfalls of an accepted hour"
     whose = WHOSE[bool(identity["library_belongs"])]

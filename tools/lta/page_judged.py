@@ -14,9 +14,9 @@ from .results import Result
 
 @dataclass(frozen=True)
 class Judged:
-    """Where the hour came from; the library's answers as judge has them, of which the last is that of the two files
-    apart; the explanation, or why there is none; the sums of an hour that could be cleared; the parts of its gap; and
-    what else is wrong with it.
+    """An hour for a page: where it came from; the library's answers as `lta judge` has them, the last for the two files
+    apart; the explanation, or why there is none; the sums, if the hour could be cleared; the parts of its gap; and what
+    else is wrong with it.
     """
 
     name: str

@@ -13,13 +13,13 @@ USED, LEFT_OUT, NO_LIST = "used", "left out", "none"
 
 @dataclass(frozen=True)
 class Result:
-    """An hour as judged, joined or apart where these differ, or the error for which it was not judged.
+    """An hour as judged, or the error for which it was not judged. A text has two if joined and apart differ.
 
-    judgement is None where there is an error, and error is empty where there is a judgement.
-    families is USED, LEFT_OUT or NO_LIST, and empty where there is an error.
-    expected has the verdict and the totals that the hour's text expects, and is None where it expects nothing.
-    way is "joined" or "apart" where a text has a result for each.
-    explanation is the verdict in a sentence, and empty where none was asked for.
+    judgement is None if there is an error, and error is empty if there is a judgement.
+    families is USED, LEFT_OUT or NO_LIST, and empty if there is an error.
+    expected has the verdict and the totals that the hour's text expects, and is None if it expects nothing.
+    way is "joined" or "apart" if a text has a result for each.
+    explanation is the verdict in a sentence, and empty if none was asked for.
     """
 
     file: str

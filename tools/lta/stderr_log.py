@@ -8,7 +8,7 @@ from typing import TextIO
 
 
 def write_to(stream: TextIO | None, text: str) -> None:
-    """Writes a text at once, where it can be written."""
+    """Writes and flushes a text, and does nothing if it cannot be written."""
     if stream is not None:
         with contextlib.suppress(OSError, ValueError):
             stream.write(text)
@@ -20,8 +20,8 @@ def write_stderr(text: str) -> None:
 
 
 def write_to_both(text: str) -> None:
-    """Writes a text to sys.stderr, and to the process's own standard error where a test runner has put a buffer in its
-    place: what is held back until the test ends is no word on a wait of minutes.
+    """Writes a text to sys.stderr, and also to the process's own standard error if a test runner has put a buffer in
+    its place. Else nobody would see, until the test ends, why it waits for minutes.
     """
     write_stderr(text)
     try:

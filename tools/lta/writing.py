@@ -93,14 +93,14 @@ def put(text: str) -> None:
 
 
 def put_now(text: str) -> None:
-    """The same, and a reader has it at once."""
+    """The same, and flushes, so that a reader gets it without delay."""
     _answer.put(text)
     if sys.stdout is not None:
         sys.stdout.flush()
 
 
 def put_file(path: str, data: bytes) -> None:
-    """Has a file written together with the answer."""
+    """Adds a file that is written together with the answer."""
     _answer.others.append(Output(path, data))
 
 
@@ -130,7 +130,7 @@ def is_same_file(one: str, other: str) -> bool:
 
 
 def refuse_outputs(paths: Iterable[str], force: bool) -> None:
-    """Refuses outputs of which two are the same file, and without --force those that exist."""
+    """Refuses two outputs that are the same file, and without --force an output that exists."""
     files = [path for path in paths if path != STANDARD_OUTPUT]
     for place, path in enumerate(files):
         if not os.path.basename(path):

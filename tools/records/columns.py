@@ -1,7 +1,7 @@
-"""Cases in rows and in columns, letter c: the output's room and a file. The files are the cases of the stored hours
-that are short enough, each as it is and with its order part in columns, as far as its header tells where that is; and
-the three-zone case of either version with other marks, lengths and rooms. Each has two lines, columned and restored,
-with number, index and length and what is written, in hex.
+"""Cases in rows and in columns, letter c. A record has the output's room and a file. The files are the cases of the
+stored hours that are short enough, each as it is and with its orders in columns, if its header tells where they are.
+The three-zone case of either version follows with other marks, lengths and rooms. Each record has two lines, columned
+and restored, with number, index and length and what is written, in hex.
 """
 
 from __future__ import annotations

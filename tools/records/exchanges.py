@@ -1,8 +1,9 @@
-"""Net positions, zone prices and pairs, letter i, behind the name: how many numbers of scratch are lent to the wide
-entry and to the smaller; net positions in tenths, export positive, and prices in grains, 64 bits each, of which the
-highest is the sign; and the pairs. They are 001's two price sets, hours whose answer is known, and an input for each
-cause, with what is due beside each. The line has, with the wide scratch and after it with the smaller: number, index,
-1 for a yes or 0, the total in tenths, and how many numbers at the scratch's start are zero; all are 7 before.
+"""Net positions, zone prices and pairs, letter i. After its name a record has: how many numbers of scratch the wide
+entry gets, and how many the small one; net positions in tenths, export positive, and prices in grains, 64 bits each,
+the highest bit being the sign; and the pairs. The inputs are 001's two price sets, hours whose answer is known, and one
+for each cause, each with what is due. The line has, first for the wide scratch and then for the small one: number,
+index, 1 for a yes or 0, the total in tenths, and how many numbers at the start of the scratch are zero. All are 7
+before.
 """
 
 from __future__ import annotations

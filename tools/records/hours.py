@@ -1,6 +1,6 @@
-"""The stored hours at the desk, letter h: the case and at once the proposal, behind the name. The lines are the
-desk's: the verdict and the totals that the text expects, and prices by rule 6. What stands in a text,
-./lta help text says.
+"""The stored hours at the desk, letter h. After its name a record has the case with the proposal directly after it. The
+lines are the desk's: the verdict and the totals that the text expects, and prices by rule 6. ./lta help text explains
+the lines of a text.
 """
 
 from __future__ import annotations

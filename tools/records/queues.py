@@ -1,7 +1,8 @@
-"""The stored runs of the desk queue, letter q: the events of a run, which begins with an empty queue, behind its name.
-queue/events.txt has an event to a line, `post AREA HOUR`, `serve` or `byte PLACE VALUE`, which changes a byte to what
-no call would leave; a line `# NAME` opens a run. queue/answers.txt has the lines that are due: each event, behind a
-post its number, and behind a serve number, index, area and hour. The second judge and the library are held to it too.
+"""The stored runs of the desk queue, letter q. After its name a record has the events of a run, which begins with an
+empty queue. queue/events.txt has an event on each line: `post AREA HOUR`, `serve`, or `byte PLACE VALUE`, which changes
+a byte to what no call would leave. A line `# NAME` opens a run. queue/answers.txt has the lines that are due: each
+event, followed for a post by its number, and for a serve by number, index, area and hour. The second judge and the
+library are compared with it too.
 """
 
 from __future__ import annotations

@@ -1,7 +1,8 @@
-"""What falls short in the stored hours, letter s: the output's room in numbers, the case and the proposal. The hours
-are those that are short enough, each with as much room as its counts ask for; those that say what falls short with a
-number of room too few, more than enough and none; and some that are refused, with no room. The line has number, index
-and length, and the numbers that are written. tests/stored_shortfalls holds it to both judges.
+"""What falls short in the stored hours, letter s. A record has the output's room in numbers, the case and the proposal.
+The hours are those that are short enough, each with as much room as its counts ask for. Hours that say what falls short
+also come with one number of room too few, with more than enough and with none, and some refused hours with no room. The
+line has number, index and length, and the numbers that are written. tests/stored_shortfalls compares both judges with
+it.
 """
 
 from __future__ import annotations

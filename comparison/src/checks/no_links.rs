@@ -140,7 +140,7 @@ fn branch_total(hour: &Hour) -> i64 {
     branches.map(|(branch, &shadow)| 100_000 * i64::from(branch.ram) * i64::from(shadow)).sum()
 }
 
-/// At a gap of zero the rent is the branch total; a negative one leaves the rent below zero, which is owed.
+/// At gap zero the rent is the branch total. If that is negative, the rent is below owed, which is zero.
 fn rent_is_the_branch_total(run: &mut Run, rng: &mut Rng, signs: &mut [u64; 3]) {
     let shape = alone(rng);
     let hour = optimal(rng, shape);
