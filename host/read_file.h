@@ -1,7 +1,7 @@
 /* What the example hosts share: reading the files of an hour into memory of a fixed size.
  *
- * Of each file at most one byte more than the longest legal file is read. That byte is enough for a longer file to be
- * refused for its length, as the whole file would be.
+ * It reads at most one byte more of a file than the longest legal file has. With that byte a longer file is refused for
+ * its length, as the whole file would be.
  */
 #ifndef READ_FILE_H
 #define READ_FILE_H

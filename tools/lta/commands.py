@@ -85,8 +85,8 @@ FILES = (
 )
 FILES_NOTES = (
     """The ending of a file, in capitals or not, says what it is. For other endings an option says what the files are.
-    For X.case, lta takes the X.proposal, X.dump and X.families that you name. If you name none, it takes the file with
-    such an ending that follows X.case, or else the file of the same name that lies next to X.case.""",
+    For X.case, lta takes the X.proposal, X.dump and X.families that you name; else a file of another name that follows
+    X.case and has such an ending; else the file of its own name that lies next to it.""",
     """In a folder, lta skips hidden files and follows no links to folders. One line on standard error names the files
     that belong to no hour. An hour that cannot be read does not stop the others.""",
 )
@@ -116,7 +116,7 @@ FAMILIES = Option(
     "--families", "judge the one hour named with this family list", value="FILE", name="family_list", apart="lists"
 )
 NO_FAMILIES = Option(
-    "--no-families", "judge without family lists; a line on standard error names those left out", apart="lists"
+    "--no-families", "judge without family lists; a line on standard error names the hours that have one", apart="lists"
 )
 IGNORE = Option(
     "--ignore",
@@ -153,7 +153,7 @@ COMMANDS = (
         (
             """Judges every hour that the files name and prints a table: file, verdict, index, and welfare, gap, rent and
             owed in euros. Without a FILE it reads a joined hour from standard input.""",
-            """The expect lines of a text are compared with the verdict.""",
+            """It compares the verdict of a text with the text's expect lines.""",
             """--csv, --json and --jsonl have every decimal, the explanation in a sentence, the version, the library's
             SHA-256 and that of each file read; docs/SCHEMA.md describes their fields.""",
         ),
