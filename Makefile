@@ -6,7 +6,7 @@
 #   make dist                  a tarball, a Debian package and their SHA-256 sums, in target/dist
 #   make check                 tests/run
 #
-# What is to be built anew, tools/built.py decides, by content. From a built tree install and dist need no rt.
+# tools/built.py decides by content what is rebuilt. From a built tree install and dist need no rt.
 
 PREFIX ?= /usr/local
 DESTDIR ?=

@@ -14,7 +14,7 @@ added() { # NAME PASSED FAILED SECONDS
     noted "$1" "$(printf '%5d passed %3d failed %5d s' "$2" "$3" "$4")"
 }
 
-# Starts a part, which then runs beside those that follow. It is shown and counted where its name comes again, with no
+# Starts a part, which then runs in the background. It is shown and counted where its name comes again, with no
 # command.
 declare -A logs=() processes=()
 start() { # NAME COMMAND..

@@ -35,6 +35,6 @@ int main(int count, char **words)
         return 2;
     }
     kind = words[1];
-    group("valgrind finds each fault", fault);
+    group("valgrind finds the fault and nothing else", fault);
     return closing();
 }
