@@ -37,7 +37,8 @@ tests/stored_dumps compares both judges with each of these.
 """
 
 UNITS = """\
-# Of the dump: shares of 1, MW, euros per MWh. After "becomes": what the proposal has, in the units above.
+# Values of the dump are shares of 1, MW and euros per MWh.
+# After "becomes" stands what the proposal has, in the units above.
 """
 
 # Bytes of the output that the stored dumps are run with: one less than the largest proposal has.

@@ -245,7 +245,7 @@ def part_lines(sums: rules.Sums, parts: gap.Parts) -> Iterator[str]:
 
 def gap_title(parts: gap.Parts) -> str:
     """On a refusal by 26 the library gives no shortfalls."""
-    whence = "" if parts.from_library else ", found beside the library, which gives none of a refusal"
+    whence = "" if parts.from_library else "; computed by lta, since the library gives none for a refused hour"
     return f"Gap: shortfalls, largest first, and what is left{whence}"
 
 

@@ -351,7 +351,7 @@ class Hour:
         if file not in self.headers:
             raise ValueError(f"{kind} before the {file} line")
         if kind == "branch" and self.sheet is not None:
-            raise ValueError(f"branch beside the sheet {short(self.sheet)}")
+            raise ValueError(f"a branch line, but the branches come from the sheet {short(self.sheet)}")
         fields = record_fields(kind, self.layout())
         if len(words) != len(fields):
             wanted = ", ".join(name for name, _ in fields if name != "PTDF")
@@ -367,7 +367,7 @@ class Hour:
         if len(words) != 1:
             raise ValueError(f"sheet takes 1 value, not {len(words)}")
         if self.sheet is not None or self.records["branch"]:
-            raise ValueError(f"sheet beside {'another sheet' if self.sheet is not None else 'branch lines'}")
+            raise ValueError(f"a sheet line after {'another sheet line' if self.sheet is not None else 'branch lines'}")
         self.sheet = words[0]
         try:
             path, data = reading.read_below(str(self.folder), self.sheet, reading.MOST_OF_A_TEXT)
