@@ -476,8 +476,10 @@ class Named:
 
 def is_file(entry: os.DirEntry[str]) -> bool:
     """Whether an entry of a folder can be read, or is a link that leads nowhere: that is said when it is read."""
-    if entry.is_file():
-        return True
+    # Of a link in a circle, or through what cannot be entered, Python raises the error.
+    with contextlib.suppress(OSError):
+        if entry.is_file():
+            return True
     return entry.is_symlink() and not os.path.exists(entry.path) and kind_of(entry.name) is not None
 
 
