@@ -31,6 +31,7 @@ from .inputs import (
     text_hour,
     why_not,
 )
+from .results import Result
 from .stderr_log import write_stderr
 from .writing import (
     STANDARD_OUTPUT,
@@ -179,21 +180,22 @@ def run_dump(options: argparse.Namespace) -> int:
     from . import dump_command
 
     hours = Hours(options, fellows=(DUMP,))
-    statuses = []
+    statuses, answers = [], []
     for source, out in zip(hours.sources, proposal_names(options.out, hours.sources)):
         try:
-            case, dump = dump_command.files_of(source)
+            files = dump_command.files_of(source)
+            answers.append(Result(source.name, inputs=files.inputs))
             options.out = out
             if out is not None:
                 refuse_outputs([out], options.force)
-            result = dump_command.ask(case, dump)
+            result = dump_command.ask(files.case, files.dump)
             if len(hours.sources) > 1:
                 put(f"{printable(source.name)}: ")
             statuses.append(written(options, result, "proposal", result.answer.proposal))
         except (InputError, WriteError, Disagreement) as fault:
             complain(fault)
             statuses.append(2)
-    say_notices(hours, ())
+    say_notices(hours, answers)
     return max(statuses)
 
 
@@ -216,12 +218,15 @@ def run_columns(options: argparse.Namespace) -> int:
 
     if len(options.files) > 1:
         raise Failure(f"{options.files[1]}: {options.command} takes one file")
-    data, _ = inputs.read_binary(options.files[0], CASE)
+    data, file = inputs.read_hashed(options.files[0], CASE)
     if options.out is not None:
         refuse_outputs([options.out], options.force)
     columning = options.command == "column"
     result = columns.column(data) if columning else columns.restore(data)
-    return written(options, result, "columned file" if columning else "case", result.answer.file)
+    status = written(options, result, "columned file" if columning else "case", result.answer.file)
+    if file.cut:
+        complain(each_hour.cut_words([file.file]))
+    return status
 
 
 def run_page(options: argparse.Namespace) -> int:
@@ -235,13 +240,15 @@ def run_page(options: argparse.Namespace) -> int:
     out = page_name(options.files, sources) if options.out is None else options.out
     refuse_outputs([out], options.force)
     unread: list[InputError] = []
+    answers: list[Result] = []
     judged_at = time.strftime("%Y-%m-%d %H:%M:%S UTC", time.gmtime()) if options.time else ""
-    write_output(out, page.page(options.files, sources, unread.append, judged_at).encode(), options.force)
+    drawn = page.page(options.files, sources, unread.append, judged_at, answers.append)
+    write_output(out, drawn.encode(), options.force)
     if out != "-":
         put(f"wrote {printable(out)}\n")
     for fault in unread:
         complain(fault)
-    say_notices(hours, ())
+    say_notices(hours, answers)
     return 2 if unread else 0
 
 
@@ -274,7 +281,8 @@ def run_show(options: argparse.Namespace) -> int:
     if options.way is None and kind_of(options.files[0]) == TEXT:
         data = read(options.files[0])
         if dump_command.is_text(data):
-            put(dump_command.ask(*dump_command.text_dump(options.files[0], data)).shown)
+            files = dump_command.text_dump(options.files[0], data)
+            put(dump_command.ask(files.case, files.dump).shown)
             return 0
         built = text_hour(options.files[0], data)
         put(hour.show(built.case, built.proposal, built.families))
@@ -315,7 +323,8 @@ def run_build(options: argparse.Namespace) -> int:
     (text,) = options.files
     data = read(text)
     if dump_command.is_text(data):
-        made = dict(zip(("case", "dump"), dump_command.text_dump(text, data)))
+        files = dump_command.text_dump(text, data)
+        made = {"case": files.case, "dump": files.dump}
     else:
         built = text_hour(text, data)
         made = {"case": built.case, "proposal": built.proposal, "joined": built.joined or b""}

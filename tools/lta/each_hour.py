@@ -91,11 +91,16 @@ class Hours:
         if without:
             yield f"left out {lists_of(len(without), 'of')}: {some(without)}"
         if cut:
-            yield f"read only the beginning of {amounts.counted(len(cut), 'file')} too long to be legal: {some(cut)}"
+            yield cut_words(cut)
         passed = [path for path in self.gathering.passed if path not in read]
         if passed:
             count = "1 file that is" if len(passed) == 1 else f"{len(passed):,} files that are"
             yield f"passed over {count} no hour's: {some(passed)}; --ignore GLOB leaves this unsaid"
+
+
+def cut_words(cut: Sequence[str]) -> str:
+    """What is said of files that were not read to their end."""
+    return f"read only the beginning of {amounts.counted(len(cut), 'file')} too long to be legal: {some(cut)}"
 
 
 def lists_of(count: int, where: str) -> str:

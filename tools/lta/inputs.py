@@ -177,7 +177,7 @@ class Input:
             return HourFiles(*rules.cut(data[0]), data[0], None, families, tuple(inputs), left_out)
         case, proposal = data
         if self.kind == DUMP:
-            proposal = proposal_of_dump(self.paths[1], case, proposal)
+            proposal = proposal_of_dump(inputs[1].file, case, proposal)
         return HourFiles(case, proposal, None, None, families, tuple(inputs), left_out)
 
 
@@ -198,6 +198,11 @@ def proposal_of_dump(path: str, case: bytes, dump: bytes) -> bytes:
 CASE_REFUSED = 56
 
 
+def text_inputs(path: str, data: bytes, taken: hour.Hour) -> tuple[Hashed, ...]:
+    """A text, and the sheet that it names."""
+    return (hashed(path, data), *(hashed(*read_file) for read_file in taken.files_read.items()))
+
+
 def text_hour(path: str, data: bytes, leave_out: bool = False) -> HourFiles:
     """The hour of a text, or of the text of a dump. One without any line that expects something expects nothing."""
     try:
@@ -205,7 +210,7 @@ def text_hour(path: str, data: bytes, leave_out: bool = False) -> HourFiles:
         of_dump = dump_format.is_text(text)
         taken = hour.taken(text, os.path.dirname(path), dump_format.Dump if of_dump else hour.Hour)
         files = taken.files()
-        inputs = (hashed(path, data), *(hashed(*read_file) for read_file in taken.files_read.items()))
+        inputs = text_inputs(path, data, taken)
         if of_dump:
             return HourFiles(files[0], proposal_of_dump(path, *files), inputs=inputs)
         case, proposal, families = hour.with_families(files)
