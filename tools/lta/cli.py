@@ -347,7 +347,7 @@ def run_diff(options: argparse.Namespace) -> int:
     one, other = diff.ask(options.files, options.library or ())
     found = diff.differences(one, other)
     put(diff.as_form(options.form, one, other, found))
-    return 1 if found else 0
+    return diff.status(one, other, found, judged_here=bool(options.library))
 
 
 def run_version(options: argparse.Namespace) -> int:
