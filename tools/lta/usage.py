@@ -25,6 +25,21 @@ class Parser(argparse.ArgumentParser):
         raise UsageError(f"{message}; {self.prog} --help explains")
 
 
+class Once(argparse.Action):
+    """Stores a value. argparse's own takes the last of several, and says nothing of the others."""
+
+    def __call__(
+        self,
+        parser: argparse.ArgumentParser,
+        namespace: argparse.Namespace,
+        values: object,
+        option_string: str | None = None,
+    ) -> None:
+        if getattr(namespace, self.dest) is not None:
+            parser.error(f"{option_string}: given twice")
+        setattr(namespace, self.dest, values)
+
+
 def exclusive(option: Option, command: Command) -> str:
     """The name of the group in which an option excludes the others; empty where it excludes none."""
     if option.apart:
@@ -46,7 +61,7 @@ def add_option(taker: argparse._ActionsContainer, option: Option) -> None:
         default = False if option.sets is True else None
         taker.add_argument(option.flag, dest=option.dest, action="store_const", const=option.sets, default=default)
     else:
-        action = "append" if option.many else "store"
+        action: str | type[argparse.Action] = "append" if option.many else Once
         taker.add_argument(option.flag, dest=option.dest, action=action, choices=option.choices or None)
 
 
