@@ -132,7 +132,7 @@ def put_answers(form: str | None, results: Sequence[Any], writer: Any) -> None:
         put(schema.in_form(form, writer.RECORD_TYPE, [writer.record(result) for result in results]))
     else:
         texts = [(result.name, writer.as_text(result)) for result in results if not result.error]
-        put(each_hour.headed(texts) if texts else "")
+        put(each_hour.headed(texts, len(results)))
 
 
 def run_intuitive(options: argparse.Namespace) -> int:

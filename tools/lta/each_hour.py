@@ -124,10 +124,10 @@ def some(names: Sequence[str]) -> str:
     return ", ".join(names[:MOST_NAMED]) + more
 
 
-def headed(texts: Sequence[tuple[str, str]]) -> str:
-    """The texts of some hours. Where there are several, each stands under its name."""
-    if len(texts) == 1:
-        return texts[0][1]
+def headed(texts: Sequence[tuple[str, str]], asked: int) -> str:
+    """The texts of some hours. Where several were asked for, each stands under its name."""
+    if asked == 1:
+        return "".join(text for _, text in texts)
     return "\n".join(f"== {printable(name)}\n{text}" for name, text in texts)
 
 
@@ -144,4 +144,4 @@ def explained(hours: Hours, complain: Complain) -> tuple[str, list[Result]]:
         return Result(source.name, judgement, "", read.list_use, inputs=read.inputs)
 
     results = hours.asked(ask, lambda name, error: Result(name, error=error), complain)
-    return headed(texts) if texts else "", results
+    return headed(texts, len(hours.sources)), results
