@@ -132,7 +132,7 @@ JUNIT = """\
 
 | In the file | What it says |
 |---|---|
-| a test without more | the hour is accepted, or as its text expects; with `--strict` only an accepted hour passes |
+| a test without `failure` or `error` | the hour is accepted, or as its text expects; with `--strict` only an accepted hour passes |
 | `failure` | it is not so; `type` is the name of the number, the text is the explanation |
 | `error` | the hour could not be read, and why |
 | `system-out` | what became of the family list: used, left out or none |
