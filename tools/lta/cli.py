@@ -70,11 +70,12 @@ def complain(fault: object) -> None:
 
 def read_from_standard_input(options: argparse.Namespace) -> None:
     """Without a file a joined hour is read. A terminal or an empty input is no hour that somebody meant to name."""
+    options.files, options.way = [inputs.STDIN], None
+    usage.refuse_standard_input_twice(options)
     stream = None if sys.stdin is None else sys.stdin.buffer
     if isinstance(stream, io.BufferedReader) and (stream.isatty() or not stream.peek(1)):
         what = "a terminal" if stream.isatty() else "empty"
         raise usage.UsageError(f"name a file: standard input is {what}; lta judge --help explains")
-    options.files, options.way = [inputs.STDIN], None
 
 
 def run_judge(options: argparse.Namespace) -> int:
@@ -138,8 +139,6 @@ def put_answers(form: str | None, results: Sequence[Any], writer: Any) -> None:
 def run_intuitive(options: argparse.Namespace) -> int:
     from . import exchanges
 
-    if options.pairs == "-" and "-" in options.files:
-        raise Failure("-: standard input is named for the hour and for the pairs")
     given: exchanges.Pairs | None = None
     pairs_read: list[inputs.Hashed] = []
     if options.pairs is not None:

@@ -142,6 +142,8 @@ def output(value: str, words: str) -> Option:
     return Option("-o", words, value=value, name="out")
 
 
+# The options that name a file to be read, by the attribute that they set.
+INPUT_OPTIONS = ("pairs", "family_list")
 # The files that build writes, by the name of their option.
 BUILT = ("case", "proposal", "joined", "families", "dump")
 

@@ -211,8 +211,6 @@ def ask(files: Sequence[str], libraries: Sequence[str]) -> tuple[Side, Side]:
     if not libraries:
         if len(files) != 2:
             raise UsageError(f"diff compares two result files, not {len(files)}; lta diff --help explains")
-        if list(files) == ["-", "-"]:
-            raise UsageError("-: standard input is named for both files")
         return side_of_file(files[0]), side_of_file(files[1])
     if len(libraries) != 2:
         raise UsageError("diff takes --library twice, for A and for B; lta diff --help explains")

@@ -9,7 +9,7 @@ from typing import Any, Protocol, TypeVar
 
 from . import amounts, explain_text, library
 from .causes import Disagreement, explain
-from .inputs import DUMP, JOINED, PROPOSAL, STDIN, TEXT, Gathering, HourFiles, Input, InputError, printable
+from .inputs import DUMP, JOINED, PROPOSAL, TEXT, Gathering, HourFiles, Input, InputError, printable
 from .progress import Progress
 from .results import LEFT_OUT, Result
 
@@ -113,8 +113,6 @@ def with_list(sources: Sequence[Input], families: str) -> Input:
         raise InputError(families, f"--families names the list of one hour, and {len(sources):,} hours are named")
     if sources[0].kind == TEXT:
         raise InputError(families, "--families does not go with a text, which has its list in itself")
-    if families == STDIN and STDIN in sources[0].paths:
-        raise InputError(families, "standard input is named twice")
     return replace(sources[0], families=families, beside=False)
 
 

@@ -22,6 +22,7 @@ class Parser(argparse.ArgumentParser):
     """The parser of one command, which has the options that its line of the table has."""
 
     def error(self, message: str) -> NoReturn:
+        message = message.replace("ignored explicit argument", "takes no value, and has")
         raise UsageError(f"{message}; {self.prog} --help explains")
 
 
@@ -109,7 +110,15 @@ def parsed(arguments: list[str]) -> argparse.Namespace:
         taker.error(f"{command.operands} is missing")
     if command.most is not None and len(options.files) > command.most:
         taker.error(f"{options.files[command.most]}: one argument too many")
+    refuse_standard_input_twice(options)
     return options
+
+
+def refuse_standard_input_twice(options: argparse.Namespace) -> None:
+    """Whoever reads it second would find it empty."""
+    named = [*options.files, *(getattr(options, name, None) for name in commands.INPUT_OPTIONS)]
+    if named.count("-") > 1:
+        raise UsageError("-: standard input is named twice")
 
 
 def with_help(arguments: list[str]) -> list[str]:
