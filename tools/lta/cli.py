@@ -89,7 +89,7 @@ def run_judge(options: argparse.Namespace) -> int:
     is_good = judging.is_accepted if options.strict else judging.is_good
     rows = judge_report.report(results, is_good, options.form, options.refused, options.junit)
     say_notices(hours, rows)
-    return judging.status(rows, is_good)
+    return status_of(rows, is_good)
 
 
 def say_notices(hours: Hours, answers: Iterable[Answered]) -> None:

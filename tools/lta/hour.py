@@ -57,7 +57,8 @@ A stored hour, hours/NAME.txt, opens with what it protects and says in comments 
   # shortfall KIND N EUROS                 by how much order, branch or link N falls short; all others do not. One of:
   # shortfall none                         nothing does
 
-tests/stored_hours holds the first three to both judges, tests/stored_shortfalls the last. A stored hour with families, families/NAME.txt, has in their place
+tests/stored_hours holds the first three to both judges, tests/stored_shortfalls the last. A stored hour with families,
+families/NAME.txt, has in their place
 
   # expect N I                             number and index with the list
   # expect-without N I                     those without it, where they are others

@@ -104,7 +104,11 @@ def record(row: Result) -> schema.Record:
 
 
 def report(
-    results: Iterable[Result], good: Callable[[Result], bool], form: str | None, only_refused: bool, junit_file: str | None
+    results: Iterable[Result],
+    good: Callable[[Result], bool],
+    form: str | None,
+    only_refused: bool,
+    junit_file: str | None,
 ) -> list[Result]:
     """Writes results, JSON Lines and CSV as they come, and gives them all back. `good` says which hours pass."""
     rows, shown = [], []
