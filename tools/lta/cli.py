@@ -8,10 +8,10 @@ import os
 import signal
 import sys
 import time
-from collections.abc import Callable, Iterable, Sequence
+from collections.abc import Callable, Iterable, Iterator, Sequence
 from typing import TYPE_CHECKING, Any, NoReturn, TextIO, TypeVar
 
-from . import commands, each_hour, hour, inputs, judge_report, judging, library, rules, schema, usage
+from . import commands, each_hour, hour, inputs, judge_report, judging, library, rules, usage
 from .causes import Disagreement
 from .each_hour import Answered, Hours
 from .inputs import (
@@ -83,13 +83,17 @@ def run_judge(options: argparse.Namespace) -> int:
         read_from_standard_input(options)
     hours = Hours(options)
     explained = options.form is not None or options.junit is not None
-    # Lines that come one by one show the progress themselves, and a terminal would mix them with the count.
-    one_by_one = options.form in ("jsonl", "csv") and sys.stdout is not None and sys.stdout.isatty()
-    results = judging.results(hours.sources, complain, explained, not one_by_one and not options.quiet)
+    counts = not options.quiet and not (options.form in ("jsonl", "csv") and on_terminal())
+    results = judging.results(hours.sources, complain, explained, counts)
     is_good = judging.is_accepted if options.strict else judging.is_good
     rows = judge_report.report(results, is_good, options.form, options.refused, options.junit)
     say_notices(hours, rows)
     return status_of(rows, is_good)
+
+
+def on_terminal() -> bool:
+    """Whether answers go to a terminal. Those that come one by one show the progress there: no count is put between."""
+    return sys.stdout is not None and sys.stdout.isatty()
 
 
 def say_notices(hours: Hours, answers: Iterable[Answered]) -> None:
@@ -106,34 +110,57 @@ def status_of(answers: Sequence[A], is_good: Callable[[A], bool]) -> int:
 
 def run_explain(options: argparse.Namespace) -> int:
     hours = Hours(options)
-    text, results = each_hour.explained(hours, complain)
-    put(text)
+    answers = hours.asked(
+        each_hour.ask_explained,
+        lambda name, error: each_hour.Explained(name, error=error),
+        complain,
+        with_progress=not on_terminal(),
+    )
+    results: list[each_hour.Explained] = []
+    each_hour.put_texts(noted(answers, results), lambda result: result.text, len(hours.sources) > 1)
     say_notices(hours, results)
     return status_of(results, lambda result: result.accepted)
+
+
+def noted(answers: Iterable[A], results: list[A]) -> Iterator[A]:
+    """The answers, each of which is also put into a list."""
+    for answer in answers:
+        results.append(answer)
+        yield answer
 
 
 def run_shortfalls(options: argparse.Namespace) -> int:
     from . import shortfalls_cli
 
     hours = Hours(options)
-    results = hours.asked(
+    results = put_answers(
+        options,
+        hours,
         lambda source, read_hour: shortfalls_cli.ask(source.name, read_hour),
         lambda name, error: shortfalls_cli.ShortfallsResult(name, error=error),
-        complain,
-        options.form is None,
+        shortfalls_cli,
     )
-    put_answers(options.form, results, shortfalls_cli)
     say_notices(hours, results)
     return status_of(results, lambda result: result.answered)
 
 
-def put_answers(form: str | None, results: Sequence[Any], writer: Any) -> None:
-    """Prints the answers of a command in the form that is asked for."""
-    if form is not None:
-        put(schema.in_form(form, writer.RECORD_TYPE, [writer.record(result) for result in results]))
+def put_answers(
+    options: argparse.Namespace,
+    hours: Hours,
+    ask: Callable[[Input, HourFiles], A],
+    failed: Callable[[str, str], A],
+    writer: Any,
+) -> list[A]:
+    """Asks for the answer on every hour, prints each in the form that is asked for, and gives them all back."""
+    form = options.form
+    results: list[A] = []
+    counts = form == "json" or not on_terminal()
+    answers = noted(hours.asked(ask, failed, complain, form is None, counts), results)
+    if form is None:
+        each_hour.put_texts(answers, writer.as_text, len(hours.sources) > 1)
     else:
-        texts = [(result.name, writer.as_text(result)) for result in results if not result.error]
-        put(each_hour.headed(texts, len(results)))
+        each_hour.put_records(form, writer.RECORD_TYPE, map(writer.record, answers))
+    return results
 
 
 def run_intuitive(options: argparse.Namespace) -> int:
@@ -151,10 +178,9 @@ def run_intuitive(options: argparse.Namespace) -> int:
         return exchanges.ask(source.name, read_hour, pairs, pairs_read)
 
     hours = Hours(options)
-    results = hours.asked(
-        ask, lambda name, error: exchanges.IntuitiveResult(name, error=error), complain, options.form is None
+    results = put_answers(
+        options, hours, ask, lambda name, error: exchanges.IntuitiveResult(name, error=error), exchanges
     )
-    put_answers(options.form, results, exchanges)
     say_notices(hours, results)
     return status_of(results, lambda result: result.intuitive)
 

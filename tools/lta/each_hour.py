@@ -4,14 +4,15 @@ from __future__ import annotations
 
 import argparse
 from collections.abc import Callable, Iterable, Iterator, Sequence
-from dataclasses import replace
+from dataclasses import dataclass, replace
 from typing import Any, Protocol, TypeVar
 
-from . import amounts, explain_text, library
+from . import amounts, explain_text, library, schema
 from .causes import Disagreement, explain
 from .inputs import DUMP, JOINED, PROPOSAL, TEXT, Gathering, HourFiles, Input, InputError, printable
 from .progress import Progress
 from .results import LEFT_OUT, Result
+from .writing import put, put_now
 
 MOST_NAMED = 3  # of the files that one line is about
 
@@ -53,27 +54,28 @@ class Hours:
         failed: Callable[[str, str], Answer],
         complain: Complain,
         for_reader: bool = True,
-    ) -> list[Answer]:
-        """The answer on every hour. If one cannot be read, complain is told and failed makes the answer. If none can,
-        there is nothing for a reader: the last fault ends the command.
+        with_progress: bool = True,
+    ) -> Iterator[Answer]:
+        """The answer on every hour, as soon as it is found. If one cannot be read, complain is told and failed makes
+        the answer. If none can, there is nothing for a reader: the last fault ends the command.
         """
-        answers, faults = [], 0
-        progress = Progress(f"{{:,}} of {len(self.sources):,} hours answered")
+        faults = 0
+        progress = Progress(f"{{:,}} of {len(self.sources):,} hours answered", with_progress)
         try:
             for done, source in enumerate(self.sources):
                 progress.step(done)
                 try:
-                    answers.append(ask(source, source.read()))
+                    answer = ask(source, source.read())
                 except (InputError, Disagreement) as fault:
                     faults += 1
                     if for_reader and faults == len(self.sources):
                         raise
                     progress.end()
                     complain(fault)
-                    answers.append(failed(source.name, str(fault)))
+                    answer = failed(source.name, str(fault))
+                yield answer
         finally:
             progress.end()
-        return answers
 
     def notices(self, answers: Iterable[Answered]) -> Iterator[str]:
         """What nobody named and was used all the same, and what was there and was not used: a line for each kind."""
@@ -122,24 +124,43 @@ def some(names: Sequence[str]) -> str:
     return ", ".join(names[:MOST_NAMED]) + more
 
 
-def headed(texts: Sequence[tuple[str, str]], asked: int) -> str:
-    """The texts of some hours. Where several were asked for, each stands under its name."""
-    if asked == 1:
-        return "".join(text for _, text in texts)
-    return "\n".join(f"== {printable(name)}\n{text}" for name, text in texts)
+# Written, each answer as soon as it is there.
 
 
-def explained(hours: Hours, complain: Complain) -> tuple[str, list[Result]]:
-    """Every hour in words, and the results."""
-    texts = []
+def put_texts(answers: Iterable[Answer], as_text: Callable[[Answer], str], several: bool) -> None:
+    """Prints the text of each answer. Where several hours were asked for, each stands under its name."""
+    blank = ""
+    for answer in answers:
+        if not answer.error:
+            head = f"{blank}== {printable(answer.name)}\n" if several else ""
+            put_now(head + as_text(answer))
+            blank = "\n"
 
-    def ask(source: Input, read: HourFiles) -> Result:
-        files, families = (read.case, read.proposal), read.families
-        judgement = library.judge(*files, families)
-        found = explain(*files, judgement, families=families)
-        text = explain_text.full_text(*files, judgement, found, source.kind == JOINED, families)
-        texts.append((source.name, text))
-        return Result(source.name, judgement, "", read.list_use, inputs=read.inputs)
 
-    results = hours.asked(ask, lambda name, error: Result(name, error=error), complain)
-    return headed(texts, len(hours.sources)), results
+def put_records(form: str, record_type: str, records: Iterable[schema.Record]) -> None:
+    """Prints records of one type. JSON is one array, and is printed when all are there."""
+    if form == "json":
+        put(schema.json_text(list(records)))
+        return
+    if form == "csv":
+        put_now(schema.csv_header(record_type))
+    for record in records:
+        put_now(schema.json_line(record) if form == "jsonl" else schema.csv_rows(record))
+
+
+# lta explain.
+
+
+@dataclass(frozen=True)
+class Explained(Result):
+    """An hour as judged, and all that lta explain says of it."""
+
+    text: str = ""
+
+
+def ask_explained(source: Input, read: HourFiles) -> Explained:
+    files, families = (read.case, read.proposal), read.families
+    judgement = library.judge(*files, families)
+    found = explain(*files, judgement, families=families)
+    text = explain_text.full_text(*files, judgement, found, source.kind == JOINED, families)
+    return Explained(source.name, judgement, "", read.list_use, inputs=read.inputs, text=text)
