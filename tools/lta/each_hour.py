@@ -80,14 +80,18 @@ class Hours:
     def notices(self, answers: Iterable[Answered]) -> Iterator[str]:
         """What nobody named and was used all the same, and what was there and was not used: a line for each kind."""
         read: set[str] = set()
+        answered: set[str] = set()
         without: list[str] = []
         cut: list[str] = []
         for answer in answers:
             read.update(one.file for one in answer.inputs)
+            if not answer.error:
+                answered.add(answer.name)
             cut += [one.file for one in answer.inputs if one.cut]
             if answer.families == LEFT_OUT:
                 without.append(answer.name)
-        beside = [one.families for one in self.sources if one.beside and not one.leave_out and one.families]
+        used = (one for one in self.sources if one.beside and not one.leave_out and one.name in answered)
+        beside = [one.families for one in used if one.families]
         if beside:
             yield f"used {lists_of(len(beside), 'next to')}: {some(beside)}; --no-families leaves them out"
         if without:

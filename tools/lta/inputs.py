@@ -237,6 +237,11 @@ def kind_of(word: str) -> str | None:
     return JOINED if word == STDIN else KINDS.get(os.path.splitext(word)[1])
 
 
+def lies_there(path: str) -> bool:
+    """Whether there is a file, or a link that leads nowhere: that is said when it is read."""
+    return os.path.isfile(path) or (os.path.islink(path) and not os.path.exists(path))
+
+
 def fellow(path: str, kind: str, is_there: Callable[[str], bool]) -> str | None:
     """The file of a kind that has the same name as a path."""
     if path == STDIN:
@@ -420,7 +425,7 @@ class Gathering:
                     raise InputError(word, LISTLESS + " before it")
             if len(files) < count:
                 raise InputError(files[-1], f"a case without its {self.fellows[0]} after it")
-            families = None if way == "text" else self.list_beside(files[0], os.path.isfile)
+            families = None if way == "text" else self.list_beside(files[0], lies_there)
             beside = families is not None
             if at < len(words) and kind_of(words[at]) == FAMILIES:
                 families, beside, at = words[at], False, at + 1
@@ -471,11 +476,11 @@ class Named:
             return self.gathering.made(word, TEXT, None, None, named=True)
         if kind == CASE:
             fellows = self.gathering.fellows
-            other = self.found(word, at + 1, fellows) or first_fellow(word, fellows, os.path.isfile)
+            other = self.found(word, at + 1, fellows) or first_fellow(word, fellows, lies_there)
             if other is None:
                 return self.gathering.without_fellow(word)
         named = self.found(word, max(at, self.places.get(other or word, at)) + 1, (FAMILIES,))
-        families = named or self.gathering.list_beside(word, os.path.isfile)
+        families = named or self.gathering.list_beside(word, lies_there)
         return self.gathering.made(word, second_kind(kind, other), other, families, named is not None)
 
 
