@@ -41,7 +41,7 @@ class RecordError(Exception):
 
 @dataclass(frozen=True)
 class Side:
-    """One of the two: its name, which build answered, and the rows of its hours."""
+    """One of the two: its name, which build answered, and what is compared of its hours."""
 
     name: str
     build: str
@@ -69,17 +69,17 @@ def row_of(made: schema.Record) -> Row:
     return cells
 
 
-def rows_of_text(text: str) -> list[Row]:
+def rows_of_text(text: str) -> Iterable[Row]:
     """The rows of a result file: JSON, JSON Lines or CSV, as its first character says."""
     first = text.lstrip()[:1]
     if first == "[":
-        return [row_of(made) for made in json.loads(text)]
+        return map(row_of, json.loads(text))
     if first == "{":
-        return [row_of(json.loads(line)) for line in text.splitlines() if line.strip()]
+        return (row_of(json.loads(line)) for line in text.splitlines() if line.strip())
     reader = csv.DictReader(io.StringIO(text, newline=""))
     if first and "record_type" not in (reader.fieldnames or ()):
         raise RecordError(NO_RECORDS)
-    return list(reader)
+    return reader
 
 
 def as_written(text: str) -> str:
@@ -103,7 +103,7 @@ def side_of(name: str, rows: Iterable[Row]) -> Side:
             raise RecordError(f"a record without {lacking[0]}")
         file, error = (as_written(schema.unsafe(row[column])) for column in ("file_name", "error"))
         place = file, row.get("way") or ""
-        found[(*place, seen[place])] = {**row, "error": error}
+        found[(*place, seen[place])] = {**{column: row[column] for column in COMPARED}, "error": error}
         seen[place] += 1
         builds.add(f"version {row.get('version')}, library {str(row.get('library_sha256'))[:12]}")
     return Side(name, "; ".join(sorted(builds)) or "no hour", found)
