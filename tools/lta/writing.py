@@ -140,7 +140,7 @@ def refuse_outputs(paths: Iterable[str], force: bool) -> None:
         try:
             twin = next((other for other in files[:place] if is_same_file(path, other)), None)
             exists = os.path.lexists(path)
-        except ValueError as fault:
+        except (OSError, ValueError) as fault:
             raise cannot_be_written(path, fault) from None
         if twin is not None:
             raise WriteError(f"{path}: named for two outputs{'' if path == twin else f'; {twin} is the same file'}")
