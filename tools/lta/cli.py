@@ -369,7 +369,9 @@ def run_build(options: argparse.Namespace) -> int:
 def run_diff(options: argparse.Namespace) -> int:
     from . import diff
 
-    one, other = diff.ask(options.files, options.library or ())
+    judge_options = ["--no-families"] if options.no_families else []
+    judge_options += [f"--ignore={glob}" for glob in options.ignore or ()]
+    one, other = diff.ask(options.files, options.library or (), judge_options)
     found = diff.differences(one, other)
     put(diff.as_form(options.form, one, other, found))
     return diff.status(one, other, found, judged_here=bool(options.library))

@@ -354,6 +354,8 @@ COMMANDS = (
         ),
         (
             Option("--library", "judge by the library in this folder; once for A, once for B", value="DIR", many=True),
+            NO_FAMILIES,
+            IGNORE,
             CSV,
             JSON,
             JSONL,

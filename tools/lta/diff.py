@@ -121,10 +121,12 @@ def side_of_file(path: str) -> Side:
 
 
 def side_of_library(folder: str, words: Sequence[str], said: set[str]) -> Side:
-    """What the library of a folder answers, in a process of its own. A message that was said before is not repeated."""
+    """What lta judge with these words answers by the library of a folder, in a process of its own. A message that was
+    said before is not repeated.
+    """
     environment = {**os.environ, "LTA_ARCHIVE_DIR": folder}
     # By its path: with -m Python would look for modules in the present folder first.
-    command = [sys.executable, str(origin.PACKAGE / "__main__.py"), "judge", "--jsonl", "--", *words]
+    command = [sys.executable, str(origin.PACKAGE / "__main__.py"), "judge", "--jsonl", *words]
     options: dict[str, Any] = {"stdin": subprocess.DEVNULL, "capture_output": True, "text": True, "errors": "replace"}
     done = subprocess.run(command, env=environment, check=False, **options)
     if done.returncode not in (0, 1, 2):
@@ -206,9 +208,12 @@ def as_form(form: str | None, one: Side, other: Side, found: Sequence[Difference
     return schema.in_form(form, schema.DIFFERENCE, [record(difference) for difference in found])
 
 
-def ask(files: Sequence[str], libraries: Sequence[str]) -> tuple[Side, Side]:
-    """Both sides: two result files, or two libraries over the hours that the files name."""
+def ask(files: Sequence[str], libraries: Sequence[str], judge_options: Sequence[str]) -> tuple[Side, Side]:
+    """Both sides: two result files, or two libraries over the hours that the files and options of judge name."""
     if not libraries:
+        if judge_options:
+            option = judge_options[0].partition("=")[0]
+            raise UsageError(f"{option} goes with --library; lta diff --help explains")
         if len(files) != 2:
             raise UsageError(f"diff compares two result files, not {len(files)}; lta diff --help explains")
         return side_of_file(files[0]), side_of_file(files[1])
@@ -216,8 +221,9 @@ def ask(files: Sequence[str], libraries: Sequence[str]) -> tuple[Side, Side]:
         raise UsageError("diff takes --library twice, for A and for B; lta diff --help explains")
     if "-" in files:
         raise UsageError("-: two libraries cannot both read standard input; name files")
+    words = [*judge_options, "--", *files]
     said: set[str] = set()
-    return side_of_library(libraries[0], files, said), side_of_library(libraries[1], files, said)
+    return side_of_library(libraries[0], words, said), side_of_library(libraries[1], words, said)
 
 
 def status(one: Side, other: Side, found: Sequence[Difference], judged_here: bool) -> int:
