@@ -436,7 +436,7 @@ def main(arguments: list[str]) -> int:
         answer = answer_of(options)
         with answering(answer):
             status = RUN[options.command](options)
-        if answer.path is not None and not options.quiet:
+        if answer.path is not None and not options.quiet and STANDARD_OUTPUT not in answer.files:
             put("".join(f"wrote {printable(path)}\n" for path in answer.files))
         if sys.stdout is not None:
             sys.stdout.flush()
