@@ -346,8 +346,8 @@ class Folder:
 OUTPUTS = ("out", "answer", "junit", *commands.BUILT)
 # What starts a program.
 NOT_TRIED = {"library"}
-# How often an option is given; of those of build one is enough.
-LIKELY = {"out": 0.6, "force": 0.3, "case": 0.3}
+# How often an option is given; of those of build one is enough, and what all files are is mostly said wrongly.
+LIKELY = {"out": 0.6, "force": 0.3, "case": 0.3, "way": 0.04, "family_list": 0.04, "pairs": 0.3}
 UNKNOWN = ("--nope", "-x", "--json=1", "--js", "--forc", "-o", "--pairs", "--case", "--", "-", "", "-h", "--help", "-9")
 
 
