@@ -39,6 +39,7 @@ from .writing import (
     Output,
     WriteError,
     answering,
+    goes_to_terminal,
     put,
     refuse_outputs,
     write_output,
@@ -83,17 +84,12 @@ def run_judge(options: argparse.Namespace) -> int:
         read_from_standard_input(options)
     hours = Hours(options)
     explained = options.form is not None or options.junit is not None
-    counts = not options.quiet and not (options.form in ("jsonl", "csv") and on_terminal())
+    counts = not options.quiet and not (options.form in ("jsonl", "csv") and goes_to_terminal())
     results = judging.results(hours.sources, complain, explained, counts)
     is_good = judging.is_accepted if options.strict else judging.is_good
     rows = judge_report.report(results, is_good, options.form, options.refused, options.junit)
     say_notices(hours, rows)
     return status_of(rows, is_good)
-
-
-def on_terminal() -> bool:
-    """Whether answers go to a terminal. Those that come one by one show the progress there: no count is put between."""
-    return sys.stdout is not None and sys.stdout.isatty()
 
 
 def say_notices(hours: Hours, answers: Iterable[Answered]) -> None:
@@ -114,7 +110,7 @@ def run_explain(options: argparse.Namespace) -> int:
         each_hour.ask_explained,
         lambda name, error: each_hour.Explained(name, error=error),
         complain,
-        with_progress=not on_terminal(),
+        with_progress=not goes_to_terminal(),
     )
     results: list[each_hour.Explained] = []
     each_hour.put_texts(noted(answers, results), lambda result: result.text, len(hours.sources) > 1)
@@ -154,7 +150,7 @@ def put_answers(
     """Asks for the answer on every hour, prints each in the form that is asked for, and gives them all back."""
     form = options.form
     results: list[A] = []
-    counts = form == "json" or not on_terminal()
+    counts = form == "json" or not goes_to_terminal()
     answers = noted(hours.asked(ask, failed, complain, form is None, counts), results)
     if form is None:
         each_hour.put_texts(answers, writer.as_text, len(hours.sources) > 1)

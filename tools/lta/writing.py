@@ -100,6 +100,13 @@ def put_now(text: str) -> None:
         sys.stdout.flush()
 
 
+def goes_to_terminal() -> bool:
+    """Whether the answer goes to a terminal. Where it comes there piece by piece it shows the progress itself, and no
+    count of hours is put between.
+    """
+    return _answer.path is None and _answer.wanted and sys.stdout is not None and sys.stdout.isatty()
+
+
 def put_file(path: str, data: bytes) -> None:
     """Has a file written together with the answer."""
     _answer.others.append(Output(path, data))
