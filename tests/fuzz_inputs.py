@@ -68,6 +68,7 @@ LINES = [
 NUMBER = re.compile(rb"-?\d+(?:\.\d+)?")
 OPENING = re.compile(rb"case|proposal|families|dump|# expect|# totals|# becomes|# shortfall")
 LONG_LINES = (100, 10_000, 500_000, 3_000_000)
+LONG_TAIL = 2**20
 
 
 def odd_number(numbers: random.Random) -> str:
@@ -187,7 +188,8 @@ def damaged_bytes(numbers: random.Random, data: bytes, other: bytes) -> bytes:
             made += numbers.choice((bytes(made), other, b"\0", b"\n"))
         elif numbers.randrange(5) == 0:
             made = bytearray(numbers.randbytes(numbers.randrange(300)))
-    return bytes(made)
+    # Rarely so long that only the beginning is read.
+    return bytes(made) + bytes(LONG_TAIL if numbers.random() < 0.02 else 0)
 
 
 def damaged(numbers: random.Random, kind: str, data: bytes, other: bytes) -> bytes:
@@ -282,8 +284,10 @@ class Folder:
         if "text" in files and numbers.random() < 0.1:
             files["text"] = numbers.choice(OTHERS).read_bytes()
         made = {}
+        capitals = numbers.random() < 0.1
         for kind, data in files.items():
             suffix = numbers.choice(SUFFIXES[kind] if numbers.random() < 0.9 else ("", ".txt", ".case", ".other"))
+            suffix = numbers.choice((suffix.upper(), suffix.title(), suffix.swapcase())) if capitals else suffix
             damaged_data = damaged(numbers, kind, data, other.get(kind, other["case"]))
             made[kind] = self.put(os.path.join(place, stem + suffix), damaged_data)
         self.hours.append(made)
@@ -296,20 +300,21 @@ class Folder:
         os.makedirs(os.path.dirname(path), exist_ok=True)
         if os.path.lexists(path):
             return
-        way = numbers.randrange(9)
-        if way < 4:
+        way = numbers.randrange(11)
+        if way < 6:
             up = os.pardir if os.path.dirname(name) else os.curdir
-            os.symlink(("none", os.path.basename(name), os.curdir, up)[way], path)
-        elif way == 4:
+            # In a circle, through a file, or to a name that no file can have, too.
+            os.symlink(("none", os.path.basename(name), os.curdir, up, self.path("s.csv/x"), "n" * 300)[way], path)
+        elif way == 6:
             os.symlink(self.path(numbers.choice(list(self.hours[0].values()))), path)
-        elif way == 5:
+        elif way == 7:
             os.mkdir(path)
-        elif way == 6 and not self.deep and numbers.random() < 0.03:
+        elif way == 8 and not self.deep and numbers.random() < 0.03:
             self.deep = True
             for depth in range(1, DEPTH + 1 if not self.stays else 2):
                 os.mkdir(self.path("d/" * depth))
             name = "d"
-        elif way == 7:
+        elif way == 9:
             os.mkdir(path)
             self.unreadable.append(name)
         else:
@@ -341,8 +346,8 @@ class Folder:
 OUTPUTS = ("out", "answer", "junit", *commands.BUILT)
 # What starts a program.
 NOT_TRIED = {"library"}
-# How often an option is given; of those of build one is enough.
-LIKELY = {"out": 0.6, "force": 0.3, "case": 0.3}
+# How often an option is given; of those of build one is enough, and what all files are is mostly said wrongly.
+LIKELY = {"out": 0.6, "force": 0.3, "case": 0.3, "way": 0.04, "family_list": 0.04, "pairs": 0.3}
 UNKNOWN = ("--nope", "-x", "--json=1", "--js", "--forc", "-o", "--pairs", "--case", "--", "-", "", "-h", "--help", "-9")
 
 
@@ -385,6 +390,9 @@ def hour_words(numbers: random.Random, made: dict[str, str]) -> list[str]:
     return [made[kind] for kind in numbers.choice(ways)]
 
 
+TAKING_FOLDERS = {command.name for command in commands.COMMANDS if command.takes_hours} | {"dump"}
+
+
 def words_of(numbers: random.Random, command: str, folder: Folder) -> list[str]:
     """The files that a command is given, most of the time such as it asks for."""
     made = numbers.choice(folder.hours)
@@ -392,6 +400,8 @@ def words_of(numbers: random.Random, command: str, folder: Folder) -> list[str]:
         count = numbers.choice((0, 1, 1, 2, 3))
         words = [word for _ in range(count) for word in hour_words(numbers, numbers.choice(folder.hours))]
         return words if numbers.random() < 0.7 else [numbers.choice((".", "sub", os.pardir + "/fuzzed"))]
+    if command in TAKING_FOLDERS and numbers.random() < 0.15:
+        return [numbers.choice((".", "sub"))]
     if command == "dump":
         return [made["case"], made["dump"]] if "dump" in made and numbers.random() < 0.6 else [made["text"]]
     if command in ("column", "restore"):
@@ -415,9 +425,11 @@ def result_file(numbers: random.Random) -> bytes:
     judgements = [accepted, library.Judgement(24, 3)]
     choices = [Result("a.case", judgement, families="none") for judgement in judgements]
     choices += [Result("=b", judgements[0], way="apart"), Result("a.case", error="a.case: gone")]
+    choices += [Result("\udcff", judgements[0]), Result("-", error="new\nline")]
     made = [judge_report.record(numbers.choice(choices)) for _ in range(numbers.randrange(4))]
     lines = "".join(map(schema.json_line, made))
-    text = schema.in_form(numbers.choice(("json", "jsonl", "csv")), schema.JUDGE, made).encode()
+    form = numbers.choice(("json", "jsonl", "csv"))
+    text = schema.in_form(form, schema.JUDGE, made).encode(errors="backslashreplace")
     return damaged_text(numbers, text, lines.encode()) if numbers.random() < 0.6 else text
 
 
@@ -453,6 +465,8 @@ def options_of(numbers: random.Random, parser: argparse.ArgumentParser, folder: 
         if action.dest == "pairs" and numbers.random() < 0.7:
             value = folder.hours[0].get("pairs", "none")
         groups.append([f"{name}={value}"] if name.startswith("--") and numbers.random() < 0.3 else [name, value])
+    if groups and numbers.random() < 0.03:
+        groups.append(numbers.choice(groups))
     return groups
 
 

@@ -132,9 +132,10 @@ JUNIT = """\
 
 | In the file | What it says |
 |---|---|
-| neither of these | the hour is accepted, or as its text expects; with `--strict`, the hour is accepted |
+| a test without `failure` or `error` | the hour is accepted, or as its text expects; with `--strict`, the hour is accepted |
 | `failure` | the hour does not pass; `type` is the name of the number, the text is the explanation |
 | `error` | the hour could not be read, and why |
+| `system-out` | what became of the family list: used, left out or none |
 """
 
 EXAMPLES = """\

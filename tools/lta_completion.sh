@@ -21,7 +21,7 @@ _lta() {
             show) words='--joined -o --force --quiet --help' ;;
             field) words='--help' ;;
             build) words='--case --proposal --joined --families --dump --force --quiet --help' ;;
-            diff) words='--library --csv --json --jsonl -o --force --quiet --help' ;;
+            diff) words='--library --no-families --ignore --csv --json --jsonl -o --force --quiet --help' ;;
             help) words='--help' ;;
             version) words='--help' ;;
         esac
@@ -38,7 +38,7 @@ _lta() {
             'page -o' | 'page --families' | 'page --ignore') words='' ;;
             'show -o') words='' ;;
             'build --case' | 'build --proposal' | 'build --joined' | 'build --families' | 'build --dump') words='' ;;
-            'diff --library' | 'diff -o') words='' ;;
+            'diff --library' | 'diff --ignore' | 'diff -o') words='' ;;
         esac
     fi
     mapfile -t COMPREPLY < <(compgen -W "$words" -- "$word")

@@ -178,7 +178,8 @@ def wrong_length(number: int, file: str, data: bytes, counts: Counts) -> Iterato
     if len(data) == due:
         return
     demanding = "its header demands" if file == "case" else "the case demands"
-    cause = f"the {called(file)} has {counted(len(data), 'byte')}, and {demanding} {due:,} = {length_sum(file, counts)}: "
+    demanded = f"{demanding} {due:,} = {length_sum(file, counts)}"
+    cause = f"the {called(file)} has {counted(len(data), 'byte')}, and {demanded}: "
     if len(data) > due:
         cause += f"{len(data) - due:,} too many"
     else:
@@ -304,7 +305,8 @@ MOST_DECIMALS = 9  # of a per cent in which two fractions of quantities up to 10
 def fractions_apart(one: tuple[int, int], other: tuple[int, int]) -> list[str]:
     """Two fractions, each a volume and a quantity, in per cent with as many decimals as tell them apart."""
     for decimals in range(3, MOST_DECIMALS + 1):
-        shown = [amounts.scaled(100 * 10**decimals * volume // quantity, decimals, 1) for volume, quantity in (one, other)]
+        parts = (100 * 10**decimals * volume // quantity for volume, quantity in (one, other))
+        shown = [amounts.scaled(part, decimals, 1) for part in parts]
         if shown[0] != shown[1]:
             break
     return [f"{number} %" for number in shown]
@@ -571,7 +573,8 @@ class Table:
             cause = f"the net positions sum to {amounts.mwh(total)} and not to 0: {amounts.mwh(bought)} are bought and "
             cause += f"{amounts.mwh(sold)} sold, {more}"
             start, size = hour.record_offset("volume", 0, self.counts), 4 * len(orders)
-            name, value = f"the volumes of all {counted(len(orders), 'order')}", f"bought less sold {amounts.mwh(total)}"
+            name = f"the volumes of all {counted(len(orders), 'order')}"
+            value = f"bought less sold {amounts.mwh(total)}"
             yield Explanation(22, 0, "", cause, (Field("proposal", start, size, name, value, amounts.mwh(0)),))
 
     def share_without_link(self) -> Iterator[Explanation]:
@@ -626,7 +629,8 @@ class Table:
             if branch.shadow and branch.ptdfs[zone]:
                 value = stored(branch.shadow, euros_per_mwh(branch.shadow))
                 value += f" times the PTDF {amounts.factor(branch.ptdfs[zone])}"
-                yield self.in_proposal("shadow", index, f"{value} = {zone_price_shown(branch.shadow * branch.ptdfs[zone])}")
+                value += f" = {zone_price_shown(branch.shadow * branch.ptdfs[zone])}"
+                yield self.in_proposal("shadow", index, value)
 
     @functools.cached_property
     def reported_gap(self) -> int:
@@ -646,25 +650,21 @@ class Table:
                 cause += f", by {amounts.microcents(self.reported_gap - self.sums.tolerance)}"
             yield Explanation(26, 0, "", cause, (self.tolerance_field(f"gap at most {tolerance} euros"),))
 
+    def first(self) -> Explanation:
+        """The first cause, or that there is none: the outcome as it is read here."""
+        for cause in self.causes():
+            return cause
+        return self.accepted()
+
     def accepted(self) -> Explanation:
         gap, tolerance = amounts.microcents(self.reported_gap), amounts.microcents(self.sums.tolerance)
         return Explanation(0, 0, "", f"accepted, with a gap of {gap} euros within the tolerance of {tolerance}")
 
 
-def first_cause(
-    case: bytes, proposal: bytes, families: bytes | None = None, judgement: library.Judgement | None = None
-) -> Explanation:
-    """The outcome as it is read here."""
-    table = Table(case, proposal, families, judgement)
-    for cause in table.causes():
-        return cause
-    return table.accepted()
-
-
 def case_cause(case: bytes) -> Explanation | None:
     """Why a case is not readable, None where it is."""
     # With an empty proposal a readable case is refused by 9.
-    found = first_cause(case, b"")
+    found = Table(case, b"").first()
     return found if found.number < 9 else None
 
 
@@ -685,9 +685,10 @@ def explain(
     if room < rules.REPORT_ROOM:
         cause = f"the report buffer has {counted(room, 'byte')}, and a report may take {rules.REPORT_ROOM}"
         return agreed(judgement, Explanation(30, 0, "", cause))
-    found = agreed(judgement, first_cause(case, proposal, families, judgement))
-    if judgement.prices and judgement.prices != tuple(rules.Sums(case, proposal).prices):
-        raise Disagreement(f"prices {judgement.prices}", f"{tuple(rules.Sums(case, proposal).prices)}")
+    table = Table(case, proposal, families, judgement)
+    found = agreed(judgement, table.first())
+    if judgement.prices and judgement.prices != tuple(table.sums.prices):
+        raise Disagreement(f"prices {judgement.prices}", f"{tuple(table.sums.prices)}")
     return found
 
 

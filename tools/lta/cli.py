@@ -8,10 +8,10 @@ import os
 import signal
 import sys
 import time
-from collections.abc import Callable, Iterable, Sequence
+from collections.abc import Callable, Iterable, Iterator, Sequence
 from typing import TYPE_CHECKING, Any, NoReturn, TextIO, TypeVar
 
-from . import commands, each_hour, hour, inputs, judge_report, judging, library, rules, schema, usage
+from . import commands, each_hour, hour, inputs, judge_report, judging, library, rules, usage
 from .causes import Disagreement
 from .each_hour import Answered, Hours
 from .inputs import (
@@ -31,6 +31,7 @@ from .inputs import (
     text_hour,
     why_not,
 )
+from .results import Result
 from .stderr_log import write_stderr
 from .writing import (
     STANDARD_OUTPUT,
@@ -38,6 +39,7 @@ from .writing import (
     Output,
     WriteError,
     answering,
+    goes_to_terminal,
     put,
     refuse_outputs,
     write_output,
@@ -69,11 +71,12 @@ def complain(fault: object) -> None:
 
 def read_from_standard_input(options: argparse.Namespace) -> None:
     """Without a file a joined hour is read. A terminal or an empty input is no hour that somebody meant to name."""
+    options.files, options.way = [inputs.STDIN], None
+    usage.refuse_standard_input_twice(options)
     stream = None if sys.stdin is None else sys.stdin.buffer
     if isinstance(stream, io.BufferedReader) and (stream.isatty() or not stream.peek(1)):
         what = "a terminal" if stream.isatty() else "empty"
         raise usage.UsageError(f"name a file: standard input is {what}; lta judge --help explains")
-    options.files, options.way = [inputs.STDIN], None
 
 
 def run_judge(options: argparse.Namespace) -> int:
@@ -81,13 +84,12 @@ def run_judge(options: argparse.Namespace) -> int:
         read_from_standard_input(options)
     hours = Hours(options)
     explained = options.form is not None or options.junit is not None
-    # Lines that come one by one show the progress themselves, and a terminal would mix them with the count.
-    one_by_one = options.form in ("jsonl", "csv") and sys.stdout is not None and sys.stdout.isatty()
-    results = judging.results(hours.sources, complain, explained, not one_by_one and not options.quiet)
+    counts = not options.quiet and not (options.form in ("jsonl", "csv") and goes_to_terminal())
+    results = judging.results(hours.sources, complain, explained, counts)
     is_good = judging.is_accepted if options.strict else judging.is_good
     rows = judge_report.report(results, is_good, options.form, options.refused, options.junit)
     say_notices(hours, rows)
-    return judging.status(rows, is_good)
+    return status_of(rows, is_good)
 
 
 def say_notices(hours: Hours, answers: Iterable[Answered]) -> None:
@@ -104,41 +106,62 @@ def status_of(answers: Sequence[A], is_good: Callable[[A], bool]) -> int:
 
 def run_explain(options: argparse.Namespace) -> int:
     hours = Hours(options)
-    text, results = each_hour.explained(hours, complain)
-    put(text)
+    answers = hours.asked(
+        each_hour.ask_explained,
+        lambda name, error: each_hour.Explained(name, error=error),
+        complain,
+        with_progress=not goes_to_terminal(),
+    )
+    results: list[each_hour.Explained] = []
+    each_hour.put_texts(noted(answers, results), lambda result: result.text, len(hours.sources) > 1)
     say_notices(hours, results)
     return status_of(results, lambda result: result.accepted)
+
+
+def noted(answers: Iterable[A], results: list[A]) -> Iterator[A]:
+    """The answers, each of which is also put into a list."""
+    for answer in answers:
+        results.append(answer)
+        yield answer
 
 
 def run_shortfalls(options: argparse.Namespace) -> int:
     from . import shortfalls_cli
 
     hours = Hours(options)
-    results = hours.asked(
+    results = put_answers(
+        options,
+        hours,
         lambda source, read_hour: shortfalls_cli.ask(source.name, read_hour),
         lambda name, error: shortfalls_cli.ShortfallsResult(name, error=error),
-        complain,
-        options.form is None,
+        shortfalls_cli,
     )
-    put_answers(options.form, results, shortfalls_cli)
     say_notices(hours, results)
     return status_of(results, lambda result: result.answered)
 
 
-def put_answers(form: str | None, results: Sequence[Any], writer: Any) -> None:
-    """Prints the answers of a command in the form that is asked for."""
-    if form is not None:
-        put(schema.in_form(form, writer.RECORD_TYPE, [writer.record(result) for result in results]))
+def put_answers(
+    options: argparse.Namespace,
+    hours: Hours,
+    ask: Callable[[Input, HourFiles], A],
+    failed: Callable[[str, str], A],
+    writer: Any,
+) -> list[A]:
+    """Asks for the answer on every hour, prints each in the form that is asked for, and gives them all back."""
+    form = options.form
+    results: list[A] = []
+    counts = form == "json" or not goes_to_terminal()
+    answers = noted(hours.asked(ask, failed, complain, form is None, counts), results)
+    if form is None:
+        each_hour.put_texts(answers, writer.as_text, len(hours.sources) > 1)
     else:
-        texts = [(result.name, writer.as_text(result)) for result in results if not result.error]
-        put(each_hour.headed(texts) if texts else "")
+        each_hour.put_records(form, writer.RECORD_TYPE, map(writer.record, answers))
+    return results
 
 
 def run_intuitive(options: argparse.Namespace) -> int:
     from . import exchanges
 
-    if options.pairs == "-" and "-" in options.files:
-        raise Failure("-: standard input is named for the hour and for the pairs")
     given: exchanges.Pairs | None = None
     pairs_read: list[inputs.Hashed] = []
     if options.pairs is not None:
@@ -151,10 +174,9 @@ def run_intuitive(options: argparse.Namespace) -> int:
         return exchanges.ask(source.name, read_hour, pairs, pairs_read)
 
     hours = Hours(options)
-    results = hours.asked(
-        ask, lambda name, error: exchanges.IntuitiveResult(name, error=error), complain, options.form is None
+    results = put_answers(
+        options, hours, ask, lambda name, error: exchanges.IntuitiveResult(name, error=error), exchanges
     )
-    put_answers(options.form, results, exchanges)
     say_notices(hours, results)
     return status_of(results, lambda result: result.intuitive)
 
@@ -179,21 +201,22 @@ def run_dump(options: argparse.Namespace) -> int:
     from . import dump_command
 
     hours = Hours(options, fellows=(DUMP,))
-    statuses = []
+    statuses, answers = [], []
     for source, out in zip(hours.sources, proposal_names(options.out, hours.sources)):
         try:
-            case, dump = dump_command.files_of(source)
+            files = dump_command.files_of(source)
+            answers.append(Result(source.name, inputs=files.inputs))
             options.out = out
             if out is not None:
                 refuse_outputs([out], options.force)
-            result = dump_command.ask(case, dump)
+            result = dump_command.ask(files.case, files.dump)
             if len(hours.sources) > 1:
                 put(f"{printable(source.name)}: ")
             statuses.append(written(options, result, "proposal", result.answer.proposal))
         except (InputError, WriteError, Disagreement) as fault:
             complain(fault)
             statuses.append(2)
-    say_notices(hours, ())
+    say_notices(hours, answers)
     return max(statuses)
 
 
@@ -216,12 +239,15 @@ def run_columns(options: argparse.Namespace) -> int:
 
     if len(options.files) > 1:
         raise Failure(f"{options.files[1]}: {options.command} takes one file")
-    data, _ = inputs.read_binary(options.files[0], CASE)
+    data, file = inputs.read_hashed(options.files[0], CASE)
     if options.out is not None:
         refuse_outputs([options.out], options.force)
     columning = options.command == "column"
     result = columns.column(data) if columning else columns.restore(data)
-    return written(options, result, "columned file" if columning else "case", result.answer.file)
+    status = written(options, result, "columned file" if columning else "case", result.answer.file)
+    if file.cut:
+        complain(each_hour.cut_words([file.file]))
+    return status
 
 
 def run_page(options: argparse.Namespace) -> int:
@@ -235,13 +261,15 @@ def run_page(options: argparse.Namespace) -> int:
     out = page_name(options.files, sources) if options.out is None else options.out
     refuse_outputs([out], options.force)
     unread: list[InputError] = []
+    answers: list[Result] = []
     judged_at = time.strftime("%Y-%m-%d %H:%M:%S UTC", time.gmtime()) if options.time else ""
-    write_output(out, page.page(options.files, sources, unread.append, judged_at).encode(), options.force)
+    drawn = page.page(options.files, sources, unread.append, judged_at, answers.append)
+    write_output(out, drawn.encode(), options.force)
     if out != "-":
         put(f"wrote {printable(out)}\n")
     for fault in unread:
         complain(fault)
-    say_notices(hours, ())
+    say_notices(hours, answers)
     return 2 if unread else 0
 
 
@@ -274,7 +302,8 @@ def run_show(options: argparse.Namespace) -> int:
     if options.way is None and kind_of(options.files[0]) == TEXT:
         data = read(options.files[0])
         if dump_command.is_text(data):
-            put(dump_command.ask(*dump_command.text_dump(options.files[0], data)).shown)
+            files = dump_command.text_dump(options.files[0], data)
+            put(dump_command.ask(files.case, files.dump).shown)
             return 0
         built = text_hour(options.files[0], data)
         put(hour.show(built.case, built.proposal, built.families))
@@ -315,7 +344,8 @@ def run_build(options: argparse.Namespace) -> int:
     (text,) = options.files
     data = read(text)
     if dump_command.is_text(data):
-        made = dict(zip(("case", "dump"), dump_command.text_dump(text, data)))
+        files = dump_command.text_dump(text, data)
+        made = {"case": files.case, "dump": files.dump}
     else:
         built = text_hour(text, data)
         made = {"case": built.case, "proposal": built.proposal, "joined": built.joined or b""}
@@ -335,10 +365,12 @@ def run_build(options: argparse.Namespace) -> int:
 def run_diff(options: argparse.Namespace) -> int:
     from . import diff
 
-    one, other = diff.ask(options.files, options.library or ())
+    judge_options = ["--no-families"] if options.no_families else []
+    judge_options += [f"--ignore={glob}" for glob in options.ignore or ()]
+    one, other = diff.ask(options.files, options.library or (), judge_options)
     found = diff.differences(one, other)
     put(diff.as_form(options.form, one, other, found))
-    return 1 if found else 0
+    return diff.status(one, other, found, judged_here=bool(options.library))
 
 
 def run_version(options: argparse.Namespace) -> int:
@@ -400,7 +432,7 @@ def main(arguments: list[str]) -> int:
         answer = answer_of(options)
         with answering(answer):
             status = RUN[options.command](options)
-        if answer.path is not None and not options.quiet:
+        if answer.path is not None and not options.quiet and STANDARD_OUTPUT not in answer.files:
             put("".join(f"wrote {printable(path)}\n" for path in answer.files))
         if sys.stdout is not None:
             sys.stdout.flush()

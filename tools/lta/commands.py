@@ -142,6 +142,8 @@ def output(value: str, words: str) -> Option:
     return Option("-o", words, value=value, name="out")
 
 
+# The options that name a file to be read, by the attribute that they set.
+INPUT_OPTIONS = ("pairs", "family_list")
 # The files that build writes, by the name of their option.
 BUILT = ("case", "proposal", "joined", "families", "dump")
 
@@ -151,8 +153,8 @@ COMMANDS = (
         "judge hours and print a table of verdicts and totals",
         "[FILE...]",
         (
-            """Judges every hour that the files name and prints a table: file, verdict, index, and welfare, gap, rent and
-            owed in euros. Without a FILE it reads a joined hour from standard input.""",
+            """Judges every hour that the files name and prints a table: file, verdict, index, and welfare, gap, rent
+            and owed in euros. Without a FILE it reads a joined hour from standard input.""",
             """It compares the verdict of a text with the text's expect lines.""",
             """--csv, --json and --jsonl have every decimal, the explanation in a sentence, the version, the library's
             SHA-256 and that of each file read; docs/SCHEMA.md describes their fields.""",
@@ -200,8 +202,8 @@ COMMANDS = (
         (
             """Says by how much each order, branch and link of an accepted hour falls short of its best at the zone
             prices, largest first, to a hundred-thousandth of a microcent, and what is left of the gap.""",
-            """--csv, --json and --jsonl have all of them, in file order: the library's two numbers, whole microcents and
-            hundred-thousandths, and euros.""",
+            """--csv, --json and --jsonl have all of them, in file order: the library's two numbers, whole microcents
+            and hundred-thousandths, and euros.""",
         ),
         (CSV, JSON, JSONL, PAIRS, *HOURS, *ANSWER),
         ("lta shortfalls three-zone.txt",),
@@ -213,8 +215,8 @@ COMMANDS = (
         "FILE...",
         (
             """Says whether the exports of an accepted hour can all be carried to imports, each from a zone to one whose
-            price is not lower, by annex 5.1 of Annex 16.18: yes or no, how much can be carried, and for a no which zones
-            are cut off.""",
+            price is not lower, by annex 5.1 of Annex 16.18: yes or no, how much can be carried, and for a no which
+            zones are cut off.""",
             """Flow goes along pairs of zones: the case's links, or the pairs of a text. Such a text has two zones to a
             line, as in 0 1, and # before a comment.""",
         ),
@@ -234,13 +236,15 @@ COMMANDS = (
         "turn a solver's dump into a proposal",
         "CASE DUMP | FOLDER",
         (
-            """Writes the proposal that a solver's dump gives for a case. Without -o it prints how long the proposal would
-            be. The text of a dump stands for both files.""",
+            """Writes the proposal that a solver's dump gives for a case. Without -o it prints how long the proposal
+            would be. The text of a dump stands for both files.""",
             """If you name several files or a folder, it takes every X.case with its X.dump, and every text. -o then
             names the folder in which it writes each X.proposal.""",
         ),
         (
-            output("PROPOSAL", "write the proposal to this file, or the proposals to this folder; - is standard output"),
+            output(
+                "PROPOSAL", "write the proposal to this file, or the proposals to this folder; - is standard output"
+            ),
             FORCE,
             QUIET,
             Option("--pairs", "take the files in pairs, a case and then its dump", name="way", sets="pairs"),
@@ -321,8 +325,10 @@ COMMANDS = (
         "build",
         "write the files that a text describes",
         "TEXT",
-        ("""Writes the files that you ask for. If you ask for none, it prints their sizes. lta help text explains the
-            lines of a text.""",),
+        (
+            """Writes the files that you ask for. If you ask for none, it prints their sizes. lta help text explains the
+            lines of a text.""",
+        ),
         (
             Option("--case", "write the case to this file; - is standard output", value="FILE"),
             Option("--proposal", "write the proposal", value="FILE"),
@@ -341,13 +347,16 @@ COMMANDS = (
         "compare two result files, or two libraries over the same hours",
         "A B | FILE...",
         (
-            """Lists the hours whose error, verdict, index, totals or prices differ between two result files of lta judge,
-            and those that only one of them has. A and B are JSON, JSON Lines or CSV; hours are matched by their names.""",
+            """Lists the hours whose error, verdict, index, totals or prices differ between two result files of lta
+            judge, and those that only one of them has. A and B are JSON, JSON Lines or CSV; hours are matched by their
+            names.""",
             """With --library twice it judges the hours of the files with two libraries, in two processes, and compares
             their results. DIR is a folder as for LTA_ARCHIVE_DIR.""",
         ),
         (
             Option("--library", "use the library in this folder; once for A, once for B", value="DIR", many=True),
+            NO_FAMILIES,
+            IGNORE,
             CSV,
             JSON,
             JSONL,

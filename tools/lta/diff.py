@@ -28,6 +28,7 @@ COMPARED = (
     *(f"price_euros_{zone}" for zone in range(schema.MOST_ZONES)),
 )
 FIELDS = {field.name: field for field in schema.FIELDS[schema.JUDGE]}
+NO_RECORDS = "no records of lta judge; docs/SCHEMA.md describes them"
 ONLY_ONE = "hour"
 # An hour: its file, its way, and which one it is of those that are named so.
 Hour = tuple[str, str, int]
@@ -40,7 +41,7 @@ class RecordError(Exception):
 
 @dataclass(frozen=True)
 class Side:
-    """One of the two: its name, which build answered, and the rows of its hours."""
+    """One of the two: its name, which build answered, and what is compared of its hours."""
 
     name: str
     build: str
@@ -68,14 +69,22 @@ def row_of(made: schema.Record) -> Row:
     return cells
 
 
-def rows_of_text(text: str) -> list[Row]:
+def rows_of_text(text: str) -> Iterable[Row]:
     """The rows of a result file: JSON, JSON Lines or CSV, as its first character says."""
     first = text.lstrip()[:1]
     if first == "[":
-        return [row_of(made) for made in json.loads(text)]
+        return map(row_of, json.loads(text))
     if first == "{":
-        return [row_of(json.loads(line)) for line in text.splitlines() if line.strip()]
-    return list(csv.DictReader(io.StringIO(text, newline="")))
+        return (row_of(json.loads(line)) for line in text.splitlines() if line.strip())
+    reader = csv.DictReader(io.StringIO(text, newline=""))
+    if first and "record_type" not in (reader.fieldnames or ()):
+        raise RecordError(NO_RECORDS)
+    return reader
+
+
+def as_written(text: str) -> str:
+    """A text of JSON as CSV has it: a byte of a name that is no UTF-8 has an escape."""
+    return text.encode(errors="backslashreplace").decode()
 
 
 def side_of(name: str, rows: Iterable[Row]) -> Side:
@@ -85,15 +94,16 @@ def side_of(name: str, rows: Iterable[Row]) -> Side:
     builds = set()
     for row in rows:
         if row.get("record_type") != schema.JUDGE:
-            raise RecordError("no records of lta judge; docs/SCHEMA.md describes them")
+            raise RecordError(NO_RECORDS)
         if row.get("schema_version") != str(schema.VERSION):
             version = row.get("schema_version")
             raise RecordError(f"records of schema version {version}, and this lta reads version {schema.VERSION}")
         lacking = [column for column in ("file_name", *COMPARED) if not isinstance(row.get(column), str)]
         if lacking:
             raise RecordError(f"a record without {lacking[0]}")
-        place = schema.unsafe(row["file_name"]), row.get("way") or ""
-        found[(*place, seen[place])] = {**row, "error": schema.unsafe(row["error"])}
+        file, error = (as_written(schema.unsafe(row[column])) for column in ("file_name", "error"))
+        place = file, row.get("way") or ""
+        found[(*place, seen[place])] = {**{column: row[column] for column in COMPARED}, "error": error}
         seen[place] += 1
         builds.add(f"version {row.get('version')}, library {str(row.get('library_sha256'))[:12]}")
     return Side(name, "; ".join(sorted(builds)) or "no hour", found)
@@ -110,18 +120,23 @@ def side_of_file(path: str) -> Side:
         raise InputError(path, "no result file of lta judge: JSON, JSON Lines or CSV") from None
 
 
-def side_of_library(folder: str, words: Sequence[str]) -> Side:
-    """What the library of a folder answers, in a process of its own."""
-    environment = {**os.environ, "LTA_ARCHIVE_DIR": folder, "PYTHONPATH": str(origin.PACKAGE.parent)}
-    command = [sys.executable, "-m", "lta", "judge", "--jsonl", "--", *words]
+def side_of_library(folder: str, words: Sequence[str], said: set[str]) -> Side:
+    """What lta judge with these words answers by the library of a folder, in a process of its own. A message that was
+    said before is not repeated.
+    """
+    environment = {**os.environ, "LTA_ARCHIVE_DIR": folder}
+    # By its path: with -m Python would look for modules in the present folder first.
+    command = [sys.executable, str(origin.PACKAGE / "__main__.py"), "judge", "--jsonl", *words]
     options: dict[str, Any] = {"stdin": subprocess.DEVNULL, "capture_output": True, "text": True, "errors": "replace"}
     done = subprocess.run(command, env=environment, check=False, **options)
     if done.returncode not in (0, 1, 2):
         raise InputError(folder, f"judging by this library ended with status {done.returncode}")
     if not done.stdout:
-        said = done.stderr.strip().splitlines() or ["it says nothing"]
-        raise InputError(folder, f"nothing was judged: {said[-1].removeprefix('lta: ')}")
-    write_stderr(done.stderr)
+        why = done.stderr.strip().splitlines() or ["it says nothing"]
+        raise InputError(folder, f"nothing was judged: {why[-1].removeprefix('lta: ')}")
+    messages = done.stderr.splitlines(keepends=True)
+    write_stderr("".join(line for line in messages if line not in said))
+    said.update(messages)
     return side_of(folder, rows_of_text(done.stdout))
 
 
@@ -193,16 +208,26 @@ def as_form(form: str | None, one: Side, other: Side, found: Sequence[Difference
     return schema.in_form(form, schema.DIFFERENCE, [record(difference) for difference in found])
 
 
-def ask(files: Sequence[str], libraries: Sequence[str]) -> tuple[Side, Side]:
-    """Both sides: two result files, or two libraries over the hours that the files name."""
+def ask(files: Sequence[str], libraries: Sequence[str], judge_options: Sequence[str]) -> tuple[Side, Side]:
+    """Both sides: two result files, or two libraries over the hours that the files and options of judge name."""
     if not libraries:
+        if judge_options:
+            option = judge_options[0].partition("=")[0]
+            raise UsageError(f"{option} goes with --library; lta diff --help explains")
         if len(files) != 2:
-            raise UsageError(f"diff compares two result files, and {len(files)} are named; lta diff --help explains")
-        if list(files) == ["-", "-"]:
-            raise UsageError("-: standard input is named for both files")
+            raise UsageError(f"diff compares two result files, not {len(files)}; lta diff --help explains")
         return side_of_file(files[0]), side_of_file(files[1])
     if len(libraries) != 2:
         raise UsageError("diff takes --library twice, for A and for B; lta diff --help explains")
     if "-" in files:
         raise UsageError("-: two libraries cannot both read standard input; name files")
-    return side_of_library(libraries[0], files), side_of_library(libraries[1], files)
+    words = [*judge_options, "--", *files]
+    said: set[str] = set()
+    return side_of_library(libraries[0], words, said), side_of_library(libraries[1], words, said)
+
+
+def status(one: Side, other: Side, found: Sequence[Difference], judged_here: bool) -> int:
+    """1 where something differs. Two libraries agree on nothing in an hour that could not be read: that is 2."""
+    if judged_here and any(row["error"] for side in (one, other) for row in side.rows.values()):
+        return 2
+    return 1 if found else 0

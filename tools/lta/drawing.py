@@ -227,7 +227,8 @@ class Curves:
     def drawing(self) -> str:
         sides = (("buys", self.buys), ("sells", self.sells))
         body = self.axes() + "".join(self.gains(*side) for side in sides)
-        body += "".join(self.stair(*side) for side in sides) + self.price_line() + "".join(self.names(orders) for _, orders in sides)
+        body += "".join(self.stair(*side) for side in sides) + self.price_line()
+        body += "".join(self.names(orders) for _, orders in sides)
         counts = f"{amounts.counted(len(self.buys), 'buy')}, {amounts.counted(len(self.sells), 'sell')}"
         words = f"Order curves of zone {self.zone}: {counts}, price {short_price(self.grains)} euros per MWh"
         return drawn("chart", words, body, WIDTH, HEIGHT)

@@ -10,7 +10,29 @@ from dataclasses import dataclass
 from . import causes, dump_format, hour, library
 from .amounts import counted
 from .causes import Disagreement
-from .inputs import CASE, DUMP, JOINED, TEXT, UNREAD, Input, InputError, read, read_binary, why_not
+from .inputs import (
+    CASE,
+    DUMP,
+    JOINED,
+    TEXT,
+    UNREAD,
+    Hashed,
+    Input,
+    InputError,
+    read,
+    read_hashed,
+    text_inputs,
+    why_not,
+)
+
+
+@dataclass(frozen=True)
+class DumpFiles:
+    """A case and a dump, and the files that were read for them."""
+
+    case: bytes
+    dump: bytes
+    inputs: tuple[Hashed, ...]
 
 
 @dataclass(frozen=True)
@@ -28,12 +50,14 @@ class DumpResult:
         return dump_format.show(self.case, self.dump, self.answer.proposal, self.words, known)
 
 
-def text_dump(path: str, data: bytes) -> tuple[bytes, bytes]:
+def text_dump(path: str, data: bytes) -> DumpFiles:
     """The case and the dump of a text."""
     try:
-        return dump_format.build(hour.decoded(data), os.path.dirname(path))
+        taken = hour.taken(hour.decoded(data), os.path.dirname(path), dump_format.Dump)
+        case, dump = taken.files()
     except ValueError as fault:
         raise InputError(path, why_not(fault)) from None
+    return DumpFiles(case, dump, text_inputs(path, data, taken))
 
 
 def is_text(data: bytes) -> bool:
@@ -44,15 +68,15 @@ def is_text(data: bytes) -> bool:
         return False
 
 
-def files_of(source: Input) -> tuple[bytes, bytes]:
+def files_of(source: Input) -> DumpFiles:
     """The case and the dump that are named."""
     if source.kind == UNREAD:
         raise InputError(source.name, source.paths[0])
     if source.kind == JOINED:
         raise InputError(source.name, "dump takes a case and a dump, or the text of a dump; see --pairs")
     if source.kind != TEXT:
-        (case, _), (dump, _) = map(read_binary, source.paths, (CASE, DUMP))
-        return case, dump
+        (case, case_read), (dump, dump_read) = map(read_hashed, source.paths, (CASE, DUMP))
+        return DumpFiles(case, dump, (case_read, dump_read))
     data = read(source.name)
     if not is_text(data):
         raise InputError(source.name, "the text of an hour, and not of a dump")

@@ -4,14 +4,15 @@ from __future__ import annotations
 
 import argparse
 from collections.abc import Callable, Iterable, Iterator, Sequence
-from dataclasses import replace
+from dataclasses import dataclass, replace
 from typing import Any, Protocol, TypeVar
 
-from . import amounts, explain_text, library
+from . import amounts, explain_text, library, schema
 from .causes import Disagreement, explain
-from .inputs import DUMP, JOINED, PROPOSAL, STDIN, TEXT, Gathering, HourFiles, Input, InputError, printable
+from .inputs import DUMP, JOINED, PROPOSAL, TEXT, Gathering, HourFiles, Input, InputError, printable
 from .progress import Progress
 from .results import LEFT_OUT, Result
+from .writing import put, put_now
 
 MOST_NAMED = 3  # of the files that one line is about
 
@@ -53,49 +54,59 @@ class Hours:
         failed: Callable[[str, str], Answer],
         complain: Complain,
         for_reader: bool = True,
-    ) -> list[Answer]:
-        """The answer on every hour. If one cannot be read, complain is told and failed makes the answer. If none can,
-        there is nothing for a reader: the last fault ends the command.
+        with_progress: bool = True,
+    ) -> Iterator[Answer]:
+        """The answer on every hour, as soon as it is found. If one cannot be read, complain is told and failed makes
+        the answer. If none can, there is nothing for a reader: the last fault ends the command.
         """
-        answers, faults = [], 0
-        progress = Progress(f"{{:,}} of {len(self.sources):,} hours answered")
+        faults = 0
+        progress = Progress(f"{{:,}} of {len(self.sources):,} hours answered", with_progress)
         try:
             for done, source in enumerate(self.sources):
                 progress.step(done)
                 try:
-                    answers.append(ask(source, source.read()))
+                    answer = ask(source, source.read())
                 except (InputError, Disagreement) as fault:
                     faults += 1
                     if for_reader and faults == len(self.sources):
                         raise
                     progress.end()
                     complain(fault)
-                    answers.append(failed(source.name, str(fault)))
+                    answer = failed(source.name, str(fault))
+                yield answer
         finally:
             progress.end()
-        return answers
 
     def notices(self, answers: Iterable[Answered]) -> Iterator[str]:
         """What nobody named and was used all the same, and what was there and was not used: a line for each kind."""
         read: set[str] = set()
+        answered: set[str] = set()
         without: list[str] = []
         cut: list[str] = []
         for answer in answers:
             read.update(one.file for one in answer.inputs)
+            if not answer.error:
+                answered.add(answer.name)
             cut += [one.file for one in answer.inputs if one.cut]
             if answer.families == LEFT_OUT:
                 without.append(answer.name)
-        beside = [one.families for one in self.sources if one.beside and not one.leave_out and one.families]
+        used = (one for one in self.sources if one.beside and not one.leave_out and one.name in answered)
+        beside = [one.families for one in used if one.families]
         if beside:
             yield f"used {lists_of(len(beside), 'next to')}: {some(beside)}; --no-families leaves them out"
         if without:
             yield f"left out {lists_of(len(without), 'of')}: {some(without)}"
         if cut:
-            yield f"read only the beginning of {amounts.counted(len(cut), 'file')} too long to be legal: {some(cut)}"
+            yield cut_words(cut)
         passed = [path for path in self.gathering.passed if path not in read]
         if passed:
             count = "1 file that is" if len(passed) == 1 else f"{len(passed):,} files that are"
             yield f"passed over {count} no hour's: {some(passed)}; --ignore GLOB leaves this unsaid"
+
+
+def cut_words(cut: Sequence[str]) -> str:
+    """What is said of files that were not read to their end."""
+    return f"read only the beginning of {amounts.counted(len(cut), 'file')} too long to be legal: {some(cut)}"
 
 
 def lists_of(count: int, where: str) -> str:
@@ -108,8 +119,6 @@ def with_list(sources: Sequence[Input], families: str) -> Input:
         raise InputError(families, f"--families names the list of one hour, and {len(sources):,} hours are named")
     if sources[0].kind == TEXT:
         raise InputError(families, "--families does not go with a text, which has its list in itself")
-    if families == STDIN and STDIN in sources[0].paths:
-        raise InputError(families, "standard input is named twice")
     return replace(sources[0], families=families, beside=False)
 
 
@@ -119,24 +128,43 @@ def some(names: Sequence[str]) -> str:
     return ", ".join(names[:MOST_NAMED]) + more
 
 
-def headed(texts: Sequence[tuple[str, str]]) -> str:
-    """The texts of some hours. Where there are several, each stands under its name."""
-    if len(texts) == 1:
-        return texts[0][1]
-    return "\n".join(f"== {printable(name)}\n{text}" for name, text in texts)
+# Written, each answer as soon as it is there.
 
 
-def explained(hours: Hours, complain: Complain) -> tuple[str, list[Result]]:
-    """Every hour in words, and the results."""
-    texts = []
+def put_texts(answers: Iterable[Answer], as_text: Callable[[Answer], str], several: bool) -> None:
+    """Prints the text of each answer. Where several hours were asked for, each stands under its name."""
+    blank = ""
+    for answer in answers:
+        if not answer.error:
+            head = f"{blank}== {printable(answer.name)}\n" if several else ""
+            put_now(head + as_text(answer))
+            blank = "\n"
 
-    def ask(source: Input, read: HourFiles) -> Result:
-        files, families = (read.case, read.proposal), read.families
-        judgement = library.judge(*files, families)
-        found = explain(*files, judgement, families=families)
-        text = explain_text.full_text(*files, judgement, found, source.kind == JOINED, families)
-        texts.append((source.name, text))
-        return Result(source.name, judgement, "", read.list_use, inputs=read.inputs)
 
-    results = hours.asked(ask, lambda name, error: Result(name, error=error), complain)
-    return headed(texts) if texts else "", results
+def put_records(form: str, record_type: str, records: Iterable[schema.Record]) -> None:
+    """Prints records of one type. JSON is one array, and is printed when all are there."""
+    if form == "json":
+        put(schema.json_text(list(records)))
+        return
+    if form == "csv":
+        put_now(schema.csv_header(record_type))
+    for record in records:
+        put_now(schema.json_line(record) if form == "jsonl" else schema.csv_rows(record))
+
+
+# lta explain.
+
+
+@dataclass(frozen=True)
+class Explained(Result):
+    """An hour as judged, and all that lta explain says of it."""
+
+    text: str = ""
+
+
+def ask_explained(source: Input, read: HourFiles) -> Explained:
+    files, families = (read.case, read.proposal), read.families
+    judgement = library.judge(*files, families)
+    found = explain(*files, judgement, families=families)
+    text = explain_text.full_text(*files, judgement, found, source.kind == JOINED, families)
+    return Explained(source.name, judgement, "", read.list_use, inputs=read.inputs, text=text)

@@ -239,7 +239,9 @@ def part_rows(sums: rules.Sums, parts: gap.Parts) -> list[tuple[str, int]]:
 
 def part_lines(sums: rules.Sums, parts: gap.Parts) -> Iterator[str]:
     whole = rules.WHOLE * parts.gap
-    rows = [(name, amounts.gap_part(amount), f"{100 * amount / whole:.1f} %") for name, amount in part_rows(sums, parts)]
+    rows = [
+        (name, amounts.gap_part(amount), f"{100 * amount / whole:.1f} %") for name, amount in part_rows(sums, parts)
+    ]
     yield from columns(("what falls short", "euros", "of the gap"), rows)
 
 

@@ -177,7 +177,7 @@ class Input:
             return HourFiles(*rules.cut(data[0]), data[0], None, families, tuple(inputs), left_out)
         case, proposal = data
         if self.kind == DUMP:
-            proposal = proposal_of_dump(self.paths[1], case, proposal)
+            proposal = proposal_of_dump(inputs[1].file, case, proposal)
         return HourFiles(case, proposal, None, None, families, tuple(inputs), left_out)
 
 
@@ -198,6 +198,11 @@ def proposal_of_dump(path: str, case: bytes, dump: bytes) -> bytes:
 CASE_REFUSED = 56
 
 
+def text_inputs(path: str, data: bytes, taken: hour.Hour) -> tuple[Hashed, ...]:
+    """A text, and the sheet that it names."""
+    return (hashed(path, data), *(hashed(*read_file) for read_file in taken.files_read.items()))
+
+
 def text_hour(path: str, data: bytes, leave_out: bool = False) -> HourFiles:
     """The hour of a text, or of the text of a dump. One without any line that expects something expects nothing."""
     try:
@@ -205,7 +210,7 @@ def text_hour(path: str, data: bytes, leave_out: bool = False) -> HourFiles:
         of_dump = dump_format.is_text(text)
         taken = hour.taken(text, os.path.dirname(path), dump_format.Dump if of_dump else hour.Hour)
         files = taken.files()
-        inputs = (hashed(path, data), *(hashed(*read_file) for read_file in taken.files_read.items()))
+        inputs = text_inputs(path, data, taken)
         if of_dump:
             return HourFiles(files[0], proposal_of_dump(path, *files), inputs=inputs)
         case, proposal, families = hour.with_families(files)
@@ -230,6 +235,11 @@ LISTLESS = "a family list without its hour"
 
 def kind_of(word: str) -> str | None:
     return JOINED if word == STDIN else KINDS.get(os.path.splitext(word)[1])
+
+
+def lies_there(path: str) -> bool:
+    """Whether there is a file, or a link that leads nowhere: that is said when it is read."""
+    return os.path.isfile(path) or (os.path.islink(path) and not os.path.exists(path))
 
 
 def fellow(path: str, kind: str, is_there: Callable[[str], bool]) -> str | None:
@@ -415,7 +425,7 @@ class Gathering:
                     raise InputError(word, LISTLESS + " before it")
             if len(files) < count:
                 raise InputError(files[-1], f"a case without its {self.fellows[0]} after it")
-            families = None if way == "text" else self.list_beside(files[0], os.path.isfile)
+            families = None if way == "text" else self.list_beside(files[0], lies_there)
             beside = families is not None
             if at < len(words) and kind_of(words[at]) == FAMILIES:
                 families, beside, at = words[at], False, at + 1
@@ -466,18 +476,20 @@ class Named:
             return self.gathering.made(word, TEXT, None, None, named=True)
         if kind == CASE:
             fellows = self.gathering.fellows
-            other = self.found(word, at + 1, fellows) or first_fellow(word, fellows, os.path.isfile)
+            other = self.found(word, at + 1, fellows) or first_fellow(word, fellows, lies_there)
             if other is None:
                 return self.gathering.without_fellow(word)
         named = self.found(word, max(at, self.places.get(other or word, at)) + 1, (FAMILIES,))
-        families = named or self.gathering.list_beside(word, os.path.isfile)
+        families = named or self.gathering.list_beside(word, lies_there)
         return self.gathering.made(word, second_kind(kind, other), other, families, named is not None)
 
 
 def is_file(entry: os.DirEntry[str]) -> bool:
     """Whether an entry of a folder can be read, or is a link that leads nowhere: that is said when it is read."""
-    if entry.is_file():
-        return True
+    # Of a link in a circle, or through what cannot be entered, Python raises the error.
+    with contextlib.suppress(OSError):
+        if entry.is_file():
+            return True
     return entry.is_symlink() and not os.path.exists(entry.path) and kind_of(entry.name) is not None
 
 

@@ -3,12 +3,13 @@
 from __future__ import annotations
 
 from collections import Counter
-from collections.abc import Callable, Iterable, Sequence
+from collections.abc import Callable, Iterable, Iterator, Sequence
 
 from . import amounts, hour, junit, numbers, schema
+from .each_hour import put_records
 from .inputs import printable
 from .results import Result
-from .writing import put, put_file, put_now
+from .writing import put, put_file
 
 VERDICT_COLUMNS = (("verdict", "number"), ("index", "index"))
 COLUMNS = ("welfare", "gap", "rent", "owed")
@@ -104,25 +105,27 @@ def record(row: Result) -> schema.Record:
 
 
 def report(
-    results: Iterable[Result], good: Callable[[Result], bool], form: str | None, only_refused: bool, junit_file: str | None
+    results: Iterable[Result],
+    good: Callable[[Result], bool],
+    form: str | None,
+    only_refused: bool,
+    junit_file: str | None,
 ) -> list[Result]:
     """Writes results, JSON Lines and CSV as they come, and gives them all back. `good` says which hours pass."""
-    rows, shown = [], []
-    if form == "csv":
-        put_now(schema.csv_header(schema.JUDGE))
-    for row in results:
-        rows.append(row)
-        if only_refused and row.accepted:
-            continue
-        shown.append(row)
-        if form == "jsonl":
-            put_now(schema.json_line(record(row)))
-        elif form == "csv":
-            put_now(schema.csv_rows(record(row)))
-    if form == "json":
-        put(schema.json_text([record(row) for row in shown]))
-    elif form is None and any(row.judgement for row in rows):
-        put((table(shown) + "\n" if shown else "") + closing(rows))
+    rows: list[Result] = []
+
+    def shown() -> Iterator[Result]:
+        for row in results:
+            rows.append(row)
+            if not (only_refused and row.accepted):
+                yield row
+
+    if form is not None:
+        put_records(form, schema.JUDGE, map(record, shown()))
+    else:
+        listed = list(shown())
+        if any(row.judgement for row in rows):
+            put((table(listed) + "\n" if listed else "") + closing(rows))
     if junit_file is not None:
         put_file(junit_file, junit.as_junit(rows, good))
     return rows

@@ -33,7 +33,12 @@ def rows_of(name: str, read: HourFiles, explained: bool = False) -> list[Result]
     """
     apart_files = (read.case, read.proposal, read.families)
 
-    def row(judgement: library.Judgement, expected: tuple[tuple[int, int], dict[str, int]] | None = None, way: str = "", files: Files = apart_files) -> Result:
+    def row(
+        judgement: library.Judgement,
+        expected: tuple[tuple[int, int], dict[str, int]] | None = None,
+        way: str = "",
+        files: Files = apart_files,
+    ) -> Result:
         words = sentence(judgement, files) if explained else ""
         return Result(name, judgement, "", read.list_use, expected, way, read.inputs, words)
 
@@ -90,10 +95,3 @@ def is_good(row: Result) -> bool:
 def is_accepted(row: Result) -> bool:
     """Whether an hour is accepted, and its text does not expect otherwise: no expectation makes a refusal good."""
     return row.accepted and row.good
-
-
-def status(rows: Sequence[Result], is_good: Callable[[Result], bool] = is_good) -> int:
-    """A command's status: 0 where every hour is good, 2 where one could not be read."""
-    if any(row.judgement is None for row in rows):
-        return 2
-    return 0 if all(map(is_good, rows)) else 1

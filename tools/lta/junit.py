@@ -35,6 +35,9 @@ def as_junit(results: Sequence[Result], good: Callable[[Result], bool]) -> bytes
         elif not good(result):
             row = numbers.ROWS.get(result.judgement.number)
             added(test, "failure", result, row.name if row else str(result.judgement.number))
+        if result.families:
+            # Not a property: the schemas of some build servers allow none in a test.
+            ElementTree.SubElement(test, "system-out").text = f"family list: {result.families}"
     ElementTree.indent(top, " ")
     text: str = ElementTree.tostring(top, encoding="unicode")
     return f"<?xml version='1.0' encoding='utf-8'?>\n{text}\n".encode()

@@ -48,7 +48,8 @@ def read(text: str) -> dict[str, Section]:
         elif row and sections:
             rows.append(Number(int(row[1]), row[2], row[3].replace("-", ""), row[4]))
         else:
-            raise ValueError(f"numbers.txt, line {place}: no row, which is NUMBER  NAME  INDEX  WORDS, two spaces apart")
+            due = "NUMBER  NAME  INDEX  WORDS, two spaces apart"
+            raise ValueError(f"numbers.txt, line {place}: no row, which is {due}")
     return sections
 
 

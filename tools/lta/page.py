@@ -8,12 +8,14 @@ from __future__ import annotations
 import os
 import pathlib
 from collections.abc import Callable, Sequence
+from dataclasses import replace
 
 from . import amounts, drawing, library, page_day
 from .inputs import UNREAD, Hashed, Input, InputError
 from .page_hour import answer_words, hour_body, verdict
 from .page_judged import Judged, judged_hour
 from .page_markup import element, folded, text
+from .results import Result
 
 MOST_HOURS = 1000
 MOST_NAMED = 12  # hours of a page up to which each order and link has a name where it is pointed at
@@ -91,18 +93,26 @@ def page(
     sources: Sequence[Input],
     complain: Callable[[InputError], object] = lambda fault: None,
     judged_at: str = "",
+    told: Callable[[Result], object] = lambda result: None,
 ) -> str:
     """The page of what a command line named. An hour that cannot be read is named on a page of many, and complain is
-    told; alone it ends the command. The time of judging is on the page only where it is given.
+    told; alone it ends the command. The time of judging is on the page only where it is given. Of each hour that was
+    read told has the result, under the name that the command line gave it.
     """
+
+    def judged(source: Input, folder: str | None = None) -> Judged:
+        one = judged_hour(source, folder)
+        told(replace(one.rows[-1], file=source.name, way=""))
+        return one
+
     if len(sources) == 1 and (sources[0].kind == UNREAD or not os.path.isdir(files[0])):
-        return page_of_one(judged_hour(sources[0]), judged_at)
+        return page_of_one(judged(sources[0]), judged_at)
     hours: list[Judged] = []
     unread: list[str] = []
     folder = files[0] if len(files) == 1 and os.path.isdir(files[0]) else None
     for source in sources:
         try:
-            hours.append(judged_hour(source, folder))
+            hours.append(judged(source, folder))
         except InputError as fault:
             unread.append(str(fault))
             complain(fault)

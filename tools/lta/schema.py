@@ -107,7 +107,9 @@ FIELDS: dict[str, tuple[Field, ...]] = {
         Field("accepted", BOOLEAN, "whether the hour is accepted; null if it could not be read"),
         FAMILIES,
         *TOTALS,
-        Field("prices_euros", PRICES, "each zone's price in euros per MWh, 7 decimals; empty without a report", null=False),
+        Field(
+            "prices_euros", PRICES, "each zone's price in euros per MWh, 7 decimals; empty without a report", null=False
+        ),
         EXPLANATION,
         Field("expected_verdict", INTEGER, "the number that the hour's text expects; null if it expects nothing"),
         Field("expected_index", INTEGER, "the index that it expects"),

@@ -22,7 +22,23 @@ class Parser(argparse.ArgumentParser):
     """The parser of one command, which has the options that its line of the table has."""
 
     def error(self, message: str) -> NoReturn:
+        message = message.replace("ignored explicit argument", "takes no value, and has")
         raise UsageError(f"{message}; {self.prog} --help explains")
+
+
+class Once(argparse.Action):
+    """Stores a value. argparse's own takes the last of several, and says nothing of the others."""
+
+    def __call__(
+        self,
+        parser: argparse.ArgumentParser,
+        namespace: argparse.Namespace,
+        values: object,
+        option_string: str | None = None,
+    ) -> None:
+        if getattr(namespace, self.dest) is not None:
+            parser.error(f"{option_string}: given twice")
+        setattr(namespace, self.dest, values)
 
 
 def exclusive(option: Option, command: Command) -> str:
@@ -46,7 +62,7 @@ def add_option(taker: argparse._ActionsContainer, option: Option) -> None:
         default = False if option.sets is True else None
         taker.add_argument(option.flag, dest=option.dest, action="store_const", const=option.sets, default=default)
     else:
-        action = "append" if option.many else "store"
+        action: str | type[argparse.Action] = "append" if option.many else Once
         taker.add_argument(option.flag, dest=option.dest, action=action, choices=option.choices or None)
 
 
@@ -94,7 +110,15 @@ def parsed(arguments: list[str]) -> argparse.Namespace:
         taker.error(f"{command.operands} is missing")
     if command.most is not None and len(options.files) > command.most:
         taker.error(f"{options.files[command.most]}: one argument too many")
+    refuse_standard_input_twice(options)
     return options
+
+
+def refuse_standard_input_twice(options: argparse.Namespace) -> None:
+    """Whoever reads it second would find it empty."""
+    named = [*options.files, *(getattr(options, name, None) for name in commands.INPUT_OPTIONS)]
+    if named.count("-") > 1:
+        raise UsageError("-: standard input is named twice")
 
 
 def with_help(arguments: list[str]) -> list[str]:

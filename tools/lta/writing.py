@@ -14,6 +14,7 @@ from collections.abc import Iterable, Iterator, Sequence
 from dataclasses import dataclass
 
 from .inputs import why_not
+from .reading import CHUNK
 
 STANDARD_OUTPUT = "-"
 
@@ -99,6 +100,13 @@ def put_now(text: str) -> None:
         sys.stdout.flush()
 
 
+def goes_to_terminal() -> bool:
+    """Whether the answer goes to a terminal. Where it comes there piece by piece it shows the progress itself, and no
+    count of hours is put between.
+    """
+    return _answer.path is None and _answer.wanted and sys.stdout is not None and sys.stdout.isatty()
+
+
 def put_file(path: str, data: bytes) -> None:
     """Adds a file that is written together with the answer."""
     _answer.others.append(Output(path, data))
@@ -139,7 +147,7 @@ def refuse_outputs(paths: Iterable[str], force: bool) -> None:
         try:
             twin = next((other for other in files[:place] if is_same_file(path, other)), None)
             exists = os.path.lexists(path)
-        except ValueError as fault:
+        except (OSError, ValueError) as fault:
             raise cannot_be_written(path, fault) from None
         if twin is not None:
             raise WriteError(f"{path}: named for two outputs{'' if path == twin else f'; {twin} is the same file'}")
@@ -164,23 +172,37 @@ class PendingFile:
         self.renamed = False
 
     def write(self, data: bytes) -> None:
-        """Writes the new bytes next to the target, and of an existing file a spare copy."""
+        """Writes the new bytes next to the target, and keeps an existing file under a hidden name too."""
         mode = None
         with contextlib.suppress(FileNotFoundError):
             mode = stat.S_IMODE(os.stat(self.target).st_mode)
-        self.made = self.write_hidden(data, mode)
+        self.made = self.write_hidden([data], mode)
         if mode is not None:
-            with open(self.target, "rb") as file:
-                self.spare = self.write_hidden(file.read(), mode)
+            self.spare = self.kept(mode)
 
-    def write_hidden(self, data: bytes, mode: int | None) -> str:
-        hidden = os.path.join(self.folder, f".lta-{secrets.token_hex(8)}")
+    def hidden_name(self) -> str:
+        return os.path.join(self.folder, f".lta-{secrets.token_hex(8)}")
+
+    def kept(self, mode: int) -> str:
+        """A second name of the existing file. Where the file system has no links it is a copy, made in parts: the file
+        may be larger than the memory.
+        """
+        hidden = self.hidden_name()
+        try:
+            os.link(self.target, hidden)
+            return hidden
+        except OSError:
+            with open(self.target, "rb") as file:
+                return self.write_hidden(iter(lambda: file.read(CHUNK), b""), mode)
+
+    def write_hidden(self, parts: Iterable[bytes], mode: int | None) -> str:
+        hidden = self.hidden_name()
         try:
             # Not mkstemp: a new file has the mode that the umask gives.
             with open(hidden, "xb") as file:
                 if mode is not None:
                     os.chmod(hidden, mode)
-                file.write(data)
+                file.writelines(parts)
                 file.flush()
                 os.fsync(file.fileno())
         except BaseException:
