@@ -25,6 +25,10 @@ use Rattle.case_file.specs.declared.Files.{Files}
 use Rattle.case_file.specs.declared.Files.the-variants.{Apart, Joined}
 use Rattle.case_file.specs.Meaning.Files.{caseIn, proposalIn}
 
+-- files that are lent apart are not joined
+pub not-joined : {A : Type 0} {x y : A} → Apart ≡ Joined → x ≡ y
+not-joined e = cc
+
 -- ROW 5, by its test
 abbrev pub lengthRefused : Files → ℕ → ℕ → Bool
 lengthRefused Apart n demanded = differ n demanded

@@ -13,6 +13,7 @@ use Rattle.rules.specs.Meaning.Report.{reports}
 use Rattle.rules.specs.Meaning.Verdict.{roomCauses, table}
 use Rattle.base_causes.specs.Meaning.Causes.{Cause, refusal}
 use Rattle.base_causes.specs.Promised.CauseLaws.{field-fails, field-passes}
+use Rattle.case_file.specs.Steps.Files.{not-joined}
 use Rattle.judge_stages.specs.Meaning.Found.{listOf, hourCauses}
 use Rattle.judge_hour.specs.Steps.Judged.{refused, same-rows, judged}
 use Rattle.judge_hour.proofs.judge_with_families.Statement.{statement}
@@ -47,7 +48,7 @@ past-room c = let a = c .before .before .before .before .before in field-passes 
 
 -- THE HOUR
 find-in-requires : tie.Need-find-in-requires
-find-in-requires c κs = λ e. cc
+find-in-requires c κs = not-joined
 
 conclude-requires : tie.Need-conclude-requires
 conclude-requires c κs = search needs

@@ -1,5 +1,6 @@
 -- `judge_stages::find` meets its contract: the files are lent apart. Assumes nothing.
 use borrow.Author.Needs.{needs}
+use Rattle.case_file.specs.Steps.Files.{not-joined}
 use Rattle.judge_stages.proofs.find.Statement.{statement}
 use Rattle.judge_stages.proofs.find.Tie as tie
 
@@ -7,7 +8,7 @@ slice-aggregate-find-in : tie.Need-slice-aggregate-find-in
 slice-aggregate-find-in c = search needs
 
 find-in-requires : tie.Need-find-in-requires
-find-in-requires c κs = λ e. cc
+find-in-requires c κs = not-joined
 
 returns : tie.Need-returns
 returns c = search needs

@@ -1,5 +1,5 @@
 -- `base_measures::Cents::held` meets its contract: by the test of the range. Assumes nothing.
-use mathlib.Core.Path.{_≡_, ap}
+use mathlib.Core.Path.{_≡_, ap, _∙_}
 use Rattle.base_integers.specs.Meaning.Ranges.{range, outside}
 use Rattle.base_measures.specs.declared.CentsAnswer.the-variants.{Held as held}
 use borrow.Author.Needs.{needs}
@@ -16,7 +16,7 @@ outside-requires : tie.Need-outside-requires
 outside-requires c κs = search needs
 
 tested : (c : tie.After-outside) → let a = c .before .before .before .args in c .outside .result ≡ outside (range (a .least .0) (a .greatest .0)) (a .x .0)
-tested c = cc
+tested c = let r = c .before in c .outside .ensures ∙ (λ j. outside (range (r .before .raw .ensures j) (r .raw2 .ensures j)) (r .before .before .args .x .0))
 
 returns : tie.Need-returns
 returns c = rw (← tested (c .before), c .if1 .taken)

@@ -1,6 +1,6 @@
 -- `base_measures::Grains::zone_price` meets its contract: by the test of the range. Assumes nothing.
-use mathlib.Core.Path.{_≡_}
-use Rattle.base_integers.specs.Meaning.Ranges.{outside}
+use mathlib.Core.Path.{_≡_, _∙_}
+use Rattle.base_integers.specs.Meaning.Ranges.{range, outside}
 use Rattle.base_limits.specs.Meaning.Limits as limits
 use borrow.Author.Needs.{needs}
 use Rattle.base_measures.proofs.Grains.zone_price.Statement.{statement}
@@ -19,7 +19,7 @@ outside-requires : tie.Need-outside-requires
 outside-requires c κs = search needs
 
 tested : (c : tie.After-outside) → c .outside .result ≡ outside limits.zonePrice (c .before .before .before .before .args .self .0)
-tested c = cc
+tested c = let r = c .before in c .outside .ensures ∙ (λ j. outside (range (r .before .before .raw .ensures j) (r .before .raw2 .ensures j)) (r .raw3 .ensures j))
 
 returns : tie.Need-returns
 returns c = rw (← tested (c .before), c .if1 .taken)

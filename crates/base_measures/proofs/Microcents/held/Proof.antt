@@ -1,5 +1,5 @@
 -- `base_measures::Microcents::held` meets its contract: by the test of the range. Assumes nothing.
-use mathlib.Core.Path.{_≡_}
+use mathlib.Core.Path.{_≡_, _∙_}
 use Rattle.base_integers.specs.Meaning.Ranges.{range, outside}
 use borrow.Author.Needs.{needs}
 use Rattle.base_measures.proofs.Microcents.held.Statement.{statement}
@@ -18,7 +18,7 @@ outside-requires : tie.Need-outside-requires
 outside-requires c κs = search needs
 
 tested : (c : tie.After-outside) → let a = c .before .before .before .before .args in c .outside .result ≡ outside (range (a .least .0) (a .greatest .0)) (a .self .0)
-tested c = cc
+tested c = let r = c .before in c .outside .ensures ∙ (λ j. outside (range (r .before .before .raw .ensures j) (r .before .raw2 .ensures j)) (r .raw3 .ensures j))
 
 returns : tie.Need-returns
 returns c = rw (← tested (c .before), c .if1 .taken)
