@@ -1,2 +1,3 @@
--- THE MEANING: what a constructor answers
+-- THE MEANING: what a constructor answers, and volumes by zone
 pub mod Held
+pub mod TenthsHold

@@ -13,12 +13,10 @@ ghost use Rattle.base_integers.specs.Meaning.Order as order;
 ghost use Rattle.base_limits.specs.Meaning.Limits as limits;
 ghost use Rattle.base_limits.specs.Meaning.Exact.{exactly, Costs};
 ghost use Rattle.base_measures.specs.Meaning.Held.{tenthsIn, centsIn, grainsIn, microcentsIn, ptdfIn, shareIn};
+use base_integers::Bits;
 
 // A number from a file or a caller, of no measure yet.
 pub struct Raw(i64);
-
-// A number that leaves its measure, to be written or printed, in two's complement. No constructor takes it.
-pub struct Bits(pub u64);
 
 // Volume: tenths of a megawatt, which for one hour are tenths of a MWh. The host gets it in this form.
 #[repr(C)]

@@ -3,11 +3,8 @@ ghost use mathlib.Core.Path.{_≡_};
 ghost use Prim.Native.Nat.{_+_, _≤_};
 ghost use lib.ListN.{length};
 ghost use lib.Seq.{sets};
-ghost use mir.Syntax.{w32};
-ghost use mir.Val.{SFits};
-ghost use Rattle.base_integers.specs.Meaning.Bytes.{bytesOf, signed32};
-use base_measures::Bits;
-use base_measures::Raw;
+ghost use Rattle.base_integers.specs.Meaning.Bytes.{bytesOf};
+use base_integers::Bits;
 
 // The four bytes of a number, the lowest first.
 pub fn put_word(out: &mut [u8], at: usize, x: u32)
@@ -21,16 +18,6 @@ pub fn put_word(out: &mut [u8], at: usize, x: u32)
     out[at + 2] = (x2 % 256) as u8;
     let x3 = x2 / 256;
     out[at + 3] = (x3 % 256) as u8;
-}
-
-// Signed 32 bits.
-pub fn put_signed32(out: &mut [u8], at: usize, x: Raw)
-    requires { ⌜ at + 4 ≤ length (now out) ⌝ }
-    requires { ⌜ SFits w32 (x .0) ⌝ }
-    ensures { λ _. ⌜ now (out .exit) ≡ sets (now (out .entry)) at (signed32 (x .0)) ⌝ }
-{
-    let b = x.bits();
-    put_word(out, at, (b.0 % layout::WORD_VALUES) as u32);
 }
 
 // The low 32 bits of a measure; a field's number has no others.

@@ -14,7 +14,7 @@ ghost use Rattle.dump_binary64.specs.Meaning.Value.{bitsAt, finite};
 ghost use Rattle.dump_proposal.specs.Meaning.Dump.{proposalMark, DumpAnswered};
 ghost use Rattle.dump_proposal.specs.Steps.Walks.{restOf, openingTaken, tableBytes, FiniteDump, OpeningHeld, RestConverted};
 use base_causes::Place;
-use base_measures::Bits;
+use base_integers::Bits;
 use base_output::Written;
 use base_output::refused;
 use bytes_read::Cursor;

@@ -11,7 +11,7 @@ ghost use Rattle.dump_values.specs.Meaning.Answer.{fieldOf};
 ghost use Rattle.dump_values.specs.Meaning.Fields.{shareField, systemField, openingFields};
 ghost use Rattle.dump_values.specs.Steps.Fields.{flowField, shadowField};
 ghost use Rattle.dump_values.specs.Meaning.Field.{afterOpening};
-use base_measures::Bits;
+use base_integers::Bits;
 use base_measures::Cents;
 use base_measures::CentsAnswer;
 use base_measures::Raw;

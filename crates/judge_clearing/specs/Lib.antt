@@ -1,4 +1,2 @@
--- What the stages of the clearing cite: what was read, arrays by zone, the parts after some links, and what earlier
--- verdicts leave
-pub mod Meaning
+-- What the proofs of the clearing cite: arrays by zone, the parts after some links, and what earlier verdicts leave
 pub mod Steps

@@ -13,25 +13,17 @@ ghost use Rattle.rules.specs.Meaning.Hour as rules;
 ghost use Rattle.base_causes.specs.Meaning.Causes.{failing};
 ghost use Rattle.base_causes.specs.Meaning.Place.{placeOf};
 ghost use Rattle.rules.specs.Meaning.Verdict.{excessVolume, overusedLink};
-ghost use Rattle.judge_clearing.specs.Meaning.TenthsHold.{tenthsAt, TenthsHold};
-ghost use Rattle.judge_clearing.specs.Meaning.Read.{HourReadFrom};
+ghost use Rattle.base_measures.specs.Meaning.TenthsHold.{tenthsAt, TenthsHold};
+ghost use Rattle.proposal_file.specs.Meaning.Read.{HourReadFrom};
 ghost use Rattle.proposal_file.specs.Meaning.InRange.{VolumesInRange};
 use base_causes::Place;
 use base_measures::Microcents;
 use base_measures::Tenths;
-use case_header::Counts;
 use case_links::link_at;
 use case_orders::order_at;
-use proposal_file::ProposalOpening;
+use proposal_file::HourRead;
 use proposal_file::flow_at;
 use proposal_file::volume_at;
-
-// What was read of an hour, in one value: the counts of its case and the opening of its proposal. A struct holds no
-// slice, so the files are passed next to it.
-pub struct HourRead {
-    pub counts: Counts,
-    pub opening: ProposalOpening,
-}
 
 // What an order adds to its zone's net position: a buy its volume, a sell minus its volume.
 fn signed_volume(buys: bool, volume: Tenths) -> Tenths

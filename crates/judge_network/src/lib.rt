@@ -8,8 +8,8 @@ ghost use Rattle.base_causes.specs.Meaning.Place.{placeOf};
 ghost use Rattle.rules.specs.Meaning.Verdict.{overloadedBranch};
 ghost use Rattle.case_branches.specs.Meaning.Table.{tableOf};
 ghost use Rattle.proposal_file.specs.Meaning.InRange.{VolumesInRange, FlowsInRange};
-ghost use Rattle.judge_clearing.specs.Meaning.TenthsHold.{TenthsHold};
-ghost use Rattle.judge_clearing.specs.Meaning.Read.{HourReadFrom};
+ghost use Rattle.base_measures.specs.Meaning.TenthsHold.{TenthsHold};
+ghost use Rattle.proposal_file.specs.Meaning.Read.{HourReadFrom};
 ghost use Rattle.report_file.specs.Meaning.Prices.{PricesHold};
 use base_causes::Place;
 use base_measures::Grains;
@@ -18,7 +18,7 @@ use base_measures::Microcents;
 use base_measures::Ptdf;
 use base_measures::Tenths;
 use case_branches::margin_at;
-use judge_clearing::HourRead;
+use proposal_file::HourRead;
 use proposal_file::shadow_at;
 
 // One pass over the branches: the first overloaded one; where there is none, the price of each zone and the branch

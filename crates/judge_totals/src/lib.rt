@@ -16,8 +16,8 @@ ghost use Rattle.rules.specs.Meaning.Report.{totalsOf};
 ghost use Rattle.base_causes.specs.Meaning.Causes.{firstBelow};
 ghost use Rattle.base_causes.specs.Meaning.Place.{placeOf};
 ghost use Rattle.proposal_file.specs.Meaning.InRange.{VolumesInRange};
-ghost use Rattle.judge_clearing.specs.Meaning.TenthsHold.{tenthsAt};
-ghost use Rattle.judge_clearing.specs.Meaning.Read.{HourReadFrom};
+ghost use Rattle.base_measures.specs.Meaning.TenthsHold.{tenthsAt};
+ghost use Rattle.proposal_file.specs.Meaning.Read.{HourReadFrom};
 ghost use Rattle.report_file.specs.Meaning.Prices.{grainsAt, PricesHold, PricesInRange};
 ghost use Rattle.report_file.specs.Meaning.Written.{totalsIn};
 ghost use Rattle.judge_totals.specs.Meaning.Rent.{RentFits};
@@ -30,7 +30,7 @@ use book_order::surplus;
 use case_links::contracted_at;
 use case_links::link_at;
 use case_orders::order_at;
-use judge_clearing::HourRead;
+use proposal_file::HourRead;
 use report_file::Totals;
 
 // One pass over the zones: the first whose price is outside its limits; where there is none, the congestion rent.

@@ -1,3 +1,3 @@
--- What reading a proposal answers, and what holds of a proposal that was read.
+-- What reading a proposal answers, and what holds of a proposal and of an hour that were read.
 pub mod Meaning
 pub mod Steps

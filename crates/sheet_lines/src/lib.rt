@@ -3,6 +3,10 @@
 ghost use mathlib.Core.Path.{_≡_};
 ghost use Prim.Native.Nat.{_+_, _*_, _≤_};
 ghost use lib.ListN.{length};
+ghost use lib.Seq.{sets};
+ghost use mir.Syntax.{w32};
+ghost use mir.Val.{SFits};
+ghost use Rattle.base_integers.specs.Meaning.Bytes.{signed32};
 ghost use Rattle.base_integers.specs.Meaning.Ranges as ranges;
 ghost use Rattle.base_causes.specs.Meaning.Place.{placeOf};
 ghost use Rattle.sheet_numbers.specs.Steps.Capped.{cap};
@@ -16,7 +20,7 @@ use base_measures::PtdfAnswer;
 use base_measures::Raw;
 use base_measures::Tenths;
 use base_measures::TenthsAnswer;
-use bytes_write::put_signed32;
+use bytes_write::put_low32;
 use sheet_numbers::Number;
 use sheet_numbers::NumberAnswer;
 use sheet_numbers::TextCursor;
@@ -116,6 +120,15 @@ fn comma_missing(zones: usize, j: usize, end: usize, length: usize) -> bool
         return length <= end;
     }
     false
+}
+
+// An entry in signed 32 bits.
+fn put_signed32(table: &mut [u8], at: usize, x: Raw)
+    requires { ⌜ at + 4 ≤ length (now table) ⌝ }
+    requires { ⌜ SFits w32 (x .0) ⌝ }
+    ensures { λ _. ⌜ now (table .exit) ≡ sets (now (table .entry)) at (signed32 (x .0)) ⌝ }
+{
+    put_low32(table, at, x.bits());
 }
 
 // The line that starts at the cursor. Its numbers go into the table at `base`.

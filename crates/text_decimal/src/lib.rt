@@ -9,7 +9,7 @@ ghost use mir.Syntax.{w64};
 ghost use mir.Val.{toZ};
 ghost use Rattle.text_rules.specs.Meaning.Text.{places, lastDigits, countText, sizeText, amountText};
 ghost use Rattle.text_rules.specs.Meaning.Put.{Put};
-use base_measures::Bits;
+use base_integers::Bits;
 
 // Decimals of an amount of money in euros, and of a price in euros per MWh.
 const MONEY_DECIMALS: usize = 8;

@@ -1,5 +1,4 @@
 -- THE STEPS of the proofs
-pub mod Texts
 pub mod Header
 pub mod Judged
 pub mod Refused

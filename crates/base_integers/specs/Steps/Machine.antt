@@ -16,7 +16,7 @@ use mir.Val.{SFits, toZ}
 use mir.Facts.{toZ-pos, toZ-neg}
 use Rattle.base_integers.specs.Steps.Difference.{at, _⊖_, eq-by}
 use Rattle.base_integers.specs.Meaning.Sums.{sumTo}
-use Rattle.base_integers.specs.Steps.Sums.{sum-more}
+use Rattle.base_integers.specs.Steps.Sums.{sum-more, sum-ext}
 use Rattle.base_integers.specs.Steps.Size.{Near, near-sum, near-fits}
 use Rattle.base_integers.specs.Meaning.Machine.{SumsFit}
 
@@ -28,6 +28,13 @@ pub small-sums : (f : ℕ → ℤ) (b n : ℕ) → ((k : ℕ) → k < n → Near
 small-sums f b n each room = record {
   term = λ i h. near-fits w64 (omega (arith, mul-le-mul-right {m = 1} {n = n} b (omega arith))) (each i h);
   fits = λ i h. near-fits w64 (omega (arith, mul-le-mul-right b h)) (near-sum i b f (λ k l. each k (omega arith)));
+}
+
+-- sums of equal terms fit alike
+pub fit-ext : (f g : ℕ → ℤ) (n : ℕ) → ((i : ℕ) → i < n → g i ≡ f i) → SumsFit f n → SumsFit g n
+fit-ext f g n e h = record {
+  term = λ i l. sfits-by w64 (e i l) (h .term i l);
+  fits = λ i l. sfits-by w64 (sum-ext i g f (λ j m. e j (omega arith))) (h .fits i l);
 }
 
 -- a turn: x is the sum so far, t the machine's term

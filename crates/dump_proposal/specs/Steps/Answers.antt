@@ -14,7 +14,7 @@ use mir.Val.{ofZ}
 use Rattle.base_integers.specs.Meaning.Bytes.{bytesOf}
 use Rattle.base_integers.specs.Steps.Bytes.{sets-append}
 use Rattle.base_integers.specs.Steps.Ranges.{is-true, is-false, not-is}
-use Rattle.base_measures.specs.declared.Bits.{Bits}
+use Rattle.base_integers.specs.declared.Bits.{Bits}
 use Rattle.base_causes.specs.declared.Outcome.{Outcome}
 use Rattle.base_causes.specs.Meaning.Causes.{verdict, firstBelow, refusal, each}
 use Rattle.base_causes.specs.Promised.CauseLaws.{first-is, first-some, first-none, not-below, row-found, row-clear, field-fails, field-passes}

@@ -18,7 +18,7 @@ use lib.Ieee.Scale as float
 use Rattle.base_integers.specs.Meaning.Bytes.{bytesOf}
 use Rattle.base_integers.specs.Steps.Bytes.{bytes-length, sets-append}
 use Rattle.base_causes.specs.Meaning.Causes.{firstBelow}
-use Rattle.base_measures.specs.declared.Bits.{Bits}
+use Rattle.base_integers.specs.declared.Bits.{Bits}
 use Rattle.bytes_read.specs.declared.Cursor.{Cursor}
 use Rattle.bytes_read.specs.declared.LongField.the-variants as long
 use Rattle.bytes_read.specs.Meaning.Field.{cursor, u64At, longField}

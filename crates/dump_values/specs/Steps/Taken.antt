@@ -16,7 +16,7 @@ use lib.Ieee.Scale as float
 use Rattle.base_integers.specs.Meaning.Ranges.{outside}
 use Rattle.base_integers.specs.Steps.Ranges.{is-true, and-right}
 use Rattle.base_limits.specs.Meaning.Limits as limits
-use Rattle.base_measures.specs.declared.Bits.{Bits}
+use Rattle.base_integers.specs.declared.Bits.{Bits}
 use Rattle.base_measures.specs.declared.Cents.{Cents}
 use Rattle.base_measures.specs.declared.CentsAnswer.the-variants as cents
 use Rattle.base_measures.specs.Meaning.Held.{centsBy, centsIn}

@@ -7,7 +7,7 @@ use borrow.Author.Needs.{needs}
 use lib.IntN.{pos, _-ℤ_}
 use mir.Syntax.{w64}
 use mir.Val.{ofZ}
-use Rattle.judge_clearing.specs.Meaning.TenthsHold.{tenthsAt}
+use Rattle.base_measures.specs.Meaning.TenthsHold.{tenthsAt}
 use Rattle.flow_hour.specs.Steps.Lent.{Lists, back-twice, lists-none, lists-more}
 use Rattle.flow_hour.proofs.turned.Statement.{statement}
 use Rattle.flow_hour.proofs.turned.Tie as tie

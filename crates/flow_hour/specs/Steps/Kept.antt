@@ -20,7 +20,7 @@ use Rattle.rules.specs.Meaning.Verdict.{roomCauses, table, outcome}
 use Rattle.rules.specs.Promised.Fits.{near-zone-price}
 use Rattle.base_measures.specs.declared.Tenths.{Tenths}
 use Rattle.base_measures.specs.declared.Grains.{Grains}
-use Rattle.judge_clearing.specs.Meaning.TenthsHold.{tenthsAt}
+use Rattle.base_measures.specs.Meaning.TenthsHold.{tenthsAt}
 use Rattle.report_file.specs.Meaning.Prices.{grainsAt}
 use Rattle.flow_pairs.specs.Meaning.Pairs.{networkOf}
 use Rattle.flow_intuitive.specs.declared.Carried.{Carried}

@@ -23,8 +23,8 @@ use Rattle.base_causes.specs.Promised.CauseLaws.{first-here, first-later, first
 use Rattle.rules.specs.Meaning.Verdict.{_over_}
 use Rattle.rules.specs.Promised.Fits.{flow-in, partial-near}
 use Rattle.case_links.specs.declared.Link.{Link}
-use Rattle.judge_clearing.specs.Steps.Read.{sound, links-is, share-is, share-in}
-use Rattle.judge_clearing.specs.Meaning.TenthsHold.{tenthsAt, TenthsHold}
+use Rattle.proposal_file.specs.Steps.Read.{sound, links-is, share-is, share-in}
+use Rattle.base_measures.specs.Meaning.TenthsHold.{tenthsAt, TenthsHold}
 use Rattle.judge_clearing.specs.Steps.Parts.{flows, partly, in-set, out-next, out-set}
 use Rattle.judge_clearing.specs.Steps.InRange.{word-small}
 use Rattle.judge_clearing.proofs.link_sums.Statement.{statement}

@@ -4,7 +4,7 @@ use Prim.Native.Nat.{ℕ, _≤_, _-_}
 use native.Mathlib.Omega.{arith}
 use Rattle.base_integers.specs.Meaning.Sums.{sumTo}
 use Rattle.base_integers.specs.Steps.Machine.{step, step-fits}
-use Rattle.judge_clearing.specs.Meaning.TenthsHold.{tenthsAt}
+use Rattle.base_measures.specs.Meaning.TenthsHold.{tenthsAt}
 use Rattle.judge_clearing.proofs.net_sum.Statement.{statement}
 use Rattle.judge_clearing.proofs.net_sum.Tie as tie
 

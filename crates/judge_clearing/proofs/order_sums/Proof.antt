@@ -23,8 +23,8 @@ use Rattle.rules.specs.Meaning.Verdict.{_over_}
 use Rattle.rules.specs.Steps.Duality.{signed-times, times-grains}
 use Rattle.rules.specs.Promised.Fits.{near-order-price, orderNet-near, net-sums, welfare-sums}
 use Rattle.book_order.specs.declared.Order.{Order}
-use Rattle.judge_clearing.specs.Steps.Read.{sound, orders-is}
-use Rattle.judge_clearing.specs.Meaning.TenthsHold.{tenthsAt, TenthsHold}
+use Rattle.proposal_file.specs.Steps.Read.{sound, orders-is}
+use Rattle.base_measures.specs.Meaning.TenthsHold.{tenthsAt, TenthsHold}
 use Rattle.judge_clearing.specs.Steps.TenthsHold.{zeros-hold, keyed, keyed-next, keyed-set}
 use Rattle.judge_clearing.proofs.order_sums.Statement.{statement}
 use Rattle.judge_clearing.proofs.order_sums.Tie as tie

@@ -6,11 +6,6 @@ use Prim.Native.Nat.{ℕ, _+_, _≤_, _<_}
 use native.Mathlib.Omega.{arith}
 use lib.ListN.{getD}
 use lib.Dec.{nltb→le}
-use lib.IntN.{ℤ}
-use mir.Syntax.{w64}
-use Rattle.base_integers.specs.Steps.Sums.{sum-ext}
-use Rattle.base_integers.specs.Meaning.Machine.{SumsFit}
-use Rattle.base_integers.specs.Steps.Machine.{sfits-by}
 use Rattle.rules.specs.Meaning.Layout.{u32At}
 use Rattle.rules.specs.Meaning.Hour.{Case, Plan, linkUse, linkRoom}
 use Rattle.base_causes.specs.Meaning.Causes.{failing}
@@ -33,10 +28,3 @@ pub record Bytes (s : List ℕ) : Type 0 where
 pub word-small : (s : List ℕ) (k : ℕ) → Bytes s → u32At s k ≤ 4294967295
 unfolding u32At
 word-small s k b = omega (arith, b .byte k, b .byte (k + 1), b .byte (k + 2), b .byte (k + 3))
-
--- sums of equal terms fit alike
-pub fit-ext : (f g : ℕ → ℤ) (n : ℕ) → ((i : ℕ) → i < n → g i ≡ f i) → SumsFit f n → SumsFit g n
-fit-ext f g n e h = record {
-  term = λ i l. sfits-by w64 (e i l) (h .term i l);
-  fits = λ i l. sfits-by w64 (sum-ext i g f (λ j m. e j (omega arith))) (h .fits i l);
-}

@@ -9,7 +9,7 @@ use lib.IntN.{ℤ, pos, _+ℤ_, _-ℤ_}
 use Rattle.base_integers.specs.Steps.Difference.{at, _⊕_, _⊖_, eq-by}
 use Rattle.base_measures.specs.declared.Tenths.{Tenths}
 use Rattle.rules.specs.Meaning.Hour.{Case, Plan, net}
-use Rattle.judge_clearing.specs.Meaning.TenthsHold.{tenthsAt, TenthsHold}
+use Rattle.base_measures.specs.Meaning.TenthsHold.{tenthsAt, TenthsHold}
 use Rattle.judge_clearing.specs.Steps.TenthsHold.{set-holds, keyed, keyed-at, keyed-other}
 
 abbrev pub flows : Plan → ℕ → ℤ

@@ -15,7 +15,7 @@ use lib.IntN.{ℤ, pos, _+ℤ_, +ℤ-idr}
 use Rattle.base_integers.specs.Meaning.Sums.{sumTo, only}
 use Rattle.base_integers.specs.Steps.Sums.{sum-more}
 use Rattle.base_measures.specs.declared.Tenths.{Tenths}
-use Rattle.judge_clearing.specs.Meaning.TenthsHold.{noTenths, tenthsAt, TenthsHold}
+use Rattle.base_measures.specs.Meaning.TenthsHold.{noTenths, tenthsAt, TenthsHold}
 
 pub zeros-hold : (f : ℕ → ℤ) → ((z : ℕ) → f z ≡ pos 0) → TenthsHold f (replicate 16 noTenths)
 zeros-hold f h = record { long = refl; each = λ z l. ap (λ (t : Tenths). t .0) (getD-replicate 16 z noTenths noTenths l) ∙ sym (h z) }

@@ -32,8 +32,8 @@ use Rattle.rules.specs.Meaning.Verdict.{_overZ_}
 use Rattle.rules.specs.Steps.Duality.{times-grains}
 use Rattle.rules.specs.Promised.Fits.{branchUse-sums, branchTotal-sums, system-near, price-near, price-term-near}
 use Rattle.case_branches.specs.Steps.Table.{table-entry, entry-within}
-use Rattle.judge_clearing.specs.Steps.Read.{case-opened, sound, zones-is, branches-is, few-zones, few-branches, share-is, share-in, system-is, shadow-in}
-use Rattle.judge_clearing.specs.Meaning.TenthsHold.{tenthsAt}
+use Rattle.proposal_file.specs.Steps.Read.{case-opened, sound, zones-is, branches-is, few-zones, few-branches, share-is, share-in, system-is, shadow-in}
+use Rattle.base_measures.specs.Meaning.TenthsHold.{tenthsAt}
 use Rattle.report_file.specs.Meaning.Prices.{noGrains, grainsAt}
 use Rattle.judge_network.specs.Steps.Prices.{added, AddedTo, add-step, Partly, branch-step}
 use Rattle.judge_network.proofs.branch_sums.Statement.{statement}

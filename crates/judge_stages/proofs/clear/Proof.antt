@@ -11,6 +11,7 @@ use denote.Ref.{now}
 use lib.Dec.{eqb}
 use lib.IntN.{pos}
 use lib.Signed.{ltZ}
+use Rattle.base_integers.specs.Steps.Machine.{fit-ext}
 use Rattle.base_integers.specs.Meaning.Ranges.{isZero}
 use Rattle.base_integers.specs.Meaning.Sums.{sumTo}
 use Rattle.base_integers.specs.Steps.Sums.{sum-ext}
@@ -21,11 +22,11 @@ use Rattle.base_causes.specs.declared.Outcome.{Outcome}
 use Rattle.base_causes.specs.Meaning.Causes.{Cause, refusal, answer}
 use Rattle.base_causes.specs.Meaning.Place.{placeOf}
 use Rattle.base_causes.specs.Promised.CauseLaws.{place-below}
-use Rattle.judge_clearing.specs.Meaning.TenthsHold.{TenthsHold}
-use Rattle.judge_clearing.specs.Meaning.Read.{HourReadFrom}
-use Rattle.judge_clearing.specs.Steps.Read.{sound, zones-is, few-zones, links-is, share-is, share-in}
+use Rattle.base_measures.specs.Meaning.TenthsHold.{TenthsHold}
+use Rattle.proposal_file.specs.Meaning.Read.{HourReadFrom}
+use Rattle.proposal_file.specs.Steps.Read.{sound, zones-is, few-zones, links-is, share-is, share-in}
 use Rattle.proposal_file.specs.Meaning.InRange.{VolumesInRange}
-use Rattle.judge_clearing.specs.Steps.InRange.{volumes-in, flows-in, fit-ext}
+use Rattle.judge_clearing.specs.Steps.InRange.{volumes-in, flows-in}
 use Rattle.judge_stages.specs.declared.Cleared.{Cleared}
 use Rattle.judge_stages.specs.Meaning.Found.{listOf}
 use Rattle.judge_stages.specs.Steps.Found.{orderCauses, linkCauses, orders-silent, verdict-refuses, verdict-passes, linkAnswer, links-answer, links-pass}

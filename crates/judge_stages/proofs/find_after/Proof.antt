@@ -9,7 +9,7 @@ use borrow.Author.Needs.{needs}
 use denote.Ref.{now}
 use Rattle.rules.specs.Meaning.Hour.{Case, Plan, caseOf, planOf, pricesOf}
 use Rattle.base_causes.specs.Meaning.Causes.{Cause, refusal}
-use Rattle.judge_clearing.specs.Meaning.Read.{HourReadFrom}
+use Rattle.proposal_file.specs.Meaning.Read.{HourReadFrom}
 use Rattle.judge_stages.specs.declared.Found.{Found}
 use Rattle.judge_stages.specs.Meaning.Found.{Finds, listOf, hourCauses}
 use Rattle.judge_stages.specs.Steps.Found.{readCauses, clearCauses, valueCauses, stages, same-rows, read-silent, clear-silent, stage-refuses, stage-passes}

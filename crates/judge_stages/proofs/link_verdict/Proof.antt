@@ -10,7 +10,7 @@ use lib.Signed.{ltZ}
 use Rattle.base_integers.specs.Meaning.Ranges.{isZero}
 use Rattle.base_integers.specs.Meaning.Sums.{sumTo}
 use Rattle.base_causes.specs.Meaning.Place.{placeOf}
-use Rattle.judge_clearing.specs.Meaning.TenthsHold.{tenthsAt}
+use Rattle.base_measures.specs.Meaning.TenthsHold.{tenthsAt}
 use Rattle.judge_stages.specs.Steps.Found.{linkAnswer}
 use Rattle.judge_stages.proofs.link_verdict.Statement.{statement}
 use Rattle.judge_stages.proofs.link_verdict.Tie as tie

@@ -11,7 +11,7 @@ use Rattle.base_causes.specs.Meaning.Causes.{failing, refusal, answer}
 use Rattle.base_causes.specs.Meaning.Place.{placeOf}
 use Rattle.base_causes.specs.Promised.CauseLaws.{row-found, row-clear, at-place, at-none, place-below}
 use Rattle.rules.specs.Meaning.Verdict.{excessVolume, fractionCauses}
-use Rattle.judge_clearing.specs.Steps.Read.{sound}
+use Rattle.proposal_file.specs.Steps.Read.{sound}
 use Rattle.judge_clearing.specs.Steps.InRange.{volumes-in}
 use Rattle.judge_stages.specs.Meaning.Found.{listOf}
 use Rattle.judge_stages.specs.Steps.Found.{orderCauses, answers, never-0}

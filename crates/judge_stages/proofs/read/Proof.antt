@@ -15,7 +15,7 @@ use Rattle.proposal_file.specs.Steps.ProposalValid.{opening-is, proposed-of}
 use Rattle.proposal_file.specs.Steps.ProposalValid as proposal-answer
 use Rattle.proposal_file.specs.Meaning.Answer.{proposalAnswer}
 use Rattle.proposal_file.specs.declared.ProposalAnswer.the-variants as proposal
-use Rattle.judge_clearing.specs.Meaning.Read.{HourReadFrom}
+use Rattle.proposal_file.specs.Meaning.Read.{HourReadFrom}
 use Rattle.family_list.specs.Meaning.Answer.{FamiliesReadable}
 use Rattle.judge_stages.specs.declared.FamilyList.{FamilyList}
 use Rattle.judge_stages.specs.declared.FamilyList.the-variants.{Given}

@@ -11,6 +11,7 @@ use denote.Ref.{now}
 use lib.Dec.{T}
 use lib.IntN.{ℤ, pos, _*ℤ_}
 use lib.Signed.{ltZ}
+use Rattle.base_integers.specs.Steps.Machine.{fit-ext}
 use Rattle.base_integers.specs.Meaning.Ranges.{outside}
 use Rattle.base_integers.specs.Steps.Ranges.{within}
 use Rattle.base_integers.specs.Meaning.Sums.{sumTo}
@@ -27,10 +28,9 @@ use Rattle.rules.specs.Promised.Fits.{rent-sums, system-near}
 use Rattle.rules.specs.Meaning.Report as rules
 use Rattle.rules.specs.Meaning.Report.{totalsOf, reports}
 use Rattle.case_header.specs.declared.Counts.{Counts}
-use Rattle.judge_clearing.specs.Meaning.TenthsHold.{tenthsAt, TenthsHold}
-use Rattle.judge_clearing.specs.Steps.Read.{case-opened, sound, zones-is, few-zones, shadow-in}
+use Rattle.base_measures.specs.Meaning.TenthsHold.{tenthsAt, TenthsHold}
+use Rattle.proposal_file.specs.Steps.Read.{case-opened, sound, zones-is, few-zones, shadow-in}
 use Rattle.proposal_file.specs.Meaning.InRange.{VolumesInRange}
-use Rattle.judge_clearing.specs.Steps.InRange.{fit-ext}
 use Rattle.report_file.specs.Meaning.Prices.{grainsAt, PricesHold}
 use Rattle.judge_stages.specs.Steps.Found.{valueCauses, refusedAs, finds-refused, gap-answers, gap-reports}
 use Rattle.judge_stages.proofs.value.Statement.{statement}

@@ -10,8 +10,8 @@ use Rattle.rules.specs.Meaning.Verdict.{caseCauses, proposalCauses, judgementCa
 use Rattle.base_causes.specs.Meaning.Causes.{Cause, verdict, refusal, answer}
 use Rattle.case_file.specs.declared.Files.{Files}
 use Rattle.case_file.specs.Meaning.Files.{caseIn, proposalIn}
-use Rattle.judge_clearing.specs.Meaning.TenthsHold.{TenthsHold}
-use Rattle.judge_clearing.specs.Meaning.Read.{HourReadFrom}
+use Rattle.base_measures.specs.Meaning.TenthsHold.{TenthsHold}
+use Rattle.proposal_file.specs.Meaning.Read.{HourReadFrom}
 use Rattle.proposal_file.specs.Meaning.InRange.{VolumesInRange, FlowsInRange}
 use Rattle.report_file.specs.Meaning.Prices.{PricesHold}
 use Rattle.report_file.specs.Meaning.Written.{totalsIn}

@@ -17,8 +17,8 @@ use Rattle.base_causes.specs.declared.Outcome.{Outcome}
 use Rattle.base_causes.specs.Meaning.Causes.{Cause, verdict, firstBelow, failing, causeElse, refusal, answer, once}
 use Rattle.base_causes.specs.Promised.CauseLaws.{else-refusal, refusal-append, lacks, not-refused, zero-none, behind}
 use Rattle.base_measures.specs.declared.Microcents.{Microcents}
-use Rattle.judge_clearing.specs.declared.HourRead.{HourRead}
-use Rattle.judge_clearing.specs.Meaning.TenthsHold.{noTenths}
+use Rattle.proposal_file.specs.declared.HourRead.{HourRead}
+use Rattle.base_measures.specs.Meaning.TenthsHold.{noTenths}
 use Rattle.report_file.specs.Meaning.Prices.{noGrains}
 use Rattle.judge_stages.specs.declared.Reading.{Reading}
 use Rattle.judge_stages.specs.declared.Cleared.{Cleared}

@@ -11,7 +11,7 @@ use mir.Val.{SFits}
 use Rattle.base_integers.specs.Meaning.Sums.{sumTo}
 use Rattle.base_integers.specs.Meaning.Machine.{SumsFit}
 use Rattle.base_integers.specs.Steps.Machine.{step, step-fits, sfits-by}
-use Rattle.judge_clearing.specs.Steps.Read.{case-opened, sound, links-is, shadow-in}
+use Rattle.proposal_file.specs.Steps.Read.{case-opened, sound, links-is, shadow-in}
 use Rattle.base_integers.specs.Meaning.Order.{positive}
 use Rattle.base_integers.specs.Steps.Order.{times-positive}
 use Rattle.base_integers.specs.Steps.Size.{near-fits, near-mul, near-unsigned}

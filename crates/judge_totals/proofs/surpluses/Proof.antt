@@ -7,7 +7,7 @@ use lib.IntN.{ℤ}
 use Rattle.base_integers.specs.Meaning.Sums.{sumTo}
 use Rattle.base_integers.specs.Meaning.Machine.{SumsFit}
 use Rattle.base_integers.specs.Steps.Machine.{step, step-fits}
-use Rattle.judge_clearing.specs.Steps.Read.{case-opened, sound, orders-is, shadow-in}
+use Rattle.proposal_file.specs.Steps.Read.{case-opened, sound, orders-is, shadow-in}
 use Rattle.base_integers.specs.Meaning.Ranges.{Within}
 use Rattle.base_limits.specs.Meaning.Limits as limits
 use Rattle.rules.specs.Meaning.Hour.{caseOf, pricesOf, buys, zonePrice, surplusOf, orderSurplus, surplus}

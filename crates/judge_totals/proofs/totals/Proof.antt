@@ -9,7 +9,7 @@ use lib.IntN.{ℤ, _+ℤ_, _-ℤ_}
 use mir.Syntax.{w64}
 use Rattle.base_integers.specs.Steps.Size.{near-fits}
 use Rattle.base_integers.specs.Steps.Machine.{sfits-by}
-use Rattle.judge_clearing.specs.Steps.Read.{sound, links-is, shadow-in}
+use Rattle.proposal_file.specs.Steps.Read.{sound, links-is, shadow-in}
 use Rattle.rules.specs.Promised.Fits.{system-near, bound-near, gap-near}
 use Rattle.base_integers.specs.Meaning.Order.{larger}
 use Rattle.rules.specs.Meaning.Hour.{caseOf, planOf, pricesOf, noLink, networkBound, bound, gap}

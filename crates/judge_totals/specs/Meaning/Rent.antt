@@ -10,7 +10,7 @@ use Rattle.base_limits.specs.Meaning.Limits as limits
 use Rattle.base_measures.specs.declared.Tenths.{Tenths}
 use Rattle.base_measures.specs.declared.Grains.{Grains}
 use Rattle.base_causes.specs.Meaning.Causes.{firstBelow}
-use Rattle.judge_clearing.specs.Meaning.TenthsHold.{tenthsAt}
+use Rattle.base_measures.specs.Meaning.TenthsHold.{tenthsAt}
 use Rattle.report_file.specs.Meaning.Prices.{grainsAt}
 
 -- for the first n zones, where none of their prices is outside its limits

@@ -10,7 +10,7 @@ use lib.IntN.{ℤ}
 use Rattle.rules.specs.Meaning.Hour.{Case, Plan, Prices, caseOf, planOf, pricesOf}
 use Rattle.short_rules.specs.Meaning.Shortfalls.{orderShortfall, branchShortfall, linkShortfall}
 use Rattle.short_rules.specs.Meaning.Answer.{pairsTo, shortfallNumbers}
-use Rattle.judge_clearing.specs.Steps.Read.{orders-is, branches-is, links-is}
+use Rattle.proposal_file.specs.Steps.Read.{orders-is, branches-is, links-is}
 use Rattle.short_hour.specs.Steps.Pairs.{countOf, three-runs}
 use Rattle.short_hour.proofs.put_all.Statement.{statement}
 use Rattle.short_hour.proofs.put_all.Tie as tie

@@ -11,7 +11,7 @@ use lib.IntN.{ℤ}
 use Rattle.rules.specs.Meaning.Hour.{caseOf, planOf, pricesOf, gap}
 use Rattle.short_rules.specs.Meaning.Shortfalls.{orderShortfall}
 use Rattle.short_rules.specs.Meaning.Answer.{pairsTo}
-use Rattle.judge_clearing.specs.Steps.Read.{orders-is}
+use Rattle.proposal_file.specs.Steps.Read.{orders-is}
 use Rattle.short_hour.specs.Steps.Pairs.{numbersIn, writable, run-more}
 use Rattle.short_hour.specs.Steps.Kept.{few}
 use Rattle.short_hour.proofs.put_orders.Statement.{statement}

@@ -27,8 +27,8 @@ use Rattle.short_rules.specs.Meaning.Answer.{shortfallNumbers, shortfallCount, 
 use Rattle.short_rules.specs.Promised.Account.{hour-accounted}
 use Rattle.short_rules.specs.Promised.Answer.{gap-small, hour-answers}
 use Rattle.short_rules.specs.Promised.Causes.{room-passes, refused-first}
-use Rattle.judge_clearing.specs.declared.HourRead.{HourRead}
-use Rattle.judge_clearing.specs.Steps.Read.{case-opened}
+use Rattle.proposal_file.specs.declared.HourRead.{HourRead}
+use Rattle.proposal_file.specs.Steps.Read.{case-opened}
 use Rattle.short_single.specs.Meaning.HourAccepted.{HourAccepted}
 use Rattle.short_hour.specs.Meaning.HourShortfalls.{HourShortfalls}
 use Rattle.short_hour.specs.Steps.Pairs.{countOf}

@@ -13,13 +13,12 @@ use Rattle.base_integers.specs.Steps.Size.{near-fits}
 use Rattle.base_integers.specs.Meaning.Sums.{sumTo}
 use Rattle.base_integers.specs.Steps.Sums.{sum-ext}
 use Rattle.base_integers.specs.Meaning.Machine.{SumsFit}
-use Rattle.base_integers.specs.Steps.Machine.{sfits-by}
+use Rattle.base_integers.specs.Steps.Machine.{sfits-by, fit-ext}
 use Rattle.base_limits.specs.Meaning.Limits as limits
 use Rattle.base_limits.specs.Meaning.Limits.{partsInOne, grainsOf}
 use Rattle.rules.specs.Meaning.Hour.{Case, Plan, Prices, caseOf, planOf, pricesOf, fbPart, branchUse, branchRoom}
 use Rattle.case_branches.specs.Steps.Table.{table-entry, entry-within}
-use Rattle.judge_clearing.specs.Steps.Read.{case-opened, zones-is, branches-is, few-zones}
-use Rattle.judge_clearing.specs.Steps.InRange.{fit-ext}
+use Rattle.proposal_file.specs.Steps.Read.{case-opened, zones-is, branches-is, few-zones}
 use Rattle.short_single.specs.Steps.Short.{shortOf, shortable-by, exact-by}
 use Rattle.short_single.specs.Steps.HourAccepted.{loadOn, rest-is, rest-near, branch-is, loads-fit, branch-shortable}
 use Rattle.short_single.proofs.branch_shortfall.Statement.{statement}

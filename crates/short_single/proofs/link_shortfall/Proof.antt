@@ -11,7 +11,7 @@ use Rattle.base_integers.specs.Steps.Machine.{sfits-by}
 use Rattle.base_limits.specs.Meaning.Limits.{partsInOne}
 use Rattle.rules.specs.Meaning.Hour.{Case, Plan, Prices, caseOf, planOf, pricesOf, zonePrice, spread}
 use Rattle.case_links.specs.declared.Link.{Link}
-use Rattle.judge_clearing.specs.Steps.Read.{case-opened, sound, links-is, share-is}
+use Rattle.proposal_file.specs.Steps.Read.{case-opened, sound, links-is, share-is}
 use Rattle.report_file.specs.Meaning.Prices.{grainsAt}
 use Rattle.short_single.specs.Steps.Short.{shortOf, shortable-by, exact-by}
 use Rattle.short_single.specs.Steps.HourAccepted.{link-is, spread-near, link-shortable}

@@ -12,7 +12,7 @@ use Rattle.base_integers.specs.Meaning.Ranges.{Within}
 use Rattle.base_integers.specs.Meaning.Sums.{sumTo}
 use Rattle.base_integers.specs.Steps.Machine.{step, step-fits, sfits-by}
 use Rattle.base_limits.specs.Meaning.Limits as limits
-use Rattle.judge_clearing.specs.Meaning.TenthsHold.{tenthsAt}
+use Rattle.base_measures.specs.Meaning.TenthsHold.{tenthsAt}
 use Rattle.short_single.specs.Steps.HourAccepted.{loadOn}
 use Rattle.short_single.proofs.load_of.Statement.{statement}
 use Rattle.short_single.proofs.load_of.Tie as tie

@@ -14,7 +14,7 @@ use Rattle.base_limits.specs.Meaning.Limits.{partsInOne, grainsOf}
 use Rattle.rules.specs.Meaning.Hour.{Case, Plan, Prices, caseOf, planOf, pricesOf, buys, above, zonePrice}
 use Rattle.rules.specs.Promised.Fits.{in-grains, near-zone-price}
 use Rattle.book_order.specs.declared.Order.{Order}
-use Rattle.judge_clearing.specs.Steps.Read.{case-opened, sound, orders-is}
+use Rattle.proposal_file.specs.Steps.Read.{case-opened, sound, orders-is}
 use Rattle.report_file.specs.Meaning.Prices.{grainsAt}
 use Rattle.short_single.specs.Steps.Short.{shortOf, shortable-by, exact-by}
 use Rattle.short_single.specs.Steps.HourAccepted.{gainOf, order-is, order-shortable}

@@ -5,8 +5,8 @@ use lib.IntN.{pos}
 use lib.Signed.{_≤ℤ_}
 use Rattle.rules.specs.Meaning.Hour.{caseOf, planOf, pricesOf, gap}
 use Rattle.rules.specs.Meaning.Clearing.{Clearing}
-use Rattle.judge_clearing.specs.declared.HourRead.{HourRead}
-use Rattle.judge_clearing.specs.Meaning.Read.{HourReadFrom}
+use Rattle.proposal_file.specs.declared.HourRead.{HourRead}
+use Rattle.proposal_file.specs.Meaning.Read.{HourReadFrom}
 use Rattle.report_file.specs.Meaning.Prices.{PricesInRange}
 use Rattle.short_rules.specs.Meaning.Shortfalls.{Accounted}
 

@@ -17,9 +17,9 @@ use Rattle.base_measures.specs.declared.Tenths.{Tenths}
 use Rattle.rules.specs.Meaning.Hour.{Case, Plan, Prices, caseOf, planOf, pricesOf, buys, above, fbPart, linkUse, linkRoom, branchUse, branchRoom, zonePrice, surplusOf, orderSurplus, spread, gap}
 use Rattle.rules.specs.Steps.Passed.{CaseSound}
 use Rattle.rules.specs.Promised.Fits.{in-grains, near-above, apart-prices, fbPart-near, branchUse-sums, flow-in, volumes-in}
-use Rattle.judge_clearing.specs.declared.HourRead.{HourRead}
-use Rattle.judge_clearing.specs.Meaning.TenthsHold.{tenthsAt}
-use Rattle.judge_clearing.specs.Steps.Read.{sound, share-is, share-in, shadow-in}
+use Rattle.proposal_file.specs.declared.HourRead.{HourRead}
+use Rattle.base_measures.specs.Meaning.TenthsHold.{tenthsAt}
+use Rattle.proposal_file.specs.Steps.Read.{sound, share-is, share-in, shadow-in}
 use Rattle.short_rules.specs.Meaning.Shortfalls.{earned, orderShortfall, branchShortfall, linkShortfall}
 use Rattle.short_single.specs.Steps.Short.{shortOf, Shortable, order-as, branch-as, link-as}
 use Rattle.short_single.specs.Meaning.HourAccepted.{HourAccepted}

@@ -18,7 +18,7 @@ use Rattle.report_file.specs.Meaning.Written.{totalsIn}
 use Rattle.report_file.specs.Meaning.Prices.{grainsAt}
 use Rattle.judge_stages.specs.declared.Found.{Found}
 use Rattle.judge_stages.specs.Meaning.Found.{Finds, hourCauses}
-use Rattle.text_lines.specs.Steps.Texts.{prices-same}
+use Rattle.text_hour.specs.Steps.Texts.{prices-same}
 
 module _ (s t : List ℕ) where
   abbrev zones : ℕ

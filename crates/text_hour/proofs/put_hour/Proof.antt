@@ -1,11 +1,11 @@
--- `text_lines::put_hour` meets its contract: the totals' lines and then the prices' lines. Assumes nothing.
+-- `text_hour::put_hour` meets its contract: the totals' lines and then the prices' lines. Assumes nothing.
 use native.Mathlib.Omega.{arith}
 use lib.ListN.{length-append}
 use Rattle.text_rules.specs.Steps.Put.{put-length, put-then}
 use Rattle.rules.specs.Meaning.Lines.{hourLines}
 use borrow.Author.Needs.{needs}
-use Rattle.text_lines.proofs.put_hour.Statement.{statement}
-use Rattle.text_lines.proofs.put_hour.Tie as tie
+use Rattle.text_hour.proofs.put_hour.Statement.{statement}
+use Rattle.text_hour.proofs.put_hour.Tie as tie
 
 put-totals-requires : tie.Need-put-totals-requires
 unfolding hourLines

@@ -2,9 +2,9 @@
 use mathlib.Core.Path.{_≡_}
 use mathlib.Core.List.{List}
 use Prim.Native.Nat.{ℕ}
 use Rattle.proposal_file.specs.Meaning.ProposalValid.{ProposalValid}
 use Rattle.proposal_file.specs.Meaning.Answer.{openingOf}
-use Rattle.judge_clearing.specs.declared.HourRead.{HourRead}
+use Rattle.proposal_file.specs.declared.HourRead.{HourRead}
 
 -- `hour` is read from the case s and the proposal t
 pub record HourReadFrom (s t : List ℕ) (hour : HourRead) : Type 0 where

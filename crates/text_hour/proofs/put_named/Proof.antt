@@ -1,11 +1,11 @@
--- `text_single::put_named` meets its contract: name, count and space, each where the one before ends.
+-- `text_hour::put_named` meets its contract: name, count and space, each where the one before ends.
 -- Assumes nothing.
 use native.Mathlib.Omega.{arith}
 use lib.ListN.{length-append}
 use Rattle.text_rules.specs.Steps.Put.{put-length, put-then}
 use borrow.Author.Needs.{needs}
-use Rattle.text_single.proofs.put_named.Statement.{statement}
-use Rattle.text_single.proofs.put_named.Tie as tie
+use Rattle.text_hour.proofs.put_named.Statement.{statement}
+use Rattle.text_hour.proofs.put_named.Tie as tie
 
 put-text-requires : tie.Need-put-text-requires
 put-text-requires c κs = omega (arith, simp length-append at (c .before .before .before .pre))

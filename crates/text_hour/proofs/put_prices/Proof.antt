@@ -1,4 +1,4 @@
--- `text_lines::put_prices` meets its contract. The loop's invariant: the lines of the zones below z stand at `at`.
+-- `text_hour::put_prices` meets its contract. The loop's invariant: the lines of the zones below z stand at `at`.
 -- The measure is the zones left. Assumes nothing.
 use mathlib.Core.Path.{_≡_, refl, ap}
 use Prim.Native.Nat.{ℕ, _-_, _≤_}
@@ -8,9 +8,9 @@ use Rattle.text_rules.specs.Meaning.Put.{Put}
 use Rattle.text_rules.specs.Steps.Put.{put-as, put-length, put-then}
 use Rattle.rules.specs.Meaning.Lines.{priceLines}
 use Rattle.report_file.specs.Meaning.Prices.{grainsAt}
-use Rattle.text_lines.specs.Steps.Texts.{prices-more, prices-within}
-use Rattle.text_lines.proofs.put_prices.Statement.{statement}
-use Rattle.text_lines.proofs.put_prices.Tie as tie
+use Rattle.text_hour.specs.Steps.Texts.{prices-more, prices-within}
+use Rattle.text_hour.proofs.put_prices.Statement.{statement}
+use Rattle.text_hour.proofs.put_prices.Tie as tie
 
 abbrev Inv-loop : tie.InvT-loop
 Inv-loop out₀ at zones prices next₀ z₀ out next z = (z ≤ zones) × Put out₀ at (priceLines z (grainsAt prices)) out next

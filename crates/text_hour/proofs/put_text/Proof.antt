@@ -1,4 +1,4 @@
--- `text_single::put_text` meets its contract. The loop's invariant: the first i bytes of the text stand at `at`, and
+-- `text_hour::put_text` meets its contract. The loop's invariant: the first i bytes of the text stand at `at`, and
 -- all else is unchanged. The measure is the bytes left. Assumes nothing.
 use mathlib.Core.Path.{_≡_, refl, sym, ap, _∙_}
 use mathlib.Core.List.{[], _∷_, _++_}
@@ -9,8 +9,8 @@ use lib.ListN.{length, take, getD}
 use lib.Seq.{take-suc, take-length}
 use Rattle.text_rules.specs.Meaning.Put.{Put}
 use Rattle.text_rules.specs.Steps.Put.{put-as, put-length, put-then, put-byte}
-use Rattle.text_single.proofs.put_text.Statement.{statement}
-use Rattle.text_single.proofs.put_text.Tie as tie
+use Rattle.text_hour.proofs.put_text.Statement.{statement}
+use Rattle.text_hour.proofs.put_text.Tie as tie
 
 abbrev Inv-loop : tie.InvT-loop
 Inv-loop out₀ at text i₀ out i = (i ≤ length text) × Put out₀ at (take i text) out (at + i)

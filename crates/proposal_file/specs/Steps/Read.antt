@@ -9,9 +9,9 @@ use Rattle.rules.specs.Meaning.Hour.{caseOf, planOf, pricesOf}
 use Rattle.rules.specs.Steps.Passed.{CaseSound, case-sound, proposal-sound}
 use Rattle.case_header.specs.declared.Counts.{Counts}
 use Rattle.case_header.specs.Meaning.CaseReadable.{CaseReadable}
 use Rattle.proposal_file.specs.declared.ProposalOpening.{ProposalOpening}
-use Rattle.judge_clearing.specs.declared.HourRead.{HourRead}
-use Rattle.judge_clearing.specs.Meaning.Read.{HourReadFrom}
+use Rattle.proposal_file.specs.declared.HourRead.{HourRead}
+use Rattle.proposal_file.specs.Meaning.Read.{HourReadFrom}
 
 module _ {s t : List ℕ} {hour : HourRead} (h : HourReadFrom s t hour) where
   pub case-opened : CaseReadable s (hour .counts)

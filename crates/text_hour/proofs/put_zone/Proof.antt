@@ -1,4 +1,4 @@
--- `text_single::put_zone` meets its contract: name and zone, price and newline, each where the one before ends.
+-- `text_hour::put_zone` meets its contract: name and zone, price and newline, each where the one before ends.
 -- Assumes nothing.
 use mathlib.Core.Path.{_≡_, ap}
 use mathlib.Core.List.{_++_}
@@ -13,8 +13,8 @@ use Rattle.text_rules.specs.Steps.Put.{put-as, put-length, put-then}
 use Rattle.rules.specs.Meaning.Lines.{priceLine}
 use Rattle.text_rules.specs.Steps.Complement.{bits-text}
 use borrow.Author.Needs.{needs}
-use Rattle.text_single.proofs.put_zone.Statement.{statement}
-use Rattle.text_single.proofs.put_zone.Tie as tie
+use Rattle.text_hour.proofs.put_zone.Statement.{statement}
+use Rattle.text_hour.proofs.put_zone.Tie as tie
 
 abbrev named : tie.After-bits → tie.After-put-named
 named c = c .before .before .before .before

@@ -1,11 +1,11 @@
--- `text_lines::put_totals` meets its contract: the five lines, each where the one before ends. Assumes nothing.
+-- `text_hour::put_totals` meets its contract: the five lines, each where the one before ends. Assumes nothing.
 use native.Mathlib.Omega.{arith}
 use lib.ListN.{length-append}
 use Rattle.text_rules.specs.Steps.Put.{put-length, put-then}
 use Rattle.rules.specs.Meaning.Lines.{totalLines}
 use borrow.Author.Needs.{needs}
-use Rattle.text_lines.proofs.put_totals.Statement.{statement}
-use Rattle.text_lines.proofs.put_totals.Tie as tie
+use Rattle.text_hour.proofs.put_totals.Statement.{statement}
+use Rattle.text_hour.proofs.put_totals.Tie as tie
 
 -- the line before each
 abbrev start : tie.After-put-total → tie.Start

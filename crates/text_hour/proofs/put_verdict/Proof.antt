@@ -1,12 +1,12 @@
--- `text_single::put_verdict` meets its contract: name and number, index and newline, each where the one before ends.
+-- `text_hour::put_verdict` meets its contract: name and number, index and newline, each where the one before ends.
 -- Assumes nothing.
 use native.Mathlib.Omega.{arith}
 use lib.ListN.{length-append}
 use Rattle.text_rules.specs.Steps.Put.{put-length, put-then}
 use Rattle.rules.specs.Meaning.Lines.{verdictLine}
 use borrow.Author.Needs.{needs}
-use Rattle.text_single.proofs.put_verdict.Statement.{statement}
-use Rattle.text_single.proofs.put_verdict.Tie as tie
+use Rattle.text_hour.proofs.put_verdict.Statement.{statement}
+use Rattle.text_hour.proofs.put_verdict.Tie as tie
 
 slice-aggregate-put-named : tie.Need-slice-aggregate-put-named
 slice-aggregate-put-named c = search needs
