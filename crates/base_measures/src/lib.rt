@@ -1,6 +1,8 @@
 // Tenths, cents, grains and microcents: four measures that no sum mixes, each with its limits and the constructors
 // that refuse outside them. A number of a file enters as a `Raw`; a number to write or print leaves as `Bits`.
 // Nothing turns `Bits` into a `Raw` or a measure.
+#![tactic(auto)]
+
 ghost use Rattle.std.specs.Prelude.{◌≡◌, ◌+◌, ◌/◌, ◌<◌, ◌^◌, ℤ, pos, ◌+ℤ◌, ◌-ℤ◌, ◌*ℤ◌};
 ghost use Rattle.std.specs.Int.Signed.{lt_z};
 ghost use Rattle.std.specs.Int.{w64};
@@ -15,25 +17,25 @@ ghost use Rattle.base_measures.specs.Meaning.Held.{tenths_in, cents_in, grains_i
 use base_integers::Bits;
 
 // A number from a file or a caller, of no measure yet.
-#[derive(Drop)]
+#[derive(Clone, Copy)]
 pub struct Raw(i64);
 
 // Volume: tenths of a megawatt, which for one hour are tenths of a MWh. The host gets it in this form.
 #[repr(C)]
-#[derive(Drop)]
+#[derive(Clone, Copy)]
 pub struct Tenths(i64);
 
 // Order price, system price, shadow price: cents per MWh.
-#[derive(Drop)]
+#[derive(Clone, Copy)]
 pub struct Cents(i64);
 
 // Zone price: 100,000 grains are one cent per MWh.
-#[derive(Drop)]
+#[derive(Clone, Copy)]
 pub struct Grains(i64);
 
 // Money: one tenth times one grain is one microcent. The host gets it in this form.
 #[repr(C)]
-#[derive(Drop)]
+#[derive(Clone, Copy)]
 pub struct Microcents(i64);
 
 // Hundred-thousandths in one, and grains in one cent per MWh.
@@ -43,56 +45,56 @@ const PARTS_IN_ONE: i64 = 100000;
 const WHOLE_TENTH: u64 = 100000;
 
 // A PTDF, in hundred-thousandths.
-#[derive(Drop)]
+#[derive(Clone, Copy)]
 pub struct Ptdf(i64);
 
 // The LTA share, in hundred-thousandths: 100,000 means 1.
-#[derive(Drop)]
+#[derive(Clone, Copy)]
 pub struct Share(i64);
 
 // A volume times hundred-thousandths: what rules 4 and 5 compare.
-#[derive(Drop)]
+#[derive(Clone, Copy)]
 pub struct Load(i64);
 
 // Money to hundred-thousandths of a microcent, never below zero (S-14). One number would exceed 64 bits, so there
 // are two: whole microcents, and parts of one below 100,000.
-#[derive(Drop)]
+#[derive(Clone, Copy)]
 pub struct ExactMicrocents {
     whole: u64,
     parts: u64,
 }
 
-#[derive(Drop)]
+#[derive(Clone, Copy)]
 pub enum TenthsAnswer {
     Held(Tenths),
     Outside,
 }
 
-#[derive(Drop)]
+#[derive(Clone, Copy)]
 pub enum CentsAnswer {
     Held(Cents),
     Outside,
 }
 
-#[derive(Drop)]
+#[derive(Clone, Copy)]
 pub enum GrainsAnswer {
     Held(Grains),
     Outside,
 }
 
-#[derive(Drop)]
+#[derive(Clone, Copy)]
 pub enum MicrocentsAnswer {
     Held(Microcents),
     Outside,
 }
 
-#[derive(Drop)]
+#[derive(Clone, Copy)]
 pub enum PtdfAnswer {
     Held(Ptdf),
     Outside,
 }
 
-#[derive(Drop)]
+#[derive(Clone, Copy)]
 pub enum ShareAnswer {
     Held(Share),
     Outside,

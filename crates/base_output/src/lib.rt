@@ -1,10 +1,12 @@
 // The answer of an entry that writes into a lent output: how much it wrote, or its refusal.
+#![tactic(auto)]
+
 ghost use Rattle.std.specs.Prelude.{◌≡◌};
 
 // The number and index of the refusal and length 0; or 0 and 0 and the length of what was written. A margin sheet
 // may have more lines than 32 bits count, so the index is as wide as a length.
 #[repr(C)]
-#[derive(Drop)]
+#[derive(Clone, Copy)]
 pub struct Written {
     pub number: u32,
     pub index: usize,

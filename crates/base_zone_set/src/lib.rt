@@ -1,4 +1,6 @@
 // A set of zones: a bit for each of sixteen.
+#![tactic(auto)]
+
 ghost use Rattle.std.specs.Prelude.{◌≡◌, ◌<◌};
 ghost use Rattle.base_zone_set.specs.Meaning.Zones.{member, added};
 

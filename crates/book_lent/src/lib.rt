@@ -1,5 +1,7 @@
 // The order book that the host lends: one function over a slice of rows, whose loop calls what `book_surplus`
 // proves for a row.
+#![tactic(auto)]
+
 ghost use Rattle.std.specs.Prelude.{◌≡◌};
 ghost use Rattle.book_surplus.specs.Meaning.Lent.{lent_answer};
 

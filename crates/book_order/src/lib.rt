@@ -1,5 +1,7 @@
 // One order: a lent row within its limits, and its surplus at a zone price (rule 8). The case file and the lent
 // book share it.
+#![tactic(auto)]
+
 ghost use Rattle.std.specs.Prelude.{◌≡◌, pos};
 ghost use Rattle.base_integers.specs.Meaning.Ranges.{Within};
 ghost use Rattle.base_limits.specs.Meaning.Limits as limits;
@@ -9,7 +11,7 @@ ghost use Rattle.book_order.specs.Meaning.Admitted.{surplus_at};
 
 use base_measures::{Cents, CentsAnswer, Grains, Microcents, Raw, Tenths, TenthsAnswer};
 
-#[derive(Drop)]
+#[derive(Clone, Copy)]
 pub struct Order {
     pub zone: usize,
     pub buys: bool,
@@ -17,7 +19,7 @@ pub struct Order {
     pub price: Cents,
 }
 
-#[derive(Drop)]
+#[derive(Clone, Copy)]
 pub enum OrderAnswer {
     Held(Order),
     Outside,

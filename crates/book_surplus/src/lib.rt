@@ -1,5 +1,7 @@
 // An order book lent in memory, with its zone prices in grains. The rows go one by one into the book's state, which
 // at the end gives the sum of rule 8 or a refusal.
+#![tactic(auto)]
+
 ghost use Rattle.std.specs.Prelude.{◌≡◌, ◌+◌, ◌<◌, length, ◌+ℤ◌};
 ghost use Rattle.std.specs.Int.{w64};
 ghost use Rattle.std.proofs.Common.{SFits};
@@ -18,7 +20,7 @@ use book_order::{Order, OrderAnswer, admit, surplus};
 
 // A row as the host lends it. Side 0 buys, 1 sells; the quantity is in tenths, the price in cents.
 #[repr(C)]
-#[derive(Drop)]
+#[derive(Clone, Copy)]
 pub struct OrderRow {
     pub zone: u8,
     pub side: u8,
@@ -28,7 +30,7 @@ pub struct OrderRow {
 
 // The answer: number and index as in the verdict table, and the sum in microcents, which is 0 for a refusal.
 #[repr(C)]
-#[derive(Drop)]
+#[derive(Clone, Copy)]
 pub struct Surplus {
     pub number: u32,
     pub index: u32,
@@ -37,7 +39,7 @@ pub struct Surplus {
 
 // The state after some rows: the refusal so far, or the number 0; how many rows were taken; and their sum. The
 // number 25 stands until a row is refused.
-#[derive(Drop)]
+#[derive(Clone, Copy)]
 pub struct BookState {
     number: u32,
     index: u32,

@@ -1,5 +1,7 @@
 // The fields of a file: a cursor by value that gives a field and the cursor after it, and a field's number where
 // its bytes are known to be there.
+#![tactic(auto)]
+
 ghost use Rattle.std.specs.Prelude.{◌≡◌, not, ◌&&◌, ◌+◌, ◌<◌, ◌≤◌, length, eqb};
 ghost use Rattle.std.specs.Int.{w32};
 ghost use Rattle.std.proofs.Common.{to_z};
@@ -11,49 +13,49 @@ use base_causes::Outcome;
 use base_measures::Raw;
 
 // A walk over a part of a file: the cursor past it, or the refusal that names the first field at fault.
-#[derive(Drop)]
+#[derive(Clone, Copy)]
 pub enum Walked {
     Past(Cursor),
     Refused(Outcome),
 }
 
 // The three letters that open a file.
-#[derive(Drop)]
+#[derive(Clone, Copy)]
 pub struct Mark(pub u8, pub u8, pub u8);
 
 // Where the next field stands.
-#[derive(Drop)]
+#[derive(Clone, Copy)]
 pub struct Cursor {
     pub at: usize,
 }
 
-#[derive(Drop)]
+#[derive(Clone, Copy)]
 pub enum MarkField {
     Taken(Mark, Cursor),
     Short,
 }
 
-#[derive(Drop)]
+#[derive(Clone, Copy)]
 pub enum ByteField {
     Taken(u8, Cursor),
     Short,
 }
 
 // An unsigned number of 16 or 32 bits.
-#[derive(Drop)]
+#[derive(Clone, Copy)]
 pub enum WordField {
     Taken(u32, Cursor),
     Short,
 }
 
-#[derive(Drop)]
+#[derive(Clone, Copy)]
 pub enum SignedField {
     Taken(Raw, Cursor),
     Short,
 }
 
 // An unsigned number of 64 bits.
-#[derive(Drop)]
+#[derive(Clone, Copy)]
 pub enum LongField {
     Taken(u64, Cursor),
     Short,

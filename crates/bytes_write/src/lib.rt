@@ -1,4 +1,6 @@
 // Numbers put into a lent buffer as little-endian bytes: 32 and 64 bits, signed ones in two's complement.
+#![tactic(auto)]
+
 ghost use Rattle.std.specs.Prelude.{◌≡◌, ◌+◌, ◌≤◌, length};
 ghost use Rattle.std.proofs.lemmas.List.Edits.{sets};
 ghost use Rattle.base_integers.specs.Meaning.Bytes.{bytes_of};

@@ -1,4 +1,6 @@
 // Columns for the archive (request S-10): a readable case with its order part column by column, and the way back.
+#![tactic(auto)]
+
 ghost use Rattle.std.specs.Prelude.{◌≡◌, true, ◌++◌, ℕ, ◌+◌, ◌*◌, ◌^◌, ◌≤◌, ◌<◌, length, drop};
 ghost use Rattle.std.proofs.lemmas.List.Edits.{sets};
 ghost use Rattle.column_file.specs.Meaning.Columns.{arranged, restored_of, not_restored, CaseColumned, CaseRestored};
@@ -76,7 +78,7 @@ pub fn columned(case: &[u8], out: &mut [u8]) -> Written
 }
 
 // A case that a columned file is restored to, or the refusal.
-#[derive(Drop)]
+#[derive(Clone, Copy)]
 enum RestoreAnswer {
     Restored,
     Refused(Written),

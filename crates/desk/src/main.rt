@@ -1,11 +1,13 @@
 // The desk program: reads standard input to its end, a case directly followed by its proposal, and prints the lines
 // for it.
+#![tactic(auto)]
+
 ghost use Rattle.std.specs.Prelude.{◌≤◌, length};
 
 use libc::{STDIN_FILENO, STDOUT_FILENO};
 
 // How much of the input was kept, and whether its end was reached.
-#[derive(Drop)]
+#[derive(Clone, Copy)]
 struct Input {
     kept: usize,
     whole: bool,

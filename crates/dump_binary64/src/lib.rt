@@ -1,4 +1,6 @@
 // Values of a solver's dump (S-5): binary64 by its 64 bits, one product of two, and a product taken to a whole number.
+#![tactic(auto)]
+
 ghost use Rattle.std.specs.Prelude.{◌≡◌, ◌<◌, ◌≤◌, true, false, T, pos};
 ghost use Rattle.std.specs.Float.Ieee as Ieee;
 ghost use Rattle.std.specs.Float.{binary64};
@@ -8,7 +10,7 @@ ghost use Rattle.dump_binary64.specs.Meaning.Machine.{zero64, one64, times};
 ghost use Rattle.dump_binary64.specs.Steps.Cutting.{Ranged};
 
 // A whole number of 32 bits, or none.
-#[derive(Drop)]
+#[derive(Clone, Copy)]
 pub enum WholeAnswer {
     Held(u32),
     Outside,

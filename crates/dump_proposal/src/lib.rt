@@ -1,5 +1,7 @@
 // A proposal from a solver's dump (S-5): rows 56 to 60 are asked of the dump, and each of its values becomes the
 // field of the proposal at its place.
+#![tactic(auto)]
+
 ghost use Rattle.std.specs.Prelude.{◌≡◌, true, not, ◌++◌, ◌+◌, ◌*◌, ◌≤◌, length};
 ghost use Rattle.std.proofs.lemmas.List.Edits.{sets};
 ghost use Rattle.base_integers.specs.Meaning.Bytes.{bytes_of};
@@ -41,14 +43,14 @@ const SMALL_TABLE: usize = 64;
 const WORD_END: u64 = layout::WORD_VALUES;
 
 // The opening, with the cursor past it; or that the dump is too short for it.
-#[derive(Drop)]
+#[derive(Clone, Copy)]
 enum OpeningField {
     Taken(DumpOpening, Cursor),
     Short,
 }
 
 // The numbers that the opening became.
-#[derive(Drop)]
+#[derive(Clone, Copy)]
 struct OpeningNumbers {
     share: Bits,
     system: Bits,

@@ -1,5 +1,7 @@
 // What each value of a solver's dump becomes (S-5): the field of the proposal at its place, or that it does not
 // fit.
+#![tactic(auto)]
+
 ghost use Rattle.std.specs.Prelude.{◌≡◌, true, ◌+◌, ◌≤◌, ◌<◌, T};
 ghost use Rattle.std.specs.Float.Ieee.Scale as float;
 ghost use Rattle.dump_binary64.specs.Meaning.Value.{finite};
@@ -16,20 +18,20 @@ use case_orders::order_at;
 use dump_binary64::{WholeAnswer, cut_to_word, nearest_up_to, part_of, value};
 
 // The number of a field as it is written, or that the value does not fit its field.
-#[derive(Drop)]
+#[derive(Clone, Copy)]
 pub enum FieldAnswer {
     Held(Bits),
     Outside,
 }
 
 // The dump's opening: the LTA share and the system price.
-#[derive(Drop)]
+#[derive(Clone, Copy)]
 pub struct DumpOpening {
     pub share: f64,
     pub system: f64,
 }
 
-#[derive(Drop)]
+#[derive(Clone, Copy)]
 pub struct OpeningFields {
     pub share: FieldAnswer,
     pub system: FieldAnswer,

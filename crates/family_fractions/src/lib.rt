@@ -1,4 +1,6 @@
 // Row 28 (request S-11): a child accepted in a larger fraction than its parent.
+#![tactic(auto)]
+
 ghost use Rattle.std.specs.Prelude.{◌≡◌, ◌<◌};
 ghost use Rattle.rules.specs.Meaning.Hour.{case_of, plan_of};
 ghost use Rattle.rules.specs.Meaning.Families.{parent_of};

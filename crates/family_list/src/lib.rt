@@ -1,5 +1,7 @@
 // The family list (S-11), which comes with a case and names a parent for each order: rows 16 to 18 of the verdict
 // table.
+#![tactic(auto)]
+
 ghost use Rattle.std.specs.Prelude.{◌≡◌, ◌+◌, ◌<◌, ◌≤◌, length};
 ghost use Rattle.std.proofs.Math.Option.{none};
 ghost use Rattle.base_causes.specs.Meaning.Causes.{first_below};
@@ -30,7 +32,7 @@ const NONE: u32 = 65535;
 
 pub const NO_PARENT: usize = NONE as usize;
 
-#[derive(Drop)]
+#[derive(Clone, Copy)]
 pub enum FamilyAnswer {
     Sound,
     Refused(Outcome),

@@ -1,5 +1,7 @@
 // An augmenting path (request S-3): brings d more to a zone with import left, back along the pairs that a search
 // recorded, from a zone with export left.
+#![tactic(auto)]
+
 ghost use Rattle.std.specs.Prelude.{◌≡◌, ◌+◌, ◌*◌, ◌≤◌, ◌<◌, length};
 ghost use Rattle.flow_pairs.specs.Meaning.Pairs.{second_zone};
 ghost use Rattle.flow_scratch.specs.Meaning.Places.{amount_at};
@@ -10,7 +12,7 @@ use flow_pairs::zone_at;
 use flow_scratch::{EXPORT_USED, IMPORT_USED, amount, store};
 
 // What a search knows of the sixteen zones, and the order in which it reached them.
-#[derive(Drop)]
+#[derive(Clone, Copy)]
 pub struct Labels {
     // How much more can be brought to the zone; 0: it is not reached.
     pub label: [u64; 16],

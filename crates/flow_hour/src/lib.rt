@@ -1,5 +1,7 @@
 // Whether an hour is intuitive (requests S-3 and S-13): the hour is judged and, if it is accepted, the question is
 // asked of its zone prices and its net positions with their sign turned.
+#![tactic(auto)]
+
 ghost use Rattle.std.specs.Prelude.{◌≡◌, ◌≤◌, pos, ◌-ℤ◌};
 ghost use Rattle.std.specs.Int.{w64};
 ghost use Rattle.std.proofs.Common.{to_z};

@@ -1,5 +1,7 @@
 // Intuitive hours (requests S-3 and S-13): whether an hour's exchanges can all go from a lower or equal price to a
 // higher one, and the largest total that can.
+#![tactic(auto)]
+
 ghost use Rattle.std.specs.Prelude.{◌≡◌, ◌≤◌, ◌<◌, length, pos};
 ghost use Rattle.base_causes.specs.Meaning.Causes.{verdict, refusal, answer};
 ghost use Rattle.flow_intuitive.specs.Meaning.Intuitive.{scratch_room, intuitive_outcome, IntuitiveAnswer};
@@ -17,7 +19,7 @@ use flow_positions::{first_position_outside, is_unbalanced};
 // The number and index of the refusal, with 0 and 0; or 0 and 0, 1 for a yes and 0 for a no, and the largest total
 // in tenths.
 #[repr(C)]
-#[derive(Drop)]
+#[derive(Clone, Copy)]
 pub struct Carried {
     pub number: u32,
     pub index: u32,

@@ -1,4 +1,6 @@
 // The max flow of an hour (requests S-3 and S-13), by augmenting paths, in a lent scratch.
+#![tactic(auto)]
+
 ghost use Rattle.std.specs.Prelude.{◌≡◌, ℕ, ◌≤◌, ◌<◌, length, get_or, pos};
 ghost use Rattle.base_integers.specs.Meaning.Difference.{up};
 ghost use Rattle.base_integers.specs.Meaning.NaturalSums.{sum_nat};
@@ -17,7 +19,7 @@ use flow_scratch::{AMOUNTS, amount, clear, import_left};
 use flow_search::{min, search};
 
 // Whether every export is carried to imports, and the largest total that is carried, in tenths.
-#[derive(Drop)]
+#[derive(Clone, Copy)]
 pub struct MaxFlow {
     pub all: bool,
     pub total: u64,

@@ -1,5 +1,7 @@
 // Ordered pairs of zones lent as bytes (request S-3): the first zone and the second of each, and the first pair
 // that row 84 refuses.
+#![tactic(auto)]
+
 ghost use Rattle.std.specs.Prelude.{◌≡◌, ◌+◌, ◌*◌, ◌≤◌, ◌<◌, length, get_or};
 ghost use Rattle.base_causes.specs.Meaning.Causes.{first_below};
 ghost use Rattle.base_causes.specs.Meaning.Place.{place_of};

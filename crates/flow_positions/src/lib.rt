@@ -1,4 +1,6 @@
 // Net positions lent by the host (request S-3), tested by their limits, and their sum. Export is positive.
+#![tactic(auto)]
+
 ghost use Rattle.std.specs.Prelude.{◌≡◌, false, ℕ, ◌≤◌, ◌<◌, length};
 ghost use Rattle.base_integers.specs.Meaning.Sums.{sum_to};
 ghost use Rattle.base_limits.specs.Meaning.Limits as limits;

@@ -1,5 +1,7 @@
 // A flow in a lent scratch (requests S-3 and S-13): 96 amounts, one per pair for its flow, one per zone for export
 // used, one per zone for import used. They are tenths, and bare numbers here, since a lent list holds no measure.
+#![tactic(auto)]
+
 ghost use Rattle.std.specs.Prelude.{◌≡◌, ◌+◌, ◌-◌, ◌≤◌, ◌<◌, length, get_or, set, pos};
 ghost use Rattle.std.specs.Int.Signed.{le_z};
 ghost use Rattle.base_integers.specs.Meaning.Difference.{up, dn};

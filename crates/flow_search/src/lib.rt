@@ -1,5 +1,7 @@
 // The search for an augmenting path (request S-3): breadth first from the zones with export left, along counted
 // pairs and back along pairs that carry something, until it reaches a zone with import left.
+#![tactic(auto)]
+
 ghost use Rattle.std.specs.Prelude.{◌≡◌, ◌≤◌, ◌<◌, length, get_or};
 ghost use Rattle.flow_pairs.specs.Meaning.Pairs.{pair_count};
 ghost use Rattle.flow_pairs.specs.Meaning.Table.{PairsTabled};
@@ -20,7 +22,7 @@ pub fn min(a: u64, b: u64) -> u64
 
 // An arc of the residual network: the zone that it leads to, its pair, and how much it brings. Amount 0 means no
 // arc.
-#[derive(Drop)]
+#[derive(Clone, Copy)]
 pub struct Arc {
     pub zone: usize,
     pub pair: usize,

@@ -1,5 +1,7 @@
 // The entries that the coupling host, a C program, calls, and nothing else. include/lta_judgement.h says in words
 // what the contracts say here.
+#![tactic(auto)]
+
 pub mod archive;
 pub mod book;
 pub mod dump;

@@ -1,5 +1,7 @@
 // Orders and links of a proposal, in one pass each: volumes with net positions and welfare (verdict 21, rules 1 and
 // 7), the balance (22), and the link rule with the flow-based parts (23, rules 2 and 4).
+#![tactic(auto)]
+
 ghost use Rattle.std.specs.Prelude.{◌≡◌, ◌+◌, ◌≤◌, ℤ};
 ghost use Rattle.std.proofs.Math.Option.{none};
 ghost use Rattle.std.specs.Int.{w64};
@@ -34,7 +36,7 @@ fn signed_volume(buys: bool, volume: Tenths) -> Tenths
 
 // One pass over the orders: the first volume above its order's quantity; where there is none, the net position of
 // each zone and the welfare.
-#[derive(Drop)]
+#[derive(Clone, Copy)]
 pub struct OrderSums {
     pub excess: Place,
     pub nets: [Tenths; layout::ZONES],
@@ -96,7 +98,7 @@ pub fn net_sum(nets: [Tenths; layout::ZONES], zones: usize) -> Tenths
 
 // One pass over the links: the first whose flow, times 100,000, is above the LTA share times its capacity; where
 // there is none, the flow-based part of each zone, its net position less its LTA part.
-#[derive(Drop)]
+#[derive(Clone, Copy)]
 pub struct Exchange {
     pub overused: Place,
     pub parts: [Tenths; layout::ZONES],

@@ -1,4 +1,6 @@
 // The judgement: 30 first, then what the driver finds in the hour. Only 0 and 26 write the report.
+#![tactic(auto)]
+
 ghost use Rattle.std.specs.Prelude.{◌≡◌, ◌<◌, ◌≤◌, length};
 ghost use Rattle.rules.specs.Meaning.Layout.{report_room};
 ghost use Rattle.rules.specs.Meaning.Hour.{case_of, plan_of, prices_of};

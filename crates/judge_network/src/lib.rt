@@ -1,4 +1,6 @@
 // Branches in one pass, with the branch rule, zone prices and branch total (verdict 24, rules 5, 6 and 9).
+#![tactic(auto)]
+
 ghost use Rattle.std.specs.Prelude.{◌≡◌};
 ghost use Rattle.std.proofs.Math.Option.{none};
 ghost use Rattle.rules.specs.Meaning.Hour.{case_of, plan_of, prices_of, fb_part};
@@ -19,7 +21,7 @@ use proposal_file::{HourRead, shadow_at};
 
 // One pass over the branches: the first overloaded one; where there is none, the price of each zone and the branch
 // total.
-#[derive(Drop)]
+#[derive(Clone, Copy)]
 pub struct Network {
     pub overloaded: Place,
     pub prices: [Grains; layout::ZONES],

@@ -2,6 +2,8 @@
 // 8) and cuts it from its proposal if the two are joined. `find_after` then asks three stages in the table's order:
 // `read` (9 to 18), `clear` (21, 28, 22, 27, 23) and `value` (24 to 26). The verdict of a stage is 0 where its rows
 // pass. A stage may use what the stages before it established.
+#![tactic(auto)]
+
 ghost use Rattle.std.specs.Prelude.{◌≡◌, true, not, cond, ◌&&◌, ℕ, ◌<◌, ◌≤◌, eqb, pos};
 ghost use Rattle.std.proofs.Math.Option.{none, some};
 ghost use Rattle.std.specs.Int.Signed.{lt_z};
@@ -40,14 +42,14 @@ use report_file::Totals;
 
 // Whether there is a family list (S-11). An enum holds no slice, so the list is passed next to this mark; without a
 // list that slice is empty.
-#[derive(Drop)]
+#[derive(Clone, Copy)]
 pub enum FamilyList {
     Given,
     Absent,
 }
 
 // What `read` answers: the verdict of rows 9 to 18 and, where they pass, what was read.
-#[derive(Drop)]
+#[derive(Clone, Copy)]
 struct Reading {
     verdict: Outcome,
     hour: HourRead,
@@ -55,7 +57,7 @@ struct Reading {
 
 // What `clear` answers: the verdict of rows 21, 28, 22, 27 and 23 and, where they pass, net positions, flow-based
 // parts and welfare.
-#[derive(Drop)]
+#[derive(Clone, Copy)]
 pub struct Cleared {
     pub verdict: Outcome,
     pub nets: [Tenths; layout::ZONES],
@@ -65,7 +67,7 @@ pub struct Cleared {
 
 // The verdict and, for a valued hour (verdict 0 or 26), what was read, its clearing, prices and totals. The answer
 // of `clear` is kept whole, so its arrays are copied once.
-#[derive(Drop)]
+#[derive(Clone, Copy)]
 pub struct Found {
     pub verdict: Outcome,
     pub valued: bool,

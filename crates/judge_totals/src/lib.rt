@@ -1,5 +1,7 @@
 // Zone prices within their limits, with the congestion rent (verdict 25, rule 11); order surpluses, link total,
 // owed and the five totals (rules 7 to 11).
+#![tactic(auto)]
+
 ghost use Rattle.std.specs.Prelude.{◌≡◌, cond, ◌≤◌, eqb, ◌*ℤ◌};
 ghost use Rattle.std.proofs.Math.Option.{none};
 ghost use Rattle.base_integers.specs.Meaning.Order.{larger};
@@ -27,7 +29,7 @@ use proposal_file::HourRead;
 use report_file::Totals;
 
 // One pass over the zones: the first whose price is outside its limits; where there is none, the congestion rent.
-#[derive(Drop)]
+#[derive(Clone, Copy)]
 pub struct ZoneSums {
     pub outside: Place,
     pub rent: Microcents,
@@ -87,7 +89,7 @@ pub fn surpluses(
 }
 
 // One pass over the links: rule 10's link total, and owed.
-#[derive(Drop)]
+#[derive(Clone, Copy)]
 pub struct LinkTotals {
     pub total: Microcents,
     pub owed: Microcents,

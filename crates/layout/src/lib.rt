@@ -1,6 +1,7 @@
 // THE LAYOUT of every format, in one place: where each field stands, how many bytes it has, and how many records
 // there may be. One block per format, in the order of its bytes. `rules` has the same numbers in `Meaning/Layout`;
 // the proofs hold the code to those.
+#![tactic(auto)]
 
 // THE MARK at the start of every file: L, T and a letter of its own. The version follows it in 16 bits.
 pub const MARK_FIRST: u8 = b'L';

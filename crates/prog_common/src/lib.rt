@@ -1,5 +1,7 @@
 // What the program over stored inputs reads and prints: the numbers of a record, the start of a buffer that is lent
 // or was written, and its lines.
+#![tactic(auto)]
+
 ghost use Rattle.std.specs.Prelude.{◌≡◌, ◌+◌, ◌≤◌, ◌<◌, length, take};
 ghost use Rattle.io.specs.Counts.{IsPrefixLen};
 ghost use Rattle.rules.specs.Meaning.Layout.{u32_at};

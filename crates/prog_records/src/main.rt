@@ -1,6 +1,8 @@
 // Stored inputs through the entries, one record after another from standard input. A record is a letter, two numbers
 // and the lengths of three parts, each 32 bits little-endian, and then the parts. `run` says which entry a letter is
 // for, and each module which numbers and parts its entry takes and what is printed.
+#![tactic(auto)]
+
 pub mod archive;
 pub mod dumps;
 pub mod exchanges;

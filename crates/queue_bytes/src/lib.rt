@@ -1,6 +1,8 @@
 // The desk queue of request S-8 in 101 bytes that the caller lends: a post and a serve. specs/Meaning/Bytes.antt
 // has the layout; any bytes are a queue, and all zeros the empty one. The inner functions take and return the bytes
 // by value, since a proof knows the length only of an array by value.
+#![tactic(auto)]
+
 ghost use Rattle.std.specs.Prelude.{◌≡◌, List, [], ◌∷◌, ◌++◌, ℕ, ◌+◌, ◌*◌, ◌-◌, ◌<◌, drop};
 ghost use Rattle.std.proofs.Math.Seq.{paste};
 ghost use Rattle.queue_turns.specs.Meaning.Queue.{among, post_number, after_post, next, after_serve, serve_answer};
@@ -12,7 +14,7 @@ ghost use Rattle.queue_bytes.specs.Steps.Answers.{PostStep, ServeStep};
 ghost use Rattle.queue_bytes.specs.Steps.Walks.{area_of};
 
 // The hours that wait in one area: its cells, those with an hour first, and how many these are.
-#[derive(Drop)]
+#[derive(Clone, Copy)]
 pub struct Waiting {
     pub cells: [u8; 25],
     pub count: usize,
@@ -20,7 +22,7 @@ pub struct Waiting {
 
 // The answer of a serve: number 0 with area and hour, or 64 with zeros. The index is 0.
 #[repr(C)]
-#[derive(Drop)]
+#[derive(Clone, Copy)]
 pub struct Served {
     pub number: u32,
     pub index: u32,
@@ -29,14 +31,14 @@ pub struct Served {
 }
 
 // The bytes after a post, and its number.
-#[derive(Drop)]
+#[derive(Clone, Copy)]
 pub struct AfterPost {
     pub number: u32,
     pub bytes: [u8; 101],
 }
 
 // The bytes after a serve, and its answer.
-#[derive(Drop)]
+#[derive(Clone, Copy)]
 pub struct AfterServe {
     pub answer: Served,
     pub bytes: [u8; 101],

@@ -1,4 +1,6 @@
 // The report, written into the lent buffer: mark, version, number, zones, the totals and the zone prices.
+#![tactic(auto)]
+
 ghost use Rattle.std.specs.Prelude.{◌≡◌, ◌++◌, ◌≤◌, length, drop};
 ghost use Rattle.std.proofs.lemmas.List.Edits.{sets};
 ghost use Rattle.rules.specs.Meaning.Layout.{welfare_at, prices_at, zone_price_at};
@@ -9,7 +11,7 @@ ghost use Rattle.report_file.specs.Meaning.Prices.{grains_at};
 use base_measures::{Grains, Microcents};
 use bytes_write::put_signed64;
 
-#[derive(Drop)]
+#[derive(Clone, Copy)]
 pub struct Totals {
     pub welfare: Microcents,
     pub bound: Microcents,

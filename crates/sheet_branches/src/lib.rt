@@ -1,4 +1,6 @@
 // Published margin sheets (request S-1): the branch part of a case from their text.
+#![tactic(auto)]
+
 ghost use Rattle.std.specs.Prelude.{◌≡◌, ◌≤◌, length};
 ghost use Rattle.std.proofs.lemmas.List.Edits.{sets};
 ghost use Rattle.sheet_branches.specs.Meaning.Answer.{SheetAnswered};

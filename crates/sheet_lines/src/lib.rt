@@ -1,5 +1,7 @@
 // The lines of a published margin sheet (request S-1), read once: their faults, and the branches of a case that
 // they turn into.
+#![tactic(auto)]
+
 ghost use Rattle.std.specs.Prelude.{◌≡◌, ◌+◌, ◌*◌, ◌≤◌, length};
 ghost use Rattle.std.proofs.lemmas.List.Edits.{sets};
 ghost use Rattle.std.specs.Int.{w32};
@@ -19,21 +21,21 @@ use bytes_write::put_low32;
 use sheet_numbers::{Number, NumberAnswer, TextCursor};
 
 // The faults of a number: a decimal after ours is not zero; it is out of range.
-#[derive(Drop)]
+#[derive(Clone, Copy)]
 struct Flaws {
     finer: bool,
     outside: bool,
 }
 
 // A line whose fields are all numbers, with their faults and where the next line starts. Or a malformed line.
-#[derive(Drop)]
+#[derive(Clone, Copy)]
 enum LineAnswer {
     Read(Flaws, TextCursor),
     Malformed,
 }
 
 // The first line of each cause, and how many lines there are.
-#[derive(Drop)]
+#[derive(Clone, Copy)]
 pub struct SheetFaults {
     pub malformed: Place,
     pub finer: Place,

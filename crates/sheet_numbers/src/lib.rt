@@ -1,5 +1,7 @@
 // Decimal numbers read from text in one walk up to a mark: the sign, the size in units of a decimal, and whether a
 // later decimal is not zero.
+#![tactic(auto)]
+
 ghost use Rattle.std.specs.Prelude.{◌≡◌, [], ◌+◌, ◌*◌, ◌-◌, ◌≤◌, length, drop};
 ghost use Rattle.text_rules.specs.Meaning.Text.{value_from};
 ghost use Rattle.sheet_numbers.specs.Meaning.Numeral.{is_digit, starts, first_of};
@@ -10,34 +12,34 @@ ghost use Rattle.sheet_numbers.specs.Meaning.Pieces.{piece_to, number_at};
 ghost use Rattle.sheet_numbers.specs.Steps.Pieces.{whole_at, decimals_at};
 
 // Where the next piece of a text starts.
-#[derive(Drop)]
+#[derive(Clone, Copy)]
 pub struct TextCursor {
     pub at: usize,
 }
 
 // A piece of a text up to its mark, and the cursor past the mark.
-#[derive(Drop)]
+#[derive(Clone, Copy)]
 pub struct Piece {
     pub end: usize,
     pub next: TextCursor,
 }
 
 // A number: its size in units of a decimal, cut at the cap, and whether a later decimal is not zero.
-#[derive(Drop)]
+#[derive(Clone, Copy)]
 pub struct Number {
     pub negative: bool,
     pub units: u64,
     pub finer: bool,
 }
 
-#[derive(Drop)]
+#[derive(Clone, Copy)]
 pub enum NumberAnswer {
     Read(Number, Piece),
     NoNumber,
 }
 
 // The digits before a point: their value, cut at the cap, and where they end.
-#[derive(Drop)]
+#[derive(Clone, Copy)]
 struct Whole {
     value: u64,
     end: usize,
@@ -45,7 +47,7 @@ struct Whole {
 
 // The digits after it: the size with those that count, cut at the cap; how many of these are missing; whether a
 // later one is not zero; where they end.
-#[derive(Drop)]
+#[derive(Clone, Copy)]
 struct Decimals {
     value: u64,
     missing: usize,

@@ -1,5 +1,7 @@
 // The shortfalls of an hour (request S-14): the hour is judged and, if it is accepted, two numbers are written for
 // each order, then each branch, then each link.
+#![tactic(auto)]
+
 ghost use Rattle.std.specs.Prelude.{◌≡◌, ◌+◌, ◌*◌, ◌≤◌, length};
 ghost use Rattle.std.proofs.lemmas.List.Edits.{sets};
 ghost use Rattle.rules.specs.Meaning.Hour.{case_of, plan_of, prices_of, fb_part};

@@ -1,5 +1,7 @@
 // One shortfall of an accepted hour (request S-14), in the measures' types: of an order, of a branch, of a link.
 // All three share one form: a room at a price where that is above zero, less what is used of it at the price.
+#![tactic(auto)]
+
 ghost use Rattle.std.specs.Prelude.{◌≡◌, [], ℕ, ◌≤◌, ◌<◌, get_or, pos};
 ghost use Rattle.base_integers.specs.Meaning.Ranges.{Within};
 ghost use Rattle.base_integers.specs.Meaning.Machine.{SumsFit};

@@ -1,5 +1,7 @@
 // The lines of an hour, put into a lent buffer at a position: the verdict, the totals and the zones' prices. Each
 // function returns the position past its text.
+#![tactic(auto)]
+
 ghost use Rattle.std.specs.Prelude.{◌++◌, ◌+◌, ◌≤◌, length};
 ghost use Rattle.text_rules.specs.Meaning.Ascii.{ascii};
 ghost use Rattle.text_rules.specs.Meaning.Text.{count_text};

@@ -1,5 +1,7 @@
 // The lines that the desk prints for one input. The driver cuts the input into case and proposal and judges it; the
 // lines come from the totals and prices that it finds, and go into a lent buffer.
+#![tactic(auto)]
+
 ghost use Rattle.std.specs.Prelude.{◌≡◌, ◌≤◌, length};
 ghost use Rattle.text_rules.specs.Meaning.Put.{Put};
 ghost use Rattle.rules.specs.Meaning.Verdict.{◌under◌};
