@@ -27,7 +27,7 @@ use Rattle.rules.specs.Meaning.Layout.{shadow_in}
 use Rattle.rules.specs.Meaning.Hour.{Case, Plan, Prices, case_of, plan_of, prices_of, fb_part, branch_use, branch_room, branch_price, branch_value, branch_total, zone_price}
 use Rattle.base_causes.specs.Meaning.Causes.{first_below}
 use Rattle.base_causes.specs.Promised.CauseLaws.{first-here, first-later, first-nowhere}
-use Rattle.rules.specs.Meaning.Verdict.{◌overZ◌}
+use Rattle.rules.specs.Meaning.Verdict.{◌over_z◌}
 use Rattle.rules.specs.Steps.Duality.{times-grains}
 use Rattle.rules.specs.Promised.Fits.{branchUse-sums, branchTotal-sums, system-near, price-near, price-term-near}
 use Rattle.case_branches.specs.Steps.Table.{table-entry, entry-within}

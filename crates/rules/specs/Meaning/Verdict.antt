@@ -12,14 +12,14 @@ use Rattle.rules.specs.Meaning.Families.{family_version, family_length, parent_o
 use Rattle.base_causes.specs.declared.Outcome.{Outcome}
 use Rattle.base_causes.specs.Meaning.Causes.{Cause, any_below, refusal, answer, once, field, each, each_at, each_field}
 
-infix 90 ◌under◌ ◌over◌ ◌overZ◌
+infix 90 ◌under◌ ◌over◌ ◌over_z◌
 abbrev pub ◌under◌ : ℕ → ℕ → Bool
 x under least = ltb x least
 
 abbrev pub ◌over◌ : ℕ → ℕ → Bool
 x over greatest = ltb greatest x
 
-abbrev pub ◌overZ◌ : ℤ → ℤ → Bool
+abbrev pub ◌over_z◌ : ℤ → ℤ → Bool
 x over_z greatest = lt_z greatest x
 
 abbrev pub differ : ℕ → ℕ → Bool

@@ -22,7 +22,7 @@ use Rattle.rules.specs.Meaning.Hour.{Case, Plan, Prices, case_of, plan_of, price
 use Rattle.base_causes.specs.declared.Outcome.{Outcome}
 use Rattle.base_causes.specs.Meaning.Causes.{Cause, verdict, first_below, any_below, first_field, place_else, refusal, answer}
 use Rattle.base_causes.specs.Promised.CauseLaws.{First, first-is, first-ext, first-field, row-found, row-clear, field-fails, else-refusal, refusal-append, behind}
-use Rattle.rules.specs.Meaning.Verdict.{◌overZ◌, differ, branch_fault, link_fault, order_fault, room_causes, case_causes, proposal_causes, clearing_causes, judgement_causes, table, outcome, case_refusal, Readable, case_header_causes, case_body_causes}
+use Rattle.rules.specs.Meaning.Verdict.{◌over_z◌, differ, branch_fault, link_fault, order_fault, room_causes, case_causes, proposal_causes, clearing_causes, judgement_causes, table, outcome, case_refusal, Readable, case_header_causes, case_body_causes}
 use Rattle.rules.specs.Meaning.Report.{price_bytes, header_bytes, total_bytes, report_text, report_bytes, report_size, reports, written, buffer_after}
 use Rattle.rules.specs.Meaning.Clearing.{Placed}
 use Rattle.rules.specs.Steps.Passed.{case-rows-sound, case-rows-length, case-sound, sound}

@@ -17,7 +17,7 @@ use Rattle.rules.specs.Meaning.Layout.{tolerance_in, orders_in, volume_in, case_
 use Rattle.rules.specs.Meaning.Hour.{Case, Plan, Prices, case_of, plan_of, prices_of, link_use, link_room, branch_room, branch_price, zone_price, no_link}
 use Rattle.base_causes.specs.declared.Outcome.{Outcome}
 use Rattle.base_causes.specs.Meaning.Causes.{first_below, any_below, refusal, answer, once}
-use Rattle.rules.specs.Meaning.Verdict.{◌under◌, ◌over◌, ◌overZ◌, differ, branch_fault, link_fault, order_fault, bad_order_field, room_causes, case_causes, proposal_causes, clearing_causes, table, outcome, Readable, case_refusal}
+use Rattle.rules.specs.Meaning.Verdict.{◌under◌, ◌over◌, ◌over_z◌, differ, branch_fault, link_fault, order_fault, bad_order_field, room_causes, case_causes, proposal_causes, clearing_causes, table, outcome, Readable, case_refusal}
 use Rattle.rules.specs.Meaning.Report.{totals_of, header_bytes, total_bytes, price_bytes, report_text, report_bytes, report_size, reports, written, buffer_after}
 use Rattle.base_causes.specs.Promised.CauseLaws.{First, first-none, lacks, cause_numbered, number-passes, row-by-number}
 use Rattle.rules.specs.Meaning.Clearing.{Placed}
