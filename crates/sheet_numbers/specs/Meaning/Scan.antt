@@ -1,5 +1,5 @@
 -- A mark that is no part of a number.
-use Rattle.std.specs.Prelude.{◌≡◌, false, ℕ, ◌-◌, eqb}
+use Rattle.std.specs.Prelude.{◌≡◌, false, ℕ, eqb}
 use Rattle.sheet_numbers.specs.Meaning.Numeral.{is_digit}
 
 -- A SEPARATOR is no byte of a number

@@ -9,7 +9,7 @@ use Rattle.sheet_numbers.specs.declared.Decimals.{Decimals}
 use Rattle.sheet_numbers.specs.declared.Number.{Number}
 use Rattle.sheet_numbers.specs.declared.NumberAnswer.{NumberAnswer}
 use Rattle.sheet_numbers.specs.declared.NumberAnswer.TheVariants.{Read, NoNumber}
-use Rattle.sheet_numbers.specs.Meaning.Numeral.{before, after, is_number, units, non_zero, finer}
+use Rattle.sheet_numbers.specs.Meaning.Numeral.{before, after, is_number, units, non_zero}
 use Rattle.sheet_numbers.specs.Steps.Scan.{leading}
 use Rattle.sheet_numbers.specs.Steps.Capped.{cap, capped, capped_le}
 use Rattle.sheet_numbers.specs.Meaning.Pieces.{piece_at, held_number, number_by, number_at}
