@@ -1,11 +1,11 @@
 -- What one walk over the lines of a sheet finds and stores.
-use Rattle.std.specs.Prelude.{◌≡◌, Bool, List, ℕ, ◌-◌, ◌≤◌}
+use Rattle.std.specs.Prelude.{◌≡◌, Bool, List, ℕ, ◌≤◌}
 use Rattle.std.proofs.Math.Option.{none}
 use Rattle.std.proofs.lemmas.List.Edits.{sets}
 use Rattle.base_causes.specs.Meaning.Causes.{first_below}
 use Rattle.base_causes.specs.Meaning.Place.{place_of}
 use Rattle.sheet_lines.specs.declared.SheetFaults.{SheetFaults}
-use Rattle.sheet_lines.specs.Meaning.Sheet.{lines, malformed, too_fine, out_of_range, line_of, line_count, sheet_bytes}
+use Rattle.sheet_lines.specs.Meaning.Sheet.{malformed, too_fine, out_of_range, line_of, line_count, sheet_bytes}
 
 -- a cause of line i
 abbrev pub malformed_at : ℕ → List ℕ → ℕ → Bool
