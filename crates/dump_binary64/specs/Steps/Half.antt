@@ -1,6 +1,6 @@
 -- A value from 0 to 2 ^ 51 taken to the nearest whole number, a half up: its whole part, or one more where the
 -- value is at least the whole part and a half. That sum is exact. Assumes nothing.
-use Rattle.std.specs.Prelude.{◌≡◌, ℕ, suc, ◌+◌, ◌-◌, ◌*◌, ◌/◌, ◌%◌, ◌^◌, ◌<◌, ◌≤◌, min, Bool, true, false, T, ℤ, pos, negsuc, ◌==◌, ◌≢◌, refl, Float}
+use Rattle.std.specs.Prelude.{◌≡◌, ℕ, suc, ◌+◌, ◌*◌, ◌/◌, ◌%◌, ◌^◌, ◌<◌, ◌≤◌, min, Bool, true, false, T, ℤ, pos, negsuc, ◌==◌, ◌≢◌, refl, Float}
 use Rattle.std.proofs.Common.{sym, ap, ◌∙◌, subst, zero-le, le_trans, le_of_eq, le_antisymm, le_of_suc-le-suc, lt_irrefl, lt_of_le_of_lt, lt_of_lt_of_le, lt_of_not-le, mul-one, one-mul, zero-mul, mul_assoc, mul_left_comm, mul-pos, add-mul, div-add-mod', mod-lt, le-div_iff_mul-le, div-lt_iff_lt-mul, arith, true≢false, eqb→eq, lit≤, lit<, pow_pos, shl_lt}
 use Rattle.std.specs.Float.{nan, inf, fin, binary64}
 use Rattle.std.specs.Float.Ieee.{up, down, round, add, le, to_unsigned, of_int, of_bits}

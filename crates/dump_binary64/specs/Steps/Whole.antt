@@ -1,6 +1,6 @@
 -- Products that are not negative, against the whole numbers that a field holds: the code's tests, and what they
 -- leave. Assumes nothing.
-use Rattle.std.specs.Prelude.{◌≡◌, ℕ, ◌+◌, ◌-◌, ◌*◌, ◌/◌, ◌^◌, ◌<◌, ◌≤◌, Bool, true, false, ◌&&◌, ◌||◌, T, pos, ◌==◌, ◌≢◌, nat_le, nat_lt, refl, Float}
+use Rattle.std.specs.Prelude.{◌≡◌, ℕ, ◌+◌, ◌*◌, ◌/◌, ◌^◌, ◌<◌, ◌≤◌, Bool, true, false, ◌&&◌, ◌||◌, T, pos, ◌==◌, ◌≢◌, nat_le, nat_lt, refl, Float}
 use Rattle.std.proofs.Common.{sym, ap, ◌∙◌, subst, le_trans, le_of_eq, lt_of_le_of_lt, lt_of_not-le, mul-one, mul_left_comm, mul-pos, le-div_iff_mul-le, div-lt_iff_lt-mul, arith, lt-ltb, le-ltb, le-leb, lt→ltb, lit<, pow_pos}
 use Rattle.std.proofs.Math.Decide.{dec_lt}
 use Rattle.std.proofs.lemmas.Bool.{lt-leb}
