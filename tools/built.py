@@ -13,7 +13,6 @@ import contextlib
 import errno
 import fcntl
 import functools
-import graphlib
 import hashlib
 import json
 import os
@@ -23,18 +22,14 @@ import shutil
 import subprocess
 import sys
 import tempfile
-import time
 from dataclasses import dataclass
-from typing import IO, Any, Callable, Collection, Iterable, Iterator, Sequence
+from typing import IO, Any, Callable, Iterable, Iterator, Sequence
 
 ROOT = pathlib.Path(__file__).resolve().parent.parent
 TARGET = ROOT / "target"
 KIT = ROOT / "kit.txt"
 # All that rt says in a build, and the lock that a build holds.
 LOG, LOCK = TARGET / "build.log", TARGET / "build.lock"
-# Where rt proves single crates.
-SANDBOXES = TARGET / "sandboxes"
-SETTINGS = ROOT / "tools" / "with_rt_settings"
 LINKER = ROOT / "tools" / "link_shared"
 # What the shared object is linked by, besides the library and the compiler.
 LINKED_BY = (LINKER, ROOT / "host" / "lta_judgement.map", ROOT / "include" / "lta_judgement.h")
@@ -48,15 +43,19 @@ class BuildError(Exception):
 
 @dataclass(frozen=True)
 class Proved:
-    """A product of rt: what messages call it, its file, and its crate."""
+    """A product of rt: what messages call it, its file, its crate, the command of rt that builds it there, and the file
+    that this leaves in the crate's out/."""
 
     called: str
     path: pathlib.Path
     crate: str
+    command: str
+    left: str
 
 
-LIBRARY = Proved("the library", TARGET / "staticlib" / "libhost.a", "host")
-DESK = Proved("the program", TARGET / "bin" / "desk", "desk")
+LIBRARY = Proved("the library", TARGET / "staticlib" / "libhost.a", "host", "lib", "libhost.a")
+# rt builds a program by running it: here on an empty input.
+DESK = Proved("the program", TARGET / "bin" / "desk", "desk", "run", "desk")
 SHARED = TARGET / "shared" / "liblta_judgement.so"
 
 
@@ -82,7 +81,10 @@ def hash_of(files: Iterable[str | pathlib.Path], words: Iterable[str] = ()) -> s
 def sources_hash() -> str:
     """The hash of what the library and the program are proved and built of, as it stood when it was first asked."""
     found = [str(KIT), str(ROOT / "crates.txt")]
-    for folder, _, names in os.walk(ROOT / "crates"):
+    for folder, folders, names in os.walk(ROOT / "crates"):
+        if os.path.dirname(folder) == str(ROOT / "crates"):
+            # What rt keeps there is made of the rest.
+            folders[:] = [name for name in folders if name != "out"]
         found += [os.path.join(folder, name) for name in names]
     return hash_of(sorted(found))
 
@@ -159,15 +161,10 @@ def refuse_another_kit(what: str) -> None:
         raise BuildError(f"{what}: rt is {found}, and kit.txt names {kit()}: put that kit on the PATH")
 
 
-def crates_listed() -> dict[str, str]:
-    """What stands after each crate's name in crates.txt: the crates that it uses."""
-    lines = (line.partition("#")[0].partition(":") for line in (ROOT / "crates.txt").read_text().splitlines())
-    return {name.strip(): used for name, _, used in lines if name.strip()}
-
-
 def crates_used() -> dict[str, list[str]]:
-    """The crates that each crate uses, by crates.txt."""
-    return {name: used.split() for name, used in crates_listed().items()}
+    """The crates that each crate uses, by crates.txt. After a crate's name its line may have a word, as staticlib."""
+    lines = (line.partition("#")[0].partition(":") for line in (ROOT / "crates.txt").read_text().splitlines())
+    return {name.split()[0]: used.split() for name, _, used in lines if name.strip()}
 
 
 def reached_from(crate: str) -> list[str]:
@@ -182,64 +179,52 @@ def reached_from(crate: str) -> list[str]:
     return sorted(reached)
 
 
-def functions_of(crate: str) -> int | None:
-    """How many functions of a crate rt proved, by its log; None where the log does not say."""
-    try:
-        said = (TARGET / "log" / f"{crate}.say").read_text(errors="replace")
-    except OSError:
-        return None
-    counts = [
-        word.partition("=")[2]
-        for line in said.splitlines()
-        if line.startswith("logic=proved ")
-        for word in line.split()
-        if word.startswith("functions=")
-    ]
-    return int(counts[-1]) if counts else None
+# A function of a source: at the start of a line or of an impl's line.
+FUNCTION = re.compile(r"^ *(?:pub )?(?:const )?(?:extern \"C\" )?fn \w+", re.M)
+
+
+def functions_of(crate: str) -> int:
+    """How many functions the sources of a crate write. rt builds only a crate of which it proved each."""
+    return sum(len(FUNCTION.findall(path.read_text())) for path in (ROOT / "crates" / crate / "src").rglob("*.rt"))
 
 
 class Progress:
-    """How far rt is with some crates: on a terminal one line that is rewritten, else a line for each crate."""
+    """How far rt is with some crates: on a terminal one line that is rewritten, else a line for each crate. rt prints a
+    section for each crate as soon as it is done with it; where there was nothing to prove, the section is empty."""
 
-    PROVED = re.compile(r"^rt: (\w+) proved\b", re.MULTILINE)
+    SECTION = re.compile(r"^== (\w+)\n", re.MULTILINE)
+    PROVED = re.compile(r"^logic=proved .*\n\Z", re.MULTILINE)
 
     def __init__(self, crates: Iterable[str], say: Say) -> None:
-        self.crates, self.say, self.began = frozenset(crates), say, time.time()
-        self.told: set[str] = set()
-        self.proved: set[str] = set()
-        self.shown = ""
+        self.crates, self.say = frozenset(crates), say
+        self.told: list[str] = []
+        self.shown = False
         self.on_terminal = sys.stderr is not None and sys.stderr.isatty()
 
-    def state_of(self, crate: str) -> str:
-        """What rt notes of a crate in this build: failed while it is tried, proved or built once it is; empty
-        before."""
-        try:
-            path = TARGET / "log" / f"{crate}.res"
-            # The clock of the file system may be behind by a tick.
-            return path.read_text().strip() if path.stat().st_mtime >= self.began - 1 else ""
-        except OSError:
-            return ""
+    def proved(self) -> Iterator[str]:
+        """The crates that the log says are proved, in its order."""
+        _, *sections = self.SECTION.split(read_log())
+        for at in range(0, len(sections), 2):
+            name, said = sections[at : at + 2]
+            # The last section may not be whole yet.
+            if self.PROVED.search(said) or not said and at + 2 < len(sections):
+                yield name
 
     def show(self) -> None:
         """Says what is new."""
-        if self.on_terminal:
-            # rt tries a proved crate again, to see that it has not changed: that is no news.
-            states = {crate: self.state_of(crate) for crate in sorted(self.crates - self.proved)}
-            tried = [crate for crate, state in states.items() if state == "failed"]
-            self.proved.update(crate for crate, state in states.items() if state in ("proved", "built"))
-            line = f"[{len(self.proved) + 1}/{len(self.crates)}] proving {tried[0]}" if tried else self.shown
-            if line != self.shown:
-                self.shown = line
-                write_stderr(f"\r{line}\x1b[K")
-            return
-        for crate in self.PROVED.findall(read_log()):
-            if crate in self.crates - self.told:
-                self.told.add(crate)
-                self.say(f"[{len(self.told)}/{len(self.crates)}] proved {crate}")
+        for crate in self.proved():
+            if crate in self.crates and crate not in self.told:
+                self.told.append(crate)
+                line = f"[{len(self.told)}/{len(self.crates)}] proved {crate}"
+                if self.on_terminal:
+                    self.shown = True
+                    write_stderr(f"\r{line}\x1b[K")
+                else:
+                    self.say(line)
 
     def end(self) -> None:
         if self.shown:
-            self.shown = ""
+            self.shown = False
             write_stderr("\r\x1b[K")
 
 
@@ -263,37 +248,46 @@ ERROR = re.compile(
 LONGEST = 240
 
 
-def first_error(said: str) -> str:
-    """The first line that says what failed, without the path of this tree; where none does, the last line."""
-    lines = [line.strip() for line in said.splitlines()]
-    found = next((line for line in lines if ERROR.search(line)), one_line(said))
-    found = found.replace(f"{ROOT}/", "")
+# A place in a file of the crate that rt speaks of.
+IN_CRATE = re.compile(r"^(note: )?(?:\./)?(?=(?:src|specs|proofs)/)")
+
+
+def first_error(said: str, crate: str) -> str:
+    """The first line that says what failed, of this crate or of those that rt has a section for, with paths from the top
+    of this tree; where none does, the last line."""
+    found = ""
+    for line in map(str.strip, said.splitlines()):
+        crate = line.removeprefix("== ") if line.startswith("== ") else crate
+        if ERROR.search(line):
+            found = IN_CRATE.sub(lambda at: f"{at[1] or ''}crates/{crate}/", line)
+            break
+    found = (found or one_line(said)).replace(f"{ROOT}/", "")
     return found if len(found) <= LONGEST else f"{found[:LONGEST]}..."
 
 
-def start_rt(words: Sequence[str], folder: pathlib.Path, said: IO[bytes], lock: IO[str]) -> subprocess.Popen[bytes]:
-    """Starts rt in a folder, with the settings under which it proves fastest. It holds the lock too, so that no other
-    build begins while it runs on after this process was killed.
-    """
-    return subprocess.Popen(
-        [str(SETTINGS), "rt", *words],
-        cwd=folder,
-        stdin=subprocess.DEVNULL,
-        stdout=said,
-        stderr=subprocess.STDOUT,
-        pass_fds=[lock.fileno()],
-    )
+def at_a_time() -> int:
+    """How many crates rt proves at a time: one on each processor, or fewer if RT_JOBS or the memory says so. A check takes
+    up to 2 GB."""
+    jobs, processors = os.environ.get("RT_JOBS", ""), len(os.sched_getaffinity(0))
+    if jobs.isdecimal():
+        return max(min(int(jobs), processors), 1)
+    free = re.search(r"^MemAvailable: +(\d+) kB", pathlib.Path("/proc/meminfo").read_text(), re.M)
+    return max(min(int(free[1]) // 2_000_000, processors), 1) if free else 1
 
 
-def refuse_failed(status: int, words: Sequence[str], what: str) -> None:
-    if status:
-        raise BuildError(f"{what}: rt {words[0]}: {first_error(read_log())} ({LOG.relative_to(ROOT)} has all of it)")
-
-
-def run_rt(words: Sequence[str], what: str, progress: Progress, lock: IO[str]) -> None:
-    """Runs rt in this tree."""
+def run_rt(words: Sequence[str], crate: str, what: str, progress: Progress, lock: IO[str]) -> None:
+    """Runs rt in a crate's folder. It holds the lock too, so that no other build begins while it runs on after this process
+    was killed."""
     with open(LOG, "ab") as log:
-        process = start_rt(words, ROOT, log, lock)
+        began = log.tell()
+        process = subprocess.Popen(
+            ["rt", *words],
+            cwd=ROOT / "crates" / crate,
+            stdin=subprocess.DEVNULL,
+            stdout=log,
+            stderr=subprocess.STDOUT,
+            pass_fds=[lock.fileno()],
+        )
         try:
             while process.poll() is None:
                 progress.show()
@@ -306,94 +300,21 @@ def run_rt(words: Sequence[str], what: str, progress: Progress, lock: IO[str]) -
             raise
         finally:
             progress.end()
-    refuse_failed(process.returncode, words, what)
+    if process.returncode:
+        said = LOG.read_bytes()[began:].decode(errors="replace")
+        asked = " ".join(word for word in words if word.isalpha())
+        raise BuildError(f"{what}: rt {asked}: {first_error(said, crate)} ({LOG.relative_to(ROOT)} has all of it)")
 
 
-# Proving several crates at a time. rt goes by levels: it begins no crate before the slowest of the level below is
-# proved, and a processor waits. Here each crate is begun as soon as what it uses is proved.
-
-
-class Sandbox:
-    """A folder where rt proves one crate. Crates and target are the tree's, but crates.txt lists this crate alone: so
-    several rt can work at a time, and none tries the crates of another.
-    """
-
-    def __init__(self, crate: str, lock: IO[str]) -> None:
-        folder = SANDBOXES / crate
-        folder.mkdir(parents=True)
-        (folder / "crates.txt").write_text(f"{crate}:{crates_listed()[crate]}\n")
-        (folder / "crates").symlink_to(ROOT / "crates")
-        (folder / "target").symlink_to(TARGET)
-        self.folder, self.output = folder.resolve(), folder / "output"
-        with open(self.output, "wb") as output:
-            self.process = start_rt(["check", crate], folder, output, lock)
-
-    def end(self, what: str) -> None:
-        """Puts what rt said into the log, with the tree's own files, and refuses a crate that is not proved."""
-        said = self.output.read_text(errors="replace").replace(f"{self.folder}/", f"{ROOT}/")
-        with open(LOG, "a") as log:
-            log.write(said)
-        refuse_failed(self.process.returncode, ["check"], what)
-
-
-def at_a_time() -> int:
-    """How many crates are proved at a time: one on each processor, or fewer if RT_JOBS or the memory says so."""
-    jobs = run([str(SETTINGS), "printenv", "RT_JOBS"], "the settings of rt").strip()
-    return min(int(jobs) if jobs.isdecimal() else 1, len(os.sched_getaffinity(0))) or 1
-
-
-def longest_chains(crates: Collection[str]) -> dict[str, int]:
-    """For each crate the bytes of the longest chain of crates that wait for it, with its own."""
-    used = crates_used()
-
-    @functools.lru_cache(maxsize=None)
-    def chain(crate: str) -> int:
-        files = (path for part in ("src", "specs", "proofs") for path in (ROOT / "crates" / crate / part).rglob("*.*"))
-        waiting = (chain(user) for user in crates if crate in used[user])
-        return sum(path.stat().st_size for path in files) + max(waiting, default=0)
-
-    return {crate: chain(crate) for crate in crates}
-
-
-def prove_each(crates: Collection[str], what: str, progress: Progress, lock: IO[str]) -> None:
-    """Has rt prove some crates, and stops at the first that is not proved."""
-    used = crates_used()
-    order = graphlib.TopologicalSorter({crate: [name for name in used[crate] if name in crates] for crate in crates})
-    try:
-        order.prepare()
-    except graphlib.CycleError:
-        return  # rt says so when it is asked for all of them
-    chains, most = longest_chains(crates), at_a_time()
-    ready: list[str] = []
-    running: dict[str, Sandbox] = {}
-    shutil.rmtree(SANDBOXES, ignore_errors=True)  # of a build that was killed
-    try:
-        while order.is_active():
-            ready = sorted([*ready, *order.get_ready()], key=lambda crate: chains[crate])
-            while ready and len(running) < most:
-                crate = ready.pop()
-                running[crate] = Sandbox(crate, lock)
-            progress.show()
-            with contextlib.suppress(subprocess.TimeoutExpired):
-                next(iter(running.values())).process.wait(0.1)
-            for crate in [crate for crate, sandbox in running.items() if sandbox.process.poll() is not None]:
-                running.pop(crate).end(what)
-                order.done(crate)
-        progress.show()
-    finally:
-        # rt would not end in a folder that is gone.
-        for sandbox in running.values():
-            sandbox.process.wait()
-        progress.end()
-        shutil.rmtree(SANDBOXES, ignore_errors=True)
-
-
-def forget(product: Proved) -> None:
-    """Removes the record of a product that will be built."""
-    if record_of(product.path).exists() and not is_intact(product.path):
-        # rt knows only that it proved the crate: without its stamp it makes the file again.
-        (TARGET / "stamp" / product.crate).unlink(missing_ok=True)
-    record_of(product.path).unlink(missing_ok=True)
+def put(product: Proved, what: str) -> None:
+    """Copies what rt left of a product to its place, whole."""
+    left = ROOT / "crates" / product.crate / "out" / product.left
+    if not left.is_file():
+        raise BuildError(f"{what}: rt left no {left.relative_to(ROOT)}")
+    product.path.parent.mkdir(parents=True, exist_ok=True)
+    new = product.path.with_name(f"{product.path.name}.new")
+    shutil.copy(left, new)
+    os.replace(new, product.path)
 
 
 def prove(products: Sequence[Proved], say: Say, lock: IO[str]) -> None:
@@ -401,21 +322,14 @@ def prove(products: Sequence[Proved], say: Say, lock: IO[str]) -> None:
     what = f"{named(products)} cannot be built"
     refuse_another_kit(what)
     say(f"proving and building, some minutes the first time; {LOG.relative_to(ROOT)} is its log")
-    for product in products:
-        forget(product)
     LOG.write_bytes(b"")
-    crates = {crate for product in products for crate in reached_from(product.crate)}
-    progress = Progress(crates, say)
-    # rt staticlib proves the library's own crate.
-    prove_each(crates - {LIBRARY.crate}, what, progress, lock)
-    # In the tree rt proves what is still missing; what it proved in a sandbox is not proved again.
-    if DESK in products:
-        run_rt(["check", DESK.crate], what, progress, lock)
-    if LIBRARY in products:
-        run_rt(["staticlib", LIBRARY.crate], what, progress, lock)
+    progress = Progress({crate for product in products for crate in reached_from(product.crate)}, say)
     for product in products:
-        if not product.path.is_file():
-            raise BuildError(f"{what}: rt left no {product.path}")
+        record_of(product.path).unlink(missing_ok=True)
+        # All below it and the crate itself, several at a time; then the product, over what that kept.
+        run_rt(["all", "check", "--jobs", str(at_a_time())], product.crate, what, progress, lock)
+        run_rt([product.command], product.crate, what, progress, lock)
+        put(product, what)
         functions = {crate: functions_of(crate) for crate in reached_from(product.crate)}
         write_record(product.path, sources_hash(), kit=kit(), functions=functions)
 
