@@ -1,0 +1,43 @@
+-- `flow_augment::walk_back` meets its contract: each step takes the path to the pair's other zone. Assumes nothing.
+use Rattle.std.proofs.Common.{List, ℕ, ◌<◌, arith, get_or}
+use Rattle.std.specs.Prelude.{ℤ}
+use Rattle.flow_scratch.specs.Steps.Scratch.{Rest, rest-trans}
+use Rattle.flow_augment.specs.Meaning.Path.{trail_of}
+use Rattle.flow_augment.specs.Steps.Path.{PathBack, step-safe, path-step}
+use Rattle.flow_augment.proofs.walk_back.Goals as goal
+use Rattle.flow_augment.proofs.walk_back.Goals.{In-loop-z, After-shift-z}
+
+-- the path where the loop is
+at : (c : In-loop-z) → PathBack c.requires.net_exports c.requires.prices c.requires.total c.args.pairs.now c.loop-z.s (trail_of c.args.labels) c.args.d c.loop-z.z
+at c = c.loop-z.invariant.0 c.requires.net_exports c.requires.prices c.requires.total c.requires.path
+
+pub shift-z-requires-clause-k_in_bounds : goal.shift-z-requires-clause-k_in_bounds
+shift-z-requires-clause-k_in_bounds c =
+    let p = at (goal.at.shift-z-requires-clause-k_in_bounds c).In-loop-z in
+    let w = step-safe _ _ _ _ _ _ _ _ p c.loop-z-test.true in
+    (omega (arith, w.0, p.sized.even), omega (arith, w.0, p.sized.pairs))
+
+pub shift-z-requires-clause-d_bound : goal.shift-z-requires-clause-d_bound
+shift-z-requires-clause-d_bound c =
+    (step-safe _ _ _ _ _ _ _ _ (at (goal.at.shift-z-requires-clause-d_bound c).In-loop-z) c.loop-z-test.true).1.0
+
+pub shift-z-requires-clause-d_bound_2 : goal.shift-z-requires-clause-d_bound_2
+shift-z-requires-clause-d_bound_2 c =
+    (step-safe _ _ _ _ _ _ _ _ (at (goal.at.shift-z-requires-clause-d_bound_2 c).In-loop-z) c.loop-z-test.true).1.1
+
+-- the step taken
+stepped : (c : After-shift-z) (net_exports prices : List ℤ) (total : ℕ) → PathBack net_exports prices total c.args.pairs.now c.loop-z.s (trail_of c.args.labels) c.args.d c.loop-z.z
+    → PathBack net_exports prices total c.args.pairs.now c.shift-z.new.s (trail_of c.args.labels) c.args.d c.shift-z.result
+    × ((get_or c.args.labels.depth c.shift-z.result 0 < get_or c.args.labels.depth c.loop-z.z 0) × Rest c.loop-z.s c.shift-z.new.s)
+stepped c net_exports prices total p = path-step net_exports prices total _ _ _ _ _ p c.loop-z-test.true c.shift-z.new.s c.shift-z.result c.shift-z.ensures
+
+pub loop-z-smaller : goal.loop-z-smaller
+loop-z-smaller c =
+    let g = goal.at.loop-z-smaller c in
+    (stepped g.After-shift-z c.requires.net_exports c.requires.prices c.requires.total (at g.In-loop-z)).1.0
+
+pub loop-z-preserved : goal.loop-z-preserved
+loop-z-preserved c =
+    let g = goal.at.loop-z-preserved c in
+    let s = stepped g.After-shift-z c.requires.net_exports c.requires.prices c.requires.total (at g.In-loop-z) in
+    (λ net_exports prices total w. (stepped g.After-shift-z net_exports prices total (c.loop-z.invariant.0 net_exports prices total w)).0, rest-trans c.loop-z.invariant.1 s.1.1)
