@@ -1,0 +1,8 @@
+-- After i turns the sum is over the first i orders.
+use Rattle.std.proofs.Common.{◌≡◌}
+use Rattle.base_integers.specs.Meaning.Sums.{sum_to}
+use Rattle.rules.specs.Meaning.Hour.{case_of, prices_of, order_surplus}
+use Rattle.judge_totals.proofs.surpluses.Given as goal
+
+abbrev pub invariant-loop-i : goal.invariant-loop-i
+invariant-loop-i l = l.sum.0 ≡ sum_to l.i (λ j. order_surplus (case_of l.case) (prices_of l.case l.proposal) j)
