@@ -2,65 +2,56 @@
 // for it.
 #![tactic(auto)]
 
-ghost use Rattle.std.specs.Prelude.{◌≤◌, length};
+ghost use Rattle.std.specs.Prelude.{◌≤◌, IfOk, length};
 
-use libc::{STDIN_FILENO, STDOUT_FILENO};
+use std::io;
+use std::io::Read;
 
-// How much of the input was kept, and whether its end was reached.
-#[derive(Clone, Copy)]
-struct Input {
-    kept: usize,
-    whole: bool,
+// Says on standard error what failed and why. A message that is lost changes nothing.
+fn fail(rt: &impl Eprint, what: &str, why: io::Error) {
+    let _ = eprintln!(rt; "{what}: {why}");
 }
 
 // Reads once and returns what `read` returns. With a full buffer it reads on and drops the bytes.
-fn read_some(buffer: &mut [u8], kept: usize) -> isize
+fn read_some(input: &mut impl Read, buffer: &mut [u8], kept: usize) -> io::Result<usize>
     requires { kept ≤ length buffer.old }
 {
     if kept < buffer.len() {
-        return libc::read(STDIN_FILENO, &mut buffer[kept..]);
+        return input.read(&mut buffer[kept..]);
     }
-    let mut dropped = io::buffer();
-    libc::read(STDIN_FILENO, &mut dropped)
+    let mut dropped = [0u8; 4096];
+    input.read(&mut dropped)
 }
 
-// Keeps the start of the input and reads on to its end. The buffer has more bytes than any legal hour, so the bytes
-// dropped past it change no line (law `start-enough` in the specs of text_lines). A proved loop must end, but an
-// input need not: the turns count down from a number that no run uses up.
-fn read_all(buffer: &mut [u8]) -> Input
-    ensures { result.kept ≤ length buffer.new }
+// Keeps the start of the input, reads on to its end and returns how much it kept. The buffer has more bytes than any
+// legal hour, so the bytes dropped past it change no line (law `start-enough` in the specs of text_lines). A proved
+// loop must end, but an input need not: the turns have a number that no run uses up.
+fn read_all(input: &mut impl Read, buffer: &mut [u8]) -> io::Result<usize>
+    ensures { IfOk result (λ kept. kept ≤ length buffer.new) }
 {
     let mut kept = 0;
-    let mut turns = u64::MAX;
-    while 0 < turns {
-        let got = read_some(buffer, kept);
-        if got < 0 {
-            return Input { kept, whole: false };
-        }
+    for _ in 0..u64::MAX {
+        let got = read_some(input, buffer, kept)?;
         if got == 0 {
-            return Input { kept, whole: true };
+            return Ok(kept);
         }
-        kept += io::count(got, &buffer[kept..]);
-        turns -= 1;
+        kept += got.min(buffer.len() - kept);
     }
-    Input { kept, whole: false }
+    Err(io::Error::from(io::ErrorKind::TimedOut))
 }
 
-fn print(input: &[u8]) {
+fn print(rt: &(impl Print + Eprint), input: &[u8]) {
     let mut out = [0u8; text_lines::ROOM];
     let n = text_lines::lines(input, &mut out).length;
-    if !io::write_all(STDOUT_FILENO, &out[..n]) {
-        os::fail(b"standard output");
+    if let Err(why) = rt.write_all(&out[..n]) {
+        fail(rt, "standard output", why);
     }
 }
 
-fn main() {
-    let mut buffer = io::large_buffer();
-    let input = read_all(&mut buffer);
-    let kept = input.kept;
-    if !input.whole {
-        os::fail(b"standard input");
-        return;
+fn main(rt: HostRuntime) {
+    let mut buffer = [0u8; 65536];
+    match read_all(&mut rt.stdin(), &mut buffer) {
+        Ok(kept) => print(&rt, &buffer[..kept]),
+        Err(why) => fail(&rt, "standard input", why),
     }
-    print(&buffer[..kept]);
 }

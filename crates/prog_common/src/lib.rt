@@ -1,12 +1,28 @@
-// What the program over stored inputs reads and prints: the numbers of a record, the start of a buffer that is lent
-// or was written, and its lines.
+// What the program over stored inputs reads and prints: its input, the numbers of a record, the start of a buffer
+// that is lent or was written, and its lines. A read or write that fails is an error, with which the program ends.
 #![tactic(auto)]
 
 ghost use Rattle.std.specs.Prelude.{◌≡◌, ◌+◌, ◌≤◌, ◌<◌, length, take};
-ghost use Rattle.io.specs.Counts.{IsPrefixLen};
+ghost use Rattle.std.specs.Io.{ReadsAtMost};
 ghost use Rattle.rules.specs.Meaning.Layout.{u32_at};
 
-use libc::STDOUT_FILENO;
+use std::io;
+use std::io::Read;
+
+// Reads until the buffer is full or the input ends, and answers how many bytes stand at its start.
+pub fn read_full(input: &mut impl Read, buffer: &mut [u8]) -> io::Result<usize>
+    ensures { ReadsAtMost result buffer.new }
+{
+    let mut done = 0;
+    while done < buffer.len() {
+        let n = input.read(&mut buffer[done..])?;
+        if n == 0 {
+            break;
+        }
+        done += n;
+    }
+    Ok(done)
+}
 
 // A number of a record, 32 bits, little-endian; 0 where the input ends before it.
 pub fn number_at(input: &[u8], at: usize) -> usize
@@ -25,7 +41,7 @@ pub fn number_at(input: &[u8], at: usize) -> usize
 
 // How many of the first n bytes there are.
 fn there(bytes: &[u8], n: usize) -> usize
-    ensures prefix_len { IsPrefixLen result bytes.now }
+    ensures prefix_len { (result ≤ length bytes.now) × (result ≡ length (take result bytes.now)) }
     ensures bytes_value { take result bytes.now ≡ take n bytes.now }
 {
     if n <= bytes.len() {
@@ -75,42 +91,43 @@ pub fn lent_numbers(numbers: &mut [i64], room: usize) -> &mut [i64]
     &mut numbers[..k]
 }
 
-pub fn print(text: &[u8]) {
-    io::write_all(STDOUT_FILENO, text);
+pub fn print(rt: &impl Print, text: &[u8]) -> io::Result<()> {
+    rt.write_all(text)
 }
 
-pub fn end_line() {
-    print(b"\n");
+pub fn end_line(rt: &impl Print) -> io::Result<()> {
+    print(rt, b"\n")
 }
 
-pub fn print_space() {
-    print(b" ");
+pub fn print_space(rt: &impl Print) -> io::Result<()> {
+    print(rt, b" ")
 }
 
-pub fn print_count(n: u64) {
-    io::print_decimal(STDOUT_FILENO, n);
+pub fn print_count(rt: &impl Print, n: u64) -> io::Result<()> {
+    rt.print(n)
 }
 
 // A count after another.
-pub fn print_next(n: u64) {
-    print_space();
-    print_count(n);
+pub fn print_next(rt: &impl Print, n: u64) -> io::Result<()> {
+    print_space(rt)?;
+    print_count(rt, n)
 }
 
 // The answer of an entry that writes into a lent output.
-pub fn print_written(number: u32, index: usize, length: usize) {
-    print_count(number as u64);
-    print_next(index as u64);
-    print_next(length as u64);
+pub fn print_written(rt: &impl Print, number: u32, index: usize, length: usize) -> io::Result<()> {
+    print_count(rt, number as u64)?;
+    print_next(rt, index as u64)?;
+    print_next(rt, length as u64)
 }
 
-fn print_byte(b: u8) {
-    io::print_hex(STDOUT_FILENO, b as u64, 2);
+fn print_byte(rt: &impl Print, b: u8) -> io::Result<()> {
+    print!(rt; "{b:02x}")
 }
 
 // Two digits for each byte.
-pub fn print_hex(bytes: &[u8]) {
+pub fn print_hex(rt: &impl Print, bytes: &[u8]) -> io::Result<()> {
     for k in 0..bytes.len() {
-        print_byte(bytes[k]);
+        print_byte(rt, bytes[k])?;
     }
+    Ok(())
 }

@@ -2,29 +2,30 @@
 // for columning it and one for restoring it: number, index and length, and what was written, in hex.
 use base_output::Written;
 use prog_common::print;
+use std::io;
 
-fn print_answer(v: Written, out: &[u8]) {
-    prog_common::print_written(v.number, v.index, v.length);
-    prog_common::print_space();
-    prog_common::print_hex(prog_common::first(out, v.length));
-    prog_common::end_line();
+fn print_answer(rt: &impl Print, v: Written, out: &[u8]) -> io::Result<()> {
+    prog_common::print_written(rt, v.number, v.index, v.length)?;
+    prog_common::print_space(rt)?;
+    prog_common::print_hex(rt, prog_common::first(out, v.length))?;
+    prog_common::end_line(rt)
 }
 
-fn column(file: &[u8], out: &mut [u8]) {
+fn column(rt: &impl Print, file: &[u8], out: &mut [u8]) -> io::Result<()> {
     let v = column_file::columned(file, out);
-    print(b"columned ");
-    print_answer(v, out);
+    print(rt, b"columned ")?;
+    print_answer(rt, v, out)
 }
 
-fn restore(file: &[u8], out: &mut [u8]) {
+fn restore(rt: &impl Print, file: &[u8], out: &mut [u8]) -> io::Result<()> {
     let v = column_file::restored(file, out);
-    print(b"restored ");
-    print_answer(v, out);
+    print(rt, b"restored ")?;
+    print_answer(rt, v, out)
 }
 
-pub fn run(room: usize, file: &[u8]) {
+pub fn run(rt: &impl Print, room: usize, file: &[u8]) -> io::Result<()> {
     let mut columned = column_file::blank();
-    column(file, prog_common::lent(&mut columned, room));
+    column(rt, file, prog_common::lent(&mut columned, room))?;
     let mut restored = column_file::blank();
-    restore(file, prog_common::lent(&mut restored, room));
+    restore(rt, file, prog_common::lent(&mut restored, room))
 }

@@ -6,6 +6,7 @@
 use bytes_read::{Cursor, LongField};
 use flow_intuitive::Carried;
 use prog_common::{print, print_next};
+use std::io;
 
 const ROOM: usize = 330;
 
@@ -45,51 +46,80 @@ fn zeros(s: &[i64]) -> u64 {
     i as u64
 }
 
-fn told(r: Carried, zeros: u64) {
-    prog_common::print_count(r.number as u64);
-    print_next(r.index as u64);
-    print_next(r.intuitive as u64);
-    print_next(r.total.bits().0);
-    print_next(zeros);
+fn told(rt: &impl Print, r: Carried, zeros: u64) -> io::Result<()> {
+    prog_common::print_count(rt, r.number as u64)?;
+    print_next(rt, r.index as u64)?;
+    print_next(rt, r.intuitive as u64)?;
+    print_next(rt, r.total.bits().0)?;
+    print_next(rt, zeros)
 }
 
-fn wide(net: &[i64], prices: &[i64], pairs: &[u8], scratch: &mut [i64]) {
+fn wide(
+    rt: &impl Print,
+    net: &[i64],
+    prices: &[i64],
+    pairs: &[u8],
+    scratch: &mut [i64],
+) -> io::Result<()> {
     let r = flow_intuitive::intuitive(net, prices, pairs, scratch);
-    told(r, zeros(scratch));
+    told(rt, r, zeros(scratch))
 }
 
-fn small(net: &[i64], prices: &[i64], pairs: &[u8], scratch: &mut [i64]) {
+fn small(
+    rt: &impl Print,
+    net: &[i64],
+    prices: &[i64],
+    pairs: &[u8],
+    scratch: &mut [i64],
+) -> io::Result<()> {
     let r = flow_intuitive::intuitive_small(net, prices, pairs, scratch);
-    told(r, zeros(scratch));
+    told(rt, r, zeros(scratch))
 }
 
-fn ask(room: usize, small_room: usize, net: &[i64], prices: &[i64], pairs: &[u8]) {
+fn ask(
+    rt: &impl Print,
+    room: usize,
+    small_room: usize,
+    net: &[i64],
+    prices: &[i64],
+    pairs: &[u8],
+) -> io::Result<()> {
     let mut scratch = [7i64; ROOM];
     wide(
+        rt,
         net,
         prices,
         pairs,
         prog_common::lent_numbers(&mut scratch, room),
-    );
-    print(b"; ");
+    )?;
+    print(rt, b"; ")?;
     let mut small_scratch = [7i64; SMALL_ROOM];
     small(
+        rt,
         net,
         prices,
         pairs,
         prog_common::lent_numbers(&mut small_scratch, small_room),
-    );
-    prog_common::end_line();
+    )?;
+    prog_common::end_line(rt)
 }
 
-pub fn run(room: usize, small_room: usize, net: &[u8], prices: &[u8], pairs: &[u8]) {
+pub fn run(
+    rt: &impl Print,
+    room: usize,
+    small_room: usize,
+    net: &[u8],
+    prices: &[u8],
+    pairs: &[u8],
+) -> io::Result<()> {
     let net_list = numbers(net);
     let price_list = numbers(prices);
     ask(
+        rt,
         room,
         small_room,
         prog_common::first_numbers(&net_list, net.len() / 8),
         prog_common::first_numbers(&price_list, prices.len() / 8),
         pairs,
-    );
+    )
 }
