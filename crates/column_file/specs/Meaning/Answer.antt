@@ -1,6 +1,5 @@
 -- What restoring a columned file answers. Assumes nothing.
-use Rattle.std.specs.Prelude.{Bool, true, false, length}
-use Rattle.base_causes.specs.Meaning.Causes.{answer}
+use Rattle.std.specs.Prelude.{Bool, true, false}
 use Rattle.column_file.specs.declared.RestoreAnswer.{RestoreAnswer}
 use Rattle.column_file.specs.declared.RestoreAnswer.TheVariants as restore
 
