@@ -1,4 +1,2 @@
 -- Read and believe `Meaning`. All else is proved: what is `Promised` of it, and the steps.
 pub mod Meaning
-pub mod Promised
-pub mod Steps

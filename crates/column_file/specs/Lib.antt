@@ -1,4 +1,3 @@
 -- Read and believe `Meaning`. `Promised` has the theorems about it for its reader. All else is proved too.
 pub mod Meaning
-pub mod Promised
 pub mod Steps

@@ -3,4 +3,3 @@ pub mod Causes
 pub mod PlainCauses
 pub mod ReadBack
 pub mod PlainBytes
-pub mod Answered

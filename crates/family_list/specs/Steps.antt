@@ -4,4 +4,3 @@ pub mod Ancestors
 pub mod Round
 pub mod Walk
 pub mod Parents
-pub mod Answer

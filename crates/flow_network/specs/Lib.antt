@@ -1,5 +1,4 @@
 -- Flows of exports to imports along counted pairs of zones. A set of zones that no counted pair leaves bounds the
 -- largest total.
 pub mod Meaning
-pub mod Promised
 pub mod Steps

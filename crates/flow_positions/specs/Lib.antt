@@ -1,3 +1,2 @@
 -- Read and believe `Meaning`. `Promised` has the theorems about it.
 pub mod Meaning
-pub mod Promised

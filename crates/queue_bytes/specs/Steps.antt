@@ -3,5 +3,3 @@ pub mod ReadBack
 pub mod Cells
 pub mod Walks
 pub mod Answers
-pub mod Said
-pub mod Tidied

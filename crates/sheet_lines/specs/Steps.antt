@@ -2,5 +2,3 @@
 pub mod Split
 pub mod Entries
 pub mod Lines
-pub mod Stands
-pub mod Walks

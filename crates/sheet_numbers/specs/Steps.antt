@@ -2,6 +2,3 @@
 pub mod Scan
 pub mod Capped
 pub mod Pieces
-pub mod Turns
-pub mod Parts
-pub mod Marks

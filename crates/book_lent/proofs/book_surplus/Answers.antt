@@ -5,9 +5,9 @@ use Rattle.std.proofs.Common.{◌<◌, length, get_or, sym, subst, ap, ◌∙◌
 use Rattle.std.proofs.Math.Numerals.{add-one}
 use Rattle.book_surplus.specs.declared.BookState.{BookState}
 use Rattle.book_surplus.specs.Meaning.BookState.{asks_row, add_of, close_of, Ready}
-use Rattle.book_surplus.specs.Steps.BookState.{no_order, state_at}
-use Rattle.book_surplus.specs.Steps.StateLaws.{asked}
-use Rattle.book_surplus.specs.Steps.Closing.{closing, ready, reading}
+use Rattle.book_surplus.proofs.Steps.BookState.{no_order, state_at}
+use Rattle.book_surplus.proofs.Steps.StateLaws.{asked}
+use Rattle.book_surplus.proofs.Steps.Closing.{closing, ready, reading}
 use Rattle.book_lent.proofs.book_surplus.Goals as goal
 
 pub loop-state-init : goal.loop-state-init

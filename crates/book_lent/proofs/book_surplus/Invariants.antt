@@ -1,6 +1,6 @@
 -- The loop of `book_lent::book_surplus`: after i rows the state is the one that document 01 gives to i rows.
 use Rattle.std.proofs.Common.{◌≡◌, ◌-◌, ◌≤◌, length}
-use Rattle.book_surplus.specs.Steps.BookState.{state_at}
+use Rattle.book_surplus.proofs.Steps.BookState.{state_at}
 use Rattle.book_lent.proofs.book_surplus.Given as goal
 
 abbrev pub invariant-loop-state : goal.invariant-loop-state

@@ -5,7 +5,7 @@ use Rattle.base_integers.specs.Steps.Size.{near_fits, near_mul, near_within}
 use Rattle.base_integers.specs.Steps.Machine.{sfits-by}
 use Rattle.base_limits.specs.Meaning.Limits as limits
 use Rattle.rules.specs.Meaning.Hour.{above}
-use Rattle.rules.specs.Promised.Fits.{in-grains, near-above}
+use Rattle.rules.proofs.Promised.Fits.{in-grains, near-above}
 use Rattle.book_order.proofs.surplus.Goals as goal
 
 pub cost-requires : goal.cost-requires

@@ -7,7 +7,7 @@ use Rattle.book_order.specs.declared.Order.{Order}
 use Rattle.book_order.specs.Steps.Admitted.{order-held}
 use Rattle.book_surplus.specs.Meaning.BookState.{bad_in, row_order, counted, with_row}
 use Rattle.book_surplus.specs.Steps.BookState.{OrderIn}
-use Rattle.book_surplus.specs.Steps.StateLaws.{added-by, order-in, counted-near, next_fits}
+use Rattle.book_surplus.proofs.Steps.StateLaws.{added-by, order-in, counted-near, next_fits}
 use Rattle.book_surplus.proofs.add_row.Goals as goal
 use Rattle.book_surplus.proofs.add_row.Goals.{In-Held, After-order_surplus}
 

@@ -1,7 +1,7 @@
 -- `book_surplus::first_price_outside` meets its contract: at each zone the search goes on, or has found the first.
 use Rattle.std.proofs.Common.{sym, ◌∙◌, refl, arith}
 use Rattle.base_causes.specs.Meaning.Causes.{first_below}
-use Rattle.base_causes.specs.Promised.CauseLaws.{first-here, first-later, first-nowhere}
+use Rattle.base_causes.proofs.Promised.CauseLaws.{first-here, first-later, first-nowhere}
 use Rattle.book_surplus.specs.Meaning.BookState.{first_price_outside}
 use Rattle.book_surplus.proofs.first_price_outside.Goals as goal
 

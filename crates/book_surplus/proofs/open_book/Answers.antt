@@ -1,7 +1,7 @@
 -- `book_surplus::open_book` meets its contract: a zone that is found is below the number of prices, so it fits.
 use Rattle.std.proofs.Common.{length, sym, ◌∙◌, arith}
 use Rattle.base_integers.specs.Steps.Ranges.{is_false, nat-within}
-use Rattle.base_causes.specs.Promised.CauseLaws.{at_place, place-below}
+use Rattle.base_causes.proofs.Promised.CauseLaws.{at_place, place-below}
 use Rattle.book_surplus.specs.Meaning.BookState.{first_price_outside}
 use Rattle.book_surplus.proofs.open_book.Goals as goal
 

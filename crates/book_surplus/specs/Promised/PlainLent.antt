@@ -4,7 +4,7 @@
 use Rattle.std.specs.Prelude.{◌≡◌, List, map, ℕ, ◌<◌, ℤ, pos}
 use Rattle.std.proofs.Common.{ap}
 use Rattle.rules.specs.Meaning.Book.{book_surplus}
-use Rattle.rules.specs.Promised.PlainBook.{BookFacts, Refused, book-answers, book-answered-facts, book-refused, refused-book}
+use Rattle.rules.proofs.Promised.PlainBook.{BookFacts, Refused, book-answers, book-answered-facts, book-refused, refused-book}
 use Rattle.book_surplus.specs.declared.OrderRow.{OrderRow}
 use Rattle.book_surplus.specs.declared.Surplus.{Surplus}
 use Rattle.book_surplus.specs.Meaning.Lent.{book_row, given, lent_answer}
@@ -15,12 +15,3 @@ pub record PlainAnswer (orders : List OrderRow) (prices : List ℤ) (r : Surplus
   pub facts-zero : BookFacts (map book_row orders) prices → r ≡ record { number = 0; index = 0; sum = record { 0 = book_surplus (map book_row orders) prices } }
   pub refused-for : 0 < r.number → Refused (map book_row orders) prices r.number r.index
   pub refused-with : (n k : ℕ) → Refused (map book_row orders) prices n k → r ≡ record { number = n; index = k; sum = record { 0 = pos 0 } }
-
-pub lent-plain : (orders : List OrderRow) (prices : List ℤ) → PlainAnswer orders prices (lent_answer orders prices)
-unfolding lent_answer
-lent-plain orders prices = let rows = map book_row orders in record {
-  zero-facts = book-answered-facts rows prices;
-  facts-zero = λ f. ap given (book-answers rows prices f);
-  refused-for = book-refused rows prices;
-  refused-with = λ n k f. ap given (refused-book rows prices f);
-}

@@ -4,7 +4,7 @@ use Rattle.std.proofs.Common.{sym, subst, ◌∙◌, arith}
 use Rattle.std.proofs.Math.Path.{ap}
 use Rattle.std.proofs.Math.Option.{Option, none, some}
 use Rattle.base_causes.specs.Meaning.Causes.{Cause, first_below, first_field, place_else, refusal, each_field}
-use Rattle.base_causes.specs.Promised.CauseLaws.{not-below, any_none, any_here, first-here, first-later, first-nowhere, row-found, row-clear}
+use Rattle.base_causes.proofs.Promised.CauseLaws.{not-below, any_none, any_here, first-here, first-later, first-nowhere, row-found, row-clear}
 use Rattle.base_causes.specs.declared.Outcome.{Outcome}
 use Rattle.bytes_read.specs.declared.Cursor.{Cursor}
 use Rattle.bytes_read.specs.declared.Walked.{Walked}

@@ -6,7 +6,7 @@ use Rattle.base_limits.specs.Meaning.Limits as limits
 use Rattle.base_measures.specs.declared.Tenths.{Tenths}
 use Rattle.rules.specs.Meaning.Layout.{i32_at, ram_in}
 use Rattle.rules.specs.Meaning.Hour.{case_of}
-use Rattle.rules.specs.Steps.Passed.{case-sound}
+use Rattle.rules.proofs.Steps.Passed.{case-sound}
 use Rattle.case_header.specs.declared.Counts.{Counts}
 use Rattle.case_header.specs.Steps.CaseReadable.{headed, whole, limited, branch-start-is, branch-inside}
 use Rattle.case_branches.proofs.margin_at.Goals as goal

@@ -1,7 +1,7 @@
 -- `case_branches::walk_ptdfs` meets its contract: one PTDF within the file for each turn. Assumes nothing.
 use Rattle.std.proofs.Common.{◌≡◌, ℕ, ◌+◌, ◌*◌, refl, sym, ap, ◌∙◌, arith}
 use Rattle.base_causes.specs.Meaning.Causes.{first_below}
-use Rattle.base_causes.specs.Promised.CauseLaws.{first-later}
+use Rattle.base_causes.proofs.Promised.CauseLaws.{first-later}
 use Rattle.bytes_read.specs.declared.Cursor.{Cursor}
 use Rattle.bytes_read.specs.declared.Walked.TheVariants.{Past}
 use Rattle.bytes_read.specs.Meaning.Field.{cursor}

@@ -9,7 +9,7 @@ use Rattle.base_limits.specs.Meaning.Limits as limits
 use Rattle.rules.specs.Meaning.Layout.{i32_at, zones_in, branches_in, branch_size, branch_at, branch_field_at, link_at, ram_in, ptdf_in}
 use Rattle.rules.specs.Meaning.Hour.{case_of}
 use Rattle.base_causes.specs.Meaning.Causes.{first_below}
-use Rattle.base_causes.specs.Promised.CauseLaws.{first-none, first-is, first-here, first-nowhere, not-below}
+use Rattle.base_causes.proofs.Promised.CauseLaws.{first-none, first-is, first-here, first-nowhere, not-below}
 use Rattle.rules.specs.Meaning.Verdict.{branch_fault}
 use Rattle.base_causes.specs.declared.Outcome.{Outcome}
 use Rattle.bytes_read.specs.declared.Cursor.{Cursor}

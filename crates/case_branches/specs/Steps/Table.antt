@@ -12,7 +12,7 @@ use Rattle.base_integers.specs.Meaning.Ranges.{Within}
 use Rattle.base_limits.specs.Meaning.Limits as limits
 use Rattle.rules.specs.Meaning.Layout.{zones_in, branches_in, ptdf_in}
 use Rattle.rules.specs.Meaning.Hour.{case_of}
-use Rattle.rules.specs.Steps.Passed.{case-sound}
+use Rattle.rules.proofs.Steps.Passed.{case-sound}
 use Rattle.case_header.specs.declared.Counts.{Counts}
 use Rattle.case_header.specs.Meaning.CaseReadable.{CaseReadable, CountsInRange}
 use Rattle.case_header.specs.Steps.CaseReadable.{headed, limited}

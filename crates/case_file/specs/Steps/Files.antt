@@ -10,11 +10,11 @@ use Rattle.std.proofs.Math.Seq.{take_all, take-length}
 use Rattle.base_limits.specs.Meaning.Limits as limits
 use Rattle.base_causes.specs.declared.Outcome.{Outcome}
 use Rattle.base_causes.specs.Meaning.Causes.{Cause, verdict, refusal}
-use Rattle.base_causes.specs.Promised.CauseLaws.{else-refusal, field-fails}
+use Rattle.base_causes.proofs.Promised.CauseLaws.{else-refusal, field-fails}
 use Rattle.rules.specs.Meaning.Layout.{u8_at, u16_at, u32_at, case_version, zones_in, branches_in, links_in, orders_in, tolerance_in, case_length}
 use Rattle.rules.specs.Meaning.Verdict.{◌under◌, differ, case_refusal, header_refusal}
 use Rattle.rules.specs.Meaning.Cut.{case_end, case_part, proposal_part}
-use Rattle.rules.specs.Steps.CaseEnd.{end_refused, end_short, end-good, end-within, SameHeader, same-refusal, same_length}
+use Rattle.rules.proofs.Steps.CaseEnd.{end_refused, end_short, end-good, end-within, SameHeader, same-refusal, same_length}
 use Rattle.case_header.specs.declared.Counts.{Counts}
 use Rattle.case_header.specs.Meaning.Answer.{counts_of}
 use Rattle.case_header.specs.Meaning.CaseReadable.{CaseReadable, HeaderValid, LengthValid, length_of, branch_cause, link_cause, order_cause}

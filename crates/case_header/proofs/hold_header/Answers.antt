@@ -8,7 +8,7 @@ use Rattle.base_measures.specs.Steps.Held.{microcents-outside, microcents-held, 
 use Rattle.rules.specs.Meaning.Layout.{zone_counts, branch_counts, link_counts}
 use Rattle.base_causes.specs.declared.Outcome.{Outcome}
 use Rattle.base_causes.specs.Meaning.Causes.{refusal}
-use Rattle.base_causes.specs.Promised.CauseLaws.{Comes, clear, fails-at, none_left, once-fails, once-passes}
+use Rattle.base_causes.proofs.Promised.CauseLaws.{Comes, clear, fails-at, none_left, once-fails, once-passes}
 use Rattle.case_header.specs.declared.Header.{Header}
 use Rattle.case_header.specs.declared.HeaderAnswer.{HeaderAnswer}
 use Rattle.case_header.specs.declared.HeaderAnswer.TheVariants.{Good, Refused}

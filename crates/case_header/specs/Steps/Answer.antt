@@ -6,7 +6,7 @@ use Rattle.rules.specs.Meaning.Layout.{case_header}
 use Rattle.rules.specs.Meaning.Hour.{case_of}
 use Rattle.base_causes.specs.declared.Outcome.{Outcome}
 use Rattle.base_causes.specs.Meaning.Causes.{verdict, refusal}
-use Rattle.base_causes.specs.Promised.CauseLaws.{field-fails, field-passes}
+use Rattle.base_causes.proofs.Promised.CauseLaws.{field-fails, field-passes}
 use Rattle.rules.specs.Meaning.Verdict.{◌under◌, not_mark, header_refusal}
 use Rattle.case_header.specs.declared.Header.{Header}
 use Rattle.case_header.specs.declared.HeaderField.TheVariants as taken

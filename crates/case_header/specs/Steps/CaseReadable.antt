@@ -9,9 +9,9 @@ use Rattle.rules.specs.Meaning.Layout.{case_header, contracts, contracted_size, 
 use Rattle.rules.specs.Meaning.Hour.{case_of}
 use Rattle.base_causes.specs.declared.Outcome.{Outcome}
 use Rattle.base_causes.specs.Meaning.Causes.{Cause, refusal, once, Pass}
-use Rattle.base_causes.specs.Promised.CauseLaws.{else-refusal, refusal-append, is_cause, row_of, field-at-passes}
+use Rattle.base_causes.proofs.Promised.CauseLaws.{else-refusal, refusal-append, is_cause, row_of, field-at-passes}
 use Rattle.rules.specs.Meaning.Verdict.{differ, case_causes, case_refusal, header_refusal, case_header_causes}
-use Rattle.rules.specs.Steps.Passed.{case-length}
+use Rattle.rules.proofs.Steps.Passed.{case-length}
 use Rattle.bytes_read.specs.declared.Cursor.{Cursor}
 use Rattle.bytes_read.specs.Meaning.Field.{cursor}
 use Rattle.case_header.specs.declared.Counts.{Counts}

@@ -7,7 +7,7 @@ use Rattle.base_integers.specs.Steps.Ranges.{within, nat-inside}
 use Rattle.base_limits.specs.Meaning.Limits as limits
 use Rattle.rules.specs.Meaning.Layout.{links_in, capacity_in, contracted_in}
 use Rattle.rules.specs.Meaning.Hour.{case_of}
-use Rattle.rules.specs.Steps.Passed.{case-sound}
+use Rattle.rules.proofs.Steps.Passed.{case-sound}
 use Rattle.case_header.specs.declared.Counts.{Counts}
 use Rattle.case_header.specs.Meaning.CaseReadable.{CaseReadable}
 

@@ -15,7 +15,7 @@ use Rattle.base_limits.specs.Meaning.Limits as limits
 use Rattle.rules.specs.Meaning.Layout.{u8_at, u32_at, case_version, zones_in, links_in, contracts, contracted_size, link_at, link_fields, link_field_at, order_at, from_in, to_in, capacity_in, contracted_in}
 use Rattle.rules.specs.Meaning.Hour.{case_of}
 use Rattle.base_causes.specs.Meaning.Causes.{first_below, first_field}
-use Rattle.base_causes.specs.Promised.CauseLaws.{not-below, no_place, first-field}
+use Rattle.base_causes.proofs.Promised.CauseLaws.{not-below, no_place, first-field}
 use Rattle.rules.specs.Meaning.Verdict.{unknown, repeated, link_fault}
 use Rattle.bytes_read.specs.declared.Walked.{Walked}
 use Rattle.bytes_read.specs.declared.Cursor.{Cursor}

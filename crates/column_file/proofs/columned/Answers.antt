@@ -6,10 +6,10 @@ use Rattle.base_output.specs.declared.Written.{Written}
 use Rattle.case_header.specs.Meaning.CaseReadable.{CaseReadable}
 use Rattle.case_file.specs.Steps.Answer.{opened_of}
 use Rattle.column_file.specs.Meaning.Columns.{columned_of, unreadable, columned_causes, columned_outcome, columned_written, columned_output, Columned, ComesBack, NotJudged, CaseColumned}
-use Rattle.column_file.specs.Promised.RoundTrip.{columned-length, columned-stands}
-use Rattle.column_file.specs.Steps.Counts.{unreadable-of, start-past}
-use Rattle.column_file.specs.Steps.Answers.{Owed, by-71, by-72, by-0}
-use Rattle.column_file.specs.Steps.Read.{refused-case, orders-end, columned-is}
+use Rattle.column_file.proofs.Promised.RoundTrip.{columned-length, columned-stands}
+use Rattle.column_file.proofs.Steps.Counts.{unreadable-of, start-past}
+use Rattle.column_file.proofs.Steps.Answers.{Owed, by-71, by-72, by-0}
+use Rattle.column_file.proofs.Steps.Read.{refused-case, orders-end, columned-is}
 use Rattle.column_file.proofs.columned.Goals as goal
 use Rattle.column_file.proofs.columned.Goals.{In-Readable}
 

@@ -1,7 +1,7 @@
 -- `column_file::put_every` meets its contract: no byte yet, and one byte more. Assumes nothing.
 use Rattle.std.proofs.Common.{ℕ, ◌+◌, ◌*◌, get_or, refl, ◌∙◌}
 use Rattle.std.proofs.Math.ListN.{set}
-use Rattle.column_file.specs.Steps.Listed.{store-more}
+use Rattle.column_file.proofs.Steps.Listed.{store-more}
 use Rattle.column_file.specs.Meaning.Columns.{listed}
 use Rattle.column_file.specs.Steps.Stored.{every}
 use Rattle.column_file.proofs.put_every.Goals as goal

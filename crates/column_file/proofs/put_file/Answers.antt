@@ -2,7 +2,8 @@
 -- the other. Assumes nothing.
 use Rattle.std.proofs.Common.{◌*◌, ◌∙◌}
 use Rattle.std.proofs.lemmas.List.Edits.{sets}
-use Rattle.column_file.specs.Steps.Stored.{orders, file-run}
+use Rattle.column_file.specs.Steps.Stored.{orders}
+use Rattle.column_file.proofs.Steps.Stored.{file-run}
 use Rattle.column_file.proofs.put_file.Goals as goal
 
 pub returns : goal.returns

@@ -1,7 +1,8 @@
 -- `column_file::put_orders` meets its contract: no row yet, and one row more. Assumes nothing.
 use Rattle.std.proofs.Common.{◌+◌, ◌*◌, ◌∙◌}
 use Rattle.std.proofs.lemmas.List.Edits.{sets}
-use Rattle.column_file.specs.Steps.Stored.{every, no_row, next_row}
+use Rattle.column_file.specs.Steps.Stored.{every}
+use Rattle.column_file.proofs.Steps.Stored.{no_row, next_row}
 use Rattle.column_file.proofs.put_orders.Goals as goal
 
 pub loop-i-init : goal.loop-i-init

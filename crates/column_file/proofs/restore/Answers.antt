@@ -14,7 +14,7 @@ use Rattle.case_file.specs.Meaning.Answer.{case_answer}
 use Rattle.column_file.specs.declared.RestoreAnswer.{RestoreAnswer}
 use Rattle.column_file.specs.Meaning.Columns.{arranged, not_restored}
 use Rattle.column_file.specs.Meaning.Answer.{restore_by}
-use Rattle.column_file.specs.Steps.Read.{refused-case, by_length, readable-by-length, unreadable-by-length, too_short, no-room-for-orders, marked-otherwise, not-readable, is-restored, fills}
+use Rattle.column_file.proofs.Steps.Read.{refused-case, by_length, readable-by-length, unreadable-by-length, too_short, no-room-for-orders, marked-otherwise, not-readable, is-restored, fills}
 use Rattle.column_file.proofs.restore.Goals as goal
 use Rattle.column_file.proofs.restore.Goals.{In-Taken, After-differs, After-put_file}
 

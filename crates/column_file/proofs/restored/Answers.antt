@@ -5,10 +5,11 @@ use Rattle.std.proofs.lemmas.List.Edits.{sets}
 use Rattle.base_causes.specs.declared.Outcome.{Outcome}
 use Rattle.base_output.specs.declared.Written.{Written}
 use Rattle.column_file.specs.Meaning.Columns.{restored_of, not_restored, restored_causes, restored_outcome, restored_written, restored_output, Restored, CaseRestored}
-use Rattle.column_file.specs.Promised.RoundTrip.{restored-length, restored-stands}
-use Rattle.column_file.specs.Steps.Answers.{restore-refused, restore-made, Owed, by-71, by-72, by-0}
-use Rattle.column_file.specs.Steps.Stored.{every, copy_run}
-use Rattle.column_file.specs.Steps.Read.{too_long, not-readable}
+use Rattle.column_file.proofs.Promised.RoundTrip.{restored-length, restored-stands}
+use Rattle.column_file.proofs.Steps.Answers.{restore-refused, restore-made, Owed, by-71, by-72, by-0}
+use Rattle.column_file.specs.Steps.Stored.{every}
+use Rattle.column_file.proofs.Steps.Stored.{copy_run}
+use Rattle.column_file.proofs.Steps.Read.{too_long, not-readable}
 use Rattle.column_file.proofs.restored.Goals as goal
 
 -- an answer by 0 keeps the promises about its bytes

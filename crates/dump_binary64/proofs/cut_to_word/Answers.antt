@@ -7,8 +7,8 @@ use Rattle.std.specs.Float.Ieee.{lt, of_bits}
 use Rattle.base_integers.specs.Steps.Ranges.{is_true}
 use Rattle.dump_binary64.specs.Meaning.Value.{cut}
 use Rattle.dump_binary64.specs.Meaning.Answer.{whole_by}
-use Rattle.dump_binary64.specs.Steps.Whole.{word_end, word-end-bits, word-ranged}
-use Rattle.dump_binary64.specs.Steps.WholePart.{word-most, word-most-bits, below-most, below_end, at-end}
+use Rattle.dump_binary64.proofs.Steps.Whole.{word_end, word-end-bits, word-ranged}
+use Rattle.dump_binary64.proofs.Steps.WholePart.{word-most, word-most-bits, below-most, below_end, at-end}
 use Rattle.dump_binary64.proofs.cut_to_word.Goals as goal
 
 -- the tests, each with its constant as a value

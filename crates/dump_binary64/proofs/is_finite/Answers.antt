@@ -1,5 +1,5 @@
 -- `dump_binary64::is_finite` meets its contract.
-use Rattle.dump_binary64.specs.Steps.Patterns.{finite-test}
+use Rattle.dump_binary64.proofs.Steps.Patterns.{finite-test}
 use Rattle.dump_binary64.proofs.is_finite.Goals as goal
 
 pub returns : goal.returns

@@ -4,7 +4,7 @@ use Rattle.std.specs.Prelude.{Float}
 use Rattle.std.specs.Float.{binary64}
 use Rattle.std.specs.Float.Ieee.{le, of_bits}
 use Rattle.base_integers.specs.Steps.Ranges.{is_true}
-use Rattle.dump_binary64.specs.Steps.Whole.{halves-end, halves-end-bits, held, too_large, halves-finite}
+use Rattle.dump_binary64.proofs.Steps.Whole.{halves-end, halves-end-bits, held, too_large, halves-finite}
 use Rattle.dump_binary64.specs.declared.WholeAnswer.TheVariants.{Held}
 use Rattle.dump_binary64.proofs.nearest_up_to.Goals as goal
 

@@ -4,7 +4,7 @@ use Rattle.std.specs.Float.{binary64}
 use Rattle.std.specs.Float.Ieee.{in_float, add, of_int, of_bits, to_unsigned}
 use Rattle.std.specs.Float.Ieee.Exact.{HasValue}
 use Rattle.dump_binary64.specs.Meaning.Value.{nearest}
-use Rattle.dump_binary64.specs.Steps.Half.{Bounded, bounded_of, ranged, whole-small, half-sum, taken-up, left_down}
+use Rattle.dump_binary64.proofs.Steps.Half.{Bounded, bounded_of, ranged, whole-small, half-sum, taken-up, left_down}
 use Rattle.dump_binary64.proofs.nearest_whole.Goals as goal
 use Rattle.dump_binary64.proofs.nearest_whole.Goals.{After-truncating_f64_to_u64-w}
 

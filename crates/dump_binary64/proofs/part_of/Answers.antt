@@ -3,7 +3,7 @@
 use Rattle.std.proofs.Common.{◌^◌, ◌<◌, le_of_lt, arith}
 use Rattle.dump_binary64.specs.Meaning.Value.{cut}
 use Rattle.dump_binary64.specs.Meaning.Machine.{times}
-use Rattle.dump_binary64.specs.Steps.Cutting.{Share, Part, share-of, share-finite, share-in-range, share_part, times-not-negative}
+use Rattle.dump_binary64.proofs.Steps.Cutting.{Share, Part, share-of, share-finite, share-in-range, share_part, times-not-negative}
 use Rattle.dump_binary64.proofs.part_of.Goals as goal
 use Rattle.dump_binary64.proofs.part_of.Goals.{Start}
 

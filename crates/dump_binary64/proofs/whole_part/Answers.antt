@@ -6,8 +6,8 @@ use Rattle.std.specs.Float.Ieee.{add, sub, in_float, in_unsigned, to_unsigned, o
 use Rattle.std.specs.Float.Ieee.Back.{unsigned_back}
 use Rattle.base_integers.specs.Steps.Ranges.{is_true}
 use Rattle.dump_binary64.specs.Meaning.Value.{cut}
-use Rattle.dump_binary64.specs.Steps.Whole.{ranged-finite}
-use Rattle.dump_binary64.specs.Steps.WholePart.{NextTo, wholes-bits, rounded-whole, not-above, above-it}
+use Rattle.dump_binary64.proofs.Steps.Whole.{ranged-finite}
+use Rattle.dump_binary64.proofs.Steps.WholePart.{NextTo, wholes-bits, rounded-whole, not-above, above-it}
 use Rattle.dump_binary64.proofs.whole_part.Goals as goal
 use Rattle.dump_binary64.proofs.whole_part.Goals.{Start}
 

@@ -3,7 +3,7 @@ use Rattle.std.proofs.Common.{◌+◌, ◌*◌, ℕ, sym, ap, ◌∙◌, arith}
 use Rattle.base_causes.specs.Meaning.Causes.{first_below}
 use Rattle.base_causes.specs.Meaning.Place.{place_of}
 use Rattle.case_header.specs.Steps.CaseReadable.{headed, limited}
-use Rattle.dump_proposal.specs.Steps.Answers.{not_finite_at, met-57, met-58, finite-dump}
+use Rattle.dump_proposal.proofs.Steps.Answers.{not_finite_at, met-57, met-58, finite-dump}
 use Rattle.dump_proposal.proofs.convert.Goals as goal
 
 pub rest_of-count-requires : goal.rest_of-count-requires

@@ -2,10 +2,10 @@
 -- table.
 use Rattle.std.proofs.Common.{sym, ap, ◌∙◌, arith}
 use Rattle.base_causes.specs.Meaning.Place.{place_of}
-use Rattle.base_causes.specs.Promised.CauseLaws.{place-below}
+use Rattle.base_causes.proofs.Promised.CauseLaws.{place-below}
 use Rattle.case_header.specs.Steps.CaseReadable.{headed, limited}
 use Rattle.dump_proposal.specs.Steps.Walks.{rest_of, fault_after}
-use Rattle.dump_proposal.specs.Steps.Answers.{met-rest, met-60, met-0}
+use Rattle.dump_proposal.proofs.Steps.Answers.{met-rest, met-60, met-0}
 use Rattle.dump_proposal.proofs.convert_by.Goals as goal
 
 pub overflow_add-i : goal.overflow_add-i

@@ -5,8 +5,8 @@ use Rattle.case_header.specs.Steps.CaseReadable.{headed, limited}
 use Rattle.dump_binary64.specs.Meaning.Value.{bits_at}
 use Rattle.dump_values.specs.Meaning.Answer.{field_of}
 use Rattle.dump_values.specs.Meaning.Field.{kind_of}
-use Rattle.dump_proposal.specs.Steps.Walks.{share-finite, system-finite, share-read, system-read}
-use Rattle.dump_proposal.specs.Steps.Answers.{met-share, met-system}
+use Rattle.dump_proposal.proofs.Steps.Walks.{share-finite, system-finite, share-read, system-read}
+use Rattle.dump_proposal.proofs.Steps.Answers.{met-share, met-system}
 use Rattle.dump_proposal.proofs.convert_finite.Goals as goal
 use Rattle.dump_proposal.proofs.convert_finite.Goals.{After-opening_fields-fields}
 

@@ -2,7 +2,7 @@
 use Rattle.std.proofs.Common.{◌≡◌, ◌<◌, ◌+◌, ◌-◌, sym, ap, subst, ◌∙◌, arith, of_z, w64}
 use Rattle.std.specs.Prelude.{ℕ}
 use Rattle.std.proofs.Math.Option.{some-ne-none}
-use Rattle.base_causes.specs.Promised.CauseLaws.{first-here, first-later}
+use Rattle.base_causes.proofs.Promised.CauseLaws.{first-here, first-later}
 use Rattle.base_integers.specs.Meaning.Bytes.{bytes_of}
 use Rattle.bytes_read.specs.declared.Cursor.{Cursor}
 use Rattle.bytes_read.specs.Meaning.Field.{long_field}
@@ -11,8 +11,9 @@ use Rattle.case_header.specs.Steps.CaseReadable.{headed, limited}
 use Rattle.dump_binary64.specs.Meaning.Value.{bits_at, finite}
 use Rattle.dump_values.specs.Meaning.Answer.{field_of}
 use Rattle.dump_values.specs.Meaning.Field.{Kind, after_opening, converted}
-use Rattle.dump_values.specs.Promised.PlainPlaces.{after-kind}
-use Rattle.dump_proposal.specs.Steps.Walks.{rest_of, fault_after, none_yet, part-took, field-held, field-outside, field-number, table_none, table_more}
+use Rattle.dump_values.proofs.Promised.PlainPlaces.{after-kind}
+use Rattle.dump_proposal.specs.Steps.Walks.{rest_of, fault_after}
+use Rattle.dump_proposal.proofs.Steps.Walks.{none_yet, part-took, field-held, field-outside, field-number, table_none, table_more}
 use Rattle.dump_proposal.proofs.convert_rest.Goals as goal
 use Rattle.dump_proposal.proofs.convert_rest.Goals.{In-Taken}
 

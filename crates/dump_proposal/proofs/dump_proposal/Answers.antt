@@ -1,7 +1,7 @@
 -- `dump_proposal::dump_proposal` meets its contract: a case that is refused, or the other rows for the dump.
 use Rattle.std.proofs.Common.{length, sym, ◌∙◌}
 use Rattle.case_file.specs.Steps.Answer.{refused-of}
-use Rattle.dump_proposal.specs.Steps.Answers.{refused-56, met-refusal}
+use Rattle.dump_proposal.proofs.Steps.Answers.{refused-56, met-refusal}
 use Rattle.dump_proposal.proofs.dump_proposal.Goals as goal
 
 pub returns-in-Refused : goal.returns-in-Refused

@@ -1,10 +1,10 @@
 -- `dump_proposal::first_not_finite` meets its contract: each value is there, and is finite or the first that is not.
 use Rattle.std.proofs.Common.{◌≡◌, sym, ap, ◌∙◌, ◌+◌, ◌*◌, ℕ, List}
 use Rattle.std.specs.Prelude.{Bool, not}
-use Rattle.base_causes.specs.Promised.CauseLaws.{first-here, first-later}
+use Rattle.base_causes.proofs.Promised.CauseLaws.{first-here, first-later}
 use Rattle.bytes_read.specs.declared.Cursor.{Cursor}
 use Rattle.dump_binary64.specs.Meaning.Value.{bits_at, finite}
-use Rattle.dump_proposal.specs.Steps.Walks.{none_yet, value-took}
+use Rattle.dump_proposal.proofs.Steps.Walks.{none_yet, value-took}
 use Rattle.dump_proposal.proofs.first_not_finite.Goals as goal
 use Rattle.dump_proposal.proofs.first_not_finite.Goals.{In-Taken}
 

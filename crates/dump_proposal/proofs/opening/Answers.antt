@@ -5,7 +5,7 @@ use Rattle.std.specs.Float.Ieee.{of_bits}
 use Rattle.bytes_read.specs.declared.Cursor.{Cursor}
 use Rattle.dump_binary64.specs.Meaning.Value.{bits_at, finite}
 use Rattle.dump_proposal.specs.declared.OpeningField.TheVariants as opened
-use Rattle.dump_proposal.specs.Steps.Walks.{value-took}
+use Rattle.dump_proposal.proofs.Steps.Walks.{value-took}
 use Rattle.dump_proposal.proofs.opening.Goals as goal
 use Rattle.dump_proposal.proofs.opening.Goals.{In-Taken, In-Taken-long}
 

@@ -2,7 +2,7 @@
 use Rattle.std.proofs.Common.{◌∙◌}
 use Rattle.std.proofs.Math.Seq.{sets}
 use Rattle.base_integers.specs.Meaning.Bytes.{bytes_of}
-use Rattle.dump_proposal.specs.Steps.Walks.{opening-run}
+use Rattle.dump_proposal.proofs.Steps.Walks.{opening-run}
 use Rattle.dump_proposal.proofs.write_opening.Goals as goal
 
 pub returns : goal.returns

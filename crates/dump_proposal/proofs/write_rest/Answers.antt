@@ -2,7 +2,8 @@
 use Rattle.std.proofs.Common.{refl, ◌∙◌, ◌+◌, ◌*◌, get_or}
 use Rattle.std.proofs.Math.Seq.{sets}
 use Rattle.base_integers.specs.Meaning.Bytes.{bytes_of}
-use Rattle.dump_proposal.specs.Steps.Walks.{table_bytes, table-run}
+use Rattle.dump_proposal.specs.Steps.Walks.{table_bytes}
+use Rattle.dump_proposal.proofs.Steps.Walks.{table-run}
 use Rattle.dump_proposal.proofs.write_rest.Goals as goal
 
 pub loop-i-init : goal.loop-i-init

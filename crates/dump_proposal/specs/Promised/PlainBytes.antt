@@ -18,13 +18,13 @@ use Rattle.base_integers.specs.Meaning.Ranges.{range, outside}
 use Rattle.base_integers.specs.Steps.Ranges.{nat-within, is_false}
 use Rattle.rules.specs.Meaning.Layout.{u8_at, u16_at, orders_in, links_in, branches_in, quantity_in, proposal_length}
 use Rattle.rules.specs.Meaning.Hour.{case_of}
-use Rattle.rules.specs.Steps.Passed.{case-sound}
+use Rattle.rules.proofs.Steps.Passed.{case-sound}
 use Rattle.dump_binary64.specs.Meaning.Value.{bits_at}
-use Rattle.dump_binary64.specs.Promised.Taken.{bits-are-bytes}
+use Rattle.dump_binary64.proofs.Promised.Taken.{bits-are-bytes}
 use Rattle.dump_values.specs.Meaning.Field.{Kind, share-of, system-price, kind_of, converted, field_range, fault}
-use Rattle.dump_values.specs.Promised.Taken.{ShareTaken, FlowTaken, ShadowTaken, SystemTaken, share-taken, flow-taken, shadow-taken, system-taken}
-use Rattle.dump_values.specs.Promised.PlainFaults.{minus-zero}
-use Rattle.dump_values.specs.Promised.PlainPlaces.{branches, links, orders, first-value, second-value, order_value, link-value, branch-value, by_kind}
+use Rattle.dump_values.proofs.Promised.Taken.{ShareTaken, FlowTaken, ShadowTaken, SystemTaken, share-taken, flow-taken, shadow-taken, system-taken}
+use Rattle.dump_values.proofs.Promised.PlainFaults.{minus-zero}
+use Rattle.dump_values.proofs.Promised.PlainPlaces.{branches, links, orders, first-value, second-value, order_value, link-value, branch-value, by_kind}
 use Rattle.dump_proposal.specs.Meaning.Dump.{value_count, dump_outcome, proposal_bytes, dump_written, dump_output}
 use Rattle.dump_proposal.specs.Promised.Causes.{dump-writes}
 use Rattle.dump_proposal.specs.Promised.PlainCauses.{values, bits, answered-0}
@@ -120,7 +120,7 @@ module _ (s d : List ℕ) (room : ℕ) (answered : (dump_outcome s d room).numbe
   abbrev size : ℕ
   size = 13 + 4 * (orders s + links s + branches s)
 
-  written-length : length (proposal_bytes s d) ≡ size
+  pub written-length : length (proposal_bytes s d) ≡ size
   unfolding proposal_length orders_in links_in branches_in u8_at u16_at
   written-length = bytes-are s d
 
@@ -183,7 +183,3 @@ module _ (s d before : List ℕ) (answered : (dump_outcome s d (length before)).
       number-there n h i l
       ∙ ap (λ (z : ℤ). modulo32 z / 256 ^ i % 256) (ap (converted (kind_of s n)) (bits-are-bytes d n ∙ e) ∙ (minus-zero (kind_of s n)).1)
       ∙ four-cases (λ (i : ℕ). 0 / 256 ^ i % 256 ≡ 0) refl refl refl refl i l
-
--- its length is that of the proposal, and a refusal writes nothing
-pub length-written : (s d : List ℕ) (room : ℕ) → (dump_outcome s d room).number ≡ 0 → length (dump_written s d room) ≡ 13 + 4 * (orders s + links s + branches s)
-length-written s d room e = ap length (dump-writes s d room e) ∙ written-length s d room e

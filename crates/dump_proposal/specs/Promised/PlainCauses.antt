@@ -14,17 +14,17 @@ use Rattle.base_integers.specs.Meaning.NaturalSums.{sum_nat}
 use Rattle.base_integers.specs.Steps.Ranges.{is_true, is_false, not_is}
 use Rattle.base_causes.specs.declared.Outcome.{Outcome}
 use Rattle.base_causes.specs.Meaning.Causes.{Pass, verdict, refusal, answer}
-use Rattle.base_causes.specs.Promised.CauseLaws.{Comes, past, none_left, row-by-number, row-answers, number-passes, number-below, numbers_below, cause_numbered, lacks, before, zero-none}
+use Rattle.base_causes.proofs.Promised.CauseLaws.{Comes, past, none_left, row-by-number, row-answers, number-passes, number-below, numbers_below, cause_numbered, lacks, before, zero-none}
 use Rattle.rules.specs.Meaning.Layout.{u8_at, u16_at, orders_in, links_in, branches_in, quantity_in, proposal_length}
 use Rattle.rules.specs.Meaning.Hour.{case_of}
 use Rattle.rules.specs.Meaning.Verdict.{differ, case_causes, case_refusal}
-use Rattle.rules.specs.Promised.PlainFacts.{CaseFacts, case-facts, facts-readable}
+use Rattle.rules.proofs.Promised.PlainFacts.{CaseFacts, case-facts, facts-readable}
 use Rattle.dump_binary64.specs.Meaning.Value.{bits_at, finite}
-use Rattle.dump_binary64.specs.Promised.PlainBits.{not-finite}
-use Rattle.dump_binary64.specs.Promised.Taken.{bits-are-bytes}
+use Rattle.dump_binary64.proofs.Promised.PlainBits.{not-finite}
+use Rattle.dump_binary64.proofs.Promised.Taken.{bits-are-bytes}
 use Rattle.dump_values.specs.Meaning.Field.{Kind, share-of, flow, system-price, shadow-price, kind_of, fault}
-use Rattle.dump_values.specs.Promised.PlainPlaces.{branches, links, orders, first-value, second-value, order-at, link-at, branch-at}
-use Rattle.dump_values.specs.Promised.PlainFaults.{ShareRefused, FlowRefused, ShadowRefused, SystemRefused, share-refused, flow-refused, shadow-refused, system-refused}
+use Rattle.dump_values.proofs.Promised.PlainPlaces.{branches, links, orders, first-value, second-value, order-at, link-at, branch-at}
+use Rattle.dump_values.proofs.Promised.PlainFaults.{ShareRefused, FlowRefused, ShadowRefused, SystemRefused, share-refused, flow-refused, shadow-refused, system-refused}
 use Rattle.dump_proposal.specs.Meaning.Dump.{value_count, dump_length, refuses, number_in, refused_case, wrong_length, not_finite, out_of_field, short_output, dump_causes, dump_refusal, dump_outcome}
 
 -- HOW MANY VALUES a dump for the case s has, and the 64 bits of value n, its lowest byte first

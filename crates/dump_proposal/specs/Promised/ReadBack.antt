@@ -21,24 +21,24 @@ use Rattle.base_integers.specs.Steps.Ranges.{nat-within, nat-inside, is_false, n
 use Rattle.base_limits.specs.Meaning.Limits as limits
 use Rattle.base_causes.specs.declared.Outcome.{Outcome}
 use Rattle.base_causes.specs.Meaning.Causes.{Cause, Pass, first_below, refusal, each_at}
-use Rattle.base_causes.specs.Promised.CauseLaws.{empty, all_pass, first-none, row-clear, field-passes}
+use Rattle.base_causes.proofs.Promised.CauseLaws.{empty, all_pass, first-none, row-clear, field-passes}
 use Rattle.rules.specs.Meaning.Layout.{u8_at, u16_at, u32_at, i32_at, orders_in, links_in, branches_in, quantity_in, proposal_version, proposal_length, share_in, system_in, volume_in, flow_in, shadow_at, shadow_in}
 use Rattle.rules.specs.Meaning.Hour.{case_of, plan_of, prices_of}
 use Rattle.rules.specs.Meaning.Verdict.{case_refusal, Readable, not_mark, proposal_causes, proposal_refusal}
-use Rattle.rules.specs.Steps.LayoutLaws.{word-there, signed-there}
-use Rattle.rules.specs.Steps.Passed.{case-sound}
+use Rattle.rules.proofs.Steps.LayoutLaws.{word-there, signed-there}
+use Rattle.rules.proofs.Steps.Passed.{case-sound}
 use Rattle.bytes_write.specs.Steps.Halves.{low_half, low_bits}
 use Rattle.dump_binary64.specs.Meaning.Value.{bits_at, finite, negative, above_one, cut, nearest, ShareWithin}
-use Rattle.dump_binary64.specs.Promised.Within.{share-within}
+use Rattle.dump_binary64.proofs.Promised.Within.{share-within}
 use Rattle.dump_values.specs.Meaning.Field.{Kind, share-of, flow, shadow-price, kind_of, product_of, converted, forbidden, field_range, fault}
-use Rattle.dump_values.specs.Promised.PlainPlaces.{after-kind, order-kind, flow-kind, shadow-kind}
+use Rattle.dump_values.proofs.Promised.PlainPlaces.{after-kind, order-kind, flow-kind, shadow-kind}
 use Rattle.dump_proposal.specs.Meaning.Dump.{value_count, refuses, dump_causes, dump_refusal, dump_outcome, proposal_mark, field_bytes, fields_from, proposal_bytes, dump_written, dump_output, ProposalHolds, VolumesWithin}
 use Rattle.dump_proposal.specs.Promised.Causes.{dump-none, dump-writes}
 use Rattle.dump_proposal.specs.Steps.Walks.{fields-length}
 use Rattle.dump_proposal.specs.Steps.Answers.{bytes-are}
 
 -- WHERE A FIELD STANDS
-abbrev number : List ℕ → List ℕ → ℕ → ℤ
+abbrev pub number : List ℕ → List ℕ → ℕ → ℤ
 number s d n = converted (kind_of s n) (bits_at d n)
 
 field-last : (s d : List ℕ) (n : ℕ) (rest : List ℕ) (j : ℕ) → j ≡ n → take 4 (drop (4 * j) (fields_from s d 0 n ++ (field_bytes (number s d (0 + n)) ++ rest))) ≡ field_bytes (number s d j)
@@ -264,12 +264,3 @@ module _ (s d : List ℕ) (room : ℕ) (answered : (dump_outcome s d room).numbe
 
   pub volumes : VolumesWithin s d t
   volumes = record { volume-within = λ i h. subst (λ (v : ℕ). ShareWithin (bits_at d (2 + i)) (quantity_in s i) v) (sym (volume-back i h)) (volume-exact i h) }
-
--- the same for the bytes in the output after the entry wrote them
-stands : (s d out : List ℕ) → (dump_outcome s d (length out)).number ≡ 0 → take (length (dump_written s d (length out))) (dump_output s d out) ≡ proposal_bytes s d
-unfolding dump_output
-stands s d out e = take-append_seam (dump_written s d (length out)) (drop (length (dump_written s d (length out))) out) ∙ dump-writes s d (length out) e
-
-pub written_back : (s d out : List ℕ) → (dump_outcome s d (length out)).number ≡ 0
-    → let t = take (length (dump_written s d (length out))) (dump_output s d out) in ProposalHolds s d t × VolumesWithin s d t
-written_back s d out e = subst (λ (b : List ℕ). ProposalHolds s d b × VolumesWithin s d b) (sym (stands s d out e)) (read_back s d (length out) e, volumes s d (length out) e)

@@ -4,13 +4,13 @@ use Rattle.std.specs.Prelude.{Float}
 use Rattle.std.specs.Float.Ieee.Scale.{finite}
 use Rattle.book_order.specs.declared.Order.{Order}
 use Rattle.case_header.specs.Steps.CaseReadable.{headed, limited}
-use Rattle.dump_binary64.specs.Steps.Patterns.{finite-value}
+use Rattle.dump_binary64.proofs.Steps.Patterns.{finite-value}
 use Rattle.dump_values.specs.Meaning.Answer.{field_of}
 use Rattle.dump_values.specs.Meaning.Field.{Kind}
 use Rattle.dump_values.specs.Meaning.Fields.{share_field}
-use Rattle.dump_values.specs.Steps.Agree.{share-agrees, flow-agrees, shadow-agrees}
+use Rattle.dump_values.proofs.Steps.Agree.{share-agrees, flow-agrees, shadow-agrees}
 use Rattle.dump_values.specs.Steps.Fields.{flow_field, shadow_field}
-use Rattle.dump_values.specs.Steps.Places.{quantity-most, order-place, flow-place, shadow-place}
+use Rattle.dump_values.proofs.Steps.Places.{quantity-most, order-place, flow-place, shadow-place}
 use Rattle.rules.specs.Meaning.Layout.{quantity_in}
 use Rattle.dump_values.proofs.field_of.Goals as goal
 

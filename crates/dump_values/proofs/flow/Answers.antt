@@ -7,10 +7,10 @@ use Rattle.std.specs.Float.Ieee.{le, mul, of_bits}
 use Rattle.base_integers.specs.Steps.Ranges.{is_true}
 use Rattle.dump_binary64.specs.Meaning.Machine.{zero64, times}
 use Rattle.dump_binary64.specs.Meaning.Answer.{whole_below}
-use Rattle.dump_binary64.specs.Steps.Cutting.{times-not-negative}
-use Rattle.dump_binary64.specs.Steps.Whole.{zero_test}
-use Rattle.dump_values.specs.Steps.Agree.{ten-bits}
-use Rattle.dump_values.specs.Steps.Taken.{bits_are, flow-held, flow-outside}
+use Rattle.dump_binary64.proofs.Steps.Cutting.{times-not-negative}
+use Rattle.dump_binary64.proofs.Steps.Whole.{zero_test}
+use Rattle.dump_values.proofs.Steps.Agree.{ten-bits}
+use Rattle.dump_values.proofs.Steps.Taken.{bits_are, flow-held, flow-outside}
 use Rattle.dump_values.proofs.flow.Goals as goal
 
 -- the product, with its constant as a value

@@ -9,11 +9,11 @@ use Rattle.base_limits.specs.Meaning.Limits as limits
 use Rattle.base_measures.specs.Meaning.Held.{cents_in}
 use Rattle.dump_binary64.specs.Meaning.Machine.{zero64, times}
 use Rattle.dump_binary64.specs.Meaning.Answer.{whole_up_to}
-use Rattle.dump_binary64.specs.Steps.Cutting.{times-not-negative}
-use Rattle.dump_binary64.specs.Steps.Whole.{zero_test}
+use Rattle.dump_binary64.proofs.Steps.Cutting.{times-not-negative}
+use Rattle.dump_binary64.proofs.Steps.Whole.{zero_test}
 use Rattle.dump_binary64.specs.declared.WholeAnswer.{WholeAnswer}
-use Rattle.dump_values.specs.Steps.Agree.{hundred-bits}
-use Rattle.dump_values.specs.Steps.Taken.{bits_are, shadow-held, shadow-outside, shadow-far}
+use Rattle.dump_values.proofs.Steps.Agree.{hundred-bits}
+use Rattle.dump_values.proofs.Steps.Taken.{bits_are, shadow-held, shadow-outside, shadow-far}
 use Rattle.dump_values.proofs.shadow_price.Goals as goal
 
 -- the product, with its constant as a value

@@ -6,11 +6,11 @@ use Rattle.std.specs.Float.Ieee.{mul, of_bits}
 use Rattle.std.specs.Float.Ieee.Scale.{finite}
 use Rattle.base_integers.specs.Steps.Ranges.{is_true}
 use Rattle.dump_binary64.specs.Meaning.Machine.{times}
-use Rattle.dump_binary64.specs.Steps.Products.{Signs}
-use Rattle.dump_binary64.specs.Steps.Whole.{zero_test}
+use Rattle.dump_binary64.proofs.Steps.Products.{Signs}
+use Rattle.dump_binary64.proofs.Steps.Whole.{zero_test}
 use Rattle.dump_values.specs.Meaning.Fields.{sign_of, system_by}
-use Rattle.dump_values.specs.Steps.Agree.{hundred-bits, down-from-zero}
-use Rattle.dump_values.specs.Steps.Taken.{bits_are, up-held, up-most, up-outside, down-held, down-most, down-outside, price-signs, plus-is, narrow-is}
+use Rattle.dump_values.proofs.Steps.Agree.{hundred-bits, down-from-zero}
+use Rattle.dump_values.proofs.Steps.Taken.{bits_are, up-held, up-most, up-outside, down-held, down-most, down-outside, price-signs, plus-is, narrow-is}
 use Rattle.dump_values.proofs.system_price.Goals as goal
 
 -- the product, with its constant as a value

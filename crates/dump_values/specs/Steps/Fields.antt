@@ -6,7 +6,7 @@ use Rattle.base_integers.specs.Meaning.Ranges.{outside}
 use Rattle.base_limits.specs.Meaning.Limits as limits
 use Rattle.dump_binary64.specs.Meaning.Value.{cut, nearest}
 use Rattle.dump_binary64.specs.Meaning.Machine.{zero64, times}
-use Rattle.dump_binary64.specs.Steps.Whole.{word_end}
+use Rattle.dump_binary64.proofs.Steps.Whole.{word_end}
 use Rattle.dump_values.specs.declared.FieldAnswer.{FieldAnswer}
 use Rattle.dump_values.specs.Meaning.Answer.{field_by}
 

@@ -9,7 +9,7 @@ use lib.IntN.{ℤ, pos, ◌*ℤ◌}
 use mir.Syntax.{w64}
 use mir.Val.{SFits}
 use Rattle.rules.specs.Meaning.Hour.{Case, Plan, case_of, plan_of}
-use Rattle.rules.specs.Steps.Passed.{case-sound}
+use Rattle.rules.proofs.Steps.Passed.{case-sound}
 use Rattle.book_order.specs.declared.Order.{Order}
 use Rattle.case_header.specs.declared.Counts.{Counts}
 use Rattle.rules.specs.Meaning.Families.{parent_of}

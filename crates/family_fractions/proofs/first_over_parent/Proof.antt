@@ -8,7 +8,7 @@ use Prim.Native.Nat.{ℕ, ◌≤◌, ◌-◌}
 use native.Mathlib.Omega.{arith}
 use Rattle.rules.specs.Meaning.Hour.{case_of, plan_of}
 use Rattle.base_causes.specs.Meaning.Causes.{first_below}
-use Rattle.base_causes.specs.Promised.CauseLaws.{first-here, first-later, first-nowhere}
+use Rattle.base_causes.proofs.Promised.CauseLaws.{first-here, first-later, first-nowhere}
 use Rattle.rules.specs.Meaning.Families.{parent_of}
 use Rattle.rules.specs.Meaning.Verdict.{exceeds_parent}
 use Rattle.case_header.specs.declared.Counts.{Counts}

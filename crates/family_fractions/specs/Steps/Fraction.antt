@@ -7,7 +7,7 @@ use Rattle.std.specs.Int.{w64}
 use Rattle.base_integers.specs.Steps.Size.{near_fits, near_mul, near-unsigned}
 use Rattle.base_integers.specs.Steps.Machine.{sfits-by}
 use Rattle.rules.specs.Meaning.Hour.{Case, Plan}
-use Rattle.rules.specs.Steps.Passed.{CaseSound}
+use Rattle.rules.proofs.Steps.Passed.{CaseSound}
 use Rattle.proposal_file.specs.Meaning.InRange.{VolumesInRange}
 use Rattle.rules.specs.Meaning.Families.{no_parent, named, parent_in, parent_of}
 use Rattle.rules.specs.Meaning.Verdict.{exceeds_parent}

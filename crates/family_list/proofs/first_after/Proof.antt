@@ -5,7 +5,8 @@ use Prim.Native.Nat.{ℕ, ◌+◌, ◌<◌}
 use native.Mathlib.Omega.{arith}
 use borrow.Author.Rules.{rules}
 use Rattle.rules.specs.Meaning.Families.{parent_of}
-use Rattle.family_list.specs.Steps.Walk.{held, Trail, SearchSoFar, came-back, next-been, next-found, next-none}
+use Rattle.family_list.specs.Steps.Walk.{held, Trail, SearchSoFar, came-back, next-found, next-none}
+use Rattle.family_list.proofs.Steps.Walk.{next-been}
 use Rattle.family_list.proofs.first_after.Statement.{statement}
 use Rattle.family_list.proofs.first_after.Tie as tie
 

@@ -4,8 +4,9 @@ use mathlib.Core.Path.{sym}
 use Prim.Native.Nat.{◌-◌, ◌<◌}
 use native.Mathlib.Omega.{arith}
 use Rattle.rules.specs.Meaning.Families.{parent_of}
-use Rattle.family_list.specs.Steps.Walk.{first_found, none_found}
-use Rattle.family_list.specs.Steps.Parents.{Search, none-walked}
+use Rattle.family_list.proofs.Steps.Walk.{first_found, none_found}
+use Rattle.family_list.specs.Steps.Parents.{Search}
+use Rattle.family_list.proofs.Steps.Parents.{none-walked}
 use Rattle.family_list.proofs.first_on_circle.Statement.{statement}
 use Rattle.family_list.proofs.first_on_circle.Tie as tie
 

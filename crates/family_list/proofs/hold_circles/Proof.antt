@@ -3,9 +3,9 @@
 use mathlib.Core.Path.{sym, ap}
 use native.Mathlib.Omega.{arith}
 use borrow.Author.Rules.{rules}
-use Rattle.base_causes.specs.Promised.CauseLaws.{at_place, at_none, place-below}
+use Rattle.base_causes.proofs.Promised.CauseLaws.{at_place, at_none, place-below}
 use Rattle.family_list.specs.Meaning.Answer.{family_by}
-use Rattle.family_list.specs.Steps.Answer.{by-18, by-none}
+use Rattle.family_list.proofs.Steps.Answer.{by-18, by-none}
 use Rattle.family_list.proofs.hold_circles.Statement.{statement}
 use Rattle.family_list.proofs.hold_circles.Tie as tie
 

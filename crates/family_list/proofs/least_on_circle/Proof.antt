@@ -7,7 +7,7 @@ use native.Mathlib.Omega.{arith}
 use borrow.Author.Rules.{rules}
 use Rattle.rules.specs.Meaning.Families.{parent_in, parent_of}
 use Rattle.family_list.specs.Steps.Round.{Least, Round, round-starts, round-goes-on, round-ends, at_in, not_round, itself, smaller}
-use Rattle.family_list.specs.Steps.Parents.{parent_is}
+use Rattle.family_list.proofs.Steps.Parents.{parent_is}
 use Rattle.family_list.proofs.least_on_circle.Statement.{statement}
 use Rattle.family_list.proofs.least_on_circle.Tie as tie
 

@@ -12,7 +12,7 @@ use Rattle.bytes_read.specs.Meaning.Field.{cursor}
 use Rattle.bytes_read.specs.Meaning.Walk.{rows_walked_by}
 use Rattle.bytes_read.specs.Steps.Walked.{rows-refused, rows-passed}
 use Rattle.family_list.specs.Meaning.Answer.{list_causes, family_by}
-use Rattle.family_list.specs.Steps.Answer.{list-refused, list-passed, list-known}
+use Rattle.family_list.proofs.Steps.Answer.{list-refused, list-passed, list-known}
 use Rattle.family_list.proofs.read_families.Statement.{statement}
 use Rattle.family_list.proofs.read_families.Tie as tie
 

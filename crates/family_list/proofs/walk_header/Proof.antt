@@ -18,7 +18,7 @@ use Rattle.bytes_read.specs.Meaning.Field.{mark_at}
 use Rattle.bytes_read.specs.Steps.Taking.{FieldsTaken, NextTaken, none-taken, mark-next, mark-lacks, half-next, half-lacks}
 use Rattle.rules.specs.Meaning.Families.{family_version, family_length}
 use Rattle.family_list.specs.Meaning.Answer.{header_by, wrong_list}
-use Rattle.family_list.specs.Steps.Answer.{too_short, wrong-mark, wrong-version, by-length}
+use Rattle.family_list.proofs.Steps.Answer.{too_short, wrong-mark, wrong-version, by-length}
 use Rattle.family_list.proofs.walk_header.Statement.{statement}
 use Rattle.family_list.proofs.walk_header.Tie as tie
 

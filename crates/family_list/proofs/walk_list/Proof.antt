@@ -9,7 +9,7 @@ use Rattle.bytes_read.specs.declared.Cursor.{Cursor}
 use Rattle.bytes_read.specs.Meaning.Field.{cursor}
 use Rattle.bytes_read.specs.Steps.Walked.{refused-past}
 use Rattle.family_list.specs.Meaning.Answer.{wrong_list}
-use Rattle.family_list.specs.Steps.Answer.{whole_of, header_refused, header-past, parents-walked}
+use Rattle.family_list.proofs.Steps.Answer.{whole_of, header_refused, header-past, parents-walked}
 use Rattle.family_list.proofs.walk_list.Statement.{statement}
 use Rattle.family_list.proofs.walk_list.Tie as tie
 

@@ -11,13 +11,14 @@ use lib.ListN.{length}
 use Rattle.rules.specs.Meaning.Layout.{u16_at}
 use Rattle.rules.specs.Meaning.Families.{family_length, named, parent_in, parent_of, missing}
 use Rattle.base_causes.specs.Meaning.Causes.{first_below}
-use Rattle.base_causes.specs.Promised.CauseLaws.{first-later}
+use Rattle.base_causes.proofs.Promised.CauseLaws.{first-later}
 use Rattle.bytes_read.specs.declared.Cursor.{Cursor}
 use Rattle.bytes_read.specs.Meaning.Field.{cursor}
 use Rattle.bytes_read.specs.Steps.Record.{RecordWithin, FieldRead, half-read, half-there}
 use Rattle.bytes_read.specs.Steps.Walked.{refused-past, walk-stops, walk-done}
 use Rattle.family_list.specs.Meaning.Answer.{absent, parent_cause}
-use Rattle.family_list.specs.Steps.Parents.{ParentsTaken, take_none, take_more}
+use Rattle.family_list.specs.Steps.Parents.{ParentsTaken}
+use Rattle.family_list.proofs.Steps.Parents.{take_none, take_more}
 use Rattle.family_list.proofs.walk_parents.Statement.{statement}
 use Rattle.family_list.proofs.walk_parents.Tie as tie
 

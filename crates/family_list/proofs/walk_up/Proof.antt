@@ -6,7 +6,8 @@ use Prim.Native.Nat.{ℕ, ◌+◌, ◌<◌}
 use native.Mathlib.Omega.{arith}
 use borrow.Author.Rules.{rules}
 use lib.ListN.{length, set, length-set}
-use Rattle.family_list.specs.Steps.Walk.{Put, held, put-set, unwalked, fewer, Walked, Walking, walk-starts, walk_steps}
+use Rattle.family_list.specs.Steps.Walk.{Put, held, unwalked, fewer, Walked, Walking, walk-starts, walk_steps}
+use Rattle.family_list.proofs.Steps.Walk.{put-set}
 use Rattle.family_list.proofs.walk_up.Statement.{statement}
 use Rattle.family_list.proofs.walk_up.Tie as tie
 

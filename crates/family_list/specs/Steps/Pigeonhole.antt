@@ -7,7 +7,7 @@ use native.Mathlib.Omega.{arith}
 use Rattle.std.proofs.lemmas.Bool.{eqb-false}
 use Rattle.std.proofs.Math.Dec.{T, T_not, eqb, eqb_refl}
 use Rattle.base_causes.specs.Meaning.Causes.{first_below}
-use Rattle.base_causes.specs.Promised.CauseLaws.{first-is, not-below}
+use Rattle.base_causes.proofs.Promised.CauseLaws.{first-is, not-below}
 
 -- two of the places 0 to n have the same
 pub record Same (n : ℕ) (f : ℕ → ℕ) : Type 0 where

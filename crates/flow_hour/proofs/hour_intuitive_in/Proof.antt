@@ -9,7 +9,7 @@ use lib.ListN.{length}
 use lib.Seq.{length-take-le}
 use lib.IntN.{ℤ}
 use Rattle.judge_stages.specs.Meaning.Found.{Finds, hour_causes}
-use Rattle.flow_hour.specs.Steps.Kept.{hour-refused, exports-fit, prices-fit, exports-are, prices-are, pass, hour-answer}
+use Rattle.flow_hour.proofs.Steps.Kept.{hour-refused, exports-fit, prices-fit, exports-are, prices-are, pass, hour-answer}
 use Rattle.flow_hour.proofs.hour_intuitive_in.Statement.{statement}
 use Rattle.flow_hour.proofs.hour_intuitive_in.Tie as tie
 

@@ -2,7 +2,7 @@
 -- number less 2 ^ 64. Assumes nothing.
 use native.Mathlib.Omega.{arith}
 use borrow.Author.Rules.{rules}
-use Rattle.flow_hour.specs.Steps.Lent.{turned-fits, less-fits, less-back}
+use Rattle.flow_hour.proofs.Steps.Lent.{turned-fits, less-fits, less-back}
 use Rattle.flow_hour.proofs.lent.Statement.{statement}
 use Rattle.flow_hour.proofs.lent.Tie as tie
 

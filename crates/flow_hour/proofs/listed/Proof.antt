@@ -5,7 +5,8 @@ use Prim.Native.Nat.{ℕ, ◌≤◌, ◌-◌}
 use native.Mathlib.Omega.{arith}
 use borrow.Author.Rules.{rules}
 use Rattle.report_file.specs.Meaning.Prices.{grains_at}
-use Rattle.flow_hour.specs.Steps.Lent.{Lists, back-twice, lists-none, lists-more}
+use Rattle.flow_hour.specs.Steps.Lent.{Lists}
+use Rattle.flow_hour.proofs.Steps.Lent.{back-twice, lists-none, lists-more}
 use Rattle.flow_hour.proofs.listed.Statement.{statement}
 use Rattle.flow_hour.proofs.listed.Tie as tie
 

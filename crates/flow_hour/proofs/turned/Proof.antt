@@ -8,7 +8,8 @@ use lib.IntN.{pos, ◌-ℤ◌}
 use mir.Syntax.{w64}
 use mir.Val.{of_z}
 use Rattle.base_measures.specs.Meaning.TenthsHold.{tenths_at}
-use Rattle.flow_hour.specs.Steps.Lent.{Lists, back-twice, lists-none, lists-more}
+use Rattle.flow_hour.specs.Steps.Lent.{Lists}
+use Rattle.flow_hour.proofs.Steps.Lent.{back-twice, lists-none, lists-more}
 use Rattle.flow_hour.proofs.turned.Statement.{statement}
 use Rattle.flow_hour.proofs.turned.Tie as tie
 

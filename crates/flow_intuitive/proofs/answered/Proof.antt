@@ -1,8 +1,8 @@
 -- `flow_intuitive::answered` meets its contract: where no row refuses, the max flow answers. Assumes nothing.
 use mathlib.Core.Path.{refl}
 use lib.ListN.{length}
-use Rattle.flow_intuitive.specs.Steps.Answers.{answer-refused, answer-given, passed}
-use Rattle.flow_intuitive.specs.Steps.Sizes.{sized, room_in}
+use Rattle.flow_intuitive.proofs.Steps.Answers.{answer-refused, answer-given, passed}
+use Rattle.flow_intuitive.proofs.Steps.Sizes.{sized, room_in}
 use borrow.Author.Rules.{rules}
 use Rattle.flow_intuitive.proofs.answered.Statement.{statement}
 use Rattle.flow_intuitive.proofs.answered.Tie as tie

@@ -7,10 +7,11 @@ use borrow.Author.Rules.{rules}
 use borrow.Author.Tests.{lt-ltb, le-ltb}
 use Rattle.base_causes.specs.Meaning.Causes.{first_below, refusal, answer, once, each}
 use Rattle.base_causes.specs.Meaning.Place.{place_of}
-use Rattle.base_causes.specs.Promised.CauseLaws.{row-found, row-clear, field-fails, field-passes}
+use Rattle.base_causes.proofs.Promised.CauseLaws.{row-found, row-clear, field-fails, field-passes}
 use Rattle.rules.specs.Meaning.Verdict.{◌under◌}
 use Rattle.flow_pairs.specs.Meaning.Pairs.{pair_count, bad_pair}
-use Rattle.flow_intuitive.specs.Steps.Answers.{rest_causes, pair-named}
+use Rattle.flow_intuitive.specs.Steps.Answers.{rest_causes}
+use Rattle.flow_intuitive.proofs.Steps.Answers.{pair-named}
 use Rattle.flow_intuitive.proofs.examine_rest.Statement.{statement}
 use Rattle.flow_intuitive.proofs.examine_rest.Tie as tie
 

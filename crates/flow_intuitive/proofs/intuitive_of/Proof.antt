@@ -2,7 +2,7 @@
 use mathlib.Core.Path.{◌∙◌}
 use lib.ListN.{length}
 use borrow.Author.Rules.{rules}
-use Rattle.flow_intuitive.specs.Steps.Answers.{by-rest, lists-past, few-listed}
+use Rattle.flow_intuitive.proofs.Steps.Answers.{by-rest, lists-past, few-listed}
 use Rattle.flow_intuitive.proofs.intuitive_of.Statement.{statement}
 use Rattle.flow_intuitive.proofs.intuitive_of.Tie as tie
 

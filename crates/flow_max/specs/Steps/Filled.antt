@@ -8,7 +8,8 @@ use Rattle.base_integers.specs.Meaning.Difference.{up, dn}
 use Rattle.base_integers.specs.Meaning.NaturalSums.{sum_nat, only}
 use Rattle.base_integers.specs.Steps.NaturalSums.{sum-le, sum-zero, sum-ext, sum_bound, only_zero}
 use Rattle.flow_network.specs.Meaning.Network.{Network, Placed, Flow, carried, all_exports}
-use Rattle.flow_network.specs.Steps.Saturated.{Saturated, largest-of, yes_of, no_of}
+use Rattle.flow_network.specs.Steps.Saturated.{Saturated}
+use Rattle.flow_network.proofs.Steps.Saturated.{largest-of, yes_of, no_of}
 use Rattle.flow_positions.specs.Meaning.Positions.{position_at}
 use Rattle.flow_pairs.specs.Meaning.Pairs.{network_of}
 use Rattle.flow_pairs.specs.Meaning.Table.{Distinct}

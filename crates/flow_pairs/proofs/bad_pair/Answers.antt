@@ -1,7 +1,7 @@
 -- `flow_pairs::bad_pair` meets its contract: each return is one cause of the row's test, the last that of the pairs
 -- seen. Assumes nothing.
 use Rattle.std.proofs.Common.{sym, refl, ◌∙◌}
-use Rattle.flow_pairs.specs.Steps.Tests.{pair-past, first-unknown, second-unknown, zones-equal, left-repeated, seen-repeated}
+use Rattle.flow_pairs.proofs.Steps.Tests.{pair-past, first-unknown, second-unknown, zones-equal, left-repeated, seen-repeated}
 use Rattle.flow_pairs.proofs.bad_pair.Goals as goal
 
 pub returns-then-k-ge-PAIRS_GREATEST : goal.returns-then-k-ge-PAIRS_GREATEST

@@ -2,10 +2,10 @@
 -- 16. Assumes nothing.
 use Rattle.std.proofs.Common.{sym, refl, arith}
 use Rattle.base_causes.specs.Meaning.Causes.{first_below}
-use Rattle.base_causes.specs.Promised.CauseLaws.{first-here, first-later}
+use Rattle.base_causes.proofs.Promised.CauseLaws.{first-here, first-later}
 use Rattle.base_zone_set.specs.Steps.Pairs.{seen_none}
 use Rattle.flow_pairs.specs.Meaning.Pairs.{first_zone, second_zone}
-use Rattle.flow_pairs.specs.Steps.Tests.{good}
+use Rattle.flow_pairs.proofs.Steps.Tests.{good}
 use Rattle.flow_pairs.proofs.first_bad_pair.Goals as goal
 
 pub loop-k-init : goal.loop-k-init

@@ -1,7 +1,7 @@
 -- `flow_positions::first_position_outside` meets its contract: a search for the first place. Assumes nothing.
 use Rattle.std.proofs.Common.{sym, refl, arith}
 use Rattle.base_causes.specs.Meaning.Causes.{first_below}
-use Rattle.base_causes.specs.Promised.CauseLaws.{first-here, first-later}
+use Rattle.base_causes.proofs.Promised.CauseLaws.{first-here, first-later}
 use Rattle.flow_positions.proofs.first_position_outside.Goals as goal
 
 pub loop-zone-init : goal.loop-zone-init

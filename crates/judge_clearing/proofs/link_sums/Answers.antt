@@ -13,9 +13,9 @@ use Rattle.base_limits.specs.Meaning.Limits.{parts_in_one}
 use Rattle.rules.specs.Meaning.Layout.{flow_in}
 use Rattle.rules.specs.Meaning.Hour.{case_of, plan_of, link_use, link_room, inflow, outflow, lta_part, fb_part}
 use Rattle.base_causes.specs.Meaning.Causes.{first_below}
-use Rattle.base_causes.specs.Promised.CauseLaws.{first-here, first-later, first-nowhere, not-below}
+use Rattle.base_causes.proofs.Promised.CauseLaws.{first-here, first-later, first-nowhere, not-below}
 use Rattle.rules.specs.Meaning.Verdict.{◌over◌}
-use Rattle.rules.specs.Promised.Fits.{flow-in, partial-near}
+use Rattle.rules.proofs.Promised.Fits.{flow-in, partial-near}
 use Rattle.case_links.specs.declared.Link.{Link}
 use Rattle.case_links.specs.Meaning.Link.{link_of}
 use Rattle.proposal_file.specs.declared.HourRead.{HourRead}

@@ -14,10 +14,10 @@ use Rattle.base_limits.specs.Meaning.Limits.{parts_in_one, grains_of}
 use Rattle.rules.specs.Meaning.Layout.{volume_in}
 use Rattle.rules.specs.Meaning.Hour.{case_of, plan_of, signed, buys, order_net, net, order_welfare, welfare}
 use Rattle.base_causes.specs.Meaning.Causes.{first_below}
-use Rattle.base_causes.specs.Promised.CauseLaws.{first-here, first-later, first-nowhere, not-below}
+use Rattle.base_causes.proofs.Promised.CauseLaws.{first-here, first-later, first-nowhere, not-below}
 use Rattle.rules.specs.Meaning.Verdict.{◌over◌}
-use Rattle.rules.specs.Steps.Duality.{signed-times, times-grains}
-use Rattle.rules.specs.Promised.Fits.{near-order-price, orderNet-near, net-sums, welfare-sums}
+use Rattle.rules.proofs.Steps.Duality.{signed-times, times-grains}
+use Rattle.rules.proofs.Promised.Fits.{near-order-price, orderNet-near, net-sums, welfare-sums}
 use Rattle.book_order.specs.declared.Order.{Order}
 use Rattle.base_measures.specs.declared.Tenths.{Tenths}
 use Rattle.base_measures.specs.declared.Grains.{Grains}

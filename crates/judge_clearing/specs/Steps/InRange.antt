@@ -5,10 +5,10 @@ use Rattle.std.proofs.Common.{arith, nltb→le}
 use Rattle.rules.specs.Meaning.Layout.{u32_at}
 use Rattle.rules.specs.Meaning.Hour.{Case, Plan, link_use, link_room}
 use Rattle.base_causes.specs.Meaning.Causes.{failing}
-use Rattle.base_causes.specs.Promised.CauseLaws.{not-below}
+use Rattle.base_causes.proofs.Promised.CauseLaws.{not-below}
 use Rattle.rules.specs.Meaning.Verdict.{excess_volume, overused_link}
-use Rattle.rules.specs.Steps.Passed.{CaseSound}
-use Rattle.rules.specs.Promised.Fits.{flow-in}
+use Rattle.rules.proofs.Steps.Passed.{CaseSound}
+use Rattle.rules.proofs.Promised.Fits.{flow-in}
 use Rattle.proposal_file.specs.Meaning.InRange.{VolumesInRange, FlowsInRange}
 
 pub volumes-in : {c : Case} {p : Plan} → failing (excess_volume c p) ≡ none → VolumesInRange c p

@@ -11,7 +11,7 @@ use Rattle.rules.specs.Meaning.Hour.{case_of, plan_of, prices_of}
 use Rattle.rules.specs.Meaning.Report.{reports}
 use Rattle.rules.specs.Meaning.Verdict.{room_causes, table}
 use Rattle.base_causes.specs.Meaning.Causes.{Cause, refusal}
-use Rattle.base_causes.specs.Promised.CauseLaws.{field-fails, field-passes}
+use Rattle.base_causes.proofs.Promised.CauseLaws.{field-fails, field-passes}
 use Rattle.case_file.specs.Steps.Files.{not-joined}
 use Rattle.judge_stages.specs.Meaning.Found.{list_of, hour_causes}
 use Rattle.judge_hour.specs.Steps.Judged.{refused, same_rows, judged}

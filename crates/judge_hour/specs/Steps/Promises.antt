@@ -6,16 +6,17 @@ use Rattle.std.proofs.Math.Dec.{T}
 use Rattle.rules.specs.Meaning.Hour.{case_of, plan_of, prices_of}
 use Rattle.rules.specs.Meaning.Verdict.{outcome, family_outcome}
 use Rattle.rules.specs.Meaning.Report.{Reported, reports, buffer_after, family_buffer_after}
-use Rattle.rules.specs.Promised.Reported.{reported}
+use Rattle.rules.proofs.Promised.Reported.{reported}
 use Rattle.rules.specs.Meaning.Promise.{TotalsReported, Allowed, Accurate, GapWithin, HasLink, Covered, Best, CoveredInFull, FamilyTotalsReported, FamiliesKept}
-use Rattle.rules.specs.Promised.Guarantee.{Accepted, Demand3, demand-3}
-use Rattle.rules.specs.Promised.Families.{accepted-without, family-buffer, family-reported}
-use Rattle.rules.specs.Promised.Causes.{outcome-below, family-below}
-use Rattle.rules.specs.Promised.PlainReport.{ReportOf, report-of, family-report-of}
+use Rattle.rules.proofs.Promised.Guarantee.{Accepted, Demand3, demand-3}
+use Rattle.rules.proofs.Promised.Families.{accepted-without, family-buffer, family-reported}
+use Rattle.rules.proofs.Promised.Causes.{outcome-below, family-below}
+use Rattle.rules.specs.Promised.PlainReport.{ReportOf}
+use Rattle.rules.proofs.Promised.PlainReport.{report-of, family-report-of}
 use Rattle.rules.specs.Meaning.AnnexPromise.{AnnexDemand3}
-use Rattle.rules.specs.Promised.Annex.AnnexHour.{annex-demand-3}
+use Rattle.rules.proofs.Promised.Annex.AnnexHour.{annex-demand-3}
 use Rattle.base_causes.specs.declared.Outcome.{Outcome}
-use Rattle.family_list.specs.Promised.FamilyList.{families-kept}
+use Rattle.family_list.proofs.Promised.FamilyList.{families-kept}
 use Rattle.judge_hour.specs.Meaning.HourJudged.{HourJudged, FamilyHourJudged}
 use Rattle.judge_hour.specs.Meaning.Packed.{packed}
 use Rattle.judge_hour.specs.Steps.Packed.{packed-is, packed-number, packed-index, packed_zero}

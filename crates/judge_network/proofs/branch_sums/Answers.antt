@@ -20,10 +20,10 @@ use Rattle.base_measures.specs.Meaning.TenthsHold.{tenths_at, TenthsHold}
 use Rattle.rules.specs.Meaning.Layout.{shadow_in, ram_in}
 use Rattle.rules.specs.Meaning.Hour.{case_of, plan_of, prices_of, fb_part, branch_use, branch_room, branch_price, branch_value, branch_total, zone_price}
 use Rattle.base_causes.specs.Meaning.Causes.{first_below}
-use Rattle.base_causes.specs.Promised.CauseLaws.{first-here, first-later, first-nowhere}
+use Rattle.base_causes.proofs.Promised.CauseLaws.{first-here, first-later, first-nowhere}
 use Rattle.rules.specs.Meaning.Verdict.{◌over_z◌}
-use Rattle.rules.specs.Steps.Duality.{times-grains}
-use Rattle.rules.specs.Promised.Fits.{branchUse-sums, branchTotal-sums, system-near, price-near, price-term-near}
+use Rattle.rules.proofs.Steps.Duality.{times-grains}
+use Rattle.rules.proofs.Promised.Fits.{branchUse-sums, branchTotal-sums, system-near, price-near, price-term-near}
 use Rattle.case_branches.specs.Meaning.Table.{table_of}
 use Rattle.case_branches.specs.Steps.Table.{table-entry, entry-within}
 use Rattle.proposal_file.specs.declared.HourRead.{HourRead}

@@ -11,7 +11,7 @@ use Rattle.base_limits.specs.Meaning.Limits as limits
 use Rattle.base_measures.specs.Steps.Held.{microcents-outside, microcents-held, money-tests}
 use Rattle.rules.specs.Meaning.Hour.{Case}
 use Rattle.base_causes.specs.Meaning.Causes.{failing, answer}
-use Rattle.base_causes.specs.Promised.CauseLaws.{row-found, row-clear, once-fails, once-passes}
+use Rattle.base_causes.proofs.Promised.CauseLaws.{row-found, row-clear, once-fails, once-passes}
 use Rattle.rules.specs.Meaning.Verdict.{wide_tolerance, family_causes}
 use Rattle.judge_stages.specs.Meaning.Found.{list_of}
 use Rattle.judge_stages.specs.Steps.Found.{admitted_causes, answers, never-0}

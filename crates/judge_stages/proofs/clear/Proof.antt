@@ -16,11 +16,11 @@ use Rattle.base_integers.specs.Meaning.Sums.{sum_to}
 use Rattle.base_integers.specs.Steps.Sums.{sum-ext}
 use Rattle.base_integers.specs.Meaning.Machine.{SumsFit}
 use Rattle.rules.specs.Meaning.Hour.{Case, Plan, case_of, plan_of, net, net_sum, no_link}
-use Rattle.rules.specs.Promised.Fits.{balance-sums}
+use Rattle.rules.proofs.Promised.Fits.{balance-sums}
 use Rattle.base_causes.specs.declared.Outcome.{Outcome}
 use Rattle.base_causes.specs.Meaning.Causes.{Cause, refusal, answer}
 use Rattle.base_causes.specs.Meaning.Place.{place_of}
-use Rattle.base_causes.specs.Promised.CauseLaws.{place-below}
+use Rattle.base_causes.proofs.Promised.CauseLaws.{place-below}
 use Rattle.base_measures.specs.Meaning.TenthsHold.{TenthsHold}
 use Rattle.proposal_file.specs.Meaning.Read.{HourReadFrom}
 use Rattle.proposal_file.specs.Steps.Read.{sound, zones-is, few-zones, links-is, share-is, share-in}

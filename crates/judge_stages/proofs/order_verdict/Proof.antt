@@ -8,7 +8,7 @@ use borrow.Author.Rules.{rules}
 use Rattle.rules.specs.Meaning.Hour.{Case, Plan, case_of, plan_of}
 use Rattle.base_causes.specs.Meaning.Causes.{failing, refusal, answer}
 use Rattle.base_causes.specs.Meaning.Place.{place_of}
-use Rattle.base_causes.specs.Promised.CauseLaws.{row-found, row-clear, at_place, at_none, place-below}
+use Rattle.base_causes.proofs.Promised.CauseLaws.{row-found, row-clear, at_place, at_none, place-below}
 use Rattle.rules.specs.Meaning.Verdict.{excess_volume, fraction_causes}
 use Rattle.proposal_file.specs.Steps.Read.{sound}
 use Rattle.judge_clearing.specs.Steps.InRange.{volumes-in}

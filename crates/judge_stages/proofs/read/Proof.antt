@@ -8,7 +8,7 @@ use Rattle.rules.specs.Meaning.Hour.{case_of, plan_of, prices_of}
 use Rattle.rules.specs.Meaning.Verdict.{case_causes, case_refusal, proposal_causes, proposal_refusal}
 use Rattle.base_causes.specs.declared.Outcome.{Outcome}
 use Rattle.base_causes.specs.Meaning.Causes.{Cause, refusal, answer}
-use Rattle.base_causes.specs.Promised.CauseLaws.{not-refused}
+use Rattle.base_causes.proofs.Promised.CauseLaws.{not-refused}
 use Rattle.proposal_file.specs.Meaning.ProposalValid.{ProposalValid}
 use Rattle.proposal_file.specs.Steps.ProposalValid.{opening-is, proposed-of}
 use Rattle.proposal_file.specs.Steps.ProposalValid as proposal-answer

@@ -21,9 +21,9 @@ use Rattle.rules.specs.Meaning.Hour.{Case, Plan, Prices, case_of, plan_of, price
 use Rattle.base_causes.specs.declared.Outcome.{Outcome}
 use Rattle.base_causes.specs.Meaning.Causes.{verdict, failing, first_below, answer}
 use Rattle.base_causes.specs.Meaning.Place.{place_of}
-use Rattle.base_causes.specs.Promised.CauseLaws.{Comes, clear, fails-at, behind, not-below, at_place, at_none, first-ext, place-below}
+use Rattle.base_causes.proofs.Promised.CauseLaws.{Comes, clear, fails-at, behind, not-below, at_place, at_none, first-ext, place-below}
 use Rattle.rules.specs.Meaning.Verdict.{◌over◌, ◌over_z◌, overloaded_branch, price_outside}
-use Rattle.rules.specs.Promised.Fits.{rent-sums, system-near}
+use Rattle.rules.proofs.Promised.Fits.{rent-sums, system-near}
 use Rattle.rules.specs.Meaning.Report as rules
 use Rattle.rules.specs.Meaning.Report.{totals_of, reports}
 use Rattle.case_header.specs.declared.Counts.{Counts}

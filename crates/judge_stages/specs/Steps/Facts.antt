@@ -2,7 +2,7 @@
 use Rattle.std.proofs.Common.{sym, ap, arith}
 use Rattle.std.specs.Prelude.{List, ℕ, ◌≤◌}
 use Rattle.rules.specs.Meaning.Hour.{case_of}
-use Rattle.rules.specs.Steps.Passed.{case-sound}
+use Rattle.rules.proofs.Steps.Passed.{case-sound}
 use Rattle.case_header.specs.declared.Counts.{Counts}
 use Rattle.proposal_file.specs.Meaning.ProposalValid.{ProposalValid}
 use Rattle.judge_stages.specs.Steps.Listed.{Counted}

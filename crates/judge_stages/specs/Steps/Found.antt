@@ -9,7 +9,7 @@ use Rattle.rules.specs.Meaning.Report.{reports}
 use Rattle.rules.specs.Meaning.Verdict.{◌over◌, case_causes, proposal_causes, wide_tolerance, family_causes, excess_volume, fraction_causes, unbalanced, share_without_link, overused_link, exchange_causes, clearing_causes}
 use Rattle.base_causes.specs.declared.Outcome.{Outcome}
 use Rattle.base_causes.specs.Meaning.Causes.{Cause, verdict, first_below, failing, cause_else, refusal, answer, once}
-use Rattle.base_causes.specs.Promised.CauseLaws.{else-refusal, refusal-append, lacks, not-refused, zero-none, behind}
+use Rattle.base_causes.proofs.Promised.CauseLaws.{else-refusal, refusal-append, lacks, not-refused, zero-none, behind}
 use Rattle.base_measures.specs.declared.Microcents.{Microcents}
 use Rattle.proposal_file.specs.declared.HourRead.{HourRead}
 use Rattle.base_measures.specs.Meaning.TenthsHold.{no_tenths}

@@ -7,14 +7,14 @@ use Rattle.base_limits.specs.Meaning.Limits as limits
 use Rattle.rules.specs.Meaning.Hour.{Case, Plan}
 use Rattle.base_causes.specs.declared.Outcome.{Outcome}
 use Rattle.base_causes.specs.Meaning.Causes.{verdict, failing, refusal, answer}
-use Rattle.base_causes.specs.Promised.CauseLaws.{row-found, row-clear, lacks, not-refused, place-below}
+use Rattle.base_causes.proofs.Promised.CauseLaws.{row-found, row-clear, lacks, not-refused, place-below}
 use Rattle.rules.specs.Meaning.Verdict.{excess_fraction, fraction_causes, family_causes}
 use Rattle.case_header.specs.declared.Counts.{Counts}
 use Rattle.family_list.specs.declared.FamilyAnswer.{FamilyAnswer}
 use Rattle.family_list.specs.declared.FamilyAnswer.TheVariants.{Sound, Refused}
 use Rattle.family_list.specs.Meaning.Answer.{family_answer}
 use Rattle.family_list.specs.Meaning.Answer.{FamiliesReadable}
-use Rattle.family_list.specs.Steps.Answer.{refused-of, passed-of, known_of}
+use Rattle.family_list.proofs.Steps.Answer.{refused-of, passed-of, known_of}
 use Rattle.judge_stages.specs.declared.FamilyList.{FamilyList}
 use Rattle.judge_stages.specs.declared.FamilyList.TheVariants.{Given, Absent}
 use Rattle.judge_stages.specs.Meaning.Found.{list_of}

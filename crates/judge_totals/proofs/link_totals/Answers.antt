@@ -10,7 +10,7 @@ use Rattle.base_integers.specs.Steps.Machine.{step, step_fits, sfits-by}
 use Rattle.base_measures.specs.declared.Grains.{Grains}
 use Rattle.rules.specs.Meaning.Layout.{contracted_in}
 use Rattle.rules.specs.Meaning.Hour.{case_of, prices_of, spread, link_value, link_total, link_owed, owed}
-use Rattle.rules.specs.Promised.Fits.{system-near, apart-prices, linkTotal-sums, owed-sums}
+use Rattle.rules.proofs.Promised.Fits.{system-near, apart-prices, linkTotal-sums, owed-sums}
 use Rattle.case_links.specs.declared.Link.{Link}
 use Rattle.case_links.specs.Meaning.Link.{link_of}
 use Rattle.proposal_file.specs.declared.HourRead.{HourRead}

@@ -7,7 +7,7 @@ use Rattle.base_integers.specs.Steps.Machine.{step, step_fits}
 use Rattle.base_limits.specs.Meaning.Limits as limits
 use Rattle.base_measures.specs.declared.Grains.{Grains}
 use Rattle.rules.specs.Meaning.Hour.{case_of, prices_of, buys, zone_price, surplus_of, order_surplus, surplus}
-use Rattle.rules.specs.Promised.Fits.{system-near, surplus-sums}
+use Rattle.rules.proofs.Promised.Fits.{system-near, surplus-sums}
 use Rattle.book_order.specs.declared.Order.{Order}
 use Rattle.book_order.specs.Meaning.Admitted.{surplus_at}
 use Rattle.case_orders.specs.Meaning.Order.{order_of}

@@ -6,7 +6,7 @@ use Rattle.base_integers.specs.Steps.Size.{near_fits}
 use Rattle.base_integers.specs.Steps.Machine.{sfits-by}
 use Rattle.rules.specs.Meaning.Hour.{case_of, plan_of, prices_of, surplus, branch_total, link_total, welfare, no_link, network_bound, bound, gap}
 use Rattle.rules.specs.Meaning.Report.{totals_of}
-use Rattle.rules.specs.Promised.Fits.{system-near, bound-near, gap-near}
+use Rattle.rules.proofs.Promised.Fits.{system-near, bound-near, gap-near}
 use Rattle.proposal_file.specs.declared.HourRead.{HourRead}
 use Rattle.proposal_file.specs.Meaning.Read.{HourReadFrom}
 use Rattle.proposal_file.specs.Meaning.InRange.{VolumesInRange}

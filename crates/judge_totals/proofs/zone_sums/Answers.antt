@@ -4,7 +4,7 @@ use Rattle.base_integers.specs.Meaning.Sums.{sum_to}
 use Rattle.base_integers.specs.Steps.Machine.{step, step_fits}
 use Rattle.base_measures.specs.Steps.Held.{grains-outside, grains-held}
 use Rattle.base_causes.specs.Meaning.Causes.{first_below}
-use Rattle.base_causes.specs.Promised.CauseLaws.{first-here, first-later}
+use Rattle.base_causes.proofs.Promised.CauseLaws.{first-here, first-later}
 use Rattle.judge_totals.proofs.zone_sums.Goals as goal
 
 pub loop-z-init : goal.loop-z-init

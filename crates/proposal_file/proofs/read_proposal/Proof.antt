@@ -2,7 +2,7 @@
 -- Assumes nothing.
 use mathlib.Core.Path.{sym, ap, ◌∙◌}
 use borrow.Author.Rules.{rules}
-use Rattle.base_causes.specs.Promised.CauseLaws.{field-fails, behind}
+use Rattle.base_causes.proofs.Promised.CauseLaws.{field-fails, behind}
 use Rattle.proposal_file.specs.declared.ProposalAnswer.TheVariants.{Refused}
 use Rattle.proposal_file.specs.Meaning.Answer.{opening_of, proposal_by}
 use Rattle.proposal_file.specs.Steps.Answer.{header-taken, header_refused}

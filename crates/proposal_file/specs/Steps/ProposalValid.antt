@@ -12,7 +12,7 @@ use Rattle.rules.specs.Meaning.Hour.{case_of, plan_of, prices_of}
 use Rattle.base_causes.specs.declared.Outcome.{Outcome}
 use Rattle.base_causes.specs.Meaning.Causes.{Cause, refusal, once, each_at}
 use Rattle.rules.specs.Meaning.Verdict.{◌under◌, differ, not_mark, proposal_causes, proposal_refusal}
-use Rattle.rules.specs.Steps.Passed.{proposal-length, proposal-sound}
+use Rattle.rules.proofs.Steps.Passed.{proposal-length, proposal-sound}
 use Rattle.case_header.specs.declared.Counts.{Counts}
 use Rattle.case_header.specs.Meaning.CaseReadable.{CaseReadable}
 use Rattle.case_header.specs.Steps.CaseReadable.{headed, limited}

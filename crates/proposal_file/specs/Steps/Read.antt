@@ -4,7 +4,7 @@ use Rattle.std.specs.Prelude.{◌≡◌, List, ℕ, ◌≤◌, ◌<◌, pos}
 use Rattle.std.proofs.Math.Path.{ap}
 use Rattle.std.proofs.Common.{arith}
 use Rattle.rules.specs.Meaning.Hour.{case_of, plan_of, prices_of}
-use Rattle.rules.specs.Steps.Passed.{CaseSound, case-sound, proposal-sound}
+use Rattle.rules.proofs.Steps.Passed.{CaseSound, case-sound, proposal-sound}
 use Rattle.case_header.specs.declared.Counts.{Counts}
 use Rattle.case_header.specs.Meaning.CaseReadable.{CaseReadable}
 use Rattle.proposal_file.specs.declared.ProposalOpening.{ProposalOpening}

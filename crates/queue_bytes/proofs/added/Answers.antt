@@ -1,6 +1,6 @@
 -- `added`: where an hour may be added there are fewer than 25. Assumes nothing.
 use Rattle.std.proofs.Common.{arith}
-use Rattle.queue_bytes.specs.Steps.Cells.{addable-room, added_is}
+use Rattle.queue_bytes.proofs.Steps.Cells.{addable-room, added_is}
 use Rattle.queue_bytes.proofs.added.Goals as goal
 
 pub bounds-cells-n : goal.bounds-cells-n

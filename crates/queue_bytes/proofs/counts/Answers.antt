@@ -1,7 +1,7 @@
 -- `counts`: the cell is free, over 25, or looked up among the others. Assumes nothing.
 use Rattle.std.specs.Prelude.{not}
 use Rattle.std.proofs.Common.{ap, ◌∙◌, arith}
-use Rattle.queue_bytes.specs.Steps.Cells.{counts-free, counts-over, counts-else}
+use Rattle.queue_bytes.proofs.Steps.Cells.{counts-free, counts-over, counts-else}
 use Rattle.queue_bytes.proofs.counts.Goals as goal
 
 pub returns-then-c-eq0 : goal.returns-then-c-eq0

@@ -3,7 +3,7 @@ use Rattle.std.specs.Prelude.{◌≡◌, Bool, ◌||◌, ◌+◌, eqb, length, g
 use Rattle.std.proofs.Common.{sym, ap, ◌∙◌, arith, rules}
 use Rattle.std.proofs.Math.Bool.{or_assoc, or-false}
 use Rattle.queue_turns.specs.Meaning.Queue.{among}
-use Rattle.queue_bytes.specs.Steps.Cells.{among-on, among-end}
+use Rattle.queue_bytes.proofs.Steps.Cells.{among-on, among-end}
 use Rattle.queue_bytes.proofs.is_among.Goals as goal
 
 pub loop-i-preserved : goal.loop-i-preserved

@@ -1,7 +1,7 @@
 -- `moved_up`: one cell more has moved up. Assumes nothing.
 use Rattle.std.specs.Prelude.{◌≡◌, length}
 use Rattle.std.proofs.Common.{arith, rules}
-use Rattle.queue_bytes.specs.Steps.Cells.{moved_more}
+use Rattle.queue_bytes.proofs.Steps.Cells.{moved_more}
 use Rattle.queue_bytes.proofs.moved_up.Goals as goal
 
 pub loop-i-preserved : goal.loop-i-preserved

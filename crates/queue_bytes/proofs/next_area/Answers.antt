@@ -3,7 +3,7 @@
 use Rattle.std.specs.Prelude.{◌≤◌, ◌<◌}
 use Rattle.std.proofs.Common.{subst, arith}
 use Rattle.queue_bytes.specs.declared.Waiting.{Waiting}
-use Rattle.queue_bytes.specs.Steps.Walks.{next_start, next_here, next-later, next-none}
+use Rattle.queue_bytes.proofs.Steps.Walks.{next_start, next_here, next-later, next-none}
 use Rattle.queue_bytes.proofs.next_area.Goals as goal
 
 pub loop-k-init : goal.loop-k-init

@@ -2,8 +2,8 @@
 use Rattle.std.specs.Prelude.{ℕ, ◌<◌}
 use Rattle.std.proofs.Common.{subst, ap, ◌∙◌}
 use Rattle.queue_bytes.specs.Meaning.Bytes.{queue_of}
-use Rattle.queue_bytes.specs.Steps.ReadBack.{post-means}
-use Rattle.queue_bytes.specs.Steps.Answers.{post-leaves}
+use Rattle.queue_bytes.proofs.Steps.ReadBack.{post-means}
+use Rattle.queue_bytes.proofs.Steps.Answers.{post-leaves}
 use Rattle.queue_bytes.proofs.post.Goals as goal
 
 pub returns-then-number-gt0-clause-bytes : goal.returns-then-number-gt0-clause-bytes

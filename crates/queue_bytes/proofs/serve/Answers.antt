@@ -4,8 +4,8 @@ use Rattle.std.specs.Prelude.{◌<◌}
 use Rattle.std.proofs.Common.{subst, ap, ◌∙◌}
 use Rattle.queue_bytes.specs.declared.Served.{Served}
 use Rattle.queue_bytes.specs.Meaning.Bytes.{queue_of}
-use Rattle.queue_bytes.specs.Steps.ReadBack.{serve-means}
-use Rattle.queue_bytes.specs.Steps.Answers.{serve-leaves}
+use Rattle.queue_bytes.proofs.Steps.ReadBack.{serve-means}
+use Rattle.queue_bytes.proofs.Steps.Answers.{serve-leaves}
 use Rattle.queue_bytes.proofs.serve.Goals as goal
 
 pub returns-then-answer-gt0-clause-bytes : goal.returns-then-answer-gt0-clause-bytes

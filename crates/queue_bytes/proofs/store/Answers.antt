@@ -1,7 +1,7 @@
 -- `store`: one cell more is replaced. Assumes nothing.
 use Rattle.std.specs.Prelude.{◌≡◌, List, ℕ, ◌+◌, ◌*◌, length, get_or, set}
 use Rattle.std.proofs.Common.{ap, ◌∙◌, arith, rules}
-use Rattle.queue_bytes.specs.Steps.Cells.{copied}
+use Rattle.queue_bytes.proofs.Steps.Cells.{copied}
 use Rattle.queue_bytes.proofs.store.Goals as goal
 
 pub loop-i-preserved : goal.loop-i-preserved

@@ -1,8 +1,9 @@
 -- `waiting_in`: a cell that counts finds room, and each cell read adds its hour or none. Assumes nothing.
 use Rattle.std.specs.Prelude.{◌≡◌, length}
 use Rattle.std.proofs.Common.{sym, ap, ◌∙◌, arith, rules}
-use Rattle.queue_bytes.specs.Steps.Cells.{waiting_of, kept_more, kept_same}
-use Rattle.queue_bytes.specs.Steps.Walks.{hours_to, read_none, read-good, read-room, read_more, read_all}
+use Rattle.queue_bytes.specs.Steps.Cells.{waiting_of}
+use Rattle.queue_bytes.proofs.Steps.Cells.{kept_more, kept_same}
+use Rattle.queue_bytes.proofs.Steps.Walks.{hours_to, read_none, read-good, read-room, read_more, read_all}
 use Rattle.queue_bytes.proofs.waiting_in.Goals as goal
 
 pub loop-i-init : goal.loop-i-init

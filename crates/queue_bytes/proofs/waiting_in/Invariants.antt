@@ -2,7 +2,7 @@
 use Rattle.std.specs.Prelude.{◌≡◌, ◌-◌, ◌≤◌}
 use Rattle.queue_bytes.specs.declared.Waiting.{Waiting}
 use Rattle.queue_bytes.specs.Steps.Cells.{waiting_of}
-use Rattle.queue_bytes.specs.Steps.Walks.{hours_to}
+use Rattle.queue_bytes.proofs.Steps.Walks.{hours_to}
 use Rattle.queue_bytes.proofs.waiting_in.Given as goal
 
 abbrev pub invariant-loop-i : goal.invariant-loop-i

@@ -6,7 +6,7 @@ use Rattle.base_integers.specs.Meaning.Bytes.{bytes_of, signed64}
 use Rattle.base_integers.specs.Steps.Bytes.{sets-append}
 use Rattle.rules.specs.Meaning.Layout.{welfare_at, prices_at, zone_price_at}
 use Rattle.rules.specs.Meaning.Report as rules
-use Rattle.rules.specs.Promised.Reported.{prices-length}
+use Rattle.rules.proofs.Promised.Reported.{prices-length}
 use Rattle.report_file.specs.declared.Totals.{Totals}
 
 -- one price more

@@ -27,12 +27,12 @@ pub record Solution : Type 0 where
   -- |Q^i| x_i
   pub accepted : ℕ → ℤ
   pub netpos : ℕ → ℤ
-  pub netpos_fB : ℕ → ℤ
-  pub netpos_lTA : ℕ → ℤ
+  pub netpos_fb : ℕ → ℤ
+  pub netpos_lta : ℕ → ℤ
   -- from the first zone of an ordered pair to the second; no sum has a zone's flow to itself
   pub flow : ℕ → ℕ → ℤ
-  pub flow_fB : ℕ → ℕ → ℤ
-  pub flow_lTA : ℕ → ℕ → ℤ
+  pub flow_fb : ℕ → ℕ → ℤ
+  pub flow_lta : ℕ → ℕ → ℤ
   -- hundred-thousandths; α₂ is document 01's LTA share
   pub alpha1 : ℤ
   pub alpha2 : ℤ
@@ -49,8 +49,8 @@ unfoldable pub by_pair : Case → (ℕ → ℤ) → ℕ → ℕ → ℤ
 by_pair c f l k = sum_to c.links (λ j. only (joins c j l k) (f j))
 
 -- capacity^LTA of an ordered pair
-unfoldable pub capacity_lTA : Case → ℕ → ℕ → ℤ
-capacity_lTA c l k = by_pair c (λ j. pos (c.capacity j)) l k
+unfoldable pub capacity_lta : Case → ℕ → ℕ → ℤ
+capacity_lta c l k = by_pair c (λ j. pos (c.capacity j)) l k
 
 -- Σ_{k ≠ l} (flow_{k,l} - flow_{l,k}), over n zones. The example's (9), (22), (39) and (46) misprint it for zone B:
 -- they name the flow from A to C instead of the flow from C to B.
@@ -66,9 +66,9 @@ objective c x = pos parts_in_one *ℤ sum_to c.orders (λ i. signed (buys c i) (
 pub record Network (c : Case) (x : Solution) : Type 0 where
   pub den-positive : 0 < x.den
   -- (63) netpos_l = netpos^FB_l + netpos^LTA_l
-  pub netpos-is : (l : ℕ) → l < c.zones → x.netpos l ≡ x.netpos_fB l +ℤ x.netpos_lTA l
+  pub netpos-is : (l : ℕ) → l < c.zones → x.netpos l ≡ x.netpos_fb l +ℤ x.netpos_lta l
   -- (64) flow_{l,k} = flow^FB_{l,k} + flow^LTA_{l,k}
-  pub flow-is : (l k : ℕ) → l < c.zones → k < c.zones → x.flow l k ≡ x.flow_fB l k +ℤ x.flow_lTA l k
+  pub flow-is : (l k : ℕ) → l < c.zones → k < c.zones → x.flow l k ≡ x.flow_fb l k +ℤ x.flow_lta l k
   -- (65) α₁ + α₂ = 1
   pub alpha-sum : x.alpha1 +ℤ x.alpha2 ≡ pos (parts_in_one * x.den)
   -- (66) α ≥ 0
@@ -76,17 +76,17 @@ pub record Network (c : Case) (x : Solution) : Type 0 where
   -- section 3.3 (S-6): without links no LTAs are taken into consideration, α₂ = 0
   pub no-LTA : c.links ≡ 0 → x.alpha2 ≡ pos 0
   -- (67) Σ_l ptdf_{m,l} netpos^FB_l ≤ α₁ RAM_m
-  pub branch : (m : ℕ) → m < c.branches → sum_to c.zones (λ l. c.ptdf m l *ℤ x.netpos_fB l) ≤ℤ (x.alpha1 *ℤ c.ram m)
+  pub branch : (m : ℕ) → m < c.branches → sum_to c.zones (λ l. c.ptdf m l *ℤ x.netpos_fb l) ≤ℤ (x.alpha1 *ℤ c.ram m)
   -- (68) netpos^FB_l = Σ_{k ≠ l} (flow^FB_{k,l} - flow^FB_{l,k})
-  pub netposFB-is : (l : ℕ) → l < c.zones → x.netpos_fB l ≡ net_flow c.zones x.flow_fB l
+  pub netposFB-is : (l : ℕ) → l < c.zones → x.netpos_fb l ≡ net_flow c.zones x.flow_fb l
   -- (69) flow^FB ≥ 0
-  pub flowFB-in : (l k : ℕ) → l < c.zones → k < c.zones → pos 0 ≤ℤ x.flow_fB l k
+  pub flowFB-in : (l k : ℕ) → l < c.zones → k < c.zones → pos 0 ≤ℤ x.flow_fb l k
   -- (70) flow^LTA_{l,k} ≤ α₂ capacity^LTA_{l,k}
-  pub link : (l k : ℕ) → l < c.zones → k < c.zones → (pos parts_in_one *ℤ x.flow_lTA l k) ≤ℤ (x.alpha2 *ℤ capacity_lTA c l k)
+  pub link : (l k : ℕ) → l < c.zones → k < c.zones → (pos parts_in_one *ℤ x.flow_lta l k) ≤ℤ (x.alpha2 *ℤ capacity_lta c l k)
   -- (71) netpos^LTA_l = Σ_{k ≠ l} (flow^LTA_{k,l} - flow^LTA_{l,k})
-  pub netposLTA-is : (l : ℕ) → l < c.zones → x.netpos_lTA l ≡ net_flow c.zones x.flow_lTA l
+  pub netposLTA-is : (l : ℕ) → l < c.zones → x.netpos_lta l ≡ net_flow c.zones x.flow_lta l
   -- (72) flow^LTA ≥ 0
-  pub flowLTA-in : (l k : ℕ) → l < c.zones → k < c.zones → pos 0 ≤ℤ x.flow_lTA l k
+  pub flowLTA-in : (l k : ℕ) → l < c.zones → k < c.zones → pos 0 ≤ℤ x.flow_lta l k
 
 -- the constraints of the orders, (60) and (61), and of the network
 pub record Feasible (c : Case) (x : Solution) : Type 0 where
@@ -110,7 +110,7 @@ pub record Connected (n : ℕ) (line : ℕ → ℕ → Bool) : Type 0 where
 
 -- commercial flow goes only along lines
 pub record AlongLines (c : Case) (line : ℕ → ℕ → Bool) (x : Solution) : Type 0 where
-  pub elsewhere : (l k : ℕ) → l < c.zones → k < c.zones → T (not (line l k)) → x.flow_fB l k ≡ pos 0
+  pub elsewhere : (l k : ℕ) → l < c.zones → k < c.zones → T (not (line l k)) → x.flow_fb l k ≡ pos 0
 
 -- every ordered pair of distinct zones, as in the Annex
 unfoldable pub every_pair : ℕ → ℕ → Bool
@@ -122,8 +122,8 @@ pub record Multipliers : Type 0 where
   pub price : ℕ → ℤ
   -- price with a tilde, of (63)
   pub price_split : ℕ → ℤ
-  pub price_fB : ℕ → ℤ
-  pub price_lTA : ℕ → ℤ
+  pub price_fb : ℕ → ℤ
+  pub price_lta : ℕ → ℤ
   -- multipliers of inequalities, so not negative: ShadowPrice_m and w^LTA_{l,k}
   pub shadow : ℕ → ℕ
   pub w : ℕ → ℕ → ℤ
@@ -132,19 +132,19 @@ pub record PriceConditions (c : Case) (line : ℕ → ℕ → Bool) (y : Multipl
   -- (73)
   pub price-split : (l : ℕ) → l < c.zones → y.price_split l ≡ y.price l
   -- (74) price_l = price^FB_l + Σ_m ptdf_{m,l} ShadowPrice_m
-  pub price-FB : (l : ℕ) → l < c.zones → y.price l ≡ pos parts_in_one *ℤ y.price_fB l +ℤ sum_to c.branches (λ m. c.ptdf m l *ℤ pos (y.shadow m))
+  pub price-FB : (l : ℕ) → l < c.zones → y.price l ≡ pos parts_in_one *ℤ y.price_fb l +ℤ sum_to c.branches (λ m. c.ptdf m l *ℤ pos (y.shadow m))
   -- (75) price_l = price^LTA_l
-  pub price-LTA : (l : ℕ) → l < c.zones → y.price l ≡ y.price_lTA l
+  pub price-LTA : (l : ℕ) → l < c.zones → y.price l ≡ y.price_lta l
   -- (76) w^LTA_{l,k} ≥ price^LTA_k - price^LTA_l
-  pub w-spread : (l k : ℕ) → l < c.zones → k < c.zones → (y.price_lTA k -ℤ y.price_lTA l) ≤ℤ y.w l k
+  pub w-spread : (l k : ℕ) → l < c.zones → k < c.zones → (y.price_lta k -ℤ y.price_lta l) ≤ℤ y.w l k
   pub w-in : (l k : ℕ) → l < c.zones → k < c.zones → pos 0 ≤ℤ y.w l k
   -- (78) 0 ≥ price^FB_k - price^FB_l
-  pub no-spread : (l k : ℕ) → l < c.zones → k < c.zones → T (line l k) → (y.price_fB k -ℤ y.price_fB l) ≤ℤ pos 0
+  pub no-spread : (l k : ℕ) → l < c.zones → k < c.zones → T (line l k) → (y.price_fb k -ℤ y.price_fb l) ≤ℤ pos 0
 
 -- (77) flow^LTA_{l,k} > 0 ⇒ price^LTA_k - price^LTA_l = w^LTA_{l,k}, for a solution and its multipliers at the
 -- optimum; `w-in` says that it is not negative
 pub record Complementary (c : Case) (x : Solution) (y : Multipliers) : Type 0 where
-  pub w-is : (l k : ℕ) → l < c.zones → k < c.zones → pos 0 <ℤ x.flow_lTA l k → y.price_lTA k -ℤ y.price_lTA l ≡ y.w l k
+  pub w-is : (l k : ℕ) → l < c.zones → k < c.zones → pos 0 <ℤ x.flow_lta l k → y.price_lta k -ℤ y.price_lta l ≡ y.w l k
 
 -- (81), left side, and (82): Σ_l netpos_l price_l
 unfoldable pub congestion_rent : Case → Solution → (ℕ → ℤ) → ℤ
@@ -156,11 +156,11 @@ unfoldable pub margin_value : Case → Multipliers → ℤ
 margin_value c y = sum_to c.branches (λ m. c.ram m *ℤ pos (y.shadow m))
 
 unfoldable pub capacity_value : Case → Multipliers → ℤ
-capacity_value c y = sum_to c.zones (λ l. sum_to c.zones (λ k. capacity_lTA c l k *ℤ y.w l k))
+capacity_value c y = sum_to c.zones (λ l. sum_to c.zones (λ k. capacity_lta c l k *ℤ y.w l k))
 
 -- (81), right side: Σ_{l,k} (price_k - price_l)⁺ capacity^LTA_{l,k}
 unfoldable pub liabilities : Case → (ℕ → ℤ) → ℤ
-liabilities c price = sum_to c.zones (λ l. sum_to c.zones (λ k. capacity_lTA c l k *ℤ positive (price k -ℤ price l)))
+liabilities c price = sum_to c.zones (λ l. sum_to c.zones (λ k. capacity_lta c l k *ℤ positive (price k -ℤ price l)))
 
 -- APPENDIX B: the two domains that are combined, each at its full weight. Where the weight is positive, it cancels
 -- on both sides of (91) to (96). First a point of the flow-based domain, (91) to (93), over a denominator
@@ -172,7 +172,7 @@ pub record FBDomain (c : Case) (den : ℕ) (netpos : ℕ → ℤ) (flow : ℕ �
 -- a point of the LTA domain, (94) to (96); without links there is none (S-6)
 pub record LTADomain (c : Case) (den : ℕ) (netpos : ℕ → ℤ) (flow : ℕ → ℕ → ℤ) : Type 0 where
   pub some-link : 0 < c.links
-  pub link : (l k : ℕ) → l < c.zones → k < c.zones → flow l k ≤ℤ (pos den *ℤ capacity_lTA c l k)
+  pub link : (l k : ℕ) → l < c.zones → k < c.zones → flow l k ≤ℤ (pos den *ℤ capacity_lta c l k)
   pub netpos-is : (l : ℕ) → l < c.zones → netpos l ≡ net_flow c.zones flow l
   pub flow-in : (l k : ℕ) → l < c.zones → k < c.zones → pos 0 ≤ℤ flow l k
 
@@ -180,20 +180,20 @@ pub record LTADomain (c : Case) (den : ℕ) (netpos : ℕ → ℤ) (flow : ℕ �
 -- domain's constraints, (91) to (93) or (94) to (96), do not apply.
 pub record TwoPoints (c : Case) : Type 0 where
   pub den : ℕ
-  pub netpos_fB : ℕ → ℤ
-  pub flow_fB : ℕ → ℕ → ℤ
-  pub netpos_lTA : ℕ → ℤ
-  pub flow_lTA : ℕ → ℕ → ℤ
+  pub netpos_fb : ℕ → ℤ
+  pub flow_fb : ℕ → ℕ → ℤ
+  pub netpos_lta : ℕ → ℤ
+  pub flow_lta : ℕ → ℕ → ℤ
   pub a1 : ℕ
   pub a2 : ℕ
   pub den-positive : 0 < den
   pub weights-positive : 0 < a1 + a2
-  pub flow-based : 0 < a1 → FBDomain c den netpos_fB flow_fB
-  pub long-term : 0 < a2 → LTADomain c den netpos_lTA flow_lTA
+  pub flow-based : 0 < a1 → FBDomain c den netpos_fb flow_fb
+  pub long-term : 0 < a2 → LTADomain c den netpos_lta flow_lta
 
 -- x is their convex combination: (87) and (88) multiplied by both denominators
 pub record Combines (c : Case) (y : TwoPoints c) (x : Solution) : Type 0 where
   pub netpos-is : (l : ℕ) → l < c.zones
-      → pos ((y.a1 + y.a2) * y.den) *ℤ x.netpos l ≡ pos x.den *ℤ (pos y.a1 *ℤ y.netpos_fB l +ℤ pos y.a2 *ℤ y.netpos_lTA l)
+      → pos ((y.a1 + y.a2) * y.den) *ℤ x.netpos l ≡ pos x.den *ℤ (pos y.a1 *ℤ y.netpos_fb l +ℤ pos y.a2 *ℤ y.netpos_lta l)
   pub flow-is : (l k : ℕ) → l < c.zones → k < c.zones
-      → pos ((y.a1 + y.a2) * y.den) *ℤ x.flow l k ≡ pos x.den *ℤ (pos y.a1 *ℤ y.flow_fB l k +ℤ pos y.a2 *ℤ y.flow_lTA l k)
+      → pos ((y.a1 + y.a2) * y.den) *ℤ x.flow l k ≡ pos x.den *ℤ (pos y.a1 *ℤ y.flow_fb l k +ℤ pos y.a2 *ℤ y.flow_lta l k)

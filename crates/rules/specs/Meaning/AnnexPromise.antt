@@ -13,14 +13,14 @@ pub record Same (c : Case) (p : Plan) (x : Solution) : Type 0 where
   pub den : p.den ≡ x.den
   pub share : pos p.share ≡ x.alpha2
   pub volume : (i : ℕ) → i < c.orders → pos (p.volume i) ≡ x.accepted i
-  pub flow : (j : ℕ) → j < c.links → pos (p.flow j) ≡ x.flow_lTA (c.from j) (c.to j)
+  pub flow : (j : ℕ) → j < c.links → pos (p.flow j) ≡ x.flow_lta (c.from j) (c.to j)
 
 -- then welfare, net positions and their two parts agree
 pub record Agree (c : Case) (p : Plan) (x : Solution) : Type 0 where
   pub welfare-is : welfare c p ≡ objective c x
   pub net-is : (l : ℕ) → l < c.zones → net c p l ≡ x.netpos l
-  pub lta-part-is : (l : ℕ) → l < c.zones → lta_part c p l ≡ x.netpos_lTA l
-  pub fb-part-is : (l : ℕ) → l < c.zones → fb_part c p l ≡ x.netpos_fB l
+  pub lta-part-is : (l : ℕ) → l < c.zones → lta_part c p l ≡ x.netpos_lta l
+  pub fb-part-is : (l : ℕ) → l < c.zones → fb_part c p l ≡ x.netpos_fb l
 
 -- a clearing that is the solution x
 pub record IsClearing (c : Case) (x : Solution) : Type 0 where
@@ -42,8 +42,8 @@ unfoldable pub multipliers_of : Case → Prices → Multipliers
 multipliers_of c d = record {
   price = zone_price c d;
   price_split = zone_price c d;
-  price_fB = λ l. d.system;
-  price_lTA = zone_price c d;
+  price_fb = λ l. d.system;
+  price_lta = zone_price c d;
   shadow = d.shadow;
   w = λ l k. positive (zone_price c d k -ℤ zone_price c d l);
 }

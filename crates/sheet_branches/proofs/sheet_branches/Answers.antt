@@ -2,7 +2,7 @@
 -- Assumes nothing.
 use Rattle.std.proofs.Common.{◌≤◌, length, sym, arith}
 use Rattle.std.proofs.Math.Seq.{length-take-le}
-use Rattle.sheet_lines.specs.Steps.Lines.{part-bound}
+use Rattle.sheet_lines.proofs.Steps.Lines.{part-bound}
 use Rattle.sheet_branches.specs.Steps.Answers.{zones-within, answer-50, answer-51, answer-52, answer-53, answer-54, answer-55, answer-0}
 use Rattle.sheet_branches.proofs.sheet_branches.Goals as goal
 use Rattle.sheet_branches.proofs.sheet_branches.Goals.{Else-out-length}

@@ -10,13 +10,13 @@ use Rattle.std.proofs.Math.ListN.{length}
 use Rattle.base_integers.specs.Meaning.Ranges.{outside, Within}
 use Rattle.base_integers.specs.Steps.Ranges.{within, nat-within, nor-left, nor-right, not_is}
 use Rattle.base_causes.specs.Meaning.Causes.{Pass}
-use Rattle.base_causes.specs.Promised.CauseLaws.{empty, all_pass, no_place}
+use Rattle.base_causes.proofs.Promised.CauseLaws.{empty, all_pass, no_place}
 use Rattle.text_rules.specs.Meaning.Text.{value_of}
 use Rattle.sheet_numbers.specs.Meaning.Numeral.{whole, decimals, is_number, units, finer}
-use Rattle.sheet_numbers.specs.Promised.Exact.{exact}
+use Rattle.sheet_numbers.proofs.Promised.Exact.{exact}
 use Rattle.sheet_lines.specs.Meaning.Sheet.{fields, decimal_count, limit, field_of, entry_of, malformed, too_fine, out_of_range, line_of, line_count, branch_part, sheet_causes, sheet_refusal, sheet_outcome, sheet_bytes, sheet_written}
 use Rattle.sheet_branches.specs.Promised.Causes.{sheet-none, sheet-writes}
-use Rattle.sheet_lines.specs.Steps.Lines.{lines-length}
+use Rattle.sheet_lines.proofs.Steps.Lines.{lines-length}
 
 module _ (zones : ℕ) (sheet : List ℕ) (room : ℕ) (answered : (sheet_outcome zones sheet room).number ≡ 0) where
   -- every row of the table passed

@@ -5,13 +5,13 @@ use Rattle.std.proofs.Math.Path.{refl, ap}
 use Rattle.std.proofs.Math.Option.{Option, none}
 use Rattle.std.proofs.Common.{arith}
 use Rattle.base_causes.specs.declared.Outcome.{Outcome}
-use Rattle.base_causes.specs.Promised.Asked.{unnamed, the-place, ask, Asks}
+use Rattle.base_causes.proofs.Promised.Asked.{unnamed, the-place, ask, Asks}
 use Rattle.base_causes.specs.Meaning.Causes.{Cause, verdict, answer}
-use Rattle.base_causes.specs.Promised.CauseLaws.{empty, CausedBy, answer-caused, Answered, answered, Soonest, soonest, lacks, zero-none}
+use Rattle.base_causes.proofs.Promised.CauseLaws.{empty, CausedBy, answer-caused, Answered, answered, Soonest, soonest, lacks, zero-none}
 use Rattle.base_output.specs.Meaning.Output.{written_by}
 use Rattle.sheet_numbers.specs.Meaning.Numeral.{digits, starts, before, negative, unsigned, whole, is_number}
 use Rattle.sheet_lines.specs.Meaning.Sheet.{fields, field_of, malformed, sheet_causes, sheet_refusal, sheet_outcome, sheet_bytes, sheet_written, sheet_output}
-use Rattle.sheet_lines.specs.Promised.PlainBytes.{refusal-leaves}
+use Rattle.sheet_lines.proofs.Promised.PlainBytes.{refusal-leaves}
 use Rattle.sheet_lines.specs.Steps.Lines.{malformed-field}
 
 module _ (zones : ℕ) (sheet : List ℕ) (room : ℕ) where

@@ -15,14 +15,14 @@ use Rattle.base_integers.specs.Steps.Ranges.{within, is_false}
 use Rattle.base_integers.specs.Steps.Size.{Near, near-pos, near-neg, near_le, near_within, near_fits}
 use Rattle.base_limits.specs.Meaning.Limits as limits
 use Rattle.rules.specs.Meaning.Layout.{u8_at, i32_at, zones_in, branches_in, branch_size, branch_at, ram_in, ptdf_in}
-use Rattle.rules.specs.Steps.LayoutLaws.{signed-there}
+use Rattle.rules.proofs.Steps.LayoutLaws.{signed-there}
 use Rattle.rules.specs.Meaning.Hour.{case_of}
-use Rattle.base_causes.specs.Promised.CauseLaws.{any_none}
+use Rattle.base_causes.proofs.Promised.CauseLaws.{any_none}
 use Rattle.rules.specs.Meaning.Verdict.{branch_fault}
 use Rattle.sheet_lines.specs.Meaning.Sheet.{limit, entry, Header, SheetInCase, entry_of, line_of, line_count, branch_part, sheet_bytes, sheet_outcome, sheet_written, sheet_output}
 use Rattle.sheet_branches.specs.Promised.Causes.{sheet-writes}
 use Rattle.sheet_branches.specs.Promised.Answered.{not-outside}
-use Rattle.sheet_lines.specs.Steps.Stands.{line-there}
+use Rattle.sheet_lines.proofs.Steps.Stands.{line-there}
 
 near-limit : (j : ℕ) (x : ℤ) → outside (limit j) x ≡ false → Near 500000 x
 near-limit zero x e = near_within 500000 limits.margin x (near-neg (near-pos 500000)) (near-pos 500000) (within limits.margin x (is_false e))

@@ -14,14 +14,14 @@ use Rattle.rules.specs.Meaning.Layout.{zone_counts}
 use Rattle.base_causes.specs.declared.Place.TheVariants.{At, Nowhere}
 use Rattle.base_causes.specs.Meaning.Place.{place_of}
 use Rattle.base_causes.specs.Meaning.Causes.{verdict, refusal, each}
-use Rattle.base_causes.specs.Promised.CauseLaws.{row-found, row-clear, field-fails, field-passes}
+use Rattle.base_causes.proofs.Promised.CauseLaws.{row-found, row-clear, field-fails, field-passes}
 use Rattle.base_output.specs.declared.Written.{Written}
 use Rattle.base_output.specs.Steps.Met as output
 use Rattle.sheet_lines.specs.Meaning.Sheet.{line_count, branch_part, sheet_causes, sheet_refusal, sheet_outcome, sheet_bytes, sheet_written, sheet_output}
 use Rattle.sheet_branches.specs.Meaning.Answer.{SheetAnswered}
 use Rattle.sheet_lines.specs.declared.SheetFaults.{SheetFaults}
 use Rattle.sheet_lines.specs.Meaning.Lines.{malformed_at, too_fine_at, out_of_range_at, LinesRead, SheetRead}
-use Rattle.sheet_lines.specs.Steps.Lines.{lines-length}
+use Rattle.sheet_lines.proofs.Steps.Lines.{lines-length}
 
 -- the zone count passes
 pub zones-within : (zones : ℕ) → outside zone_counts (pos zones) ≡ false → (1 ≤ zones) × (zones ≤ 16)

@@ -5,11 +5,14 @@ use Rattle.std.specs.Int.{w32}
 use Rattle.sheet_numbers.specs.declared.Number.{Number}
 use Rattle.sheet_numbers.specs.Meaning.Scan.{Separator}
 use Rattle.sheet_numbers.specs.Meaning.Pieces.{piece_at, number_at}
-use Rattle.sheet_numbers.specs.Steps.Pieces.{cut, NumberRead, number_read, number-none}
+use Rattle.sheet_numbers.specs.Steps.Pieces.{cut}
+use Rattle.sheet_numbers.proofs.Steps.Pieces.{NumberRead, number_read, number-none}
 use Rattle.sheet_lines.specs.Meaning.Sheet.{decimal_count}
-use Rattle.sheet_lines.specs.Steps.Entries.{turned, entry_of_number, entry-fits}
-use Rattle.sheet_lines.specs.Steps.Lines.{mark_of, separator}
-use Rattle.sheet_lines.specs.Steps.Walks.{line-start, line-no-number, line-unseparated, line-turn, line-end}
+use Rattle.sheet_lines.specs.Steps.Entries.{turned, entry_of_number}
+use Rattle.sheet_lines.proofs.Steps.Entries.{entry-fits}
+use Rattle.sheet_lines.specs.Steps.Lines.{mark_of}
+use Rattle.sheet_lines.proofs.Steps.Lines.{separator}
+use Rattle.sheet_lines.proofs.Steps.Walks.{line-start, line-no-number, line-unseparated, line-turn, line-end}
 use Rattle.sheet_lines.proofs.read_line.Goals as goal
 use Rattle.sheet_lines.proofs.read_line.Goals.{After-number, In-Read}
 

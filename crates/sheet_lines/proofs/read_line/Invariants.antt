@@ -1,5 +1,5 @@
 -- `sheet_lines::read_line`: the first j fields are numbers, their faults are known, and they stand in the table.
-use Rattle.sheet_lines.specs.Steps.Walks.{LineSoFar}
+use Rattle.sheet_lines.proofs.Steps.Walks.{LineSoFar}
 use Rattle.sheet_lines.proofs.read_line.Given as goal
 
 abbrev pub invariant-loop-j : goal.invariant-loop-j

@@ -2,7 +2,7 @@
 -- nothing.
 use Rattle.std.proofs.Common.{ap, ◌∙◌}
 use Rattle.sheet_lines.specs.Meaning.Sheet.{branch_part}
-use Rattle.sheet_lines.specs.Steps.Walks.{sheet-start, sheet-malformed, sheet-turn, sheet-end}
+use Rattle.sheet_lines.proofs.Steps.Walks.{sheet-start, sheet-malformed, sheet-turn, sheet-end}
 use Rattle.sheet_lines.proofs.read_lines.Goals as goal
 
 pub loop-cursor-init : goal.loop-cursor-init

@@ -1,6 +1,6 @@
 -- `sheet_numbers::held` meets its contract: above the cap and within it. Assumes nothing.
 use Rattle.std.proofs.Common.{sym}
-use Rattle.sheet_numbers.specs.Steps.Capped.{capped-over, capped-within}
+use Rattle.sheet_numbers.proofs.Steps.Capped.{capped-over, capped-within}
 use Rattle.sheet_numbers.proofs.held.Goals as goal
 
 pub returns-then-x-gt-CAP : goal.returns-then-x-gt-CAP

@@ -2,8 +2,9 @@
 use Rattle.std.proofs.Common.{◌≡◌, ℕ, [], ◌+◌, ◌*◌, ◌-◌, sym, ap, ◌∙◌, arith}
 use Rattle.text_rules.specs.Meaning.Text.{value_from}
 use Rattle.sheet_numbers.specs.Meaning.Numeral.{first_of}
-use Rattle.sheet_numbers.specs.Steps.Capped.{capped, capped_le}
-use Rattle.sheet_numbers.specs.Steps.Turns.{zero_more, no_zero}
+use Rattle.sheet_numbers.specs.Steps.Capped.{capped}
+use Rattle.sheet_numbers.proofs.Steps.Capped.{capped_le}
+use Rattle.sheet_numbers.proofs.Steps.Turns.{zero_more, no_zero}
 use Rattle.sheet_numbers.proofs.padded.Goals as goal
 
 pub loop-left-preserved : goal.loop-left-preserved

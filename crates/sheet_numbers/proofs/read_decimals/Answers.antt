@@ -1,9 +1,9 @@
 -- `sheet_numbers::read_decimals` meets its contract: a digit that counts, one past those, another byte, and the end of
 -- the text. Assumes nothing.
 use Rattle.std.proofs.Common.{sym}
-use Rattle.sheet_numbers.specs.Promised.Finer.{digit-parts}
-use Rattle.sheet_numbers.specs.Steps.Scan.{lead-other, lead-end}
-use Rattle.sheet_numbers.specs.Steps.Turns.{turn-counts, turn-past, turns-done}
+use Rattle.sheet_numbers.proofs.Promised.Finer.{digit-parts}
+use Rattle.sheet_numbers.proofs.Steps.Scan.{lead-other, lead-end}
+use Rattle.sheet_numbers.proofs.Steps.Turns.{turn-counts, turn-past, turns-done}
 use Rattle.sheet_numbers.proofs.read_decimals.Goals as goal
 use Rattle.sheet_numbers.proofs.read_decimals.Goals.{then-left-gt0, else-left-gt0}
 

@@ -1,8 +1,8 @@
 -- `sheet_numbers::read_whole` meets its contract: one digit more, another byte, and the end of the text. Assumes nothing.
 use Rattle.std.proofs.Common.{sym}
-use Rattle.sheet_numbers.specs.Promised.Finer.{digit-parts}
-use Rattle.sheet_numbers.specs.Steps.Scan.{lead-other, lead-end}
-use Rattle.sheet_numbers.specs.Steps.Turns.{whole-turn, whole-done}
+use Rattle.sheet_numbers.proofs.Promised.Finer.{digit-parts}
+use Rattle.sheet_numbers.proofs.Steps.Scan.{lead-other, lead-end}
+use Rattle.sheet_numbers.proofs.Steps.Turns.{whole-turn, whole-done}
 use Rattle.sheet_numbers.proofs.read_whole.Goals as goal
 
 pub returns-then-not-is_digit : goal.returns-then-not-is_digit

@@ -1,6 +1,6 @@
 -- `sheet_numbers::starts_at` meets its contract: inside the text and past its end. Assumes nothing.
 use Rattle.std.proofs.Common.{sym}
-use Rattle.sheet_numbers.specs.Steps.Scan.{starts-here, starts-end}
+use Rattle.sheet_numbers.proofs.Steps.Scan.{starts-here, starts-end}
 use Rattle.sheet_numbers.proofs.starts_at.Goals as goal
 
 pub returns-then-i-s : goal.returns-then-i-s

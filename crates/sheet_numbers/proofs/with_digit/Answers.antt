@@ -1,6 +1,6 @@
 -- `sheet_numbers::with_digit` meets its contract: below the cap and from it on. Assumes nothing.
 use Rattle.std.proofs.Common.{◌+◌, ◌*◌, ◌-◌, sym, arith}
-use Rattle.sheet_numbers.specs.Steps.Capped.{capped-reached, capped-within}
+use Rattle.sheet_numbers.proofs.Steps.Capped.{capped-reached, capped-within}
 use Rattle.sheet_numbers.proofs.with_digit.Goals as goal
 
 pub returns-then-x-lt-CAP_TENTH : goal.returns-then-x-lt-CAP_TENTH

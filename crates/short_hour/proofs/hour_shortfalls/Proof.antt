@@ -9,11 +9,11 @@ use lib.ListN.{length}
 use lib.IntN.{ℤ}
 use Rattle.rules.specs.Meaning.Layout.{report_room}
 use Rattle.rules.specs.Meaning.Hour.{case_of, plan_of, prices_of}
-use Rattle.rules.specs.Promised.Guarantee.{Accepted}
+use Rattle.rules.proofs.Promised.Guarantee.{Accepted}
 use Rattle.case_header.specs.declared.Counts.{Counts}
 use Rattle.short_rules.specs.Meaning.Answer.{shortfall_count}
-use Rattle.short_rules.specs.Promised.Answer.{numbers-long}
-use Rattle.short_rules.specs.Promised.Causes.{short-output, enough-room}
+use Rattle.short_rules.proofs.Promised.Answer.{numbers-long}
+use Rattle.short_rules.proofs.Promised.Causes.{short-output, enough-room}
 use Rattle.short_single.specs.Meaning.HourAccepted.{HourAccepted}
 use Rattle.short_hour.specs.Steps.Kept.{kept-refused, kept-answer, found-refused, found-accepted, valued, judged, count-is, few}
 use Rattle.short_hour.specs.Steps.Pairs.{count_of}

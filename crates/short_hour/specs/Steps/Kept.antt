@@ -14,17 +14,17 @@ use Rattle.rules.specs.Meaning.Layout.{report_room}
 use Rattle.rules.specs.Meaning.Hour.{case_of, plan_of, prices_of}
 use Rattle.rules.specs.Meaning.Report.{reports}
 use Rattle.rules.specs.Meaning.Verdict.{outcome}
-use Rattle.rules.specs.Steps.Passed.{Sound, sound}
-use Rattle.rules.specs.Promised.Guarantee.{Accepted, allowed}
+use Rattle.rules.proofs.Steps.Passed.{Sound, sound}
+use Rattle.rules.proofs.Promised.Guarantee.{Accepted, allowed}
 use Rattle.base_output.specs.declared.Written.{Written}
 use Rattle.case_header.specs.Meaning.CaseReadable.{CountsInRange}
 use Rattle.case_header.specs.Steps.CaseReadable.{headed, limited}
 use Rattle.judge_stages.specs.declared.Found.{Found}
 use Rattle.judge_stages.specs.Meaning.Found.{Finds, hour_causes}
 use Rattle.short_rules.specs.Meaning.Answer.{shortfall_numbers, shortfall_count, shortfall_causes, shortfall_outcome, written_by, shortfall_written, shortfall_output, Answers}
-use Rattle.short_rules.specs.Promised.Account.{hour-accounted}
-use Rattle.short_rules.specs.Promised.Answer.{gap-small, hour-answers}
-use Rattle.short_rules.specs.Promised.Causes.{room-passes, refused-first}
+use Rattle.short_rules.proofs.Promised.Account.{hour-accounted}
+use Rattle.short_rules.proofs.Promised.Answer.{gap-small, hour-answers}
+use Rattle.short_rules.proofs.Promised.Causes.{room-passes, refused-first}
 use Rattle.proposal_file.specs.declared.HourRead.{HourRead}
 use Rattle.proposal_file.specs.Steps.Read.{case-opened}
 use Rattle.short_single.specs.Meaning.HourAccepted.{HourAccepted}

@@ -9,7 +9,7 @@ use Rattle.base_limits.specs.Meaning.Exact.{exactly}
 use Rattle.base_measures.specs.declared.ExactMicrocents.{ExactMicrocents}
 use Rattle.case_header.specs.declared.Counts.{Counts}
 use Rattle.short_rules.specs.Meaning.Answer.{whole_of, parts_of, pairs_to}
-use Rattle.short_rules.specs.Steps.Pairs.{pairs-long}
+use Rattle.short_rules.proofs.Steps.Pairs.{pairs-long}
 use Rattle.short_single.specs.Meaning.Short.{Exact}
 
 -- the number of shortfalls, from the counts

@@ -5,7 +5,7 @@ use Rattle.std.specs.Prelude.{◌≡◌, ℕ, ◌*◌, ◌<◌, ℤ, pos, ◌*�
 use Rattle.base_integers.specs.Meaning.Sums.{sum_to}
 use Rattle.base_limits.specs.Meaning.Limits.{parts_in_one}
 use Rattle.rules.specs.Meaning.Hour.{Case, buys, above}
-use Rattle.rules.specs.Meaning.Annex.{Solution, Multipliers, Complementary, capacity_lTA, margin_value, capacity_value}
+use Rattle.rules.specs.Meaning.Annex.{Solution, Multipliers, Complementary, capacity_lta, margin_value, capacity_value}
 
 -- how far an order's price, in grains, is on the good side of its zone's
 unfoldable pub order_gain : Case → Multipliers → ℕ → ℤ
@@ -17,9 +17,9 @@ pub record Slackness (c : Case) (x : Solution) (y : Multipliers) : Type 0 where
   -- (61), x_i < 1: what is left of it would earn nothing
   pub left-earns-nothing : (i : ℕ) → i < c.orders → x.accepted i <ℤ pos (x.den * c.quantity i) → order_gain c y i ≤ℤ pos 0
   -- (67), ShadowPrice_m > 0: the branch is used up
-  pub margin-used : (m : ℕ) → m < c.branches → 0 < y.shadow m → sum_to c.zones (λ l. c.ptdf m l *ℤ x.netpos_fB l) ≡ x.alpha1 *ℤ c.ram m
+  pub margin-used : (m : ℕ) → m < c.branches → 0 < y.shadow m → sum_to c.zones (λ l. c.ptdf m l *ℤ x.netpos_fb l) ≡ x.alpha1 *ℤ c.ram m
   -- (70), w^LTA_{l,k} > 0: the capacity is used up
-  pub capacity-used : (l k : ℕ) → l < c.zones → k < c.zones → pos 0 <ℤ y.w l k → pos parts_in_one *ℤ x.flow_lTA l k ≡ x.alpha2 *ℤ capacity_lTA c l k
+  pub capacity-used : (l k : ℕ) → l < c.zones → k < c.zones → pos 0 <ℤ y.w l k → pos parts_in_one *ℤ x.flow_lta l k ≡ x.alpha2 *ℤ capacity_lta c l k
   -- (77), flow^LTA_{l,k} > 0
   pub flow-priced : Complementary c x y
   -- (66), α₁ > 0 and α₂ > 0: no weight above zero is on the smaller of the two totals

@@ -11,7 +11,7 @@ use Rattle.base_integers.specs.Steps.Machine.{sfits-by}
 use Rattle.base_limits.specs.Meaning.Limits as limits
 use Rattle.base_limits.specs.Meaning.Limits.{parts_in_one, grains_of}
 use Rattle.rules.specs.Meaning.Hour.{Case, Plan, Prices, case_of, plan_of, prices_of, buys, above, zone_price}
-use Rattle.rules.specs.Promised.Fits.{in-grains, near-zone-price}
+use Rattle.rules.proofs.Promised.Fits.{in-grains, near-zone-price}
 use Rattle.book_order.specs.declared.Order.{Order}
 use Rattle.proposal_file.specs.Steps.Read.{case-opened, sound, orders-is}
 use Rattle.report_file.specs.Meaning.Prices.{grains_at}

@@ -12,8 +12,8 @@ use Rattle.base_limits.specs.Meaning.Limits as limits
 use Rattle.base_limits.specs.Meaning.Limits.{parts_in_one}
 use Rattle.base_measures.specs.declared.Tenths.{Tenths}
 use Rattle.rules.specs.Meaning.Hour.{Case, Plan, Prices, case_of, plan_of, prices_of, buys, above, fb_part, link_use, link_room, branch_use, branch_room, zone_price, surplus_of, order_surplus, spread, gap}
-use Rattle.rules.specs.Steps.Passed.{CaseSound}
-use Rattle.rules.specs.Promised.Fits.{in-grains, near-above, apart-prices, fbPart-near, branchUse-sums, flow-in, volumes-in}
+use Rattle.rules.proofs.Steps.Passed.{CaseSound}
+use Rattle.rules.proofs.Promised.Fits.{in-grains, near-above, apart-prices, fbPart-near, branchUse-sums, flow-in, volumes-in}
 use Rattle.proposal_file.specs.declared.HourRead.{HourRead}
 use Rattle.base_measures.specs.Meaning.TenthsHold.{tenths_at}
 use Rattle.proposal_file.specs.Steps.Read.{sound, share-is, share-in, shadow-in}

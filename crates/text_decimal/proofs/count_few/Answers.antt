@@ -1,6 +1,6 @@
 -- `count_few`: it has k digits where 10 ^ k is the first power above it. Assumes nothing.
 use Rattle.std.proofs.Common.{arith}
-use Rattle.text_rules.specs.Steps.Places.{places-one, places-past, places-at-most}
+use Rattle.text_rules.proofs.Steps.Places.{places-one, places-past, places-at-most}
 use Rattle.text_decimal.proofs.count_few.Goals as goal
 
 pub returns-then-n-power : goal.returns-then-n-power

@@ -3,7 +3,7 @@
 use Rattle.std.specs.Prelude.{◌≡◌, ℕ, ◌/◌, ◌≤◌}
 use Rattle.std.proofs.Common.{ap, arith}
 use Rattle.text_rules.specs.Meaning.Text.{places}
-use Rattle.text_rules.specs.Steps.Places.{places-myriad, places-at-most}
+use Rattle.text_rules.proofs.Steps.Places.{places-myriad, places-at-most}
 use Rattle.text_decimal.proofs.count_places.Goals as goal
 
 pub overflow_add-k : goal.overflow_add-k

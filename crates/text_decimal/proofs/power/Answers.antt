@@ -2,7 +2,7 @@
 -- and not over a copy. Assumes nothing.
 use Rattle.std.specs.Prelude.{ℕ, ◌^◌}
 use Rattle.std.proofs.Common.{rules}
-use Rattle.text_rules.specs.Steps.Table.{entry}
+use Rattle.text_rules.proofs.Steps.Table.{entry}
 use Rattle.text_decimal.proofs.power.Goals as goal
 
 pub returns : goal.returns

@@ -3,8 +3,8 @@ use Rattle.std.specs.Prelude.{◌≡◌, true, false, ◌∷◌, ℕ, length}
 use Rattle.std.specs.Int.{w64}
 use Rattle.std.proofs.Common.{sym, ap, ◌∙◌, arith, length-set, to_z}
 use Rattle.text_rules.specs.Meaning.Text.{size_text, amount_text}
-use Rattle.text_rules.specs.Promised.Value.{amount-negative, amount-positive}
-use Rattle.text_rules.specs.Steps.Put.{put_as, put_then, put_byte}
+use Rattle.text_rules.proofs.Promised.Value.{amount-negative, amount-positive}
+use Rattle.text_rules.proofs.Steps.Put.{put_as, put_then, put_byte}
 use Rattle.text_decimal.proofs.put_amount.Goals as goal
 use Rattle.text_decimal.proofs.put_amount.Goals.{After-negative}
 

@@ -2,8 +2,8 @@
 use Rattle.std.specs.Prelude.{ℕ}
 use Rattle.std.proofs.Common.{ap, arith}
 use Rattle.text_rules.specs.Meaning.Text.{last_digits, count_text}
-use Rattle.text_rules.specs.Promised.Value.{count-length}
-use Rattle.text_rules.specs.Steps.Put.{put_as}
+use Rattle.text_rules.proofs.Promised.Value.{count-length}
+use Rattle.text_rules.proofs.Steps.Put.{put_as}
 use Rattle.text_decimal.proofs.put_count.Goals as goal
 
 pub put_last-requires : goal.put_last-requires

@@ -3,8 +3,8 @@ use Rattle.std.specs.Prelude.{◌≡◌, ℕ, ◌+◌, ◌-◌, ◌/◌, ◌^◌
 use Rattle.std.proofs.Common.{suc, sym, ap, ◌∙◌, arith}
 use Rattle.std.proofs.lemmas.List.Edits.{sets}
 use Rattle.text_rules.specs.Meaning.Text.{last_digits}
-use Rattle.text_rules.specs.Promised.Value.{last-length}
-use Rattle.text_rules.specs.Steps.Digits.{put-digit, put_two, hundredth}
+use Rattle.text_rules.proofs.Promised.Value.{last-length}
+use Rattle.text_rules.proofs.Steps.Digits.{put-digit, put_two, hundredth}
 use Rattle.text_decimal.proofs.put_last.Goals as goal
 use Rattle.text_decimal.proofs.put_last.Goals.{then-at-i, else-at-i}
 

@@ -3,8 +3,8 @@ use Rattle.std.specs.Prelude.{List, [], ◌∷◌, ℕ, ◌+◌, ◌/◌, ◌^�
 use Rattle.std.proofs.Common.{ap, append_assoc, arith, length-set}
 use Rattle.text_rules.specs.Meaning.Put.{Put}
 use Rattle.text_rules.specs.Meaning.Text.{last_digits, count_text, size_text}
-use Rattle.text_rules.specs.Promised.Sizes.{size-length}
-use Rattle.text_rules.specs.Steps.Put.{put_as, put-length, put_then, put_byte}
+use Rattle.text_rules.proofs.Promised.Sizes.{size-length}
+use Rattle.text_rules.proofs.Steps.Put.{put_as, put-length, put_then, put_byte}
 use Rattle.text_decimal.proofs.put_size.Goals as goal
 use Rattle.text_decimal.proofs.put_size.Goals.{After-put_count-point}
 

@@ -1,7 +1,7 @@
 -- `text_hour::put_hour` meets its contract: the totals' lines and then the prices' lines. Assumes nothing.
 use native.Mathlib.Omega.{arith}
 use lib.ListN.{length-append}
-use Rattle.text_rules.specs.Steps.Put.{put-length, put_then}
+use Rattle.text_rules.proofs.Steps.Put.{put-length, put_then}
 use Rattle.rules.specs.Meaning.Lines.{hour_lines}
 use borrow.Author.Rules.{rules}
 use Rattle.text_hour.proofs.put_hour.Statement.{statement}

@@ -5,7 +5,7 @@ use Prim.Native.Nat.{ℕ, ◌-◌, ◌≤◌}
 use native.Mathlib.Omega.{arith}
 use borrow.Author.Rules.{rules}
 use Rattle.text_rules.specs.Meaning.Put.{Put}
-use Rattle.text_rules.specs.Steps.Put.{put_as, put-length, put_then}
+use Rattle.text_rules.proofs.Steps.Put.{put_as, put-length, put_then}
 use Rattle.rules.specs.Meaning.Lines.{price_lines}
 use Rattle.report_file.specs.Meaning.Prices.{grains_at}
 use Rattle.text_hour.specs.Steps.Texts.{prices-more, prices-within}

@@ -8,7 +8,7 @@ use native.Mathlib.Omega.{arith}
 use lib.ListN.{length, take, get_or}
 use lib.Seq.{take-suc, take-length}
 use Rattle.text_rules.specs.Meaning.Put.{Put}
-use Rattle.text_rules.specs.Steps.Put.{put_as, put-length, put_then, put_byte}
+use Rattle.text_rules.proofs.Steps.Put.{put_as, put-length, put_then, put_byte}
 use Rattle.text_hour.proofs.put_text.Statement.{statement}
 use Rattle.text_hour.proofs.put_text.Tie as tie
 

@@ -8,9 +8,9 @@ use mir.Syntax.{w64}
 use mir.Val.{to_z}
 use Rattle.text_rules.specs.Meaning.Text.{amount_text}
 use Rattle.text_rules.specs.Meaning.Put.{Put}
-use Rattle.text_rules.specs.Steps.Put.{put_as, put-length, put_then}
+use Rattle.text_rules.proofs.Steps.Put.{put_as, put-length, put_then}
 use Rattle.rules.specs.Meaning.Lines.{total_line}
-use Rattle.text_rules.specs.Steps.Complement.{bits-text}
+use Rattle.text_rules.proofs.Steps.Complement.{bits-text}
 use borrow.Author.Rules.{rules}
 use Rattle.text_hour.proofs.put_total.Statement.{statement}
 use Rattle.text_hour.proofs.put_total.Tie as tie

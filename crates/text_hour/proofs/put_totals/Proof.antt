@@ -1,7 +1,7 @@
 -- `text_hour::put_totals` meets its contract: the five lines, each where the one before ends. Assumes nothing.
 use native.Mathlib.Omega.{arith}
 use lib.ListN.{length-append}
-use Rattle.text_rules.specs.Steps.Put.{put-length, put_then}
+use Rattle.text_rules.proofs.Steps.Put.{put-length, put_then}
 use Rattle.rules.specs.Meaning.Lines.{total_lines}
 use borrow.Author.Rules.{rules}
 use Rattle.text_hour.proofs.put_totals.Statement.{statement}

@@ -2,7 +2,7 @@
 -- Assumes nothing.
 use native.Mathlib.Omega.{arith}
 use lib.ListN.{length-append}
-use Rattle.text_rules.specs.Steps.Put.{put-length, put_then}
+use Rattle.text_rules.proofs.Steps.Put.{put-length, put_then}
 use Rattle.rules.specs.Meaning.Lines.{verdict_line}
 use borrow.Author.Rules.{rules}
 use Rattle.text_hour.proofs.put_verdict.Statement.{statement}

@@ -4,7 +4,7 @@ use mathlib.Core.Path.{sym, ◌∙◌}
 use Prim.Native.Nat.{◌≤◌}
 use borrow.Author.Tests.{ltb-true, ltb-false}
 use lib.ListN.{length}
-use Rattle.text_lines.specs.Steps.Answers.{met-refusal, met-answer}
+use Rattle.text_lines.proofs.Steps.Answers.{met-refusal, met-answer}
 use borrow.Author.Rules.{rules}
 use Rattle.text_lines.proofs.lines.Statement.{statement}
 use Rattle.text_lines.proofs.lines.Tie as tie

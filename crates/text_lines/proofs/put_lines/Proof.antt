@@ -6,12 +6,12 @@ use mathlib.Core.Option.{none}
 use Prim.Native.Nat.{ℕ}
 use native.Mathlib.Omega.{arith}
 use lib.ListN.{length, length-append}
-use Rattle.text_rules.specs.Steps.Put.{put_as, put-length, put_then}
+use Rattle.text_rules.proofs.Steps.Put.{put_as, put-length, put_then}
 use Rattle.rules.specs.Meaning.Cut.{case_part, proposal_part}
 use Rattle.rules.specs.Meaning.Lines.{verdict_line, desk_text}
 use Rattle.judge_stages.specs.Meaning.Found.{Finds, hour_causes}
-use Rattle.text_lines.specs.Steps.Judged.{verdict-found, line-found, lines-found}
-use Rattle.text_lines.specs.Promised.Room.{first-room, hour-room}
+use Rattle.text_lines.proofs.Steps.Judged.{verdict-found, line-found, lines-found}
+use Rattle.text_lines.proofs.Promised.Room.{first-room, hour-room}
 use Rattle.base_causes.specs.declared.Outcome.{Outcome}
 use borrow.Author.Rules.{rules}
 use Rattle.text_lines.proofs.put_lines.Statement.{statement}

@@ -1,7 +1,7 @@
 -- `Load::cost`: the product, in whole microcents and parts of one. Assumes nothing.
 use Rattle.std.specs.Int.{w64}
 use Rattle.std.proofs.Common.{SFits, pos, rules, ap, ◌∙◌}
-use Rattle.base_limits.specs.Steps.Cost.{read, price-read, product_is, product-read, tenths-fit, whole-fits, cost-is}
+use Rattle.base_limits.proofs.Steps.Cost.{read, price-read, product_is, product-read, tenths-fit, whole-fits, cost-is}
 use Rattle.base_measures.proofs.Load.cost.Goals as goal
 
 pub overflow_mul-load : goal.overflow_mul-load

@@ -2,7 +2,8 @@
 -- numbers. Assumes nothing.
 use Rattle.std.proofs.Common.{sym, subst}
 use Rattle.book_surplus.specs.declared.Surplus.{Surplus}
-use Rattle.book_surplus.specs.Promised.PlainLent.{PlainAnswer, lent-plain}
+use Rattle.book_surplus.specs.Promised.PlainLent.{PlainAnswer}
+use Rattle.book_surplus.proofs.Promised.PlainLent.{lent-plain}
 use Rattle.host.proofs.book.lta_book_surplus.Goals as goal
 
 pub returns : goal.returns

@@ -1,6 +1,6 @@
 -- `host::dump::lta_dump_proposal` meets its contract: the clauses are the answer of `dump_proposal` and the
 -- theorems about it. Assumes nothing.
-use Rattle.dump_proposal.specs.Promised.Answered.{answer-read-back, answer-volumes, answer-bytes}
+use Rattle.dump_proposal.proofs.Promised.Answered.{answer-read-back, answer-volumes, answer-bytes}
 use Rattle.host.proofs.dump.lta_dump_proposal.Goals as goal
 
 pub returns-clause-read_back : goal.returns-clause-read_back

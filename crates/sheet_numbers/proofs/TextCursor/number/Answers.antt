@@ -2,7 +2,7 @@
 -- Assumes nothing.
 use Rattle.std.proofs.Common.{◌+◌, refl, sym, arith}
 use Rattle.sheet_numbers.specs.Meaning.Numeral.{negative}
-use Rattle.sheet_numbers.specs.Steps.Parts.{start-in, WholeRead, value-le, point-in, none_read, other-read, whole-read, PointRead, held-le, point-none, point-other, point-read}
+use Rattle.sheet_numbers.proofs.Steps.Parts.{start-in, WholeRead, value-le, point-in, none_read, other-read, whole-read, PointRead, held-le, point-none, point-other, point-read}
 use Rattle.sheet_numbers.proofs.TextCursor.number.Goals as goal
 use Rattle.sheet_numbers.proofs.TextCursor.number.Goals.{After-read_whole-whole, After-read_decimals-decimals}
 

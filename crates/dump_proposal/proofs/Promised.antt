@@ -1,0 +1,5 @@
+-- THE THEOREMS ON THE MEANING, for its reader
+pub mod Causes
+pub mod ReadBack
+pub mod PlainBytes
+pub mod Answered

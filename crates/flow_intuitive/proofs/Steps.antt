@@ -1,0 +1,3 @@
+-- THE STEPS of the proofs
+pub mod Sizes
+pub mod Answers

@@ -1,0 +1,2 @@
+-- Steps of proofs.
+pub mod Saturated

@@ -1,0 +1,3 @@
+-- THE STEPS of the proofs
+pub mod Tests
+pub mod Table

@@ -1,0 +1,7 @@
+-- THE STEPS of the proofs
+pub mod ReadBack
+pub mod Cells
+pub mod Walks
+pub mod Answers
+pub mod Said
+pub mod Tidied

@@ -1,0 +1,4 @@
+-- The theorems of this crate, and the steps to them.
+pub mod Steps
+pub mod Promised
+pub mod Worked

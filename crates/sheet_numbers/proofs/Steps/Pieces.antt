@@ -1,0 +1,46 @@
+-- A text up to its first mark and what follows the mark, as a piece; and the digits and the number at a place.
+-- Assumes nothing.
+use Rattle.std.specs.Prelude.{◌≡◌, refl, Bool, true, false, cond, ◌||◌, List, [], ◌∷◌, ℕ, suc, ◌+◌, ◌-◌, ◌≤◌, ◌<◌, eqb, ltb, length, take, drop}
+use Rattle.std.proofs.Common.{sym, ap, subst, ◌∙◌, arith, ltb-true, ltb-false, length-drop, drop_of_length-le, drop-drop}
+use Rattle.text_rules.specs.Meaning.Text.{value_from}
+use Rattle.sheet_numbers.specs.declared.Piece.{Piece}
+use Rattle.sheet_numbers.specs.declared.Whole.{Whole}
+use Rattle.sheet_numbers.specs.declared.Decimals.{Decimals}
+use Rattle.sheet_numbers.specs.declared.Number.{Number}
+use Rattle.sheet_numbers.specs.declared.NumberAnswer.{NumberAnswer}
+use Rattle.sheet_numbers.specs.declared.NumberAnswer.TheVariants.{Read, NoNumber}
+use Rattle.sheet_numbers.specs.Meaning.Numeral.{before, after, is_number, units, non_zero}
+use Rattle.sheet_numbers.specs.Steps.Scan.{leading}
+use Rattle.sheet_numbers.specs.Steps.Capped.{cap, capped}
+use Rattle.sheet_numbers.proofs.Steps.Capped.{capped_le}
+use Rattle.sheet_numbers.specs.Meaning.Pieces.{piece_at, held_number, number_by, number_at}
+use Rattle.sheet_numbers.specs.Steps.Pieces.{Cut, cut}
+
+-- an answer that gives a number, and one that gives none
+pub record NumberRead (k mark : ℕ) (s : List ℕ) (at : ℕ) (x : Number) (p : Piece) : Type 0 where
+  pub is-number : is_number (before mark (drop at s)) ≡ true
+  pub number_is : x ≡ held_number k (before mark (drop at s))
+  pub held : x.units ≤ cap
+  pub place : Cut mark s at p
+
+by_read : (b : Bool) (y : Number) (z : Piece) {x : Number} {p : Piece} → number_by b y z ≡ Read x p → (b ≡ true) × ((x ≡ y) × (p ≡ z))
+by_read true y z q = (refl, (cc, cc))
+by_read false y z q = (cc, (cc, cc))
+
+by-none : (b : Bool) (y : Number) (z : Piece) → number_by b y z ≡ NoNumber → b ≡ false
+by-none true y z q = cc
+by-none false y z q = refl
+
+module _ (k mark : ℕ) (s : List ℕ) (at : ℕ) {r : NumberAnswer} (e : r ≡ number_at k mark s at) where
+  pub number_read : {x : Number} {p : Piece} → at ≤ length s → r ≡ Read x p → NumberRead k mark s at x p
+  number_read h q =
+      let w = by_read (is_number (before mark (drop at s))) (held_number k (before mark (drop at s))) (piece_at mark s at) (sym e ∙ q) in
+      record {
+        is-number = w.0;
+        number_is = w.1.0;
+        held = subst (λ (n : Number). n.units ≤ cap) (sym w.1.0) (capped_le (units k (before mark (drop at s))));
+        place = cut mark s at h w.1.1;
+      }
+
+  pub number-none : r ≡ NoNumber → is_number (before mark (drop at s)) ≡ false
+  number-none q = by-none (is_number (before mark (drop at s))) (held_number k (before mark (drop at s))) (piece_at mark s at) (sym e ∙ q)
