@@ -1,7 +1,7 @@
 -- `flow_intuitive::answered` meets its contract: where no row refuses, the max flow answers. Assumes nothing.
 use Rattle.std.proofs.Common.{refl, length}
-use Rattle.flow_intuitive.specs.Steps.Answers.{answer-refused, answer-given, passed}
-use Rattle.flow_intuitive.specs.Steps.Sizes.{sized, room_in}
+use Rattle.flow_intuitive.proofs.Steps.Answers.{answer-refused, answer-given, passed}
+use Rattle.flow_intuitive.proofs.Steps.Sizes.{sized, room_in}
 use Rattle.flow_intuitive.proofs.answered.Goals as goal
 
 pub returns-then-number-ne0 : goal.returns-then-number-ne0

@@ -5,12 +5,12 @@ use Rattle.std.proofs.Math.Option.{none, some}
 use Rattle.base_integers.specs.Meaning.Ranges.{outside}
 use Rattle.base_integers.specs.Steps.Ranges.{nat-within, is_false, not_is}
 use Rattle.base_causes.specs.Meaning.Causes.{first_below}
-use Rattle.base_causes.specs.Promised.CauseLaws.{place-below, not-below}
+use Rattle.base_causes.proofs.Promised.CauseLaws.{place-below, not-below}
 use Rattle.rules.specs.Meaning.Layout.{zone_counts}
 use Rattle.book_surplus.specs.Meaning.BookState.{first_price_outside}
 use Rattle.flow_positions.specs.Meaning.Positions.{position_outside}
 use Rattle.flow_intuitive.specs.Meaning.Intuitive.{price_outside}
-use Rattle.flow_intuitive.specs.Steps.Answers.{From, refused-count, refused-lengths, past-81, refused-82, past-82, refused-sum, past-sum, refused-83, past-83, by-rest, outcome-by}
+use Rattle.flow_intuitive.proofs.Steps.Answers.{From, refused-count, refused-lengths, past-81, refused-82, past-82, refused-sum, past-sum, refused-83, past-83, by-rest, outcome-by}
 use Rattle.flow_intuitive.proofs.examine.Goals as goal
 use Rattle.flow_intuitive.proofs.examine.Goals.{Else-count_outside, Else-prices-net_exports, In_default, In-At-price, In_default-price}
 

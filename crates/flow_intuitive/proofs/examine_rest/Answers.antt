@@ -1,10 +1,11 @@
 -- `flow_intuitive::examine_rest` meets its contract: rows 84 and 85. Assumes nothing.
 use Rattle.std.proofs.Common.{◌≡◌, [], ◌∷◌, sym, ap, ◌∙◌, arith, lt-ltb, le-ltb}
 use Rattle.base_causes.specs.Meaning.Causes.{refusal, answer, once, each}
-use Rattle.base_causes.specs.Promised.CauseLaws.{row-found, row-clear, field-fails, field-passes}
+use Rattle.base_causes.proofs.Promised.CauseLaws.{row-found, row-clear, field-fails, field-passes}
 use Rattle.rules.specs.Meaning.Verdict.{◌under◌}
 use Rattle.flow_pairs.specs.Meaning.Pairs.{pair_count, bad_pair}
-use Rattle.flow_intuitive.specs.Steps.Answers.{rest_causes, pair-named}
+use Rattle.flow_intuitive.specs.Steps.Answers.{rest_causes}
+use Rattle.flow_intuitive.proofs.Steps.Answers.{pair-named}
 use Rattle.flow_intuitive.proofs.examine_rest.Goals as goal
 use Rattle.flow_intuitive.proofs.examine_rest.Goals.{In_default}
 

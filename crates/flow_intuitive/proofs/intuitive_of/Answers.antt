@@ -1,6 +1,6 @@
 -- `flow_intuitive::intuitive_of` meets its contract: 81 to 83 pass, and the rest is asked. Assumes nothing.
 use Rattle.std.proofs.Common.{length, ◌∙◌}
-use Rattle.flow_intuitive.specs.Steps.Answers.{by-rest, lists-past, few-listed}
+use Rattle.flow_intuitive.proofs.Steps.Answers.{by-rest, lists-past, few-listed}
 use Rattle.flow_intuitive.proofs.intuitive_of.Goals as goal
 
 pub examine_rest-o-requires : goal.examine_rest-o-requires
