@@ -1,5 +1,5 @@
 -- An accepted hour, with what the shortfalls need.
-use Rattle.std.specs.Prelude.{List, ℕ, ◌≤◌, pos, ◌≤ℤ◌}
+use Rattle.std.specs.Prelude.{List, ℕ, pos, ◌≤ℤ◌}
 use Rattle.rules.specs.Meaning.Hour.{case_of, plan_of, prices_of, gap}
 use Rattle.rules.specs.Meaning.Clearing.{Clearing}
 use Rattle.proposal_file.specs.declared.HourRead.{HourRead}
