@@ -1,8 +1,9 @@
-"""The declarations of a crate's specs/, its functions, and which of them may rest on which.
+"""The declarations of a crate's specs/ and proofs/, its functions, and which of them may rest on which.
 
 antt shuts every definition: a declaration sees the clauses of another only if it unfolds them (a line `unfolding`, an
-`unfold .. in`), or if that other is an abbrev, a record or a data type. It sees the statement of a law that it cites. A
-word that is the name of a declaration in scope counts as citing it, so this finds more than there is and never less.
+`unfold .. in`, an `unfolding(..)` before a function), or if that other is an abbrev, a record or a data type. It sees
+the statement of a law that it cites. A word that is the name of a declaration in scope counts as citing it, so this
+finds more than there is and never less.
 """
 
 from __future__ import annotations
@@ -15,7 +16,9 @@ from collections.abc import Iterable
 MODIFIERS = {"pub", "abbrev", "unfoldable", "axiom", "data", "record", "ruleset"}
 # What is seen through wherever it is cited.
 OPEN = {"abbrev", "data", "record", "ruleset"}
-WORD = re.compile(r"[^\s(){}\[\],;·⌜⌝]+")
+WORD = re.compile(r"[^\s(){}\[\],;]+")
+# What a function's own folder in proofs/ has; the other files there have theorems.
+PROOF = ("Invariants.antt", "Answers.antt", "Proof.antt")
 
 
 class Declaration:
@@ -37,6 +40,8 @@ class Declaration:
             self.unfolds.update(name.rpartition(".")[2] for name in line.split()[1:])
         for unfolded in re.findall(r"\bunfold ((?:\S+ )+?)in\b", line):
             self.unfolds.update(name.rpartition(".")[2] for name in unfolded.split())
+        for unfolded in re.findall(r"\bunfolding\(([^)]*)\)", line):
+            self.unfolds.update(name.strip().rpartition(":")[2] for name in unfolded.split(","))
 
 
 def words_of(line: str) -> tuple[set[str], list[str]]:
@@ -72,18 +77,21 @@ FUNCTION = re.compile(r"(?:pub )?(?:const )?(?:extern \"C\" )?fn (\w+)")
 
 
 def functions_of(module: str, text: str) -> dict[str, list[str]]:
-    """The lines of each function of a source, by its path. A method stands in an impl, whose lines are indented."""
+    """The lines of each function of a source, with the attributes before it, by its path. A method stands in an impl,
+    whose lines are indented."""
     found: dict[str, list[str]] = {}
     lines: list[str] = []
+    attributes: list[str] = []
     kind, end = "", None
     for line in text.splitlines():
         inner, indent = line.strip(), line[: len(line) - len(line.lstrip())]
         function = FUNCTION.match(inner)
         if end is None and function:
-            lines = found[module + (kind if indent else "") + function[1]] = []
+            lines = found[module + (kind if indent else "") + function[1]] = attributes
             end = indent + "}"
         elif not indent and inner.startswith("impl "):
             kind = inner.split()[1].partition("<")[0] + "::"
+        attributes = [*attributes, inner] if end is None and inner.startswith("#[") else []
         if end is not None:
             lines.append(line.partition("//")[0])
             if line == end or function and inner.endswith("}"):
@@ -100,14 +108,16 @@ def contract_of(lines: list[str]) -> list[str]:
 
 
 class Specs:
-    """The declarations of all files of a crate's specs/, and its functions."""
+    """The declarations of all files of a crate's specs/ and of the theorems of its proofs/, and its functions."""
 
     def __init__(self, folder: pathlib.Path) -> None:
         self.folder = folder
         self.files: dict[str, list[Declaration]] = {}
         self.uses: dict[str, list[tuple[str, str]]] = {}
         self.by_name: dict[str, list[Declaration]] = {}
-        for path in sorted(folder.glob("specs/**/*.antt")):
+        for path in sorted([*folder.glob("specs/**/*.antt"), *folder.glob("proofs/**/*.antt")]):
+            if path.name in PROOF:
+                continue
             file, text = path.relative_to(folder).as_posix(), path.read_text()
             self.files[file] = declarations_of(file, text)
             for one in self.files[file]:
@@ -115,8 +125,8 @@ class Specs:
             self.uses[file] = self.uses_of(text)
 
     def uses_of(self, text: str) -> list[tuple[str, str]]:
-        """The modules of specs/ that a text uses, each with the names that it takes of them."""
-        uses = rf"^(?:ghost )?use Rattle·{self.folder.name}·specs\.(specs(?:\.\w+)*)(?:\.{{(.*)}})?(?: as .*)?;?$"
+        """The modules of specs/ and proofs/ that a text uses, each with the names that it takes of them."""
+        uses = rf"^(?:pub |ghost )?use Rattle\.{self.folder.name}\.((?:specs|proofs)(?:\.\w+)*)(?:\.{{(.*)}})?(?: as .*)?;?$"
         return re.findall(uses, text, re.M)
 
     @functools.lru_cache(maxsize=None)
@@ -134,7 +144,7 @@ class Specs:
     def function(self, name: str) -> Declaration:
         """A function as a declaration: its own text and its proof, and the contract of each function of its crate that
         it names. All that src/ uses is in scope."""
-        proof = f"proofs/{name.replace('::', '/')}/Proof.antt"
+        proof = f"proofs/{name.replace('::', '/')}"
         texts, uses = self.sources()
         one = Declaration(proof, name, set(), ())
         for line in texts.get(name, ()):
@@ -144,11 +154,9 @@ class Specs:
             if other.rpartition("::")[2] in called:
                 for line in contract_of(lines):
                     one.take(line, ())
-        try:
-            text = (self.folder / proof).read_text()
-        except FileNotFoundError:
-            # The prover then closes each need by a search that lists nothing.
-            text = ""
+        # Where there is no file, the prover closes each goal by a search that lists nothing.
+        files = [self.folder / proof / file for file in PROOF]
+        text = "".join(path.read_text() for path in files if path.is_file())
         for line in text.splitlines():
             if not line.startswith("use "):
                 one.take(line, ())
@@ -172,7 +180,7 @@ class Specs:
         return [
             other
             for other in self.in_scope(one.file)
-            if other.names & one.words or "_" in other.name and one.words.issuperset(filter(None, other.name.split("_")))
+            if other.names & one.words or "◌" in other.name and one.words.issuperset(filter(None, other.name.split("◌")))
         ]
 
     @functools.lru_cache(maxsize=None)
