@@ -6,6 +6,7 @@
 -- S-11: what a family list changes
 -- the report's bytes, without a family list and with one
 pub mod PlainReport
+
 -- the desk's text: where its input is cut, and every line
 -- what is promised, spelt out
 -- S-12: wide tolerances
