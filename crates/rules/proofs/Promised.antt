@@ -1,18 +1,10 @@
 -- WHAT HOLDS of the meaning, for every case, proposal and buffer
 -- the demands
--- the verdict table: its order, its causes, its fields
--- S-4: contracted volumes, and the two case versions
--- S-6: hours without links
--- S-11: what a family list changes
--- the report's bytes, without a family list and with one
--- the desk's text: where its input is cut, and every line
--- what is promised, spelt out
--- S-12: wide tolerances
--- in the terms of Annex 14.29
 pub mod Guarantee
 pub mod Reported
 pub mod Fits
 pub mod Gap
+-- the verdict table: its order, its causes, its fields
 pub mod Causes
 pub mod PlainLayout
 pub mod PlainFacts
@@ -22,14 +14,22 @@ pub mod Units
 pub mod RefusedField
 pub mod FieldByField
 pub mod IndexChange
+-- S-4: contracted volumes, and the two case versions
 pub mod Contracted
 pub mod Versions
+-- S-6: hours without links
 pub mod NoLinks
+-- S-11: what a family list changes
 pub mod Families
 pub mod PlainFamilies
+-- the report's bytes, without a family list and with one
 pub mod PlainReport
+-- the desk's text: where its input is cut, and every line
 pub mod PlainCut
 pub mod PlainLines
+-- what is promised, spelt out
 pub mod PlainPromise
+-- S-12: wide tolerances
 pub mod Tolerance
+-- in the terms of Annex 14.29
 pub mod Annex
