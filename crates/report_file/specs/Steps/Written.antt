@@ -7,7 +7,6 @@ use Rattle.base_integers.specs.Steps.Bytes.{sets-append}
 use Rattle.rules.specs.Meaning.Layout.{welfare_at, prices_at, zone_price_at}
 use Rattle.rules.specs.Meaning.Report as rules
 use Rattle.rules.proofs.Promised.Reported.{prices-length}
-use Rattle.report_file.specs.declared.Totals.{Totals}
 
 -- one price more
 pub next-price : (l : List ℕ) (z : ℕ) (price : ℕ → ℤ) → sets (sets l prices_at (rules.price_bytes z price)) (zone_price_at z) (signed64 (price z)) ≡ sets l prices_at (rules.price_bytes (z + 1) price)
