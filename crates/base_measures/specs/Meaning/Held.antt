@@ -1,22 +1,16 @@
 -- What a constructor of a measure answers: the number, or that it is outside its range. Assumes nothing.
 use Rattle.std.specs.Prelude.{Bool, true, false, ℤ}
 use Rattle.base_integers.specs.Meaning.Ranges.{Range, outside}
-use Rattle.base_measures.specs.declared.Tenths.{Tenths}
 use Rattle.base_measures.specs.declared.TenthsAnswer.{TenthsAnswer}
 use Rattle.base_measures.specs.declared.TenthsAnswer.TheVariants as tenths
-use Rattle.base_measures.specs.declared.Cents.{Cents}
 use Rattle.base_measures.specs.declared.CentsAnswer.{CentsAnswer}
 use Rattle.base_measures.specs.declared.CentsAnswer.TheVariants as cents
-use Rattle.base_measures.specs.declared.Grains.{Grains}
 use Rattle.base_measures.specs.declared.GrainsAnswer.{GrainsAnswer}
 use Rattle.base_measures.specs.declared.GrainsAnswer.TheVariants as grains
-use Rattle.base_measures.specs.declared.Microcents.{Microcents}
 use Rattle.base_measures.specs.declared.MicrocentsAnswer.{MicrocentsAnswer}
 use Rattle.base_measures.specs.declared.MicrocentsAnswer.TheVariants as microcents
-use Rattle.base_measures.specs.declared.Ptdf.{Ptdf}
 use Rattle.base_measures.specs.declared.PtdfAnswer.{PtdfAnswer}
 use Rattle.base_measures.specs.declared.PtdfAnswer.TheVariants as ptdf
-use Rattle.base_measures.specs.declared.Share.{Share}
 use Rattle.base_measures.specs.declared.ShareAnswer.{ShareAnswer}
 use Rattle.base_measures.specs.declared.ShareAnswer.TheVariants as share
 

@@ -6,22 +6,16 @@ use Rattle.base_integers.specs.Meaning.Ranges.{range, outside}
 use Rattle.base_limits.specs.Meaning.Limits.{microcents_of}
 use Rattle.base_measures.specs.Meaning.Held.{held_by, tenths_by, cents_by, grains_by, microcents_by, ptdf_by, share_by}
 use Rattle.base_measures.specs.declared.Tenths.{Tenths}
-use Rattle.base_measures.specs.declared.TenthsAnswer.{TenthsAnswer}
 use Rattle.base_measures.specs.declared.TenthsAnswer.TheVariants as tenths
 use Rattle.base_measures.specs.declared.Cents.{Cents}
-use Rattle.base_measures.specs.declared.CentsAnswer.{CentsAnswer}
 use Rattle.base_measures.specs.declared.CentsAnswer.TheVariants as cents
 use Rattle.base_measures.specs.declared.Grains.{Grains}
-use Rattle.base_measures.specs.declared.GrainsAnswer.{GrainsAnswer}
 use Rattle.base_measures.specs.declared.GrainsAnswer.TheVariants as grains
 use Rattle.base_measures.specs.declared.Microcents.{Microcents}
-use Rattle.base_measures.specs.declared.MicrocentsAnswer.{MicrocentsAnswer}
 use Rattle.base_measures.specs.declared.MicrocentsAnswer.TheVariants as microcents
 use Rattle.base_measures.specs.declared.Ptdf.{Ptdf}
-use Rattle.base_measures.specs.declared.PtdfAnswer.{PtdfAnswer}
 use Rattle.base_measures.specs.declared.PtdfAnswer.TheVariants as ptdf
 use Rattle.base_measures.specs.declared.Share.{Share}
-use Rattle.base_measures.specs.declared.ShareAnswer.{ShareAnswer}
 use Rattle.base_measures.specs.declared.ShareAnswer.TheVariants as share
 
 -- the same number, tested by the same range

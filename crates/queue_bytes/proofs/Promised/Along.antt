@@ -9,7 +9,7 @@ use Rattle.std.proofs.Math.Option.{Option, none, some}
 use Rattle.std.proofs.Math.Decide.{dec_lt}
 use Rattle.std.proofs.Math.ListN.{length, get_or-map}
 use Rattle.queue_turns.specs.Meaning.Queue.{Queue, empty, Pair, pair, post_number, after_post, next, serve_answer}
-use Rattle.queue_turns.specs.Meaning.Runs.{Event, post, serve, step, after, serves, servings, ServedWithin, posted_in, hours_of, served_in}
+use Rattle.queue_turns.specs.Meaning.Runs.{Event, post, serve, step, serves, servings, ServedWithin, posted_in, hours_of, served_in}
 use Rattle.queue_turns.proofs.Promised.Served.{waiting-area-within-four, posted-hour-within-hundred, none-lost}
 use Rattle.queue_turns.proofs.Steps.Invariant.{answer-by}
 use Rattle.queue_bytes.specs.declared.Served.{Served}

@@ -14,7 +14,7 @@ use Rattle.queue_turns.specs.Meaning.Queue.{among}
 use Rattle.queue_turns.specs.Steps.Invariant.{Hours}
 use Rattle.queue_turns.proofs.Steps.Invariant.{at-most-25, room}
 use Rattle.queue_bytes.specs.Meaning.Bytes.{is_new, cells_of, keep}
-use Rattle.queue_bytes.specs.Steps.ReadBack.{New, new-of, length-cells-map, length-cells}
+use Rattle.queue_bytes.specs.Steps.ReadBack.{new-of, length-cells-map, length-cells}
 use Rattle.queue_bytes.specs.Steps.Cells.{Addable, Tidy, counts_behind, waiting_of}
 
 pub addable-room : {w : Waiting} {c : ℕ} → Addable w c → (w.count < 25) × (length w.cells ≡ 25)

@@ -1,5 +1,5 @@
 -- `post_bytes`: each refusal in its order, else the hour is added. Assumes nothing.
-use Rattle.std.specs.Prelude.{◌≡◌, ◌+◌, length}
+use Rattle.std.specs.Prelude.{◌≡◌, length}
 use Rattle.std.proofs.Common.{sym, ◌∙◌, rules}
 use Rattle.queue_turns.specs.Meaning.Queue.{among}
 use Rattle.queue_bytes.specs.Meaning.Bytes.{hours_at}

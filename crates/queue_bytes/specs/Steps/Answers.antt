@@ -2,7 +2,7 @@
 -- nothing, and one that takes an hour. Assumes nothing.
 use Rattle.std.specs.Prelude.{◌≡◌, true, false, ℕ, ◌+◌, ◌*◌, ◌-◌, ◌%◌, ◌≤◌, ◌<◌, length, drop}
 use Rattle.std.proofs.Math.Path.{refl, sym, ap}
-use Rattle.std.proofs.Common.{◌∙◌, subst, ⊎_elim}
+use Rattle.std.proofs.Common.{◌∙◌, subst}
 use mathlib.Core.List.{List, [], ◌∷◌, ◌++◌, tail}
 use Rattle.std.proofs.Math.Option.{Option, none, some}
 use native.Mathlib.Omega.{arith}
@@ -13,12 +13,12 @@ use Rattle.base_causes.specs.Meaning.Causes.{verdict, refusal, answer}
 use Rattle.queue_bytes.specs.declared.Waiting.{Waiting}
 use Rattle.queue_bytes.specs.declared.AfterPost.{AfterPost}
 use Rattle.queue_bytes.specs.declared.AfterServe.{AfterServe}
-use Rattle.queue_turns.specs.Meaning.Queue.{Pair, pair, among, post_causes, post_number, next, ServeAnswer, serve_answer}
+use Rattle.queue_turns.specs.Meaning.Queue.{Pair, pair, among, post_causes, post_number, next, serve_answer}
 use Rattle.queue_turns.specs.Steps.Invariant.{Hours, also}
-use Rattle.queue_turns.proofs.Steps.Invariant.{PostTaken, PostRefused, posting, at-most-25, Heads, next-heads, refused-61, refused-62, refused-63, not-refused, number_by, answer_by, answer-by}
+use Rattle.queue_turns.proofs.Steps.Invariant.{at-most-25, Heads, next-heads, refused-61, refused-62, refused-63, not-refused, number_by, answer_by, answer-by}
 use Rattle.queue_bytes.specs.Meaning.Bytes.{cells_of, hours_at, queue_of, with_hours, bytes_unless, bytes_after_post, bytes_without, bytes_after_serve}
 use Rattle.queue_bytes.specs.Steps.ReadBack.{good-bytes}
-use Rattle.queue_bytes.specs.Steps.Cells.{waiting_of, Addable, cells-less}
+use Rattle.queue_bytes.specs.Steps.Cells.{waiting_of, cells-less}
 use Rattle.queue_bytes.specs.Meaning.Answer.{given}
 use Rattle.queue_bytes.specs.Steps.Walks.{area_of}
 

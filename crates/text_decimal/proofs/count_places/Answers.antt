@@ -1,6 +1,6 @@
 -- `count_places`: four places less are left after a division by 10,000, and no number has more than twenty.
 -- Assumes nothing.
-use Rattle.std.specs.Prelude.{◌≡◌, ℕ, ◌/◌, ◌≤◌}
+use Rattle.std.specs.Prelude.{◌≡◌, ℕ, ◌/◌}
 use Rattle.std.proofs.Common.{ap, arith}
 use Rattle.text_rules.specs.Meaning.Text.{places}
 use Rattle.text_rules.proofs.Steps.Places.{places-myriad, places-at-most}

@@ -1,6 +1,6 @@
 -- `put_last`: from i on stand the last digits of n, and `rest` is n without them. The measure is the digits left.
 -- Assumes nothing.
-use Rattle.std.specs.Prelude.{◌≡◌, ◌+◌, ◌-◌, ◌/◌, ◌^◌, ◌≤◌, length}
+use Rattle.std.specs.Prelude.{◌≡◌, ◌+◌, ◌-◌, ◌/◌, ◌^◌, ◌≤◌}
 use Rattle.std.proofs.lemmas.List.Edits.{sets}
 use Rattle.text_rules.specs.Meaning.Text.{last_digits}
 use Rattle.text_decimal.proofs.put_last.Given as goal

@@ -1,5 +1,5 @@
 -- `put_size`: whole part, point and decimals, each where the one before ends. Assumes nothing.
-use Rattle.std.specs.Prelude.{List, [], ◌∷◌, ℕ, ◌+◌, ◌/◌, ◌^◌, ◌≤◌, length}
+use Rattle.std.specs.Prelude.{[], ◌∷◌, ℕ, ◌+◌, ◌/◌, ◌^◌, ◌≤◌, length}
 use Rattle.std.proofs.Common.{ap, append_assoc, arith, length-set}
 use Rattle.text_rules.specs.Meaning.Put.{Put}
 use Rattle.text_rules.specs.Meaning.Text.{last_digits, count_text, size_text}
