@@ -1,12 +1,10 @@
 -- WHAT A HOST CONCLUDES FROM THE BOOK'S ANSWER, in the plain numbers of `PlainBook` of `rules`. Number 0 with the
 -- sum of rule 8 is for the books of `BookFacts` and no others; else the answer is the number and index of
 -- `Refused`, with sum 0. Assumes nothing.
-use Rattle.std.specs.Prelude.{◌≡◌, List, map, ℕ, ◌<◌, ℤ, pos}
+use Rattle.std.specs.Prelude.{List, map, ℤ}
 use Rattle.std.proofs.Common.{ap}
-use Rattle.rules.specs.Meaning.Book.{book_surplus}
-use Rattle.rules.proofs.Promised.PlainBook.{BookFacts, Refused, book-answers, book-answered-facts, book-refused, refused-book}
+use Rattle.rules.proofs.Promised.PlainBook.{book-answers, book-answered-facts, book-refused, refused-book}
 use Rattle.book_surplus.specs.declared.OrderRow.{OrderRow}
-use Rattle.book_surplus.specs.declared.Surplus.{Surplus}
 use Rattle.book_surplus.specs.Meaning.Lent.{book_row, given, lent_answer}
 use Rattle.book_surplus.specs.Promised.PlainLent.{PlainAnswer}
 

@@ -1,8 +1,8 @@
 -- The walks over a dump's values: by the case's counts, and what each turn leaves. Assumes nothing.
-use Rattle.std.specs.Prelude.{◌≡◌, refl, Bool, true, false, not, List, [], ◌++◌, ℕ, zero, suc, ◌+◌, ◌*◌, ◌≤◌, ◌<◌, T, length, get_or, set, Float}
+use Rattle.std.specs.Prelude.{◌≡◌, refl, Bool, true, false, not, List, ◌++◌, ℕ, zero, suc, ◌+◌, ◌*◌, ◌≤◌, ◌<◌, T, length, get_or, set, Float}
 use Rattle.std.proofs.Math.Path.{sym, ap}
 use Rattle.std.proofs.Common.{◌∙◌, subst, append_assoc, append-nil, add-zero, zero-add, add-suc, add-one, arith, length-append, of_z, get_or-set_same, get_or-set_other}
-use Rattle.std.proofs.Math.Option.{Option, none}
+use Rattle.std.proofs.Math.Option.{none}
 use Rattle.std.proofs.Math.Decide.{ℕ_discrete}
 use Rattle.std.specs.Int.{w64}
 use Rattle.std.proofs.Math.Seq.{sets}
@@ -15,22 +15,20 @@ use Rattle.base_causes.specs.Meaning.Causes.{first_below}
 use Rattle.base_integers.specs.declared.Bits.{Bits}
 use Rattle.bytes_read.specs.declared.Cursor.{Cursor}
 use Rattle.bytes_read.specs.declared.LongField.TheVariants as long
-use Rattle.bytes_read.specs.Meaning.Field.{cursor, u64_at, long_field}
+use Rattle.bytes_read.specs.Meaning.Field.{u64_at, long_field}
 use Rattle.bytes_read.specs.Steps.Part.{part_of, part_length, part-u32}
 use Rattle.bytes_read.specs.Steps.Walk.{long-took, long-short}
 use Rattle.rules.specs.Meaning.Layout.{u32_at}
 use Rattle.case_header.specs.declared.Counts.{Counts}
-use Rattle.case_header.specs.Meaning.CaseReadable.{CaseReadable}
-use Rattle.dump_binary64.specs.Meaning.Value.{bits_at, finite}
+use Rattle.dump_binary64.specs.Meaning.Value.{bits_at}
 use Rattle.dump_binary64.proofs.Steps.Patterns.{finite-value}
 use Rattle.dump_values.specs.declared.DumpOpening.{DumpOpening}
 use Rattle.dump_values.specs.declared.OpeningFields.{OpeningFields}
 use Rattle.dump_values.specs.declared.FieldAnswer.TheVariants as answer
-use Rattle.dump_values.specs.Meaning.Field.{Kind, kind_of, after_opening, converted, fault}
+use Rattle.dump_values.specs.Meaning.Field.{Kind, kind_of, converted, fault}
 use Rattle.dump_values.specs.Meaning.Answer.{field_by, field_of}
 use Rattle.dump_values.proofs.Steps.Agree.{share-agrees, system-agrees}
 use Rattle.dump_values.specs.Meaning.Fields.{share_field, system_field, opening_fields}
-use Rattle.dump_proposal.specs.declared.OpeningNumbers.{OpeningNumbers}
 use Rattle.dump_proposal.specs.declared.OpeningField.{OpeningField}
 use Rattle.dump_proposal.specs.declared.OpeningField.TheVariants as opened
 use Rattle.dump_proposal.specs.Meaning.Dump.{proposal_mark, field_bytes, fields_from}

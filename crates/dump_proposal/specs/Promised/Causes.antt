@@ -1,16 +1,15 @@
 -- The table's numbers in the order asked; a refusal is given for its own cause and no other and writes nothing; no
 -- cause asked earlier holds. Assumes nothing.
-use Rattle.std.specs.Prelude.{◌≡◌, List, [], ◌∷◌, ℕ, ◌<◌, length, get_or, T}
+use Rattle.std.specs.Prelude.{◌≡◌, List, [], ◌∷◌, ℕ, ◌<◌, get_or, T}
 use Rattle.std.proofs.Math.Path.{refl, ap}
-use Rattle.std.proofs.Math.Option.{Option, none, some}
-use Rattle.std.proofs.Common.{arith}
+use Rattle.std.proofs.Math.Option.{Option, none}
 use Rattle.base_causes.specs.declared.Outcome.{Outcome}
 use Rattle.base_causes.proofs.Promised.Asked.{unnamed, at_offset, the-place, ask, Asks}
 use Rattle.base_causes.specs.Meaning.Causes.{Cause, verdict, answer}
 use Rattle.base_causes.proofs.Promised.CauseLaws.{empty, CausedBy, answer-caused, Answered, answered, Soonest, soonest, lacks, zero-none}
 use Rattle.rules.specs.Meaning.Verdict.{case_refusal}
-use Rattle.base_output.specs.Meaning.Output.{written_by, output_after}
-use Rattle.dump_proposal.specs.Meaning.Dump.{number_in, dump_causes, dump_refusal, dump_outcome, proposal_bytes, dump_written, dump_output}
+use Rattle.base_output.specs.Meaning.Output.{written_by}
+use Rattle.dump_proposal.specs.Meaning.Dump.{number_in, dump_causes, dump_refusal, dump_outcome, proposal_bytes, dump_written}
 
 module _ (s d : List ℕ) (room : ℕ) where
   abbrev rows : List Cause

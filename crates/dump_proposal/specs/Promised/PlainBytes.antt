@@ -25,7 +25,7 @@ use Rattle.dump_values.specs.Meaning.Field.{Kind, share-of, system-price, kind_o
 use Rattle.dump_values.proofs.Promised.Taken.{ShareTaken, FlowTaken, ShadowTaken, SystemTaken, share-taken, flow-taken, shadow-taken, system-taken}
 use Rattle.dump_values.proofs.Promised.PlainFaults.{minus-zero}
 use Rattle.dump_values.proofs.Promised.PlainPlaces.{branches, links, orders, first-value, second-value, order_value, link-value, branch-value, by_kind}
-use Rattle.dump_proposal.specs.Meaning.Dump.{value_count, dump_outcome, proposal_bytes, dump_written, dump_output}
+use Rattle.dump_proposal.specs.Meaning.Dump.{value_count, dump_outcome, proposal_bytes, dump_output}
 use Rattle.dump_proposal.specs.Promised.Causes.{dump-writes}
 use Rattle.dump_proposal.specs.Promised.PlainCauses.{values, bits, answered-0}
 use Rattle.dump_proposal.specs.Promised.ReadBack.{readable, all-finite, has-field, in-range, system-fits, field_at}

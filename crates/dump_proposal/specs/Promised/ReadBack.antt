@@ -32,8 +32,8 @@ use Rattle.dump_binary64.specs.Meaning.Value.{bits_at, finite, negative, above_o
 use Rattle.dump_binary64.proofs.Promised.Within.{share-within}
 use Rattle.dump_values.specs.Meaning.Field.{Kind, share-of, flow, shadow-price, kind_of, product_of, converted, forbidden, field_range, fault}
 use Rattle.dump_values.proofs.Promised.PlainPlaces.{after-kind, order-kind, flow-kind, shadow-kind}
-use Rattle.dump_proposal.specs.Meaning.Dump.{value_count, refuses, dump_causes, dump_refusal, dump_outcome, proposal_mark, field_bytes, fields_from, proposal_bytes, dump_written, dump_output, ProposalHolds, VolumesWithin}
-use Rattle.dump_proposal.specs.Promised.Causes.{dump-none, dump-writes}
+use Rattle.dump_proposal.specs.Meaning.Dump.{value_count, refuses, dump_causes, dump_refusal, dump_outcome, proposal_mark, field_bytes, fields_from, proposal_bytes, ProposalHolds, VolumesWithin}
+use Rattle.dump_proposal.specs.Promised.Causes.{dump-none}
 use Rattle.dump_proposal.specs.Steps.Walks.{fields-length}
 use Rattle.dump_proposal.specs.Steps.Answers.{bytes-are}
 

@@ -12,7 +12,7 @@ use Rattle.base_integers.specs.Meaning.Order.{positive}
 use Rattle.base_integers.specs.Steps.Order.{positive-nat, le_antisym, add-nonneg, larger-left, larger-right}
 use Rattle.base_integers.specs.Steps.Sums.{sum-ext, sum_nonneg}
 use Rattle.base_limits.specs.Meaning.Limits.{parts_in_one}
-use Rattle.rules.specs.Meaning.Hour.{Case, Plan, Prices, case_of, plan_of, prices_of, above, fb_part, branch_use, branch_room, zone_price, surplus_of, order_surplus, branch_value, branch_total, spread, link_total, welfare, bound, gap}
+use Rattle.rules.specs.Meaning.Hour.{Case, Plan, Prices, case_of, plan_of, prices_of, fb_part, branch_use, branch_room, zone_price, surplus_of, order_surplus, branch_value, branch_total, spread, link_total, welfare, bound, gap}
 use Rattle.rules.specs.Meaning.Clearing.{Placed, Clearing}
 use Rattle.rules.specs.Meaning.Annex.{Solution, Feasible, PairsOnce, capacity_lta, margin_value, capacity_value, liabilities}
 use Rattle.rules.specs.Meaning.AnnexPromise.{Same, Agree, IsFeasible, multipliers_of}
