@@ -3,7 +3,7 @@
 use Rattle.std.specs.Prelude.{List, ℕ}
 use Rattle.std.proofs.Math.Option.{Option, none, some}
 use Rattle.base_causes.specs.declared.Outcome.{Outcome}
-use Rattle.rules.specs.Meaning.Verdict.{case_refusal, Readable}
+use Rattle.rules.specs.Meaning.Verdict.{case_refusal}
 use Rattle.case_header.specs.declared.Counts.{Counts}
 use Rattle.case_header.specs.Meaning.Answer.{counts_of}
 use Rattle.case_file.specs.declared.CaseAnswer.{CaseAnswer}
