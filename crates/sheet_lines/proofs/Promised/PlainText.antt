@@ -2,9 +2,9 @@
 -- the text, counted from 0. Byte 10 ends a line, and the last line may lack it; byte 44 stands between two fields.
 -- Each sheet has its fields in exactly one way (`cells_of`, `cells_are`). Assumes nothing.
 use Rattle.std.specs.Prelude.{◌≡◌, refl, ◌↔◌, ◌⊎◌, ◌≢◌, Bool, true, false, cond, List, [], ◌∷◌, ◌++◌, ℕ, zero, suc, ◌<◌, eqb, length, get_or}
-use Rattle.std.proofs.Common.{sym, ap, subst, ◌∙◌, inl, inr, append_assoc, arith, eqb-true, ne_eqb, length-append}
+use Rattle.std.proofs.Common.{ap, subst, inl, inr, arith, eqb-true, length-append}
 use Rattle.std.proofs.lemmas.Bool.{eqb-false}
-use Rattle.sheet_lines.specs.Meaning.Sheet.{onto, lines, fields, line_of, line_count}
+use Rattle.sheet_lines.specs.Meaning.Sheet.{onto, lines, fields}
 use Rattle.sheet_lines.specs.Promised.PlainText.{Cells, LastUnended, LineText, SheetText, all_more, cells_are, ended, fields-text, no_less, text-lines, without_more}
 
 -- and from the lines to the text: one byte more in front

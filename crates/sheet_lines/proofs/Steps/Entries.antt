@@ -10,9 +10,7 @@ use Rattle.base_integers.specs.Steps.Machine.{sfits-by}
 use Rattle.base_integers.specs.Steps.Size.{near-pos, near-neg, near_fits}
 use Rattle.base_integers.specs.Meaning.Ranges.{range, minus, outside}
 use Rattle.base_limits.specs.Meaning.Limits as limits
-use Rattle.sheet_numbers.specs.declared.Number.{Number}
-use Rattle.sheet_numbers.specs.Meaning.Numeral.{is_digit, negative, units, sign, value}
-use Rattle.sheet_numbers.specs.Meaning.Scan.{Separator}
+use Rattle.sheet_numbers.specs.Meaning.Numeral.{negative, units, sign, value}
 use Rattle.sheet_numbers.proofs.Steps.Scan.{clash}
 use Rattle.sheet_numbers.specs.Steps.Capped.{cap, capped}
 use Rattle.sheet_numbers.proofs.Steps.Capped.{capped-over, capped-within}

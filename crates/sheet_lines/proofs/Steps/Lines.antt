@@ -1,32 +1,24 @@
 -- The walk over a line's fields and over a sheet's lines: where it stands, and what it has found so far.
 -- Assumes nothing.
-use Rattle.std.specs.Prelude.{◌≡◌, refl, Bool, true, false, cond, ◌||◌, ℕ, zero, suc, ◌+◌, ◌*◌, ◌-◌, ◌≤◌, ◌<◌, eqb, ltb, leb, get_or, drop, ℤ}
-use Rattle.std.proofs.Common.{sym, ◌∙◌, add-zero, mul-le-mul, add-one, arith, eq-eqb, ne_eqb, ltb-true, ltb-false, leb-true, leb-false, length-drop, length-append, drop_of_length-le, get_or-drop, drop-drop}
+use Rattle.std.specs.Prelude.{◌≡◌, refl, Bool, true, false, cond, ◌||◌, ℕ, zero, suc, ◌+◌, ◌*◌, ◌≤◌, ◌<◌, ltb, drop, ℤ}
+use Rattle.std.proofs.Common.{sym, ◌∙◌, mul-le-mul, add-one, arith, ltb-true, length-drop, length-append, drop_of_length-le}
 use Rattle.std.proofs.Math.Path.{ap}
-use Rattle.std.proofs.Math.Bool.{not, or-true}
-use mathlib.Core.List.{List, [], ◌∷◌, ◌++◌}
+use mathlib.Core.List.{List, ◌∷◌}
 use Rattle.std.proofs.Math.Option.{Option, none, some, some-ne-none}
 use Rattle.std.proofs.Math.ListN.{length}
 use Rattle.std.proofs.lemmas.List.Edits.{sets}
-use Rattle.base_integers.specs.Steps.Ranges.{is_false}
 use Rattle.base_integers.specs.Meaning.Bytes.{signed32}
 use Rattle.base_integers.specs.Steps.Bytes.{bytes-length, sets-append}
 use Rattle.base_causes.specs.Meaning.Causes.{any_below, first_below}
-use Rattle.base_causes.proofs.Promised.CauseLaws.{any_some}
 use Rattle.sheet_numbers.specs.declared.TextCursor.{TextCursor}
-use Rattle.sheet_numbers.specs.declared.Piece.{Piece}
-use Rattle.sheet_numbers.specs.Meaning.Numeral.{has, before, after, is_number}
+use Rattle.sheet_numbers.specs.Meaning.Numeral.{after}
 use Rattle.sheet_numbers.specs.Meaning.Scan.{Separator}
-use Rattle.sheet_numbers.proofs.Steps.Scan.{clash}
-use Rattle.sheet_numbers.specs.Meaning.Pieces.{piece_to, piece_at}
-use Rattle.sheet_numbers.specs.Steps.Pieces.{before-le, Cut, cut}
-use Rattle.sheet_numbers.proofs.Steps.Marks.{split-within, within_has, number-lacks}
+use Rattle.sheet_numbers.specs.Meaning.Pieces.{piece_at}
+use Rattle.sheet_numbers.specs.Steps.Pieces.{cut}
 use Rattle.sheet_lines.specs.declared.Flaws.{Flaws}
-use Rattle.sheet_lines.specs.declared.LineAnswer.{LineAnswer}
 use Rattle.sheet_lines.specs.declared.LineAnswer.TheVariants as answer
-use Rattle.sheet_lines.specs.Meaning.Sheet.{lines, fields, field_of, entry_of, malformed, too_fine, out_of_range, line_of, line_count, branch_part, entry_bytes, line_bytes}
+use Rattle.sheet_lines.specs.Meaning.Sheet.{lines, entry_of, line_of, line_count, branch_part, entry_bytes, line_bytes}
 use Rattle.sheet_lines.specs.Steps.Entries.{comma, newline}
-use Rattle.sheet_lines.specs.Steps.Split.{fields-cut, fields-last, fields-some}
 use Rattle.sheet_lines.proofs.Steps.Split.{lines_cut}
 use Rattle.sheet_lines.specs.Steps.Lines.{FieldsFrom, first_with, line_at, line_by, mark_of, piece-at, pieces-left, pieces_more, row_of}
 

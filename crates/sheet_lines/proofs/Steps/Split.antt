@@ -1,10 +1,9 @@
 -- Lines and fields, one after another: the first is what stands before the first mark, and the others are those of
 -- the rest. Assumes nothing.
-use Rattle.std.specs.Prelude.{◌≡◌, refl, Bool, true, false, cond, ◌||◌, List, [], ◌∷◌, ◌++◌, ℕ, ◌<◌, eqb, length}
-use Rattle.std.proofs.Common.{ap, ◌∙◌, arith}
-use Rattle.sheet_numbers.specs.Meaning.Numeral.{has, before, after}
-use Rattle.sheet_numbers.proofs.Steps.Scan.{clash}
-use Rattle.sheet_lines.specs.Meaning.Sheet.{onto, lines, fields}
+use Rattle.std.specs.Prelude.{◌≡◌, refl, Bool, true, false, cond, List, [], ◌∷◌, ℕ, ◌<◌, eqb, length}
+use Rattle.std.proofs.Common.{ap, arith}
+use Rattle.sheet_numbers.specs.Meaning.Numeral.{before, after}
+use Rattle.sheet_lines.specs.Meaning.Sheet.{onto, lines}
 
 -- LINES
 pub lines_cut : (s : List ℕ) → 0 < length s → lines s ≡ before 10 s ∷ lines (after 10 s)

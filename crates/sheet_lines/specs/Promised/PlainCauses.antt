@@ -19,11 +19,10 @@ use Rattle.base_limits.specs.Meaning.Limits as limits
 use Rattle.base_causes.specs.declared.Outcome.{Outcome}
 use Rattle.base_causes.specs.Meaning.Causes.{Cause, Pass, verdict, refusal, answer}
 use Rattle.base_causes.proofs.Promised.CauseLaws.{empty, First, no_place, any_none, all_pass, Comes, past, none_left, row-by-number, row-answers, zero-none, cause_numbered, lacks, before}
-use Rattle.sheet_numbers.specs.Meaning.Numeral.{digits, starts, negative, unsigned, whole, is_number, value, finer}
-use Rattle.sheet_numbers.specs.Meaning.Numeral as numeral
+use Rattle.sheet_numbers.specs.Meaning.Numeral.{is_number, value, finer}
 use Rattle.sheet_numbers.proofs.Promised.PlainNumbers.{Number, Times, number-bytes, value-times, times-value}
 use Rattle.sheet_lines.specs.Meaning.Sheet.{fields, decimal_count, limit, entry, field_of, entry_of, malformed, too_fine, out_of_range, line_of, line_count, branch_part, sheet_causes, sheet_refusal, sheet_outcome}
-use Rattle.sheet_lines.specs.Promised.PlainText.{LineText, Cells, fields-bytes, cells_are}
+use Rattle.sheet_lines.specs.Promised.PlainText.{Cells, cells_are}
 
 -- A LINE OF GOOD FORM: a margin and one PTDF for each zone, every one a number
 pub record Formed (zones : ℕ) (cells : List (List ℕ)) : Type 0 where

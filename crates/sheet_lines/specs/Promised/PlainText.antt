@@ -2,7 +2,7 @@
 -- the text, counted from 0. Byte 10 ends a line, and the last line may lack it; byte 44 stands between two fields.
 -- Each sheet has its fields in exactly one way (`cells_of`, `cells_are`). Assumes nothing.
 use Rattle.std.specs.Prelude.{◌≡◌, refl, ◌↔◌, ◌⊎◌, ◌≢◌, Bool, true, false, cond, List, [], ◌∷◌, ◌++◌, ℕ, zero, suc, ◌<◌, eqb, length, get_or}
-use Rattle.std.proofs.Common.{sym, ap, subst, ◌∙◌, inl, inr, append_assoc, arith, eqb-true, ne_eqb, length-append}
+use Rattle.std.proofs.Common.{sym, ap, subst, ◌∙◌, inl, inr, append_assoc, arith, eqb-true, ne_eqb}
 use Rattle.std.proofs.lemmas.Bool.{eqb-false}
 use Rattle.sheet_lines.specs.Meaning.Sheet.{onto, lines, fields, line_of, line_count}
 

@@ -2,9 +2,9 @@
 -- the rest. Assumes nothing.
 use Rattle.std.specs.Prelude.{◌≡◌, refl, Bool, true, false, cond, ◌||◌, List, [], ◌∷◌, ◌++◌, ℕ, ◌<◌, eqb, length}
 use Rattle.std.proofs.Common.{ap, ◌∙◌, arith}
-use Rattle.sheet_numbers.specs.Meaning.Numeral.{has, before, after}
+use Rattle.sheet_numbers.specs.Meaning.Numeral.{has, before}
 use Rattle.sheet_numbers.proofs.Steps.Scan.{clash}
-use Rattle.sheet_lines.specs.Meaning.Sheet.{onto, lines, fields}
+use Rattle.sheet_lines.specs.Meaning.Sheet.{onto, fields}
 
 -- FIELDS: the one before a comma, the last, and that there always is one
 pub fields-cut : (t rest : List ℕ) → fields (before 44 t ++ 44 ∷ rest) ≡ before 44 t ∷ fields rest

@@ -1,17 +1,13 @@
 -- A text up to its first mark and what follows the mark, as a piece; and the digits and the number at a place.
 -- Assumes nothing.
-use Rattle.std.specs.Prelude.{◌≡◌, refl, Bool, true, false, cond, ◌||◌, List, [], ◌∷◌, ℕ, suc, ◌+◌, ◌-◌, ◌≤◌, ◌<◌, eqb, ltb, length, take, drop}
-use Rattle.std.proofs.Common.{sym, ap, subst, ◌∙◌, arith, ltb-true, ltb-false, length-drop, drop_of_length-le, drop-drop}
-use Rattle.text_rules.specs.Meaning.Text.{value_from}
+use Rattle.std.specs.Prelude.{◌≡◌, refl, Bool, true, false, List, ℕ, ◌≤◌, length, drop}
+use Rattle.std.proofs.Common.{sym, subst, ◌∙◌}
 use Rattle.sheet_numbers.specs.declared.Piece.{Piece}
-use Rattle.sheet_numbers.specs.declared.Whole.{Whole}
-use Rattle.sheet_numbers.specs.declared.Decimals.{Decimals}
 use Rattle.sheet_numbers.specs.declared.Number.{Number}
 use Rattle.sheet_numbers.specs.declared.NumberAnswer.{NumberAnswer}
 use Rattle.sheet_numbers.specs.declared.NumberAnswer.TheVariants.{Read, NoNumber}
-use Rattle.sheet_numbers.specs.Meaning.Numeral.{before, after, is_number, units, non_zero}
-use Rattle.sheet_numbers.specs.Steps.Scan.{leading}
-use Rattle.sheet_numbers.specs.Steps.Capped.{cap, capped}
+use Rattle.sheet_numbers.specs.Meaning.Numeral.{before, is_number, units}
+use Rattle.sheet_numbers.specs.Steps.Capped.{cap}
 use Rattle.sheet_numbers.proofs.Steps.Capped.{capped_le}
 use Rattle.sheet_numbers.specs.Meaning.Pieces.{piece_at, held_number, number_by, number_at}
 use Rattle.sheet_numbers.specs.Steps.Pieces.{Cut, cut}

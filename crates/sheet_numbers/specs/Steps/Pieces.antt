@@ -6,13 +6,10 @@ use Rattle.text_rules.specs.Meaning.Text.{value_from}
 use Rattle.sheet_numbers.specs.declared.Piece.{Piece}
 use Rattle.sheet_numbers.specs.declared.Whole.{Whole}
 use Rattle.sheet_numbers.specs.declared.Decimals.{Decimals}
-use Rattle.sheet_numbers.specs.declared.Number.{Number}
-use Rattle.sheet_numbers.specs.declared.NumberAnswer.{NumberAnswer}
-use Rattle.sheet_numbers.specs.declared.NumberAnswer.TheVariants.{Read, NoNumber}
-use Rattle.sheet_numbers.specs.Meaning.Numeral.{before, after, is_number, units, non_zero}
+use Rattle.sheet_numbers.specs.Meaning.Numeral.{before, after, non_zero}
 use Rattle.sheet_numbers.specs.Steps.Scan.{leading}
-use Rattle.sheet_numbers.specs.Steps.Capped.{cap, capped}
-use Rattle.sheet_numbers.specs.Meaning.Pieces.{piece_at, held_number, number_by, number_at}
+use Rattle.sheet_numbers.specs.Steps.Capped.{capped}
+use Rattle.sheet_numbers.specs.Meaning.Pieces.{piece_at}
 
 -- BEFORE THE FIRST MARK
 pub before-le : (mark : ℕ) (s : List ℕ) → length (before mark s) ≤ length s
