@@ -4,7 +4,7 @@ use Rattle.std.proofs.Math.Option.{Option, none, some}
 use Rattle.rules.specs.Meaning.Hour.{Case, Plan, case_of, plan_of, prices_of, net, fb_part, welfare}
 use Rattle.rules.specs.Meaning.Report.{totals_of, reports}
 use Rattle.rules.specs.Meaning.Verdict.{case_causes, proposal_causes, judgement_causes}
-use Rattle.base_causes.specs.Meaning.Causes.{Cause, verdict, refusal, answer}
+use Rattle.base_causes.specs.Meaning.Causes.{Cause, refusal, answer}
 use Rattle.case_file.specs.declared.Files.{Files}
 use Rattle.case_file.specs.Meaning.Files.{case_in, proposal_in}
 use Rattle.base_measures.specs.Meaning.TenthsHold.{TenthsHold}

@@ -4,7 +4,7 @@ use Rattle.std.specs.Prelude.{◌≡◌, refl, Bool, true, false, not, cond, ◌
 use Rattle.std.proofs.Common.{sym, ap, subst, ◌∙◌, append_assoc, arith, eqb→eq}
 use Rattle.std.proofs.Math.Option.{Option, none, some}
 use Rattle.base_integers.specs.Meaning.Ranges.{is_zero}
-use Rattle.rules.specs.Meaning.Hour.{Case, Plan, Prices, case_of, plan_of, prices_of, net_sum, no_link, welfare}
+use Rattle.rules.specs.Meaning.Hour.{Case, Plan, Prices, case_of, plan_of, prices_of, net_sum, no_link}
 use Rattle.rules.specs.Meaning.Report.{reports}
 use Rattle.rules.specs.Meaning.Verdict.{◌over◌, case_causes, proposal_causes, wide_tolerance, family_causes, excess_volume, fraction_causes, unbalanced, share_without_link, overused_link, exchange_causes, clearing_causes}
 use Rattle.base_causes.specs.declared.Outcome.{Outcome}
