@@ -108,6 +108,7 @@ fn is_digit(b: u8) -> bool
 }
 
 // One digit more. The size is tested before it grows, so that the test and the product can run in parallel.
+#[tactic(auto, unfolding(crate::specs::Steps::Capped::capped))]
 fn with_digit(x: u64, b: u8) -> u64
     requires x_le_cap { x ≤ cap }
     requires le_b { 48 ≤ b }
