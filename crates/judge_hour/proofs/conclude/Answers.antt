@@ -1,0 +1,6 @@
+-- The number of an hour that is valued is 0 or 26.
+use Rattle.judge_hour.specs.Steps.Judged.{number_small}
+use Rattle.judge_hour.proofs.conclude.Goals as goal
+
+pub number_of-requires : goal.number_of-requires
+number_of-requires c = number_small _ c.requires.reportable c.if-not-found.false
