@@ -1,6 +1,6 @@
 -- What reading a proposal for a readable case answers: the refusal by rows 9 to 14 of the verdict table, or the
 -- proposal's opening. Assumes nothing.
-use Rattle.std.specs.Prelude.{Bool, true, false, List, ℕ, ◌-◌, length, pos}
+use Rattle.std.specs.Prelude.{Bool, true, false, List, ℕ, length, pos}
 use Rattle.std.proofs.Math.Option.{Option, none, some}
 use Rattle.rules.specs.Meaning.Layout.{proposal_header, proposal_version, share_in, system_in}
 use Rattle.base_causes.specs.declared.Outcome.{Outcome}

@@ -1,0 +1,16 @@
+-- `proposal_file::read_proposal` meets its contract: row 9 by the walk over the header, the others by its fields.
+-- Assumes nothing.
+use Rattle.std.proofs.Common.{sym, ap, ◌∙◌}
+use Rattle.base_causes.proofs.Promised.CauseLaws.{field-fails, behind}
+use Rattle.proposal_file.specs.declared.ProposalAnswer.TheVariants.{Refused}
+use Rattle.proposal_file.specs.Meaning.Answer.{opening_of, proposal_by}
+use Rattle.proposal_file.specs.Steps.Answer.{header_refused}
+use Rattle.proposal_file.specs.Steps.ProposalValid.{rows_of, rows_are}
+use Rattle.proposal_file.proofs.read_proposal.Goals as goal
+
+pub returns-in-Refused : goal.returns-in-Refused
+returns-in-Refused c =
+    let s = c.args.«case».now in
+    let t = c.args.proposal.now in
+    let w = header_refused t (sym c.take_header.ensures ∙ c.in-Refused.is) in
+    ap Refused w.1 ∙ ap (proposal_by (opening_of t)) (sym (rows_are s t ∙ field-fails 9 0 (behind 9 (rows_of s t)) w.0))
