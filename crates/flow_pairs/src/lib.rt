@@ -56,6 +56,7 @@ fn second_zone(pairs: &[u8], k: usize) -> usize
 }
 
 // Whether row 84 refuses pair k. `seen` has for each zone the second zones of the earlier pairs that begin there.
+#[tactic(auto, unfolding(crate::specs::Meaning::Pairs::bad_pair))]
 fn bad_pair(pairs: &[u8], zones: usize, seen: &[u16; layout::ZONES], k: usize) -> bool
     requires zones_bound { zones ≤ 16 }
     requires seen { Seen (first_zone pairs.now) (second_zone pairs.now) k seen.now }
