@@ -1,7 +1,7 @@
--- The totals' lines and then the prices' lines.
-use Rattle.std.proofs.Common.{length-append, arith}
-use Rattle.rules.specs.Meaning.Lines.{hour_lines}
+-- `text_hour::put_hour` meets its contract: the totals' lines and then the prices' lines. Assumes nothing.
+use Rattle.std.proofs.Common.{arith, length-append}
 use Rattle.text_rules.proofs.Steps.Put.{put-length, put_then}
+use Rattle.rules.specs.Meaning.Lines.{hour_lines}
 use Rattle.text_hour.proofs.put_hour.Goals as goal
 
 pub put_totals-first_price-requires : goal.put_totals-first_price-requires

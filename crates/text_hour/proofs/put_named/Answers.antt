@@ -1,4 +1,5 @@
--- Name, count and space, each where the one before ends.
+-- `text_hour::put_named` meets its contract: name, count and space, each where the one before ends.
+-- Assumes nothing.
 use Rattle.text_rules.proofs.Steps.Put.{put_then}
 use Rattle.text_hour.proofs.put_named.Goals as goal
 

@@ -5,4 +5,4 @@ use Rattle.report_file.specs.Meaning.Prices.{grains_at}
 use Rattle.text_hour.proofs.put_prices.Given as goal
 
 abbrev pub invariant-loop-z : goal.invariant-loop-z
-invariant-loop-z l = Put l.initial.out l.at (price_lines l.z (grains_at l.prices)) l.out l.next
+invariant-loop-z l = Put l.fn.out l.fn.at (price_lines l.z (grains_at l.fn.prices)) l.out l.next

@@ -1,33 +1,38 @@
--- Name, amount and newline, each where the one before ends.
-use Rattle.std.proofs.Common.{◌≡◌, ap, length, length-append, arith, rules}
+-- `text_hour::put_total` meets its contract: name, amount and newline, each where the one before ends.
+-- Assumes nothing.
+use Rattle.std.proofs.Common.{◌≡◌, ◌++◌, length, ap, arith, length-append, to_z}
 use Rattle.std.specs.Int.{w64}
-use Rattle.std.proofs.Common.{to_z}
 use Rattle.text_rules.specs.Meaning.Text.{amount_text}
-use Rattle.rules.specs.Meaning.Lines.{total_line}
+use Rattle.text_rules.specs.Meaning.Put.{Put}
 use Rattle.text_rules.proofs.Steps.Put.{put_as, put-length, put_then}
 use Rattle.text_rules.proofs.Steps.Complement.{bits-text}
+use Rattle.rules.specs.Meaning.Lines.{total_line}
 use Rattle.text_hour.proofs.put_total.Goals as goal
+use Rattle.text_hour.proofs.put_total.Goals.{After-bits, After-put_money-end}
 
 pub put_text-amount-requires : goal.put_text-amount-requires
 unfolding total_line
 put_text-amount-requires c = omega (arith, simp length-append at c.requires)
 
+amount-is : (c : After-bits) → amount_text 8 (to_z w64 c.bits.result.0) ≡ amount_text 8 c.args.total.0
+amount-is c = bits-text 8 (record { sfits = omega arith }) c.bits.ensures
+
 pub put_money-end-requires : goal.put_money-end-requires
 unfolding total_line
 put_money-end-requires c =
     let name = c.put_text-amount.ensures in
-    let same : amount_text 8 (to_z w64 c.bits.result.0) ≡ amount_text 8 c.args.total.0 = bits-text 8 (search rules) c.bits.ensures in
-    omega (arith, simp length-append at c.requires, name.position, put-length name, ap length same)
+    omega (arith, simp length-append at c.requires, name.position, put-length name, ap length (amount-is (goal.at.put_money-end-requires c).After-bits))
+
+-- the name and the amount
+both : (c : After-put_money-end) → Put c.args.out.now c.args.at (c.args.name.now ++ amount_text 8 c.args.total.0) c.put_money-end.new.out c.put_money-end.result
+both c = put_then c.put_text-amount.ensures (put_as (bits-text 8 (record { sfits = omega arith }) c.bits.ensures) c.put_money-end.ensures)
 
 pub put_text-requires : goal.put_text-requires
 unfolding total_line
 put_text-requires c =
-    let same : amount_text 8 (to_z w64 c.bits.result.0) ≡ amount_text 8 c.args.total.0 = bits-text 8 (search rules) c.bits.ensures in
-    let p = put_then c.put_text-amount.ensures (put_as same c.put_money-end.ensures) in
+    let p = both (goal.at.put_text-requires c).After-put_money-end in
     omega (arith, simp length-append at c.requires, simp length-append at p.position, put-length p)
 
 pub returns : goal.returns
 unfolding total_line
-returns c =
-    let same : amount_text 8 (to_z w64 c.bits.result.0) ≡ amount_text 8 c.args.total.0 = bits-text 8 (search rules) c.bits.ensures in
-    put_then (put_then c.put_text-amount.ensures (put_as same c.put_money-end.ensures)) c.put_text.ensures
+returns c = put_then (both (goal.at.returns c).After-put_money-end) c.put_text.ensures

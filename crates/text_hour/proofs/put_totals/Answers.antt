@@ -1,7 +1,7 @@
--- The five lines, each where the one before ends.
-use Rattle.std.proofs.Common.{length-append, arith}
-use Rattle.rules.specs.Meaning.Lines.{total_lines}
+-- `text_hour::put_totals` meets its contract: the five lines, each where the one before ends. Assumes nothing.
+use Rattle.std.proofs.Common.{arith, length-append}
 use Rattle.text_rules.proofs.Steps.Put.{put-length, put_then}
+use Rattle.rules.specs.Meaning.Lines.{total_lines}
 use Rattle.text_hour.proofs.put_totals.Goals as goal
 
 pub put_total-bound-requires : goal.put_total-bound-requires
@@ -34,4 +34,5 @@ put_total-requires c =
 
 pub returns : goal.returns
 unfolding total_lines
-returns c = put_then (put_then (put_then (put_then c.put_total-bound.ensures c.put_total-gap.ensures) c.put_total-rent.ensures) c.put_total-owed.ensures) c.put_total.ensures
+returns c =
+    put_then (put_then (put_then (put_then c.put_total-bound.ensures c.put_total-gap.ensures) c.put_total-rent.ensures) c.put_total-owed.ensures) c.put_total.ensures

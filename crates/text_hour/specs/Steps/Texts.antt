@@ -1,6 +1,6 @@
 -- The price lines zone by zone. Assumes nothing.
-use Rattle.std.specs.Prelude.{◌≡◌, refl, List, ◌++◌, ℕ, zero, suc, ◌+◌, ◌≤◌, ◌<◌, length, ℤ}
-use Rattle.std.proofs.Common.{sym, ap, ◌∙◌, add-one, arith, length-append}
+use Rattle.std.specs.Prelude.{◌≡◌, refl, ◌++◌, ℕ, zero, suc, ◌+◌, ◌≤◌, ◌<◌, length, ℤ}
+use Rattle.std.proofs.Common.{sym, ap, add-one, arith, length-append}
 use Rattle.std.proofs.Math.Decide.{dec_lt}
 use Rattle.rules.specs.Meaning.Lines.{price_line, price_lines}
 
