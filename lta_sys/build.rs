@@ -11,7 +11,7 @@ fn main() {
     let library = folder.join("libhost.a");
     println!("cargo:rerun-if-changed={}", library.display());
     if !library.is_file() {
-        println!("cargo:warning=no library at {}; rt staticlib host writes it", library.display());
+        println!("cargo:warning=no library at {}; make writes it", library.display());
     }
     println!("cargo:rustc-link-search=native={}", folder.display());
     // Not bundled: a program links the library in its state at that time.
