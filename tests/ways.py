@@ -111,8 +111,8 @@ def joined(pieces: Iterable[Piece]) -> dict[str, bytes]:
 
 
 def built_by(backend: str, program: str) -> tuple[pathlib.Path | None, str]:
-    """The program as a compiler builds it once it is proved, or nothing, and what rt said. It is built again only if its
-    sources have changed."""
+    """The program as a compiler builds it once it is proved, or nothing, and what rt said. It is built again only if
+    its sources have changed."""
     path, left = PROGRAMS / f"{program}.{backend}", CRATES / program / "out" / program
     if built.is_current(path, built.sources_hash()):
         return path, ""
@@ -176,8 +176,8 @@ def tried_cases(program: str, cases: Sequence[Sequence[Piece]]) -> list[Tried]:
 
 
 def tried_all(parts: Iterable[tuple[str, Sequence[Piece]]]) -> list[list[Tried]]:
-    """Runs each part, a program and its pieces, several at a time; what comes back is in the parts' order. If a part takes
-    the interpreter more steps than it makes, each half is run by itself."""
+    """Runs each part, a program and its pieces, several at a time; what comes back is in the parts' order. If a part
+    takes the interpreter more steps than it makes, each half is run by itself."""
     jobs = max(int(os.environ.get("RT_JOBS") or min(os.cpu_count() or 1, 4)), 1)
     left = [(n, program, pieces) for n, (program, pieces) in enumerate(parts)]
     found: list[list[Tried]] = [[] for _ in left]

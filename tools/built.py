@@ -44,18 +44,19 @@ class BuildError(Exception):
 @dataclass(frozen=True)
 class Proved:
     """A product of rt: what messages call it, its file, its crate, the command of rt that builds it there, and the file
-    that this leaves in the crate's out/."""
+    that this leaves."""
 
     called: str
     path: pathlib.Path
     crate: str
     command: str
-    left: str
+    left: pathlib.Path
 
 
-LIBRARY = Proved("the library", TARGET / "staticlib" / "libhost.a", "host", "lib", "libhost.a")
+CRATES = ROOT / "crates"
+LIBRARY = Proved("the library", TARGET / "staticlib" / "libhost.a", "host", "lib", CRATES / "host/out/libhost.a")
 # rt builds a program by running it: here on an empty input.
-DESK = Proved("the program", TARGET / "bin" / "desk", "desk", "run", "desk")
+DESK = Proved("the program", TARGET / "bin" / "desk", "desk", "run", CRATES / "desk/out/desk")
 SHARED = TARGET / "shared" / "liblta_judgement.so"
 
 
@@ -81,8 +82,8 @@ def hash_of(files: Iterable[str | pathlib.Path], words: Iterable[str] = ()) -> s
 def sources_hash() -> str:
     """The hash of what the library and the program are proved and built of, as it stood when it was first asked."""
     found = [str(KIT), str(ROOT / "crates.txt")]
-    for folder, folders, names in os.walk(ROOT / "crates"):
-        if os.path.dirname(folder) == str(ROOT / "crates"):
+    for folder, folders, names in os.walk(CRATES):
+        if os.path.dirname(folder) == str(CRATES):
             # What rt keeps there is made of the rest.
             folders[:] = [name for name in folders if name != "out"]
         found += [os.path.join(folder, name) for name in names]
@@ -185,7 +186,7 @@ FUNCTION = re.compile(r"^ *(?:pub )?(?:const )?(?:extern \"C\" )?fn \w+", re.M)
 
 def functions_of(crate: str) -> int:
     """How many functions the sources of a crate write. rt builds only a crate of which it proved each."""
-    return sum(len(FUNCTION.findall(path.read_text())) for path in (ROOT / "crates" / crate / "src").rglob("*.rt"))
+    return sum(len(FUNCTION.findall(path.read_text())) for path in (CRATES / crate / "src").rglob("*.rt"))
 
 
 class Progress:
@@ -253,8 +254,8 @@ IN_CRATE = re.compile(r"^(note: )?(?:\./)?(?=(?:src|specs|proofs)/)")
 
 
 def first_error(said: str, crate: str) -> str:
-    """The first line that says what failed, of this crate or of those that rt has a section for, with paths from the top
-    of this tree; where none does, the last line."""
+    """The first line that says what failed, of this crate or of those that rt has a section for, with paths from the
+    top of this tree; where none does, the last line."""
     found = ""
     for line in map(str.strip, said.splitlines()):
         crate = line.removeprefix("== ") if line.startswith("== ") else crate
@@ -266,8 +267,8 @@ def first_error(said: str, crate: str) -> str:
 
 
 def at_a_time() -> int:
-    """How many crates rt proves at a time: one on each processor, or fewer if RT_JOBS or the memory says so. A check takes
-    up to 2 GB."""
+    """How many crates rt proves at a time: one on each processor, or fewer if RT_JOBS or the memory says so. A check
+    takes up to 2 GB."""
     jobs, processors = os.environ.get("RT_JOBS", ""), len(os.sched_getaffinity(0))
     if jobs.isdecimal():
         return max(min(int(jobs), processors), 1)
@@ -276,13 +277,13 @@ def at_a_time() -> int:
 
 
 def run_rt(words: Sequence[str], crate: str, what: str, progress: Progress, lock: IO[str]) -> None:
-    """Runs rt in a crate's folder. It holds the lock too, so that no other build begins while it runs on after this process
-    was killed."""
+    """Runs rt in a crate's folder. It holds the lock too, so that no other build begins while it runs on after this
+    process was killed."""
     with open(LOG, "ab") as log:
         began = log.tell()
         process = subprocess.Popen(
             ["rt", *words],
-            cwd=ROOT / "crates" / crate,
+            cwd=CRATES / crate,
             stdin=subprocess.DEVNULL,
             stdout=log,
             stderr=subprocess.STDOUT,
@@ -308,12 +309,11 @@ def run_rt(words: Sequence[str], crate: str, what: str, progress: Progress, lock
 
 def put(product: Proved, what: str) -> None:
     """Copies what rt left of a product to its place, whole."""
-    left = ROOT / "crates" / product.crate / "out" / product.left
-    if not left.is_file():
-        raise BuildError(f"{what}: rt left no {left.relative_to(ROOT)}")
+    if not product.left.is_file():
+        raise BuildError(f"{what}: rt left no {product.left.relative_to(ROOT)}")
     product.path.parent.mkdir(parents=True, exist_ok=True)
     new = product.path.with_name(f"{product.path.name}.new")
-    shutil.copy(left, new)
+    shutil.copy(product.left, new)
     os.replace(new, product.path)
 
 
@@ -328,6 +328,7 @@ def prove(products: Sequence[Proved], say: Say, lock: IO[str]) -> None:
         record_of(product.path).unlink(missing_ok=True)
         # All below it and the crate itself, several at a time; then the product, over what that kept.
         run_rt(["all", "check", "--jobs", str(at_a_time())], product.crate, what, progress, lock)
+        product.left.unlink(missing_ok=True)
         run_rt([product.command], product.crate, what, progress, lock)
         put(product, what)
         functions = {crate: functions_of(crate) for crate in reached_from(product.crate)}
