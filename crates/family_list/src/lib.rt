@@ -46,6 +46,7 @@ const WRONG_LIST: Outcome = Outcome {
 
 // ROW 16: the header, field by field, and the length of the rest. A field that cannot be taken ends the walk: the
 // list is too short.
+#[tactic(auto, unfolding(rules::specs::Meaning::Families::family_version, rules::specs::Meaning::Families::family_length, rules::specs::Meaning::Verdict::not_mark))]
 fn walk_header(families: &[u8], orders: usize) -> Walked
     requires { orders ≤ 512 }
     ensures { result ≡ header_by (wrong_list families.now orders) }
