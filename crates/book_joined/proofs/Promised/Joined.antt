@@ -1,71 +1,32 @@
 -- THE SURPLUS OF TWO BOOKS JOINED IS THE SUM OF THEIRS (request S-9), in the entry's own answer: for good rows at
 -- the same prices, at most 512 together, in either order. Where the prices are refused all three sums are 0, so the
 -- law of the sums needs no good prices. Assumes nothing.
-use Rattle.std.specs.Prelude.{◌≡◌, refl, List, [], ◌∷◌, ◌++◌, map, ◌+◌, ◌≤◌, length, ℤ, ◌+ℤ◌}
-use Rattle.std.proofs.Common.{sym, subst, ◌∙◌, arith, length-append}
+use Rattle.std.specs.Prelude.{◌≡◌, List, ◌++◌, map, ◌+◌, ◌≤◌, length, ℤ, ◌+ℤ◌}
+use Rattle.std.proofs.Common.{sym, ◌∙◌, arith}
 use Rattle.std.proofs.Math.Path.{ap}
-use Rattle.std.proofs.Math.Option.{Option, none, some}
-use Rattle.std.proofs.Math.ListN.{length-map}
+use Rattle.std.proofs.Math.Option.{Option, none}
 use Rattle.base_integers.specs.Steps.Difference.{at, ◌⊕◌, eq-by}
 use Rattle.base_causes.specs.declared.Outcome.{Outcome}
 use Rattle.base_causes.specs.Meaning.Causes.{refusal}
 use Rattle.base_causes.proofs.Promised.CauseLaws.{is_cause, row_of, lacks, zero-none, cause_numbered, number-passes, field-at-passes}
 use Rattle.rules.proofs.Promised.Causes.{book-outcome}
-use Rattle.rules.specs.Meaning.Book.{BookRow, book_causes, book_refusal, book_surplus, book_answer_by, book_answer}
-use Rattle.book_surplus.specs.Meaning.Lent.{book_row, given, lent_answer}
+use Rattle.rules.specs.Meaning.Book.{book_causes, book_refusal}
+use Rattle.book_surplus.specs.Meaning.Lent.{book_row, lent_answer}
 use Rattle.book_surplus.specs.Meaning.BookState.{answered}
 use Rattle.book_surplus.specs.declared.OrderRow.{OrderRow}
-use Rattle.book_surplus.specs.declared.Surplus.{Surplus}
 use Rattle.book_joined.specs.Meaning.GoodBook.{GoodRows, GoodPrices}
-use Rattle.book_joined.proofs.Steps.JoinedRows.{AllGood, joined-surplus, joined-good, price_refusal, by-prices, good-prices}
+use Rattle.book_joined.proofs.Steps.JoinedRows.{price_refusal, good-prices}
+use Rattle.book_joined.proofs.Promised.Rows.{sum_of, earned, answer_with}
+use Rattle.book_joined.proofs.Promised.Together.{joined_is}
+use Rattle.book_joined.proofs.Promised.Sum.{joined-sum}
 
-map-joined : (a b : List OrderRow) → map book_row (a ++ b) ≡ map book_row a ++ map book_row b
-map-joined [] b = refl
-map-joined (o ∷ a) b = ap (λ (l : List BookRow). book_row o ∷ l) (map-joined a b)
-
-abbrev pub sum_of : List OrderRow → List ℤ → ℤ
-sum_of orders prices = (lent_answer orders prices).sum.0
-
-module _ (prices : List ℤ) where
-  -- the surplus of a book, and the answer with it
-  abbrev earned : List OrderRow → ℤ
-  earned orders = book_surplus (map book_row orders) prices
-
-  abbrev answer_with : ℤ → Option Outcome → Surplus
-  answer_with x o = given (book_answer_by x o)
-
-  -- the answer for one book of good rows
-  answer-is : (orders : List OrderRow) → GoodRows orders prices → length orders ≤ 512 → lent_answer orders prices ≡ answer_with (earned orders) (price_refusal prices)
-  unfolding lent_answer book_answer
-  answer-is orders g l = ap (λ (o : Option Outcome). answer_with (earned orders) o) (by-prices prices (map book_row orders) g.good (omega (arith, length-map orders book_row)))
-
-  module _ (a b : List OrderRow) (g : GoodRows a prices) (h : GoodRows b prices) where
-    -- ITS ROWS ARE GOOD
-    pub joined-rows-good : GoodRows (a ++ b) prices
-    joined-rows-good = record { good = subst (λ (l : List BookRow). AllGood l prices) (sym (map-joined a b)) (joined-good (map book_row a) (map book_row b) prices g.good h.good) }
-
-    surplus-is : earned (a ++ b) ≡ earned a +ℤ earned b
-    surplus-is = ap (λ (l : List BookRow). book_surplus l prices) (map-joined a b) ∙ joined-surplus (map book_row a) (map book_row b) prices
-
-    module _ (together : length a + length b ≤ 512) where
-      joined_is : lent_answer (a ++ b) prices ≡ answer_with (earned a +ℤ earned b) (price_refusal prices)
-      joined_is = answer-is (a ++ b) joined-rows-good (omega (arith, length-append a b)) ∙ ap (λ (x : ℤ). answer_with x (price_refusal prices)) surplus-is
-
-      -- THE SUM, at any prices
-      pub joined-sum : sum_of (a ++ b) prices ≡ sum_of a prices +ℤ sum_of b prices
-      joined-sum = (λ j. (joined_is j).sum.0) ∙ split (earned a) (earned b) (price_refusal prices)
-          ∙ (λ j. (sym (answer-is a g (omega arith)) j).sum.0 +ℤ (sym (answer-is b h (omega arith)) j).sum.0)
-        where
-          split : (x y : ℤ) (o : Option Outcome) → (answer_with (x +ℤ y) o).sum.0 ≡ (answer_with x o).sum.0 +ℤ (answer_with y o).sum.0
-          split x y none = refl
-          split x y (some o) = refl
-
-      -- THE ANSWER, at good prices: number 0, index 0 and the sum of both sums
-      pub joined-answer : GoodPrices prices → lent_answer (a ++ b) prices ≡ answered 0 0 (sum_of a prices +ℤ sum_of b prices)
-      joined-answer p = (λ j. record { number = (accepted j).number; index = (accepted j).index; sum = record { 0 = joined-sum j } })
-        where
-          accepted : lent_answer (a ++ b) prices ≡ answered 0 0 (earned a +ℤ earned b)
-          accepted = joined_is ∙ ap (λ (o : Option Outcome). answer_with (earned a +ℤ earned b) o) (good-prices prices p)
+module _ (prices : List ℤ) (a b : List OrderRow) (g : GoodRows a prices) (h : GoodRows b prices) (together : length a + length b ≤ 512) where
+  -- THE ANSWER, at good prices: number 0, index 0 and the sum of both sums
+  pub joined-answer : GoodPrices prices → lent_answer (a ++ b) prices ≡ answered 0 0 (sum_of a prices +ℤ sum_of b prices)
+  joined-answer p = (λ j. record { number = (accepted j).number; index = (accepted j).index; sum = record { 0 = joined-sum prices a b g h together j } })
+    where
+      accepted : lent_answer (a ++ b) prices ≡ answered 0 0 (earned prices a +ℤ earned prices b)
+      accepted = joined_is prices a b g h together ∙ ap (λ (o : Option Outcome). answer_with prices (earned prices a +ℤ earned prices b) o) (good-prices prices p)
 
 -- IN EITHER ORDER, at any prices
 pub either_order : (prices : List ℤ) (a b : List OrderRow) → GoodRows a prices → GoodRows b prices → length a + length b ≤ 512

@@ -6,7 +6,9 @@ use Rattle.book_surplus.specs.Meaning.Lent.{book_row, lent_answer}
 use Rattle.book_surplus.specs.Meaning.BookState.{answered}
 use Rattle.book_surplus.specs.declared.OrderRow.{OrderRow}
 use Rattle.book_joined.specs.Meaning.GoodBook.{GoodRows, GoodPrices}
-use Rattle.book_joined.proofs.Promised.Joined.{sum_of, joined-sum, joined-answer, either_order}
+use Rattle.book_joined.proofs.Promised.Rows.{sum_of}
+use Rattle.book_joined.proofs.Promised.Sum.{joined-sum}
+use Rattle.book_joined.proofs.Promised.Joined.{joined-answer, either_order}
 
 -- rows and prices are good if and only if their numbers are
 pub good-rows-are : (orders : List OrderRow) (prices : List ℤ) → GoodRows orders prices ↔ plain.GoodRows (map book_row orders) prices
