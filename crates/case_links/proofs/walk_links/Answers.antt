@@ -27,7 +27,7 @@ use Rattle.case_links.proofs.walk_links.Goals.{In-loop, In-Taken, In-Taken-byte,
 
 pub loop-init : goal.loop-init
 unfolding first_below
-loop-init c = (c.requires.at_value, refl, seen_none (from_in c.args.«case».now) (to_in c.args.«case».now))
+loop-init c = (c.requires.at_value, refl, seen_none (from_in c.args.«case».now) (to_in c.args.«case».now), (limited c.requires.length_valid.headed).zones-in)
 
 -- THE LINK OF A TURN
 link : (c : In-loop) → LinkTurn c.args.«case».now c.loop.counter c.loop.cursor.at c.loop.seen
@@ -93,12 +93,6 @@ returns-then-from-to c =
     ∙ to-stops (link g.In-loop) p (lt-leb _ _ c.if-k-from.false) (λ j. lt-leb _ _ c.if-k-to.false j || eq-eqb _ _ c.if-from-to.true j) (omega (arith, from.past))
 
 -- THE PAIR: the second zone is added to the set of the first
-pub bounds-seen-from : goal.bounds-seen-from
-bounds-seen-from c = omega (arith, limited c.requires.length_valid.headed)
-
-pub with-after-requires : goal.with-after-requires
-with-after-requires c = omega (arith, limited c.requires.length_valid.headed)
-
 pub refuse_in-requires-then-after-before : goal.refuse_in-requires-then-after-before
 refuse_in-requires-then-after-before c = omega (arith, start c.new-at_from.ensures, (link (goal.at.refuse_in-requires-then-after-before c).In-loop).within)
 
@@ -215,9 +209,6 @@ returns-then-exceeds c =
     c.refuse-then-exceeds.ensures ∙ field-stops f.0 (cursor (order_at s 0)) (omega arith) (f.1 ∙ sym c.exceeds.ensures ∙ c.if-exceeds.true) (omega (arith, at, t.place))
 
 -- THE NEXT TURN
-pub bounds-seen-from-in-loop : goal.bounds-seen-from-in-loop
-bounds-seen-from-in-loop c = omega (arith, limited c.requires.length_valid.headed)
-
 pub loop-preserved : goal.loop-preserved
 unfolding from_in to_in
 loop-preserved c =
@@ -236,6 +227,7 @@ loop-preserved c =
       record-passes (field-passes f.0 (f.1 ∙ sym c.exceeds.ensures ∙ c.if-exceeds.false)) refl,
       subst (λ (n : ℕ). Seen (from_in s) (to_in s) (l + 1) (set c.loop.seen c.index_of-from.result n)) (sym c.with-after.ensures)
           (seen_more (from_in s) (to_in s) l t.pairs from-l to-l (omega (arith, small)) (omega (arith, small))),
+      c.loop.invariant.3,
     )
 
 pub returns : goal.returns

@@ -1,6 +1,6 @@
 -- The cursor stands at the link of this turn, no link before it has a field at fault, and the set holds the pairs of
--- those links.
-use Rattle.std.proofs.Common.{◌≡◌}
+-- those links; the case has at most sixteen zones.
+use Rattle.std.proofs.Common.{◌≡◌, ◌≤◌}
 use Rattle.std.proofs.Math.Option.{none}
 use Rattle.rules.specs.Meaning.Layout.{link_at, from_in, to_in}
 use Rattle.base_causes.specs.Meaning.Causes.{first_below}
@@ -9,4 +9,4 @@ use Rattle.base_zone_set.specs.Steps.Pairs.{Seen}
 use Rattle.case_links.proofs.walk_links.Given as goal
 
 abbrev pub invariant-loop : goal.invariant-loop
-invariant-loop l = (l.cursor.at ≡ link_at l.case l.counter) × (first_below l.counter (link_cause l.case).fails ≡ none) × Seen (from_in l.case) (to_in l.case) l.counter l.seen
+invariant-loop l = (l.cursor.at ≡ link_at l.case l.counter) × (first_below l.counter (link_cause l.case).fails ≡ none) × Seen (from_in l.case) (to_in l.case) l.counter l.seen × (l.k.zones ≤ 16)
