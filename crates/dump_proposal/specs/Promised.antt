@@ -1,5 +1,3 @@
--- THE THEOREMS ON THE MEANING, for its reader
-pub mod Causes
+-- WHAT CONTRACTS CITE of the theorems, which stand in proofs/
 pub mod PlainCauses
-pub mod ReadBack
 pub mod PlainBytes

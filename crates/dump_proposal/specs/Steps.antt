@@ -1,3 +1,2 @@
 -- THE STEPS of the proofs
 pub mod Walks
-pub mod Answers

@@ -5,7 +5,8 @@ use Rattle.std.proofs.Common.{sym, ap, ◌∙◌, subst}
 use Rattle.base_causes.specs.declared.Outcome.{Outcome}
 use Rattle.base_output.specs.declared.Written.{Written}
 use Rattle.dump_proposal.specs.Meaning.Dump.{dump_outcome, DumpAnswered, ProposalHolds, VolumesWithin}
-use Rattle.dump_proposal.specs.Promised.PlainBytes.{WrittenProposal, proposal-written}
+use Rattle.dump_proposal.specs.Promised.PlainBytes.{WrittenProposal}
+use Rattle.dump_proposal.proofs.Promised.PlainBytes.{proposal-written}
 use Rattle.dump_proposal.proofs.Promised.ReadBack.{written_back}
 
 module _ {s d before after : List ℕ} {r : Written} (a : DumpAnswered s d before r after) (z : r.number ≡ 0) where

@@ -32,9 +32,8 @@ use Rattle.dump_values.specs.Meaning.Field.{kind_of, converted, fault}
 use Rattle.dump_values.proofs.Promised.PlainPlaces.{after-kind}
 use Rattle.dump_proposal.specs.Meaning.Dump.{value_count, dump_length, refuses, number_in, dump_causes, dump_refusal, dump_outcome, proposal_mark, fields_from, proposal_bytes, dump_written, dump_output, DumpAnswered}
 use Rattle.dump_proposal.specs.declared.OpeningNumbers.{OpeningNumbers}
-use Rattle.dump_proposal.specs.Steps.Walks.{rest_of, count_of, FiniteDump, OpeningHeld, TableHolds, fault_after, fields-length, table_bytes}
-use Rattle.dump_proposal.proofs.Steps.Walks.{field-held, field-outside, field-number, fields_split, table-fields}
-use Rattle.dump_proposal.specs.Steps.Answers.{bytes-are}
+use Rattle.dump_proposal.specs.Steps.Walks.{rest_of, count_of, FiniteDump, OpeningHeld, TableHolds, fault_after, table_bytes}
+use Rattle.dump_proposal.proofs.Steps.Walks.{field-held, field-outside, field-number, fields-length, fields_split, table-fields}
 
 -- THE COUNTS of a readable case are its own
 module _ {s : List ℕ} {k : Counts} (o : CaseReadable s k) where
@@ -134,6 +133,11 @@ module _ (s d : List ℕ) (room : ℕ) where
   pub all-passed : RowsFrom 4 → proposal_length s ≤ room → dump_refusal s d room ≡ none
   unfolding dump_refusal dump_causes refusal
   all-passed p h = p ∙ field-passes 60 0 [] (le-ltb room (proposal_length s) h)
+
+-- THE BYTES
+pub bytes-are : (s d : List ℕ) → length (proposal_bytes s d) ≡ proposal_length s
+unfolding proposal_bytes proposal_length value_count
+bytes-are s d = omega (arith, length-append proposal_mark (fields_from s d 0 (value_count s)), fields-length s d 0 (value_count s))
 
 -- mark and opening, and then the rest
 pub whole_run : (s d l : List ℕ) {x y : ℕ} (rest : ℕ) → 2 + rest ≡ value_count s

@@ -34,6 +34,14 @@ use Rattle.dump_proposal.specs.declared.OpeningField.TheVariants as opened
 use Rattle.dump_proposal.specs.Meaning.Dump.{proposal_mark, field_bytes, fields_from}
 use Rattle.dump_proposal.specs.Steps.Walks.{FiniteDump, TableHolds, opening_taken, table_bytes}
 
+-- THE FIELDS, one after another: four bytes each
+pub fields-length : (s d : List ℕ) (a n : ℕ) → length (fields_from s d a n) ≡ 4 * n
+unfolding fields_from
+fields-length s d a zero = refl
+fields-length s d a (suc n) =
+    let z = converted (kind_of s (a + n)) (bits_at d (a + n)) in
+    omega (arith, length-append (fields_from s d a n) (field_bytes z), fields-length s d a n, bytes-length 4 (of_z w64 z))
+
 pub opening-took : (d : List ℕ) {o : DumpOpening} {c : Cursor} → opening_taken d ≡ opened.Taken o c → (o.share ≡ of_bits binary64 (bits_at d 0)) × ((o.system ≡ of_bits binary64 (bits_at d 1)) × (c.at ≡ 16))
 opening-took d {o} {c} e = (cc, (cc, cc))
 

@@ -1,12 +1,9 @@
 -- The walks over a dump's values: by the case's counts, and what each turn leaves. Assumes nothing.
-use Rattle.std.specs.Prelude.{◌≡◌, refl, Bool, true, List, [], ◌++◌, ℕ, zero, suc, ◌+◌, ◌*◌, ◌<◌, length, get_or}
-use Rattle.std.proofs.Common.{arith, length-append, of_z}
+use Rattle.std.specs.Prelude.{◌≡◌, Bool, true, List, [], ◌++◌, ℕ, zero, suc, ◌+◌, ◌*◌, ◌<◌, length, get_or}
 use Rattle.std.proofs.Math.Option.{Option, none}
-use Rattle.std.specs.Int.{w64}
 use Rattle.std.specs.Float.{binary64}
 use Rattle.std.specs.Float.Ieee.{of_bits}
 use Rattle.base_integers.specs.Meaning.Bytes.{bytes_of}
-use Rattle.base_integers.specs.Steps.Bytes.{bytes-length}
 use Rattle.base_causes.specs.Meaning.Causes.{first_below}
 use Rattle.bytes_read.specs.Meaning.Field.{cursor}
 use Rattle.case_header.specs.declared.Counts.{Counts}
@@ -18,7 +15,7 @@ use Rattle.dump_values.specs.Meaning.Answer.{field_of}
 use Rattle.dump_proposal.specs.declared.OpeningNumbers.{OpeningNumbers}
 use Rattle.dump_proposal.specs.declared.OpeningField.{OpeningField}
 use Rattle.dump_proposal.specs.declared.OpeningField.TheVariants as opened
-use Rattle.dump_proposal.specs.Meaning.Dump.{field_bytes, fields_from}
+use Rattle.dump_proposal.specs.Meaning.Dump.{field_bytes}
 
 abbrev pub rest_of : Counts → ℕ
 rest_of k = k.orders + k.links + k.branches
@@ -53,14 +50,6 @@ pub record TableHolds (s d : List ℕ) (n : ℕ) (table : List ℕ) : Type 0 whe
 pub record RestConverted (s d : List ℕ) (rest : ℕ) (place : Option ℕ) (table : List ℕ) : Type 0 where
   pub first : place ≡ first_below rest (fault_after s d)
   pub held : place ≡ none → TableHolds s d rest table
-
--- THE FIELDS, one after another: four bytes each
-pub fields-length : (s d : List ℕ) (a n : ℕ) → length (fields_from s d a n) ≡ 4 * n
-unfolding fields_from
-fields-length s d a zero = refl
-fields-length s d a (suc n) =
-    let z = converted (kind_of s (a + n)) (bits_at d (a + n)) in
-    omega (arith, length-append (fields_from s d a n) (field_bytes z), fields-length s d a n, bytes-length 4 (of_z w64 z))
 
 -- THE TABLE'S BYTES: four for each of its first n entries
 unfoldable pub table_bytes : ℕ → List ℕ → List ℕ
