@@ -1,6 +1,4 @@
--- THE STEPS of the proofs
-pub mod Pigeonhole
-pub mod Ancestors
+-- THE STEPS of the proofs: what the contracts of inner functions cite
 pub mod Round
 pub mod Walk
 pub mod Parents

@@ -9,7 +9,7 @@ use Rattle.base_integers.specs.Steps.Ranges.{is_true}
 use Rattle.base_causes.proofs.Promised.CauseLaws.{any_some, any_place}
 use Rattle.rules.specs.Meaning.Families.{ancestor, LeadsBack, is_order, leads_back}
 use Rattle.family_list.specs.Meaning.Parents.{Exist}
-use Rattle.family_list.specs.Steps.Ancestors.{short}
+use Rattle.family_list.proofs.Steps.Ancestors.{short}
 
 module _ (parent : ℕ → Option ℕ) where
   is-order : (i : ℕ) (o : Option ℕ) → T (is_order i o) → o ≡ some i

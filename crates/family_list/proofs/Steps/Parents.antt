@@ -8,7 +8,7 @@ use Rattle.std.proofs.Math.Decide.{ℕ_discrete}
 use Rattle.base_causes.proofs.Promised.CauseLaws.{no_less}
 use Rattle.rules.specs.Meaning.Families.{no_parent, named, parent_in, parent_of}
 use Rattle.family_list.specs.Meaning.Parents.{Exist}
-use Rattle.family_list.specs.Steps.Ancestors.{has-parent}
+use Rattle.family_list.proofs.Steps.Ancestors.{has-parent}
 use Rattle.family_list.specs.Steps.Walk.{held, SearchSoFar}
 use Rattle.family_list.proofs.Steps.Walk.{put-set}
 use Rattle.family_list.specs.Steps.Parents.{ParentsTaken, Search}

@@ -1,7 +1,8 @@
 -- By where the walk ended.
 use Rattle.std.proofs.Common.{ℕ, ◌+◌, subst, sym}
 use Rattle.rules.specs.Meaning.Families.{parent_of}
-use Rattle.family_list.specs.Steps.Walk.{held, SearchSoFar, next-none, next-found, came-back}
+use Rattle.family_list.specs.Steps.Walk.{held, SearchSoFar}
+use Rattle.family_list.proofs.Steps.Walk.{next-none, next-found, came-back}
 use Rattle.family_list.proofs.Steps.Walk.{next-been}
 use Rattle.family_list.proofs.first_after.Goals as goal
 

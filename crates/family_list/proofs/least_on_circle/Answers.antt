@@ -2,7 +2,9 @@
 use Rattle.std.proofs.Common.{◌≡◌, ℕ, ◌+◌, sym, subst, ◌∙◌}
 use Rattle.rules.specs.Meaning.Families.{parent_of}
 use Rattle.family_list.proofs.Steps.Parents.{parent_is}
-use Rattle.family_list.specs.Steps.Round.{Round, smaller, round-starts, at_in, round-goes-on, round-ends}
+use Rattle.family_list.specs.Steps.Round.{Round}
+use Rattle.family_list.specs.Steps.Round.{smaller}
+use Rattle.family_list.proofs.Steps.Round.{round-starts, at_in, round-goes-on, round-ends}
 use Rattle.family_list.proofs.least_on_circle.Goals as goal
 
 pub loop-at-init : goal.loop-at-init

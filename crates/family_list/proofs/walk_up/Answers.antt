@@ -1,7 +1,8 @@
 -- Each turn stores the walk's number at an order that no walk has visited.
 use Rattle.std.proofs.Common.{◌+◌, ◌∙◌, arith, length-set}
 use Rattle.std.proofs.Math.ListN.{set}
-use Rattle.family_list.specs.Steps.Walk.{held, fewer, walk_steps}
+use Rattle.family_list.specs.Steps.Walk.{held}
+use Rattle.family_list.proofs.Steps.Walk.{fewer, walk_steps}
 use Rattle.family_list.proofs.Steps.Walk.{put-set}
 use Rattle.family_list.proofs.walk_up.Goals as goal
 

@@ -1,7 +1,8 @@
 -- The walk has come to tip. The measure is the number of orders that no walk has visited.
 use Rattle.std.proofs.Common.{◌≡◌, ℕ, ◌<◌, length}
 use Rattle.std.proofs.Math.Option.{Option}
-use Rattle.family_list.specs.Steps.Walk.{held, unwalked, Walked, Walking}
+use Rattle.family_list.specs.Steps.Walk.{held, Walked, Walking}
+use Rattle.family_list.proofs.Steps.Walk.{unwalked}
 use Rattle.family_list.proofs.walk_up.Given as goal
 
 abbrev pub invariant-loop-up : goal.invariant-loop-up

@@ -8,7 +8,7 @@ use Prim.Native.Nat.{ℕ, zero, suc, ◌+◌, ◌*◌, ◌-◌, ◌≤◌, ◌<�
 use native.Mathlib.Omega.{arith}
 use Rattle.rules.specs.Meaning.Families.{onward, ancestor, LeadsBack}
 use Rattle.family_list.specs.Meaning.Parents.{Exist}
-use Rattle.family_list.specs.Steps.Pigeonhole.{pigeonhole}
+use Rattle.family_list.proofs.Steps.Pigeonhole.{pigeonhole}
 
 module _ (parent : ℕ → Option ℕ) where
   -- where the last step came from
