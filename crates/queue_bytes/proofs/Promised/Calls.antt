@@ -12,7 +12,7 @@ use Rattle.queue_turns.specs.Steps.Invariant.{Hours}
 use Rattle.queue_turns.proofs.Steps.Invariant.{PostTaken, PostRefused, posting, hours-more}
 use Rattle.queue_turns.proofs.Steps.Fairness.{area-served, hour-served}
 use Rattle.queue_bytes.specs.Meaning.Bytes.{hours_at, queue_of, bytes_unless, bytes_after_post, bytes_after_serve, bytes_after}
-use Rattle.queue_bytes.specs.Steps.ReadBack.{outside, good-bytes}
+use Rattle.queue_bytes.proofs.Steps.ReadBack.{outside, good-bytes}
 use Rattle.queue_bytes.proofs.Steps.ReadBack.{post-means, serve-means, length-post, length-serve, zeros-empty}
 
 -- the queue of the bytes after some calls

@@ -17,7 +17,7 @@ use Rattle.queue_bytes.specs.declared.Served.{Served}
 use Rattle.queue_bytes.specs.Meaning.Answer.{given}
 use Rattle.queue_bytes.specs.Meaning.Bytes.{hours_in, cells_at, hours_at, queue_of}
 use Rattle.queue_bytes.proofs.Promised.Along.{served, nothing}
-use Rattle.queue_bytes.specs.Steps.ReadBack.{getD-cells}
+use Rattle.queue_bytes.proofs.Steps.ReadBack.{getD-cells}
 use Rattle.queue_bytes.proofs.Steps.Said as said
 
 -- AN HOUR WAITS in an area: one of the area's 25 bytes is the hour plus 1

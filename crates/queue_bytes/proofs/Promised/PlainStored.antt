@@ -7,7 +7,7 @@ use Rattle.queue_turns.specs.Meaning.Runs.{Event, after}
 use Rattle.queue_turns.proofs.Steps.Invariant.{at-most-25}
 use Rattle.queue_bytes.specs.Meaning.Bytes.{cells_of, hours_at, queue_of, bytes_after}
 use Rattle.queue_bytes.proofs.Promised.Calls.{from-zeros}
-use Rattle.queue_bytes.specs.Steps.ReadBack.{good-bytes, getD-cells}
+use Rattle.queue_bytes.proofs.Steps.ReadBack.{good-bytes, getD-cells}
 use Rattle.queue_bytes.proofs.Steps.Tidied.{Tidied, tidied-zeros, tidied-after, cell-hour, cell_free}
 
 pub record Stored (bytes : List ℕ) (q : Queue) : Type 0 where

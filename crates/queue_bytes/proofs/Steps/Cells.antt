@@ -14,8 +14,9 @@ use Rattle.queue_turns.specs.Meaning.Queue.{among}
 use Rattle.queue_turns.specs.Steps.Invariant.{Hours}
 use Rattle.queue_turns.proofs.Steps.Invariant.{at-most-25, room}
 use Rattle.queue_bytes.specs.Meaning.Bytes.{is_new, cells_of, keep}
-use Rattle.queue_bytes.specs.Steps.ReadBack.{new-of, length-cells-map, length-cells}
-use Rattle.queue_bytes.specs.Steps.Cells.{Addable, Tidy, counts_behind, waiting_of}
+use Rattle.queue_bytes.specs.Steps.ReadBack.{New}
+use Rattle.queue_bytes.proofs.Steps.ReadBack.{new-of, length-cells-map, length-cells}
+use Rattle.queue_bytes.specs.Steps.Cells.{waiting_of, Tidy, Addable, counts_behind}
 
 pub addable-room : {w : Waiting} {c : ℕ} → Addable w c → (w.count < 25) × (length w.cells ≡ 25)
 addable-room {w} {c} p =
@@ -48,6 +49,20 @@ cells-more l c few above =
 
     fewer : 24 - length l ≡ 25 - length (l ++ ((c - 1) ∷ []))
     fewer = omega (arith, length-append l ((c - 1) ∷ []))
+
+-- the cells move up by one, and the last is free
+pub cells-less : (h : ℕ) (l : List ℕ) → length (h ∷ l) ≤ 25 → drop 1 (cells_of (h ∷ l)) ++ (0 ∷ []) ≡ cells_of l
+unfolding cells_of
+cells-less h l few =
+    append_assoc (map (λ k. k + 1) l) (replicate (25 - suc (length l)) 0) (0 ∷ [])
+    ∙ ap (λ (m : List ℕ). map (λ k. k + 1) l ++ m) (free (25 - suc (length l)) ∙ ap (λ (n : ℕ). replicate n 0) more)
+  where
+    free : (n : ℕ) → ◌++◌ {A = ℕ} (replicate n 0) (0 ∷ []) ≡ replicate (suc n) 0
+    free zero = refl
+    free (suc n) = ap (λ (m : List ℕ). 0 ∷ m) (free n)
+
+    more : suc (25 - suc (length l)) ≡ 25 - length l
+    more = omega arith
 
 -- a cell is among the cells if and only if its hour is among the hours
 pub among-cells : (l : List ℕ) (c : ℕ) → 0 < c → among c (cells_of l) ≡ among (c - 1) l

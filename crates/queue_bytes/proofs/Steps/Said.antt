@@ -9,7 +9,7 @@ use native.Mathlib.Omega.{arith}
 use Rattle.std.proofs.Math.Decide.{dec_lt, ℕ_discrete}
 use Rattle.queue_turns.specs.Meaning.Queue.{among, pair, in_turn, first_waiting, earliest_else}
 use Rattle.queue_bytes.specs.Meaning.Bytes.{is_new, keep, keep_all}
-use Rattle.queue_bytes.specs.Steps.ReadBack.{new-of, is-new}
+use Rattle.queue_bytes.proofs.Steps.ReadBack.{new-of, is-new}
 
 or-false : (b : Bool) → (b || false) ≡ b
 or-false true = refl

@@ -12,7 +12,7 @@ use Rattle.queue_turns.specs.Meaning.Runs.{Event, post, serve}
 use Rattle.queue_turns.specs.Steps.Invariant.{Hours}
 use Rattle.queue_turns.proofs.Steps.Invariant.{PostTaken, PostRefused, posting, hours-more, hours-less, next-heads, put-here, put_other}
 use Rattle.queue_bytes.specs.Meaning.Bytes.{cells_of, cells_at, hours_at, queue_of, with_hours, bytes_unless, bytes_after_post, bytes_without, bytes_after_serve, bytes_after}
-use Rattle.queue_bytes.specs.Steps.ReadBack.{good-bytes, cells_agree, length-with, cells-own, cells-other, hours-at-with, turn-with, hours-turned}
+use Rattle.queue_bytes.proofs.Steps.ReadBack.{good-bytes, cells_agree, length-with, cells-own, cells-other, hours-at-with, turn-with, hours-turned}
 use Rattle.queue_bytes.proofs.Steps.ReadBack.{zeros-empty}
 
 pub record Tidied (b : List ℕ) : Type 0 where

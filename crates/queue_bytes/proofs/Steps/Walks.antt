@@ -12,7 +12,7 @@ use Rattle.queue_bytes.specs.declared.Waiting.{Waiting}
 use Rattle.queue_turns.specs.Meaning.Queue.{Pair, in_turn, first_waiting, earliest_else, next}
 use Rattle.queue_turns.specs.Steps.Invariant.{Hours}
 use Rattle.queue_bytes.specs.Meaning.Bytes.{keep, keep_all, hours_in, cells_of, cells_at, hours_at, queue_of}
-use Rattle.queue_bytes.specs.Steps.ReadBack.{hours-in, length-cells-at, getD-cells}
+use Rattle.queue_bytes.proofs.Steps.ReadBack.{hours-in, length-cells-at, getD-cells}
 use Rattle.queue_bytes.proofs.Steps.ReadBack.{keep-more}
 use Rattle.queue_bytes.specs.Steps.Cells.{waiting_of, counts_behind}
 use Rattle.queue_bytes.proofs.Steps.Cells.{addable-room, kept-addable}

@@ -3,7 +3,7 @@ use Rattle.std.specs.Prelude.{◌≡◌, length}
 use Rattle.std.proofs.Common.{sym, ◌∙◌, rules}
 use Rattle.queue_turns.specs.Meaning.Queue.{among}
 use Rattle.queue_bytes.specs.Meaning.Bytes.{hours_at}
-use Rattle.queue_bytes.specs.Steps.Answers.{post-61, post-62, post-63, post-taken, good-hours}
+use Rattle.queue_bytes.proofs.Steps.Answers.{post-61, post-62, post-63, post-taken, good-hours}
 use Rattle.queue_bytes.proofs.Steps.Answers.{among-hour, post-addable, post-stored}
 use Rattle.queue_bytes.proofs.post_bytes.Goals as goal
 use Rattle.queue_bytes.proofs.post_bytes.Goals.{After-is_among}

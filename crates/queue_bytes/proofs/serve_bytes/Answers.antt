@@ -1,7 +1,7 @@
 -- `serve_bytes`: nothing is found, or the first hour of the found area is taken out. Assumes nothing.
 use Rattle.std.specs.Prelude.{◌≡◌, length, get_or}
 use Rattle.std.proofs.Common.{◌∙◌, arith, rules}
-use Rattle.queue_bytes.specs.Steps.Answers.{serve-64, taking, first_cell, cells_left, serve-taken}
+use Rattle.queue_bytes.proofs.Steps.Answers.{serve-64, taking, first_cell, cells_left, serve-taken}
 use Rattle.queue_bytes.proofs.serve_bytes.Goals as goal
 
 pub returns-then-area-gt3 : goal.returns-then-area-gt3

@@ -12,7 +12,7 @@ use Rattle.base_output.specs.Meaning.Output.{written_by}
 use Rattle.sheet_numbers.specs.Meaning.Numeral.{digits, starts, before, negative, unsigned, whole, is_number}
 use Rattle.sheet_lines.specs.Meaning.Sheet.{fields, field_of, malformed, sheet_causes, sheet_refusal, sheet_outcome, sheet_bytes, sheet_written, sheet_output}
 use Rattle.sheet_lines.proofs.Promised.PlainBytes.{refusal-leaves}
-use Rattle.sheet_lines.specs.Steps.Lines.{malformed-field}
+use Rattle.sheet_lines.proofs.Steps.Lines.{malformed-field}
 
 module _ (zones : ℕ) (sheet : List ℕ) (room : ℕ) where
   abbrev rows : List Cause

@@ -7,7 +7,8 @@ use Rattle.base_causes.specs.declared.Outcome.{Outcome}
 use Rattle.base_causes.specs.Meaning.Causes.{verdict}
 use Rattle.base_output.specs.declared.Written.{Written}
 use Rattle.sheet_lines.specs.Meaning.Sheet.{Header, SheetInCase, line_count, sheet_outcome, sheet_written}
-use Rattle.sheet_lines.specs.Promised.PlainCauses.{Answers, AnswersTo, answers}
+use Rattle.sheet_lines.specs.Promised.PlainCauses.{Answers, AnswersTo}
+use Rattle.sheet_lines.proofs.Promised.PlainCauses.{answers}
 use Rattle.sheet_lines.specs.Promised.PlainBytes.{Branches, BranchesOf}
 use Rattle.sheet_lines.proofs.Promised.PlainBytes.{branches-written}
 use Rattle.sheet_branches.specs.Meaning.Answer.{SheetAnswered}

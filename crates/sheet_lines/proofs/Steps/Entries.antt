@@ -10,13 +10,15 @@ use Rattle.base_integers.specs.Steps.Machine.{sfits-by}
 use Rattle.base_integers.specs.Steps.Size.{near-pos, near-neg, near_fits}
 use Rattle.base_integers.specs.Meaning.Ranges.{range, minus, outside}
 use Rattle.base_limits.specs.Meaning.Limits as limits
-use Rattle.sheet_numbers.specs.Meaning.Numeral.{negative, units, sign, value}
+use Rattle.sheet_numbers.specs.declared.Number.{Number}
+use Rattle.sheet_numbers.specs.Meaning.Numeral.{is_digit, negative, units, sign, value}
+use Rattle.sheet_numbers.specs.Meaning.Scan.{Separator}
 use Rattle.sheet_numbers.proofs.Steps.Scan.{clash}
 use Rattle.sheet_numbers.specs.Steps.Capped.{cap, capped}
 use Rattle.sheet_numbers.proofs.Steps.Capped.{capped-over, capped-within}
 use Rattle.sheet_numbers.specs.Meaning.Pieces.{held_number}
 use Rattle.sheet_lines.specs.Meaning.Sheet.{decimal_count, limit, entry}
-use Rattle.sheet_lines.specs.Steps.Entries.{entry_of_number, turned}
+use Rattle.sheet_lines.specs.Steps.Entries.{turned, entry_of_number}
 
 -- the margin, and a PTDF
 pub ptdf-decimals : (j : ℕ) → (j ≡ 0 → ⊥) → decimal_count j ≡ 5
@@ -97,3 +99,12 @@ module _ (n : ℕ) (h : n ≤ cap) where
 pub entry-fits : (b : Bool) (n : ℕ) → n ≤ cap → SFits w32 (sign b n)
 entry-fits true n h = near_fits w32 (omega arith) (near-neg (near-pos n))
 entry-fits false n h = near_fits w32 (omega arith) (near-pos n)
+
+-- a comma is no byte of a number, and a newline is none
+pub comma : Separator 44
+unfolding is_digit
+comma = record { no_digit = refl; no_sign = refl; no-point = refl }
+
+pub newline : Separator 10
+unfolding is_digit
+newline = record { no_digit = refl; no_sign = refl; no-point = refl }

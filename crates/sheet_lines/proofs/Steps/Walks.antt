@@ -26,7 +26,8 @@ use Rattle.sheet_lines.specs.declared.LineAnswer.TheVariants as answer
 use Rattle.sheet_lines.specs.Meaning.Sheet.{decimal_count, limit, entry, field_of, entry_of, malformed, too_fine, out_of_range, line_count, branch_part, entry_bytes, line_bytes, sheet_bytes}
 use Rattle.sheet_lines.proofs.Steps.Entries.{held_entry, held-outside, held-exact}
 use Rattle.sheet_lines.specs.Meaning.Lines.{malformed_at, too_fine_at, out_of_range_at, SheetRead}
-use Rattle.sheet_lines.specs.Steps.Lines.{line_at, mark_of, comma_missing, FieldsFrom, FieldRead, field-no-number, field-unseparated, field-read, no_number, malformed-no, line_flaws, line_by, LineRead, row_of, first_with}
+use Rattle.sheet_lines.specs.Steps.Lines.{line_at, mark_of, comma_missing, no_number, line_flaws, line_by, LineRead, row_of, first_with}
+use Rattle.sheet_lines.proofs.Steps.Lines.{FieldsFrom, FieldRead, field-no-number, field-unseparated, field-read, malformed-no}
 use Rattle.sheet_lines.proofs.Steps.Lines.{fields-start, line_read, line-malformed, any-more, LinesFrom, lines_start, lines-done, line-in, line-here, line-next, first_more, first-none, next-entry, next-line}
 
 abbrev pub finer_field : List ℕ → ℕ → Bool
