@@ -1,4 +1,4 @@
--- Read and believe `Meaning`. All else is proved: what is `Promised` of it, and the steps.
+-- Read and believe `Meaning`. All else is proved: what is `Promised` of it, and the steps, in proofs/.
 pub mod Meaning
 pub mod Promised
 pub mod Steps

@@ -24,7 +24,7 @@ fn read_some(input: &mut impl Read, buffer: &mut [u8], kept: usize) -> io::Resul
 }
 
 // Keeps the start of the input, reads on to its end and returns how much it kept. The buffer has more bytes than any
-// legal hour, so the bytes dropped past it change no line (law `start-enough` in the specs of text_lines). A proved
+// legal hour, so the bytes dropped past it change no line (law `start-enough` of text_lines). A proved
 // loop must end, but an input need not: the turns have a number that no run uses up.
 fn read_all(input: &mut impl Read, buffer: &mut [u8]) -> io::Result<usize>
     ensures { IfOk result (λ kept. kept ≤ length buffer.new) }

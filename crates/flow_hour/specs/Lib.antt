@@ -1,3 +1,3 @@
--- Read and believe `Meaning`. `Promised` has the theorems about it; `Steps` are those of the proofs.
+-- Read and believe `Meaning`. `Promised`, in proofs/, has the theorems about it; `Steps` are those of the proofs.
 pub mod Meaning
 pub mod Steps

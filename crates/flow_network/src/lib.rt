@@ -1,2 +1,2 @@
-// Flows along ordered pairs of zones, and the theorems about them, in specs/. There is no code.
+// Flows along ordered pairs of zones, in specs/, and the theorems about them, in proofs/. There is no code.
 #![tactic(auto)]

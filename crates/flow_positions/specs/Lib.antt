@@ -1,2 +1,2 @@
--- Read and believe `Meaning`. `Promised` has the theorems about it.
+-- Read and believe `Meaning`. `Promised`, in proofs/, has the theorems about it.
 pub mod Meaning

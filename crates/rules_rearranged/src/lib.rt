@@ -1,3 +1,3 @@
-// The order of orders (request S-9): cases and proposals rearranged, and what stays the same, in specs/. There is
-// no code.
+// The order of orders (request S-9): cases and proposals rearranged, in specs/, and
+// what stays the same, in proofs/. There is no code.
 #![tactic(auto)]

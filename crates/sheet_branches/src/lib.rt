@@ -26,7 +26,7 @@ fn put_branches(branches: &[u8], out: &mut [u8])
 // The branch part of a case, from a sheet's text and the zone count; `host` exports it. The sheet is read once,
 // into a table. A refusal must leave the output unchanged, so the output is written only after every row of the
 // table of causes has passed.
-#[tactic(auto, using(crate::proofs::Rows::row_54, crate::proofs::Rows::row_55), unfolding(sheet_lines::specs::Meaning::Sheet::sheet_outcome, sheet_lines::specs::Meaning::Sheet::sheet_written, sheet_lines::specs::Meaning::Sheet::sheet_output))]
+#[tactic(auto, using(crate::proofs::Steps::Rows::row_54, crate::proofs::Steps::Rows::row_55), unfolding(sheet_lines::specs::Meaning::Sheet::sheet_outcome, sheet_lines::specs::Meaning::Sheet::sheet_written, sheet_lines::specs::Meaning::Sheet::sheet_output))]
 pub fn sheet_branches(sheet: &[u8], zones: usize, out: &mut [u8]) -> Written
     ensures { SheetAnswered zones sheet.now out.old out.new result }
 {

@@ -1,2 +1,2 @@
-// Numbers and fixed words as text, as definitions and laws in specs/. There is no code.
+// Numbers and fixed words as text, as definitions in specs/ and laws in proofs/. There is no code.
 #![tactic(auto)]

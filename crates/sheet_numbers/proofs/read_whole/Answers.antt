@@ -1,4 +1,5 @@
--- `sheet_numbers::read_whole` meets its contract: one digit more, another byte, and the end of the text. Assumes nothing.
+-- `sheet_numbers::read_whole` meets its contract: one digit more, another byte, and the end of the text. Assumes
+-- nothing.
 use Rattle.std.proofs.Common.{sym}
 use Rattle.sheet_numbers.proofs.Promised.Finer.{digit-parts}
 use Rattle.sheet_numbers.proofs.Steps.Scan.{lead-other, lead-end}

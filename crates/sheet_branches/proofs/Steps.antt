@@ -1,0 +1,2 @@
+-- THE STEPS of the proofs
+pub mod Rows
