@@ -163,7 +163,8 @@ def tried_cases(program: str, cases: Sequence[Sequence[Piece]]) -> list[Tried]:
             text=True,
             errors="replace",
         )
-    said, lines = "", {}
+    said = ""
+    lines: dict[int, tuple[str, str]] = {}
     for line in run.stderr.splitlines():
         case = re.match(r"case=case(\d+) (.*)", line)
         if case:
