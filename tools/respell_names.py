@@ -5,13 +5,16 @@ usage: tools/respell_names.py [--check]    at the top of the repository
 
 It turns whole words in specs/, proofs/, src/, the edits of must-fail/, and in comments. A dash in the name of a lemma
 or a field joins two words, as in the library's own names, and stays. A name whose new spelling meets another word of
-some file stays everywhere, and is listed. --check writes nothing.
+some file stays everywhere, and is listed. --check writes nothing. docs/PORT.md says when it ran.
 """
+
+from __future__ import annotations
 
 import collections
 import os
 import re
 import sys
+from collections.abc import Iterator
 
 WORD = re.compile(r"[^\s(){}.;,@\"«»\[\]]+")
 COMMENT = re.compile(r"(?<![^\s(){}.;,@\"«»])--[^\n]*|//[^\n]*")
@@ -19,7 +22,8 @@ SPAN = re.compile(r"`[^`\n]+`")
 USE = re.compile(r"(?m)^(?:pub )?use ([^\s{]+)(?:\{([^}]*)\})?(?: as (\S+))?$")
 CAMEL = re.compile(r"^[a-z][a-z0-9]*(?:_[a-z0-9]+)*[A-Z]")
 # A lemma or a field that lost its dash to the kit's script, and would now meet a definition: it gets its dash back.
-BACK = {n: n.replace("_", "-") for n in "by_length first_field from_in gap_at last_digits link_start not_finite share_in to_in".split()}
+DASHED = "by_length first_field from_in gap_at last_digits link_start not_finite share_in to_in"
+BACK = {name: name.replace("_", "-") for name in DASHED.split()}
 # The other word is a step of a path, or a function of src/, which no clause names.
 APART = set(
     "asksRow bookSurplus branchShortfall caseHeader exceedsParent fieldOf firstPriceOutside i32At isDigit leadsBack"
@@ -27,109 +31,119 @@ APART = set(
 )
 
 
-def snake(name):
+def snake(name: str) -> str:
     return re.sub(r"(?<=[a-z0-9])([A-Z])", lambda m: "_" + m[1].lower(), name).replace("-", "_")
 
 
-def antt_files(root):
-    for top, folders, files in os.walk(os.path.join(root, "crates")):
-        folders[:] = sorted(f for f in folders if f != "out")
-        for f in sorted(files):
-            if f.endswith((".antt", ".rt", ".edit")):
-                yield os.path.join(top, f)
+def files(root: str) -> Iterator[str]:
+    for top, folders, names in os.walk(os.path.join(root, "crates")):
+        folders[:] = sorted(folder for folder in folders if folder != "out")
+        for name in sorted(names):
+            if name.endswith((".antt", ".rt", ".edit")):
+                yield os.path.join(top, name)
 
 
-def is_proof(path):
+def is_proof(path: str) -> bool:
     return re.search(r"/proofs/.*(Proof|Answers|Invariants)\.antt$", path.replace(os.sep, "/")) is not None
 
 
-def turns(name):
+def turns(name: str) -> bool:
     return name.isascii() and re.match(r"^[a-z]\w*'*$", name) is not None and CAMEL.match(name) is not None
 
 
-def code_of(path, text):
+def code_of(text: str) -> str:
     return COMMENT.sub(" ", text)
 
 
-def main():
-    check = "--check" in sys.argv
-    root = "."
-    texts = {p: open(p, encoding="utf-8").read() for p in antt_files(root)}
-    before = dict(texts)
-    for p, t in texts.items():
-        if p.endswith(".antt"):
-            imported = {n for path, items, _ in USE.findall(t) if path.startswith("Rattle.") for n in WORD.findall(items)}
-            texts[p] = WORD.sub(
-                lambda m: BACK[m[0]]
-                if m[0] in BACK and (not is_proof(p) or m[0] in imported or t[: m.start()].endswith("placed."))
-                else m[0],
-                t,
-            )
-    table = {}
-    for p, t in texts.items():
-        if "/specs/" in p and p.endswith(".antt"):
-            code = code_of(p, t)
-            # the library has no word in camel case
-            for n in WORD.findall(code):
-                if turns(n):
-                    table[n] = snake(n)
+def with_dashes(path: str, text: str) -> str:
+    """The text with the dashes that BACK gives."""
+    imported = {name for start, items, _ in USE.findall(text) if start.startswith("Rattle.") for name in WORD.findall(items)}
 
-    def may(p, text):
-        """The words of this file that turn."""
-        return {w for w in WORD.findall(code_of(p, text)) if w in table}
+    def one(match: re.Match[str]) -> str:
+        word = match[0]
+        own = not is_proof(path) or word in imported or text[: match.start()].endswith("placed.")
+        return BACK[word] if word in BACK and own else word
 
-    staying = {}
-    for p, t in texts.items():
-        if p.endswith(".edit"):
+    return WORD.sub(one, text)
+
+
+def names_of(texts: dict[str, str]) -> dict[str, str]:
+    """The names that turn: the library has no word in camel case, so each such word of specs/ is the repository's."""
+    words = {
+        word for path, text in texts.items() if "/specs/" in path and path.endswith(".antt") for word in WORD.findall(code_of(text))
+    }
+    return {word: snake(word) for word in words if turns(word)}
+
+
+def meetings(texts: dict[str, str], table: dict[str, str]) -> dict[str, tuple[str, str]]:
+    """The names that would meet another word, each with a file where it does and its new spelling."""
+    found: dict[str, tuple[str, str]] = {}
+    for path, text in texts.items():
+        if path.endswith(".edit"):
             continue
-        code = code_of(p, t)
+        code = code_of(text)
         words = set(WORD.findall(code))
-        if p.endswith(".rt"):
+        own = words & set(table)
+        if path.endswith(".rt"):
             # the name of a function of src/ is no word of a clause
             words = set(re.findall(r"\w+(?![\w(])", re.sub(r"\bfn \w+|\w+::|::\w+", " ", code)))
-        own = may(p, t)
-        news = collections.Counter(table[w] for w in own)
-        for w in own:
-            if w not in APART and (table[w] in words - own or news[table[w]] > 1):
-                staying.setdefault(w, (p, table[w]))
-    for w, (p, new) in sorted(staying.items()):
-        print(f"stays: {w}: {p} has {new} already")
-        del table[w]
-    count = 0
+        new = collections.Counter(table[word] for word in own)
+        for word in own - APART:
+            if table[word] in words - own or new[table[word]] > 1:
+                found.setdefault(word, (path, table[word]))
+    return found
 
-    def word_turner(own):
-        return lambda s: WORD.sub(lambda m: table[m[0]] if m[0] in own and m[0] in table else m[0], s)
 
-    for p, t in texts.items():
-        if p.endswith(".edit"):
-            out = []
-            for line in t.split("\n"):
-                if line.startswith(("old: ", "new: ")):
-                    line = line[:5] + WORD.sub(lambda m: table.get(m[0], m[0]), line[5:])
-                elif line.startswith("refused: "):
-                    line = WORD.sub(lambda m: table.get(m[0], m[0]), line)
-                elif line.startswith("#"):
-                    line = SPAN.sub(lambda s: WORD.sub(lambda m: table.get(m[0].strip("`"), m[0]), s[0]), line)
-                out.append(line)
-            new = "\n".join(out)
-        else:
-            own = may(p, t)
-            turn = word_turner(own)
+class Speller:
+    def __init__(self, table: dict[str, str]) -> None:
+        self.table = table
 
-            def comment(c):
-                return SPAN.sub(lambda s: "`" + WORD.sub(lambda m: table.get(m[0], m[0]), s[0][1:-1]) + "`", WORD.sub(lambda m: table[m[0]] if CAMEL.match(m[0]) and m[0] in table else m[0], c))
+    def words(self, text: str) -> str:
+        return WORD.sub(lambda m: self.table.get(m[0], m[0]), text)
 
-            parts, at = [], 0
-            for m in COMMENT.finditer(t):
-                parts += [turn(t[at : m.start()]), comment(m[0])]
-                at = m.end()
-            parts.append(turn(t[at:]))
-            new = "".join(parts)
-        if new != before[p]:
+    def spans(self, text: str) -> str:
+        return SPAN.sub(lambda m: "`" + self.words(m[0][1:-1]) + "`", text)
+
+    def comment(self, text: str) -> str:
+        return self.spans(WORD.sub(lambda m: self.table[m[0]] if CAMEL.match(m[0]) and m[0] in self.table else m[0], text))
+
+    def source(self, text: str) -> str:
+        parts, at = [], 0
+        for match in COMMENT.finditer(text):
+            parts += [self.words(text[at : match.start()]), self.comment(match[0])]
+            at = match.end()
+        return "".join([*parts, self.words(text[at:])])
+
+    def edit(self, text: str) -> str:
+        lines = []
+        for line in text.split("\n"):
+            if line.startswith(("old: ", "new: ", "refused: ")):
+                line = self.words(line)
+            elif line.startswith("#"):
+                line = self.spans(line)
+            lines.append(line)
+        return "\n".join(lines)
+
+
+def main() -> None:
+    before = {}
+    for path in files("."):
+        with open(path, encoding="utf-8") as file:
+            before[path] = file.read()
+    texts = {path: with_dashes(path, text) if path.endswith(".antt") else text for path, text in before.items()}
+    table = names_of(texts)
+    staying = meetings(texts, table)
+    for word, (path, new) in sorted(staying.items()):
+        print(f"stays: {word}: {path} has {new} already")
+        del table[word]
+    speller, count = Speller(table), 0
+    for path, text in texts.items():
+        spelled = speller.edit(text) if path.endswith(".edit") else speller.source(text)
+        if spelled != before[path]:
             count += 1
-            if not check:
-                with open(p, "w", encoding="utf-8") as f:
-                    f.write(new)
+            if "--check" not in sys.argv:
+                with open(path, "w", encoding="utf-8") as file:
+                    file.write(spelled)
     print(f"{len(table)} names, {count} files, {len(staying)} names stay")
 
 
