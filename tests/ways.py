@@ -119,7 +119,7 @@ def built_by(backend: str, program: str) -> tuple[pathlib.Path | None, str]:
     left.unlink(missing_ok=True)
     # rt builds a program by running it: here on an empty input, so its own status says nothing.
     run = subprocess.run(
-        ["rt", "run", "--backend", backend],
+        ["rt", "run", "--backend", backend, *built.EVERYWHERE],
         cwd=CRATES / program,
         stdin=subprocess.DEVNULL,
         stdout=subprocess.DEVNULL,

@@ -54,6 +54,8 @@ class Proved:
 
 
 CRATES = ROOT / "crates"
+# For every x86-64 processor: by itself rt compiles for x86-64-v2, which has instructions that older ones lack.
+EVERYWHERE = ["--cpu", "x86-64"]
 LIBRARY = Proved("the library", TARGET / "staticlib" / "libhost.a", "host", "lib", CRATES / "host/out/libhost.a")
 # rt builds a program by running it: here on an empty input.
 DESK = Proved("the program", TARGET / "bin" / "desk", "desk", "run", CRATES / "desk/out/desk")
@@ -329,7 +331,7 @@ def prove(products: Sequence[Proved], say: Say, lock: IO[str]) -> None:
         # All below it and the crate itself, several at a time; then the product, over what that kept.
         run_rt(["all", "check", "--jobs", str(at_a_time())], product.crate, what, progress, lock)
         product.left.unlink(missing_ok=True)
-        run_rt([product.command], product.crate, what, progress, lock)
+        run_rt([product.command, *EVERYWHERE], product.crate, what, progress, lock)
         put(product, what)
         functions = {crate: functions_of(crate) for crate in reached_from(product.crate)}
         write_record(product.path, sources_hash(), kit=kit(), functions=functions)
