@@ -17,8 +17,9 @@ MODIFIERS = {"pub", "abbrev", "unfoldable", "axiom", "data", "record", "ruleset"
 # What is seen through wherever it is cited.
 OPEN = {"abbrev", "data", "record", "ruleset"}
 WORD = re.compile(r"[^\s(){}\[\],;]+")
-# What a function's own folder in proofs/ has; the other files there have theorems.
+# What a function's own folder in proofs/ has; the other files there have theorems, and so have these rooms of it.
 PROOF = ("Invariants.antt", "Answers.antt", "Proof.antt")
+ROOMS = {"Promised", "Steps", "Worked"}
 
 
 class Declaration:
@@ -42,6 +43,12 @@ class Declaration:
             self.unfolds.update(name.rpartition(".")[2] for name in unfolded.split())
         for unfolded in re.findall(r"\bunfolding\(([^)]*)\)", line):
             self.unfolds.update(name.strip().rpartition(":")[2] for name in unfolded.split(","))
+
+
+def is_of_a_function(file: str) -> bool:
+    """Whether a file of a crate is the proof of a function, and not one of theorems."""
+    part, *inside = file.split("/")
+    return part == "proofs" and inside[-1] in PROOF and inside[0] not in ROOMS
 
 
 def words_of(line: str) -> tuple[set[str], list[str]]:
@@ -116,9 +123,9 @@ class Specs:
         self.uses: dict[str, list[tuple[str, str]]] = {}
         self.by_name: dict[str, list[Declaration]] = {}
         for path in sorted([*folder.glob("specs/**/*.antt"), *folder.glob("proofs/**/*.antt")]):
-            if path.name in PROOF:
-                continue
             file, text = path.relative_to(folder).as_posix(), path.read_text()
+            if is_of_a_function(file):
+                continue
             self.files[file] = declarations_of(file, text)
             for one in self.files[file]:
                 self.by_name.setdefault(one.name, []).append(one)
