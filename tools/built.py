@@ -193,10 +193,12 @@ def functions_of(crate: str) -> int:
 
 class Progress:
     """How far rt is with some crates: on a terminal one line that is rewritten, else a line for each crate. rt prints a
-    section for each crate as soon as it is done with it; where there was nothing to prove, the section is empty."""
+    section for each crate as soon as it is done with it; where there was nothing to prove, the section is empty, or says
+    what it began with."""
 
     SECTION = re.compile(r"^== (\w+)\n", re.MULTILINE)
     PROVED = re.compile(r"^logic=proved .*\n\Z", re.MULTILINE)
+    KEPT = re.compile(r"(?:rt: \w+: begins with .*\n)*\Z")
 
     def __init__(self, crates: Iterable[str], say: Say) -> None:
         self.crates, self.say = frozenset(crates), say
@@ -210,7 +212,7 @@ class Progress:
         for at in range(0, len(sections), 2):
             name, said = sections[at : at + 2]
             # The last section may not be whole yet.
-            if self.PROVED.search(said) or not said and at + 2 < len(sections):
+            if self.PROVED.search(said) or self.KEPT.match(said) and at + 2 < len(sections):
                 yield name
 
     def show(self) -> None:
