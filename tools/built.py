@@ -193,8 +193,8 @@ def functions_of(crate: str) -> int:
 
 class Progress:
     """How far rt is with some crates: on a terminal one line that is rewritten, else a line for each crate. rt prints a
-    section for each crate as soon as it is done with it; where there was nothing to prove, the section is empty, or says
-    what it began with."""
+    section for each crate as soon as it is done with it; where there was nothing to prove, the section is empty, or
+    says what it began with."""
 
     SECTION = re.compile(r"^== (\w+)\n", re.MULTILINE)
     PROVED = re.compile(r"^logic=proved .*\n\Z", re.MULTILINE)
