@@ -73,6 +73,7 @@ fn added(w: Waiting, c: u8) -> Waiting
 }
 
 // Whether a cell counts after some others: it holds an hour, and none of them holds the same.
+#[tactic(auto, unfolding(crate::specs::Steps::Cells::counts_behind))]
 fn counts(cells: [u8; 25], c: u8) -> bool
     ensures { result ≡ counts_behind cells c }
 {
