@@ -139,8 +139,9 @@ def run_built(program: pathlib.Path, pieces: Sequence[Piece]) -> tuple[int | str
     """The status of a program that was built, run on pieces in a folder of its own, and what it printed."""
     with tempfile.TemporaryDirectory() as folder:
         given = joined(pieces)["stdin"]
+        nothing: dict[str, str] = {}
         try:
-            run = subprocess.run([program], cwd=folder, env={}, input=given, stdout=subprocess.PIPE, timeout=SECONDS)
+            run = subprocess.run([program], cwd=folder, env=nothing, input=given, stdout=subprocess.PIPE, timeout=SECONDS)
         except subprocess.TimeoutExpired as late:
             return f"none after {SECONDS} seconds", late.stdout or b""
     return run.returncode, run.stdout
