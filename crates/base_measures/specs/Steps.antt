@@ -1,2 +1,4 @@
 -- WHAT A CONSTRUCTOR ANSWERS, by the limits
 pub mod Held
+-- THE ORDER that a measure derives
+pub mod Derived

@@ -3,7 +3,7 @@
 // Nothing turns `Bits` into a `Raw` or a measure.
 #![tactic(auto)]
 
-ghost use Rattle.std.specs.Prelude.{◌≡◌, ◌+◌, ◌/◌, ◌<◌, ◌^◌, ℤ, pos, ◌+ℤ◌, ◌-ℤ◌, ◌*ℤ◌};
+ghost use Rattle.std.specs.Prelude.{◌≡◌, refl, ◌+◌, ◌/◌, ◌<◌, ◌^◌, ℤ, pos, ◌+ℤ◌, ◌-ℤ◌, ◌*ℤ◌};
 ghost use Rattle.std.specs.Int.Signed.{lt_z};
 ghost use Rattle.std.specs.Int.{w64};
 ghost use Rattle.std.proofs.Common.{SFits, of_z};
@@ -12,7 +12,7 @@ ghost use Rattle.base_integers.specs.Meaning.Ranges as ranges;
 ghost use Rattle.base_integers.specs.Meaning.Order as order;
 ghost use Rattle.base_limits.specs.Meaning.Limits as limits;
 ghost use Rattle.base_limits.specs.Meaning.Exact.{exactly, Costs};
-ghost use Rattle.base_measures.specs.Meaning.Held.{tenths_in, cents_in, grains_in, microcents_in, ptdf_in, share_in};
+ghost use Rattle.base_measures.specs.Meaning.Held.{held_by, tenths_in, cents_in, grains_in, microcents_in, ptdf_in, share_in};
 
 use base_integers::Bits;
 
@@ -22,20 +22,20 @@ pub struct Raw(i64);
 
 // Volume: tenths of a megawatt, which for one hour are tenths of a MWh. The host gets it in this form.
 #[repr(C)]
-#[derive(Clone, Copy)]
+#[derive(Clone, Copy, PartialEq, Eq, PartialOrd, Ord)]
 pub struct Tenths(i64);
 
 // Order price, system price, shadow price: cents per MWh.
-#[derive(Clone, Copy)]
+#[derive(Clone, Copy, PartialEq, Eq, PartialOrd, Ord)]
 pub struct Cents(i64);
 
 // Zone price: 100,000 grains are one cent per MWh.
-#[derive(Clone, Copy)]
+#[derive(Clone, Copy, PartialEq, Eq, PartialOrd, Ord)]
 pub struct Grains(i64);
 
 // Money: one tenth times one grain is one microcent. The host gets it in this form.
 #[repr(C)]
-#[derive(Clone, Copy)]
+#[derive(Clone, Copy, PartialEq, Eq, PartialOrd, Ord)]
 pub struct Microcents(i64);
 
 // Hundred-thousandths in one, and grains in one cent per MWh.
@@ -45,15 +45,15 @@ const PARTS_IN_ONE: i64 = 100000;
 const WHOLE_TENTH: u64 = 100000;
 
 // A PTDF, in hundred-thousandths.
-#[derive(Clone, Copy)]
+#[derive(Clone, Copy, PartialEq, Eq, PartialOrd, Ord)]
 pub struct Ptdf(i64);
 
 // The LTA share, in hundred-thousandths: 100,000 means 1.
-#[derive(Clone, Copy)]
+#[derive(Clone, Copy, PartialEq, Eq, PartialOrd, Ord)]
 pub struct Share(i64);
 
 // A volume times hundred-thousandths: what rules 4 and 5 compare.
-#[derive(Clone, Copy)]
+#[derive(Clone, Copy, PartialEq, Eq, PartialOrd, Ord)]
 pub struct Load(i64);
 
 // Money to hundred-thousandths of a microcent, never below zero (S-14). One number would exceed 64 bits, so there
@@ -64,89 +64,238 @@ pub struct ExactMicrocents {
     parts: u64,
 }
 
-#[derive(Clone, Copy)]
-pub enum TenthsAnswer {
-    Held(Tenths),
-    Outside,
-}
+// A MEASURE is a number with a name and limits of its own. This module is private, so that no other crate makes a
+// measure of a number or takes the number out.
+mod sealed {
+    pub trait Number: Copy {
+        ghost number: { Self → ℤ };
 
-#[derive(Clone, Copy)]
-pub enum CentsAnswer {
-    Held(Cents),
-    Outside,
-}
+        ghost of_number: { ℤ → Self };
 
-#[derive(Clone, Copy)]
-pub enum GrainsAnswer {
-    Held(Grains),
-    Outside,
-}
+        fn of_number(x: i64) -> Self
+            ensures { result ≡ of_number x };
 
-#[derive(Clone, Copy)]
-pub enum MicrocentsAnswer {
-    Held(Microcents),
-    Outside,
-}
+        fn number(self) -> i64
+            ensures { result ≡ number self };
 
-#[derive(Clone, Copy)]
-pub enum PtdfAnswer {
-    Held(Ptdf),
-    Outside,
-}
-
-#[derive(Clone, Copy)]
-pub enum ShareAnswer {
-    Held(Share),
-    Outside,
-}
-
-fn below(a: Raw, b: Raw) -> bool
-    ensures { result ≡ lt_z a.0 b.0 }
-{
-    a.0 < b.0
-}
-
-// The one test of every constructor.
-fn outside(least: Raw, greatest: Raw, x: Raw) -> bool
-    ensures { result ≡ ranges.outside (range least.0 greatest.0) x.0 }
-{
-    if below(x, least) {
-        return true;
+        ghost number_of: { (x : ℤ) → number (of_number x) ≡ x };
     }
-    below(greatest, x)
 }
 
-impl Raw {
-    // The number of an unsigned field.
-    pub fn unsigned(x: u32) -> Raw
-        ensures { result.0 ≡ pos x }
+use sealed::Number;
+
+// Sums of one measure, and its number on the way out.
+pub trait Measure: Number {
+    fn plus(self, other: Self) -> Self
+        requires { SFits w64 (Self.number self +ℤ Self.number other) }
+        ensures { Self.number result ≡ Self.number self +ℤ Self.number other }
     {
-        Raw(x as i64)
+        Self::of_number(self.number() + other.number())
     }
 
-    // The number of a signed field.
-    pub fn signed(x: i32) -> Raw
-        ensures { result.0 ≡ x }
+    fn minus(self, other: Self) -> Self
+        requires { SFits w64 (Self.number self -ℤ Self.number other) }
+        ensures { Self.number result ≡ Self.number self -ℤ Self.number other }
     {
-        Raw(x as i64)
-    }
-
-    // A number that the host lends.
-    pub fn lent(x: i64) -> Raw
-        ensures { result.0 ≡ x }
-    {
-        Raw(x)
+        Self::of_number(self.number() - other.number())
     }
 
     // Two's complement.
+    fn bits(self) -> Bits
+        ensures { result.0 ≡ of_z w64 (Self.number self) }
+    {
+        Bits(self.number().cast_unsigned())
+    }
+}
+
+// What the trait asks of each measure. A macro that wrote them would be refused (`rt ci`).
+impl Number for Raw {
+    ghost number = { λ x. x.0 };
+
+    ghost of_number = { λ x. record { 0 = x } };
+
+    ghost number_of = { λ x. refl };
+
+    fn of_number(x: i64) -> Raw {
+        Raw(x)
+    }
+
+    fn number(self) -> i64 {
+        self.0
+    }
+}
+
+impl Number for Tenths {
+    ghost number = { λ x. x.0 };
+
+    ghost of_number = { λ x. record { 0 = x } };
+
+    ghost number_of = { λ x. refl };
+
+    fn of_number(x: i64) -> Tenths {
+        Tenths(x)
+    }
+
+    fn number(self) -> i64 {
+        self.0
+    }
+}
+
+impl Number for Cents {
+    ghost number = { λ x. x.0 };
+
+    ghost of_number = { λ x. record { 0 = x } };
+
+    ghost number_of = { λ x. refl };
+
+    fn of_number(x: i64) -> Cents {
+        Cents(x)
+    }
+
+    fn number(self) -> i64 {
+        self.0
+    }
+}
+
+impl Number for Grains {
+    ghost number = { λ x. x.0 };
+
+    ghost of_number = { λ x. record { 0 = x } };
+
+    ghost number_of = { λ x. refl };
+
+    fn of_number(x: i64) -> Grains {
+        Grains(x)
+    }
+
+    fn number(self) -> i64 {
+        self.0
+    }
+}
+
+impl Number for Microcents {
+    ghost number = { λ x. x.0 };
+
+    ghost of_number = { λ x. record { 0 = x } };
+
+    ghost number_of = { λ x. refl };
+
+    fn of_number(x: i64) -> Microcents {
+        Microcents(x)
+    }
+
+    fn number(self) -> i64 {
+        self.0
+    }
+}
+
+impl Number for Ptdf {
+    ghost number = { λ x. x.0 };
+
+    ghost of_number = { λ x. record { 0 = x } };
+
+    ghost number_of = { λ x. refl };
+
+    fn of_number(x: i64) -> Ptdf {
+        Ptdf(x)
+    }
+
+    fn number(self) -> i64 {
+        self.0
+    }
+}
+
+impl Number for Share {
+    ghost number = { λ x. x.0 };
+
+    ghost of_number = { λ x. record { 0 = x } };
+
+    ghost number_of = { λ x. refl };
+
+    fn of_number(x: i64) -> Share {
+        Share(x)
+    }
+
+    fn number(self) -> i64 {
+        self.0
+    }
+}
+
+impl Number for Load {
+    ghost number = { λ x. x.0 };
+
+    ghost of_number = { λ x. record { 0 = x } };
+
+    ghost number_of = { λ x. refl };
+
+    fn of_number(x: i64) -> Load {
+        Load(x)
+    }
+
+    fn number(self) -> i64 {
+        self.0
+    }
+}
+
+impl Measure for Tenths {}
+
+impl Measure for Grains {}
+
+impl Measure for Microcents {}
+
+impl Measure for Load {}
+
+// The one test of every constructor.
+#[tactic(auto, unfolding(base_integers::specs::Meaning::Ranges::outside))]
+fn outside(least: i64, greatest: i64, x: i64) -> bool
+    ensures { result ≡ ranges.outside (range least greatest) x }
+{
+    x < least || greatest < x
+}
+
+// A number as a measure, within limits of its own.
+fn held<M: Number>(least: M, greatest: M, x: Raw) -> Option<M>
+    ensures { result ≡ held_by (M.of_number x.0) (ranges.outside (range (M.number least) (M.number greatest)) x.0) }
+{
+    if outside(least.number(), greatest.number(), x.0) {
+        return None;
+    }
+    Some(M::of_number(x.0))
+}
+
+impl Raw {
+    // Two's complement. `Measure` has it for the others; a `Raw` has no sums.
     pub fn bits(self) -> Bits
         ensures { result.0 ≡ of_z w64 self.0 }
     {
-        if self.0 < 0 {
-            Bits(18446744073709551615 - ((-(self.0 + 1)) as u64))
-        } else {
-            Bits(self.0 as u64)
-        }
+        Bits(self.0.cast_unsigned())
+    }
+}
+
+// The number of an unsigned field.
+impl From<u32> for Raw {
+    ghost from_gives = { λ x r. r.0 ≡ pos x };
+
+    fn from(x: u32) -> Raw {
+        Raw(i64::from(x))
+    }
+}
+
+// The number of a signed field.
+impl From<i32> for Raw {
+    ghost from_gives = { λ x r. r.0 ≡ x };
+
+    fn from(x: i32) -> Raw {
+        Raw(i64::from(x))
+    }
+}
+
+// A number that the host lends.
+impl From<i64> for Raw {
+    ghost from_gives = { λ x r. r.0 ≡ x };
+
+    fn from(x: i64) -> Raw {
+        Raw(x)
     }
 }
 
@@ -169,65 +318,45 @@ impl Tenths {
 
     pub const NET_POSITION_GREATEST: Tenths = Tenths(51200000);
 
-    fn of(x: Raw) -> Tenths
-        ensures { result ≡ record { 0 = x.0 } }
-    {
-        Tenths(x.0)
-    }
-
-    fn raw(self) -> Raw
-        ensures { result.0 ≡ self.0 }
-    {
-        Raw(self.0)
-    }
-
-    fn held(least: Tenths, greatest: Tenths, x: Raw) -> TenthsAnswer
-        ensures { result ≡ tenths_in (range least.0 greatest.0) x.0 }
-    {
-        if outside(least.raw(), greatest.raw(), x) {
-            return TenthsAnswer::Outside;
-        }
-        TenthsAnswer::Held(Self::of(x))
-    }
-
-    pub fn margin(x: Raw) -> TenthsAnswer
+    // A constructor for each limit, as document 01 asks: each refuses outside its least and greatest.
+    pub fn margin(x: Raw) -> Option<Tenths>
         ensures { result ≡ tenths_in limits.margin x.0 }
     {
-        Self::held(Self::MARGIN_LEAST, Self::MARGIN_GREATEST, x)
+        held(Self::MARGIN_LEAST, Self::MARGIN_GREATEST, x)
     }
 
-    pub fn quantity(x: Raw) -> TenthsAnswer
+    pub fn quantity(x: Raw) -> Option<Tenths>
         ensures { result ≡ tenths_in limits.quantity x.0 }
     {
-        Self::held(Self::QUANTITY_LEAST, Self::QUANTITY_GREATEST, x)
+        held(Self::QUANTITY_LEAST, Self::QUANTITY_GREATEST, x)
     }
 
-    pub fn capacity(x: Raw) -> TenthsAnswer
+    pub fn capacity(x: Raw) -> Option<Tenths>
         ensures { result ≡ tenths_in limits.capacity x.0 }
     {
-        Self::held(Self::CAPACITY_LEAST, Self::CAPACITY_GREATEST, x)
+        held(Self::CAPACITY_LEAST, Self::CAPACITY_GREATEST, x)
     }
 
-    // The caller has tested the number by its limits.
+    // The caller has tested the number by its limits. Each asks for another limit, so they are not one function.
     pub fn of_margin(x: Raw) -> Tenths
         requires { Within limits.margin x.0 }
         ensures { result ≡ record { 0 = x.0 } }
     {
-        Self::of(x)
+        Self::of_number(x.0)
     }
 
     pub fn of_quantity(x: Raw) -> Tenths
         requires { Within limits.quantity x.0 }
         ensures { result ≡ record { 0 = x.0 } }
     {
-        Self::of(x)
+        Self::of_number(x.0)
     }
 
     pub fn of_capacity(x: Raw) -> Tenths
         requires { Within limits.capacity x.0 }
         ensures { result ≡ record { 0 = x.0 } }
     {
-        Self::of(x)
+        Self::of_number(x.0)
     }
 
     // A volume that document 01 limits only by its 32 bits: an accepted volume, a flow, a contracted volume. Its
@@ -235,40 +364,21 @@ impl Tenths {
     pub fn volume(x: u32) -> Tenths
         ensures { result.0 ≡ pos x }
     {
-        Self::of(Raw::unsigned(x))
+        Self::of_number(i64::from(x))
     }
 
     // A net position that the host lends (S-3).
-    pub fn lent_position(x: Raw) -> TenthsAnswer
+    pub fn lent_position(x: Raw) -> Option<Tenths>
         ensures { result ≡ tenths_in limits.net_position x.0 }
     {
-        Self::held(Self::NET_POSITION_LEAST, Self::NET_POSITION_GREATEST, x)
+        held(Self::NET_POSITION_LEAST, Self::NET_POSITION_GREATEST, x)
     }
 
-    pub fn plus(self, other: Tenths) -> Tenths
-        requires { SFits w64 (self.0 +ℤ other.0) }
-        ensures { result.0 ≡ self.0 +ℤ other.0 }
-    {
-        Tenths(self.0 + other.0)
-    }
-
-    pub fn minus(self, other: Tenths) -> Tenths
-        requires { SFits w64 (self.0 -ℤ other.0) }
-        ensures { result.0 ≡ self.0 -ℤ other.0 }
-    {
-        Tenths(self.0 - other.0)
-    }
-
+    #[tactic(auto, unfolding(base_integers::specs::Meaning::Ranges::is_zero, base_integers::specs::Meaning::Ranges::outside))]
     pub fn is_zero(self) -> bool
         ensures { result ≡ ranges.is_zero self.0 }
     {
-        !outside(Self::ZERO.raw(), Self::ZERO.raw(), self.raw())
-    }
-
-    pub fn exceeds(self, other: Tenths) -> bool
-        ensures { result ≡ lt_z other.0 self.0 }
-    {
-        other.0 < self.0
+        self == Self::ZERO
     }
 
     // Whether this is a larger fraction of its whole than another volume is of its own. Wholes are positive.
@@ -278,12 +388,6 @@ impl Tenths {
         ensures { result ≡ lt_z (other.0 *ℤ whole.0) (self.0 *ℤ other_whole.0) }
     {
         other.0 * whole.0 < self.0 * other_whole.0
-    }
-
-    pub fn bits(self) -> Bits
-        ensures { result.0 ≡ of_z w64 self.0 }
-    {
-        self.raw().bits()
     }
 
     // A volume in hundred-thousandths of a tenth, to compare with a share of another.
@@ -316,43 +420,22 @@ impl Cents {
 
     pub const SYSTEM_PRICE_GREATEST: Cents = Cents(2147483647);
 
-    fn of(x: Raw) -> Cents
-        ensures { result ≡ record { 0 = x.0 } }
-    {
-        Cents(x.0)
-    }
-
-    fn raw(self) -> Raw
-        ensures { result.0 ≡ self.0 }
-    {
-        Raw(self.0)
-    }
-
-    fn held(least: Cents, greatest: Cents, x: Raw) -> CentsAnswer
-        ensures { result ≡ cents_in (range least.0 greatest.0) x.0 }
-    {
-        if outside(least.raw(), greatest.raw(), x) {
-            return CentsAnswer::Outside;
-        }
-        CentsAnswer::Held(Self::of(x))
-    }
-
-    pub fn order_price(x: Raw) -> CentsAnswer
+    pub fn order_price(x: Raw) -> Option<Cents>
         ensures { result ≡ cents_in limits.order_price x.0 }
     {
-        Self::held(Self::ORDER_PRICE_LEAST, Self::ORDER_PRICE_GREATEST, x)
+        held(Self::ORDER_PRICE_LEAST, Self::ORDER_PRICE_GREATEST, x)
     }
 
-    pub fn shadow_price(x: Raw) -> CentsAnswer
+    pub fn shadow_price(x: Raw) -> Option<Cents>
         ensures { result ≡ cents_in limits.shadow_price x.0 }
     {
-        Self::held(Self::SHADOW_PRICE_LEAST, Self::SHADOW_PRICE_GREATEST, x)
+        held(Self::SHADOW_PRICE_LEAST, Self::SHADOW_PRICE_GREATEST, x)
     }
 
-    pub fn system_price(x: Raw) -> CentsAnswer
+    pub fn system_price(x: Raw) -> Option<Cents>
         ensures { result ≡ cents_in limits.system_price x.0 }
     {
-        Self::held(Self::SYSTEM_PRICE_LEAST, Self::SYSTEM_PRICE_GREATEST, x)
+        held(Self::SYSTEM_PRICE_LEAST, Self::SYSTEM_PRICE_GREATEST, x)
     }
 
     // The caller has tested the number by its limits.
@@ -360,14 +443,14 @@ impl Cents {
         requires { Within limits.order_price x.0 }
         ensures { result ≡ record { 0 = x.0 } }
     {
-        Self::of(x)
+        Self::of_number(x.0)
     }
 
     pub fn of_shadow_price(x: Raw) -> Cents
         requires { Within limits.shadow_price x.0 }
         ensures { result ≡ record { 0 = x.0 } }
     {
-        Self::of(x)
+        Self::of_number(x.0)
     }
 
     // A price per MWh in grains.
@@ -386,63 +469,22 @@ impl Grains {
 
     pub const ZONE_PRICE_GREATEST: Grains = Grains(40000000000);
 
-    fn of(x: Raw) -> Grains
-        ensures { result ≡ record { 0 = x.0 } }
-    {
-        Grains(x.0)
-    }
-
-    fn raw(self) -> Raw
-        ensures { result.0 ≡ self.0 }
-    {
-        Raw(self.0)
-    }
-
     // A computed price as a zone price.
-    pub fn zone_price(self) -> GrainsAnswer
+    pub fn zone_price(self) -> Option<Grains>
         ensures { result ≡ grains_in limits.zone_price self.0 }
     {
-        if outside(
-            Self::ZONE_PRICE_LEAST.raw(),
-            Self::ZONE_PRICE_GREATEST.raw(),
-            self.raw(),
-        ) {
-            return GrainsAnswer::Outside;
-        }
-        GrainsAnswer::Held(self)
+        held(
+            Self::ZONE_PRICE_LEAST,
+            Self::ZONE_PRICE_GREATEST,
+            Raw(self.0),
+        )
     }
 
     // A zone price that the host lends.
-    pub fn lent_price(x: Raw) -> GrainsAnswer
+    pub fn lent_price(x: Raw) -> Option<Grains>
         ensures { result ≡ grains_in limits.zone_price x.0 }
     {
-        Self::of(x).zone_price()
-    }
-
-    pub fn plus(self, other: Grains) -> Grains
-        requires { SFits w64 (self.0 +ℤ other.0) }
-        ensures { result.0 ≡ self.0 +ℤ other.0 }
-    {
-        Grains(self.0 + other.0)
-    }
-
-    pub fn minus(self, other: Grains) -> Grains
-        requires { SFits w64 (self.0 -ℤ other.0) }
-        ensures { result.0 ≡ self.0 -ℤ other.0 }
-    {
-        Grains(self.0 - other.0)
-    }
-
-    pub fn exceeds(self, other: Grains) -> bool
-        ensures { result ≡ lt_z other.0 self.0 }
-    {
-        other.0 < self.0
-    }
-
-    pub fn bits(self) -> Bits
-        ensures { result.0 ≡ of_z w64 self.0 }
-    {
-        self.raw().bits()
+        held(Self::ZONE_PRICE_LEAST, Self::ZONE_PRICE_GREATEST, x)
     }
 }
 
@@ -457,21 +499,6 @@ impl Microcents {
 
     pub const ACCEPTED_TOLERANCE_GREATEST: Microcents = Microcents(10000000000);
 
-    fn raw(self) -> Raw
-        ensures { result.0 ≡ self.0 }
-    {
-        Raw(self.0)
-    }
-
-    fn held(self, least: Microcents, greatest: Microcents) -> MicrocentsAnswer
-        ensures { result ≡ microcents_in (range least.0 greatest.0) self.0 }
-    {
-        if outside(least.raw(), greatest.raw(), self.raw()) {
-            return MicrocentsAnswer::Outside;
-        }
-        MicrocentsAnswer::Held(self)
-    }
-
     // A number of cents as money.
     fn of_cents(cents: Raw) -> Microcents
         requires { SFits w64 (limits.microcents_of cents.0) }
@@ -481,63 +508,33 @@ impl Microcents {
     }
 
     // The tolerance, which a case has in cents.
-    pub fn tolerance(cents: Raw) -> MicrocentsAnswer
+    pub fn tolerance(cents: Raw) -> Option<Microcents>
         requires { SFits w64 (limits.microcents_of cents.0) }
         ensures { result ≡ microcents_in limits.tolerance_money (limits.microcents_of cents.0) }
     {
-        Self::of_cents(cents).held(Self::TOLERANCE_LEAST, Self::TOLERANCE_GREATEST)
-    }
-
-    // A tolerance as that of an hour that may be accepted (S-12).
-    pub fn accepted_tolerance(self) -> MicrocentsAnswer
-        ensures { result ≡ microcents_in limits.accepted_tolerance_money self.0 }
-    {
-        self.held(
-            Self::ACCEPTED_TOLERANCE_LEAST,
-            Self::ACCEPTED_TOLERANCE_GREATEST,
+        held(
+            Self::TOLERANCE_LEAST,
+            Self::TOLERANCE_GREATEST,
+            Raw(Self::of_cents(cents).0),
         )
     }
 
-    pub fn plus(self, other: Microcents) -> Microcents
-        requires { SFits w64 (self.0 +ℤ other.0) }
-        ensures { result.0 ≡ self.0 +ℤ other.0 }
+    // A tolerance as that of an hour that may be accepted (S-12).
+    pub fn accepted_tolerance(self) -> Option<Microcents>
+        ensures { result ≡ microcents_in limits.accepted_tolerance_money self.0 }
     {
-        Microcents(self.0 + other.0)
-    }
-
-    pub fn minus(self, other: Microcents) -> Microcents
-        requires { SFits w64 (self.0 -ℤ other.0) }
-        ensures { result.0 ≡ self.0 -ℤ other.0 }
-    {
-        Microcents(self.0 - other.0)
-    }
-
-    pub fn larger(self, other: Microcents) -> Microcents
-        ensures { result.0 ≡ order.larger self.0 other.0 }
-    {
-        if other.exceeds(self) {
-            return other;
-        }
-        self
+        held(
+            Self::ACCEPTED_TOLERANCE_LEAST,
+            Self::ACCEPTED_TOLERANCE_GREATEST,
+            Raw(self.0),
+        )
     }
 
     // The number where above zero, else zero.
     pub fn positive(self) -> Microcents
         ensures { result.0 ≡ order.positive self.0 }
     {
-        Self::ZERO.larger(self)
-    }
-
-    pub fn exceeds(self, other: Microcents) -> bool
-        ensures { result ≡ lt_z other.0 self.0 }
-    {
-        other.0 < self.0
-    }
-
-    pub fn bits(self) -> Bits
-        ensures { result.0 ≡ of_z w64 self.0 }
-    {
-        self.raw().bits()
+        self.max(Self::ZERO)
     }
 }
 
@@ -546,25 +543,10 @@ impl Ptdf {
 
     pub const GREATEST: Ptdf = Ptdf(200000);
 
-    fn of(x: Raw) -> Ptdf
-        ensures { result ≡ record { 0 = x.0 } }
-    {
-        Ptdf(x.0)
-    }
-
-    fn raw(self) -> Raw
-        ensures { result.0 ≡ self.0 }
-    {
-        Raw(self.0)
-    }
-
-    pub fn new(x: Raw) -> PtdfAnswer
+    pub fn new(x: Raw) -> Option<Ptdf>
         ensures { result ≡ ptdf_in limits.ptdf x.0 }
     {
-        if outside(Self::LEAST.raw(), Self::GREATEST.raw(), x) {
-            return PtdfAnswer::Outside;
-        }
-        PtdfAnswer::Held(Self::of(x))
+        held(Self::LEAST, Self::GREATEST, x)
     }
 
     // An entry of the PTDF table; the caller has tested it by its limits.
@@ -572,7 +554,7 @@ impl Ptdf {
         requires { Within limits.ptdf x }
         ensures { result.0 ≡ x }
     {
-        Ptdf(x as i64)
+        Ptdf(i64::from(x))
     }
 
     // The load of a volume on a branch.
@@ -599,25 +581,10 @@ impl Share {
 
     pub const GREATEST: Share = Share(PARTS_IN_ONE);
 
-    fn of(x: Raw) -> Share
-        ensures { result ≡ record { 0 = x.0 } }
-    {
-        Share(x.0)
-    }
-
-    fn raw(self) -> Raw
-        ensures { result.0 ≡ self.0 }
-    {
-        Raw(self.0)
-    }
-
-    pub fn new(x: Raw) -> ShareAnswer
+    pub fn new(x: Raw) -> Option<Share>
         ensures { result ≡ share_in limits.share x.0 }
     {
-        if outside(Self::LEAST.raw(), Self::GREATEST.raw(), x) {
-            return ShareAnswer::Outside;
-        }
-        ShareAnswer::Held(Self::of(x))
+        held(Self::LEAST, Self::GREATEST, x)
     }
 
     pub fn flow_based(self) -> Share
@@ -631,7 +598,7 @@ impl Share {
     pub fn is_above_zero(self) -> bool
         ensures { result ≡ lt_z (pos 0) self.0 }
     {
-        Self::LEAST.0 < self.0
+        Self::LEAST < self
     }
 
     // This share of a volume.
@@ -645,26 +612,6 @@ impl Share {
 
 impl Load {
     pub const ZERO: Load = Load(0);
-
-    pub fn plus(self, other: Load) -> Load
-        requires { SFits w64 (self.0 +ℤ other.0) }
-        ensures { result.0 ≡ self.0 +ℤ other.0 }
-    {
-        Load(self.0 + other.0)
-    }
-
-    pub fn minus(self, other: Load) -> Load
-        requires { SFits w64 (self.0 -ℤ other.0) }
-        ensures { result.0 ≡ self.0 -ℤ other.0 }
-    {
-        Load(self.0 - other.0)
-    }
-
-    pub fn exceeds(self, other: Load) -> bool
-        ensures { result ≡ lt_z other.0 self.0 }
-    {
-        other.0 < self.0
-    }
 
     // What a load costs at a price (S-14): its whole tenths and its rest, each at the price.
     pub fn cost(self, price: Grains) -> ExactMicrocents

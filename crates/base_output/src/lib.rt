@@ -2,9 +2,13 @@
 #![tactic(auto)]
 
 ghost use Rattle.std.specs.Prelude.{◌≡◌};
+ghost use Rattle.base_output.specs.Meaning.Output.{written_of};
+
+use base_causes::Outcome;
 
 // The number and index of the refusal and length 0; or 0 and 0 and the length of what was written. A margin sheet
-// may have more lines than 32 bits count, so the index is as wide as a length.
+// may have more lines than 32 bits count, so the index is as wide as a length. C reads all three fields, so it is no
+// `Result`.
 #[repr(C)]
 #[derive(Clone, Copy)]
 pub struct Written {
@@ -20,5 +24,21 @@ pub fn refused(number: u32, index: usize) -> Written
         number,
         index,
         length: 0,
+    }
+}
+
+// An entry's answer as C reads it: the length of what was written, or the refusal.
+impl From<Result<usize, Outcome>> for Written {
+    ghost from_gives = { λ r w. w ≡ written_of r };
+
+    fn from(answer: Result<usize, Outcome>) -> Written {
+        match answer {
+            Ok(length) => Written {
+                number: 0,
+                index: 0,
+                length,
+            },
+            Err(refusal) => refused(refusal.number, refusal.index as usize),
+        }
     }
 }

@@ -4,18 +4,39 @@
 ghost use Rattle.std.specs.Prelude.{◌≡◌, ◌<◌};
 ghost use Rattle.base_zone_set.specs.Meaning.Zones.{member, added};
 
-pub fn has(zones: u16, zone: usize) -> bool
-    ensures { result ≡ member zones zone }
-{
-    if layout::ZONES <= zone {
-        return false;
-    }
-    (zones >> zone) % 2 == 1
+use std::marker::Model;
+
+// A contract sees a set as the number that its bits make.
+#[derive(Clone, Copy, PartialEq, Eq)]
+pub struct ZoneSet {
+    bits: u16,
 }
 
-pub fn with(zones: u16, zone: usize) -> u16
-    requires { zone < 16 }
-    ensures { result ≡ added zones zone }
-{
-    zones | (1 << zone)
+impl Model for ZoneSet {
+    ghost use Rattle.std.specs.Prelude.{ℕ};
+
+    ghost Value = { ℕ };
+
+    ghost view = { λ s. s.bits };
+
+    ghost inverse = { λ n. record { bits = n } };
+}
+
+impl ZoneSet {
+    pub const EMPTY: ZoneSet = ZoneSet { bits: 0 };
+
+    pub fn has(self, zone: usize) -> bool
+        ensures { result ≡ member self zone }
+    {
+        zone < layout::ZONES && (self.bits >> zone) % 2 == 1
+    }
+
+    pub fn with(self, zone: usize) -> ZoneSet
+        requires { zone < 16 }
+        ensures { result ≡ added self zone }
+    {
+        ZoneSet {
+            bits: self.bits | (1 << zone),
+        }
+    }
 }

@@ -8,8 +8,8 @@ use Rattle.std.proofs.Math.Decide.{dec_lt}
 use Rattle.std.proofs.Math.Dec.{eqb_refl}
 use Rattle.base_integers.specs.Steps.Ranges.{nor-left, nor-right, and_left, and_right, is_true, is_false, and_both}
 use Rattle.base_causes.specs.declared.Outcome.{Outcome}
-use Rattle.base_causes.specs.declared.Place.{Place}
-use Rattle.base_causes.specs.declared.Place.TheVariants.{At, Nowhere}
+use Rattle.std.specs.declared.option.Option as code
+use Rattle.std.specs.declared.option.Option.TheVariants.{None, Some}
 use Rattle.base_causes.specs.Meaning.Causes.{Pass, Cause, verdict, failing, first_below, any_below, place_else, first_field, cause_else, refusal, answer, field}
 use Rattle.base_causes.specs.Meaning.Place.{place_of}
 
@@ -93,10 +93,10 @@ first-ext (suc n) f g h = step (first_below n f) (first_below n g) (first-ext n 
     step x y e a b q = λ j. elim (e j) [ some k ↦ some k | none ↦ cond (q j) (some n) none ]
 
 -- what a search in code found
-pub at_place : (p : Place) (x : Option ℕ) (k : ℕ) → place_of p ≡ x → p ≡ At k → x ≡ some k
+pub at_place : (p : code.Option ℕ) (x : Option ℕ) (k : ℕ) → place_of p ≡ x → p ≡ Some k → x ≡ some k
 at_place p x k e q = sym e ∙ ap place_of q
 
-pub at_none : (p : Place) (x : Option ℕ) → place_of p ≡ x → p ≡ Nowhere → x ≡ none
+pub at_none : (p : code.Option ℕ) (x : Option ℕ) → place_of p ≡ x → p ≡ None → x ≡ none
 at_none p x e q = sym e ∙ ap place_of q
 
 -- a test that holds nowhere, and one that holds somewhere
