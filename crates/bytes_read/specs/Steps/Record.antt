@@ -1,16 +1,10 @@
 -- A RECORD: n bytes of a file from an offset on, which a walk lends as a part, `&s[at..at + n]`. A field taken from
 -- it is the file's, and no field in it is missing. Assumes nothing.
-use Rattle.std.specs.Prelude.{◌≡◌, List, ℕ, ◌+◌, ◌-◌, ◌≤◌, ◌<◌, length}
+use Rattle.std.specs.Prelude.{◌≡◌, List, ℕ, ◌+◌, ◌-◌, ◌≤◌, ◌<◌, length, Option, None, Some}
 use Rattle.std.proofs.Common.{sym, ap, ◌∙◌, arith}
 use Rattle.base_measures.specs.declared.Raw.{Raw}
 use Rattle.rules.specs.Meaning.Layout.{u8_at, u16_at, u32_at, i32_at}
 use Rattle.bytes_read.specs.declared.Cursor.{Cursor}
-use Rattle.bytes_read.specs.declared.ByteField.{ByteField}
-use Rattle.bytes_read.specs.declared.ByteField.TheVariants as byte
-use Rattle.bytes_read.specs.declared.WordField.{WordField}
-use Rattle.bytes_read.specs.declared.WordField.TheVariants as word
-use Rattle.bytes_read.specs.declared.SignedField.{SignedField}
-use Rattle.bytes_read.specs.declared.SignedField.TheVariants as signed
 use Rattle.bytes_read.specs.Meaning.Field.{raw, byte_field, half_field, word_field, signed_field}
 use Rattle.bytes_read.specs.Steps.Part.{part_of, part_length, part-u8, part-u16, part-u32, part-i32}
 use Rattle.bytes_read.specs.Steps.Walk.{Took, byte-took, byte-short, half-took, half-short, word-took, word-short, signed-took, signed-short}
@@ -46,26 +40,26 @@ module _ {s : List ℕ} {at n : ℕ} (w : RecordWithin s at n) where
     at-cursor : {F : Type 0} (field : List ℕ → ℕ → F) {r y : F} → r ≡ field (record_of s at n) o → r ≡ y → field (record_of s at n) i ≡ y
     at-cursor field e f = ap (field (record_of s at n)) (sym at_i) ∙ sym e ∙ f
 
-    pub byte-read : i + 1 ≤ n → {r : ByteField} {v : ℕ} {c : Cursor} → r ≡ byte_field (record_of s at n) o → r ≡ byte.Taken v c → FieldRead v (u8_at s (at + i)) c (i + 1)
+    pub byte-read : i + 1 ≤ n → {r : Option (ℕ × Cursor)} {v : ℕ} {c : Cursor} → r ≡ byte_field (record_of s at n) o → r ≡ Some (v, c) → FieldRead v (u8_at s (at + i)) c (i + 1)
     byte-read h e f = read (byte-took (record_of s at n) i (at-cursor byte_field e f)) (part-u8 s at (at + n - at) i (omega (arith, size_is)))
 
-    pub byte-there : i + 1 ≤ n → {r : ByteField} → r ≡ byte_field (record_of s at n) o → r ≡ byte.Short → ⊥
+    pub byte-there : i + 1 ≤ n → {r : Option (ℕ × Cursor)} → r ≡ byte_field (record_of s at n) o → r ≡ None → ⊥
     byte-there h e f = lacking (i + 1) (byte-short (record_of s at n) i (at-cursor byte_field e f)) h
 
-    pub half-read : i + 2 ≤ n → {r : WordField} {v : ℕ} {c : Cursor} → r ≡ half_field (record_of s at n) o → r ≡ word.Taken v c → FieldRead v (u16_at s (at + i)) c (i + 2)
+    pub half-read : i + 2 ≤ n → {r : Option (ℕ × Cursor)} {v : ℕ} {c : Cursor} → r ≡ half_field (record_of s at n) o → r ≡ Some (v, c) → FieldRead v (u16_at s (at + i)) c (i + 2)
     half-read h e f = read (half-took (record_of s at n) i (at-cursor half_field e f)) (part-u16 s at (at + n - at) i (omega (arith, size_is)))
 
-    pub half-there : i + 2 ≤ n → {r : WordField} → r ≡ half_field (record_of s at n) o → r ≡ word.Short → ⊥
+    pub half-there : i + 2 ≤ n → {r : Option (ℕ × Cursor)} → r ≡ half_field (record_of s at n) o → r ≡ None → ⊥
     half-there h e f = lacking (i + 2) (half-short (record_of s at n) i (at-cursor half_field e f)) h
 
-    pub word_read : i + 4 ≤ n → {r : WordField} {v : ℕ} {c : Cursor} → r ≡ word_field (record_of s at n) o → r ≡ word.Taken v c → FieldRead v (u32_at s (at + i)) c (i + 4)
+    pub word_read : i + 4 ≤ n → {r : Option (ℕ × Cursor)} {v : ℕ} {c : Cursor} → r ≡ word_field (record_of s at n) o → r ≡ Some (v, c) → FieldRead v (u32_at s (at + i)) c (i + 4)
     word_read h e f = read (word-took (record_of s at n) i (at-cursor word_field e f)) (part-u32 s at (at + n - at) i (omega (arith, size_is)))
 
-    pub word-there : i + 4 ≤ n → {r : WordField} → r ≡ word_field (record_of s at n) o → r ≡ word.Short → ⊥
+    pub word-there : i + 4 ≤ n → {r : Option (ℕ × Cursor)} → r ≡ word_field (record_of s at n) o → r ≡ None → ⊥
     word-there h e f = lacking (i + 4) (word-short (record_of s at n) i (at-cursor word_field e f)) h
 
-    pub signed-read : i + 4 ≤ n → {r : SignedField} {v : Raw} {c : Cursor} → r ≡ signed_field (record_of s at n) o → r ≡ signed.Taken v c → FieldRead v (raw (i32_at s (at + i))) c (i + 4)
+    pub signed-read : i + 4 ≤ n → {r : Option (Raw × Cursor)} {v : Raw} {c : Cursor} → r ≡ signed_field (record_of s at n) o → r ≡ Some (v, c) → FieldRead v (raw (i32_at s (at + i))) c (i + 4)
     signed-read h e f = read (signed-took (record_of s at n) i (at-cursor signed_field e f)) (ap raw (part-i32 s at (at + n - at) i (omega (arith, size_is))))
 
-    pub signed-there : i + 4 ≤ n → {r : SignedField} → r ≡ signed_field (record_of s at n) o → r ≡ signed.Short → ⊥
+    pub signed-there : i + 4 ≤ n → {r : Option (Raw × Cursor)} → r ≡ signed_field (record_of s at n) o → r ≡ None → ⊥
     signed-there h e f = lacking (i + 4) (signed-short (record_of s at n) i (at-cursor signed_field e f)) h

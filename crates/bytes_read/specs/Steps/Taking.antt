@@ -1,19 +1,11 @@
 -- TAKING THE FIELDS OF A FILE from its start: n bytes of fields are taken if and only if the file has them, and
 -- then the cursor is past them. Assumes nothing.
-use Rattle.std.specs.Prelude.{◌≡◌, List, ℕ, ◌+◌, ◌≤◌, ◌<◌, length}
+use Rattle.std.specs.Prelude.{◌≡◌, List, ℕ, ◌+◌, ◌≤◌, ◌<◌, length, Option, None, Some}
 use Rattle.std.proofs.Common.{sym, ap, ◌∙◌, arith}
 use Rattle.base_measures.specs.declared.Raw.{Raw}
 use Rattle.rules.specs.Meaning.Layout.{u8_at, u16_at, u32_at, i32_at}
 use Rattle.bytes_read.specs.declared.Mark.{Mark}
 use Rattle.bytes_read.specs.declared.Cursor.{Cursor}
-use Rattle.bytes_read.specs.declared.MarkField.{MarkField}
-use Rattle.bytes_read.specs.declared.MarkField.TheVariants as mark
-use Rattle.bytes_read.specs.declared.ByteField.{ByteField}
-use Rattle.bytes_read.specs.declared.ByteField.TheVariants as byte
-use Rattle.bytes_read.specs.declared.WordField.{WordField}
-use Rattle.bytes_read.specs.declared.WordField.TheVariants as word
-use Rattle.bytes_read.specs.declared.SignedField.{SignedField}
-use Rattle.bytes_read.specs.declared.SignedField.TheVariants as signed
 use Rattle.bytes_read.specs.Meaning.Field.{cursor, raw, mark_at, mark_field, byte_field, half_field, word_field, signed_field}
 use Rattle.bytes_read.specs.Steps.Walk.{Took}
 use Rattle.bytes_read.specs.Steps.Walk as walk
@@ -40,32 +32,32 @@ module _ {s : List ℕ} {n : ℕ} {d : Cursor} (t : FieldsTaken s n d) where
   at-cursor : {F : Type 0} (field : List ℕ → ℕ → F) {r y : F} → r ≡ field s d.at → r ≡ y → field s n ≡ y
   at-cursor field e f = ap (λ (k : Cursor). field s k.at) (sym t.past) ∙ sym e ∙ f
 
-  pub mark-next : {r : MarkField} {v : Mark} {c : Cursor} → r ≡ mark_field s d.at → r ≡ mark.Taken v c → NextTaken s (n + 3) v (mark_at s n) c
+  pub mark-next : {r : Option (Mark × Cursor)} {v : Mark} {c : Cursor} → r ≡ mark_field s d.at → r ≡ Some (v, c) → NextTaken s (n + 3) v (mark_at s n) c
   mark-next e f = next (walk.mark-took s n (at-cursor mark_field e f))
 
-  pub mark-lacks : {r : MarkField} → r ≡ mark_field s d.at → r ≡ mark.Short → length s < n + 3
+  pub mark-lacks : {r : Option (Mark × Cursor)} → r ≡ mark_field s d.at → r ≡ None → length s < n + 3
   mark-lacks e f = walk.mark-short s n (at-cursor mark_field e f)
 
-  pub byte_next : {r : ByteField} {v : ℕ} {c : Cursor} → r ≡ byte_field s d.at → r ≡ byte.Taken v c → NextTaken s (n + 1) v (u8_at s n) c
+  pub byte_next : {r : Option (ℕ × Cursor)} {v : ℕ} {c : Cursor} → r ≡ byte_field s d.at → r ≡ Some (v, c) → NextTaken s (n + 1) v (u8_at s n) c
   byte_next e f = next (walk.byte-took s n (at-cursor byte_field e f))
 
-  pub byte-lacks : {r : ByteField} → r ≡ byte_field s d.at → r ≡ byte.Short → length s < n + 1
+  pub byte-lacks : {r : Option (ℕ × Cursor)} → r ≡ byte_field s d.at → r ≡ None → length s < n + 1
   byte-lacks e f = walk.byte-short s n (at-cursor byte_field e f)
 
-  pub half-next : {r : WordField} {v : ℕ} {c : Cursor} → r ≡ half_field s d.at → r ≡ word.Taken v c → NextTaken s (n + 2) v (u16_at s n) c
+  pub half-next : {r : Option (ℕ × Cursor)} {v : ℕ} {c : Cursor} → r ≡ half_field s d.at → r ≡ Some (v, c) → NextTaken s (n + 2) v (u16_at s n) c
   half-next e f = next (walk.half-took s n (at-cursor half_field e f))
 
-  pub half-lacks : {r : WordField} → r ≡ half_field s d.at → r ≡ word.Short → length s < n + 2
+  pub half-lacks : {r : Option (ℕ × Cursor)} → r ≡ half_field s d.at → r ≡ None → length s < n + 2
   half-lacks e f = walk.half-short s n (at-cursor half_field e f)
 
-  pub word_next : {r : WordField} {v : ℕ} {c : Cursor} → r ≡ word_field s d.at → r ≡ word.Taken v c → NextTaken s (n + 4) v (u32_at s n) c
+  pub word_next : {r : Option (ℕ × Cursor)} {v : ℕ} {c : Cursor} → r ≡ word_field s d.at → r ≡ Some (v, c) → NextTaken s (n + 4) v (u32_at s n) c
   word_next e f = next (walk.word-took s n (at-cursor word_field e f))
 
-  pub word-lacks : {r : WordField} → r ≡ word_field s d.at → r ≡ word.Short → length s < n + 4
+  pub word-lacks : {r : Option (ℕ × Cursor)} → r ≡ word_field s d.at → r ≡ None → length s < n + 4
   word-lacks e f = walk.word-short s n (at-cursor word_field e f)
 
-  pub signed-next : {r : SignedField} {v : Raw} {c : Cursor} → r ≡ signed_field s d.at → r ≡ signed.Taken v c → NextTaken s (n + 4) v (raw (i32_at s n)) c
+  pub signed-next : {r : Option (Raw × Cursor)} {v : Raw} {c : Cursor} → r ≡ signed_field s d.at → r ≡ Some (v, c) → NextTaken s (n + 4) v (raw (i32_at s n)) c
   signed-next e f = next (walk.signed-took s n (at-cursor signed_field e f))
 
-  pub signed-lacks : {r : SignedField} → r ≡ signed_field s d.at → r ≡ signed.Short → length s < n + 4
+  pub signed-lacks : {r : Option (Raw × Cursor)} → r ≡ signed_field s d.at → r ≡ None → length s < n + 4
   signed-lacks e f = walk.signed-short s n (at-cursor signed_field e f)

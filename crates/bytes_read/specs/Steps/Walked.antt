@@ -1,5 +1,5 @@
 -- A walk over rows of fields, partly done, and what its answer implies. Assumes nothing.
-use Rattle.std.specs.Prelude.{◌≡◌, refl, Bool, true, false, List, [], ◌∷◌, ℕ, ◌+◌, ◌≤◌, ◌<◌}
+use Rattle.std.specs.Prelude.{◌≡◌, refl, Bool, true, false, List, [], ◌∷◌, ℕ, ◌+◌, ◌≤◌, ◌<◌, Result, Ok, Err}
 use Rattle.std.proofs.Common.{sym, subst, ◌∙◌, arith}
 use Rattle.std.proofs.Math.Path.{ap}
 use Rattle.std.proofs.Math.Option.{Option, none, some}
@@ -7,24 +7,22 @@ use Rattle.base_causes.specs.Meaning.Causes.{Cause, first_below, first_field, pl
 use Rattle.base_causes.proofs.Promised.CauseLaws.{not-below, any_none, any_here, first-here, first-later, first-nowhere, row-found, row-clear}
 use Rattle.base_causes.specs.declared.Outcome.{Outcome}
 use Rattle.bytes_read.specs.declared.Cursor.{Cursor}
-use Rattle.bytes_read.specs.declared.Walked.{Walked}
-use Rattle.bytes_read.specs.declared.Walked.TheVariants.{Past, Refused}
 use Rattle.bytes_read.specs.Meaning.Field.{cursor}
 use Rattle.bytes_read.specs.Meaning.Walk.{refused_at, past_at, walked_by, walked, rows_walked_by, rows_walked}
 
 -- an answer past the end is no refusal
-pub past_is : {at : ℕ} {c : Cursor} → past_at at ≡ Past c → c ≡ record { at = at }
+pub past_is : {at : ℕ} {c : Cursor} → past_at at ≡ Ok c → c ≡ record { at = at }
 past_is e = cc
 
-pub never-refused : {at : ℕ} {x : Outcome} (w : Walked) → past_at at ≡ Refused x → Refused x ≡ w
+pub never-refused : {at : ℕ} {x : Outcome} (w : Result Cursor Outcome) → past_at at ≡ Err x → Err x ≡ w
 never-refused w e = cc
 
 -- a refusal is not past the end
-abbrev is_past : Walked → Type 0
-is_past (Past c) = Unit {0}
-is_past (Refused x) = ⊥
+abbrev is_past : Result Cursor Outcome → Type 0
+is_past (Ok c) = Unit {0}
+is_past (Err x) = ⊥
 
-pub refused-past : {at : ℕ} {x : Outcome} → Refused x ≡ past_at at → (A : Type 0) → A
+pub refused-past : {at : ℕ} {x : Outcome} → Err x ≡ past_at at → (A : Type 0) → A
 refused-past e A = absurd (subst is_past (sym e) tt)
 
 -- A WALK, PARTLY DONE: the places before k passed
@@ -32,7 +30,7 @@ module _ (r : Cause) (past : Cursor) (k : ℕ) (clear : first_below k r.fails �
   pub walk-stops : k < r.places → r.fails k ≡ true → refused_at r.number (r.index k) ≡ walked r past
   walk-stops h e = sym (ap (walked_by r past) (first-here r.fails k h clear e))
 
-  pub walk_ends : k ≤ r.places → r.places ≤ k → Past past ≡ walked r past
+  pub walk_ends : k ≤ r.places → r.places ≤ k → Ok past ≡ walked r past
   walk_ends h l = sym (ap (walked_by r past) (first-nowhere r.fails k h l clear))
 
 -- a finished walk over records: the cursor stood at each in its turn, and stands where the last ends
@@ -41,17 +39,17 @@ walk-done r place {at} {i} {end} p e q f = ap past_at (p ∙ ap place q ∙ f) �
 
 -- WHAT AN ANSWER IMPLIES
 module _ (r : Cause) (past : Cursor) where
-  pub walk_refused : {x : Outcome} → walked r past ≡ Refused x → (rs : List Cause) → refusal (r ∷ rs) ≡ some x
+  pub walk_refused : {x : Outcome} → walked r past ≡ Err x → (rs : List Cause) → refusal (r ∷ rs) ≡ some x
   walk_refused {x} e rs = by (first_below r.places r.fails) refl e
     where
-      by : (o : Option ℕ) → first_below r.places r.fails ≡ o → walked_by r past o ≡ Refused x → refusal (r ∷ rs) ≡ some x
+      by : (o : Option ℕ) → first_below r.places r.fails ≡ o → walked_by r past o ≡ Err x → refusal (r ∷ rs) ≡ some x
       by (some k) q e = row-found r rs k q ∙ cc
       by none q e = cc
 
-  pub walk-past : {c : Cursor} → walked r past ≡ Past c → ((rs : List Cause) → refusal (r ∷ rs) ≡ refusal rs) × (c ≡ past)
+  pub walk-past : {c : Cursor} → walked r past ≡ Ok c → ((rs : List Cause) → refusal (r ∷ rs) ≡ refusal rs) × (c ≡ past)
   walk-past {c} e = by (first_below r.places r.fails) refl e
     where
-      by : (o : Option ℕ) → first_below r.places r.fails ≡ o → walked_by r past o ≡ Past c → ((rs : List Cause) → refusal (r ∷ rs) ≡ refusal rs) × (c ≡ past)
+      by : (o : Option ℕ) → first_below r.places r.fails ≡ o → walked_by r past o ≡ Ok c → ((rs : List Cause) → refusal (r ∷ rs) ≡ refusal rs) × (c ≡ past)
       by (some k) q e = (λ rs. cc, cc)
       by none q e = (λ rs. row-clear r rs q, cc)
 
@@ -86,32 +84,32 @@ module _ {number n w : ℕ} {fault : ℕ → ℕ → Bool} {offset : ℕ → ℕ
 
 module _ (r : Cause) (rs : List Cause) (next past : Cursor) where
   -- the first part refuses
-  pub part-refused : {x : Outcome} → walked r next ≡ Refused x → Refused x ≡ rows_walked (r ∷ rs) past
+  pub part-refused : {x : Outcome} → walked r next ≡ Err x → Err x ≡ rows_walked (r ∷ rs) past
   part-refused e = sym (ap (rows_walked_by past) (walk_refused r next e rs))
 
   -- it passes, and the others are asked
-  pub part-passed : {c : Cursor} → walked r next ≡ Past c → rows_walked rs past ≡ rows_walked (r ∷ rs) past
+  pub part-passed : {c : Cursor} → walked r next ≡ Ok c → rows_walked rs past ≡ rows_walked (r ∷ rs) past
   part-passed e = sym (ap (rows_walked_by past) ((walk-past r next e).0 rs))
 
 pub last-part : (r : Cause) (past : Cursor) → walked r past ≡ rows_walked (r ∷ []) past
 unfolding refusal
 last-part r past = by (walked r past) refl
   where
-    by : (x : Walked) → walked r past ≡ x → x ≡ rows_walked (r ∷ []) past
-    by (Past c) e = ap Past (walk-past r past e).1 ∙ part-passed r [] past past e
-    by (Refused x) e = part-refused r [] past past e
+    by : (x : Result Cursor Outcome) → walked r past ≡ x → x ≡ rows_walked (r ∷ []) past
+    by (Ok c) e = ap Ok (walk-past r past e).1 ∙ part-passed r [] past past e
+    by (Err x) e = part-refused r [] past past e
 
 -- what an answer implies
-pub rows-refused : (rs : List Cause) (past : Cursor) {x : Outcome} → rows_walked rs past ≡ Refused x → refusal rs ≡ some x
+pub rows-refused : (rs : List Cause) (past : Cursor) {x : Outcome} → rows_walked rs past ≡ Err x → refusal rs ≡ some x
 rows-refused rs past {x} e = by (refusal rs) refl e
   where
-    by : (o : Option Outcome) → refusal rs ≡ o → rows_walked_by past o ≡ Refused x → refusal rs ≡ some x
+    by : (o : Option Outcome) → refusal rs ≡ o → rows_walked_by past o ≡ Err x → refusal rs ≡ some x
     by (some o) q e = q ∙ cc
     by none q e = cc
 
-pub rows-passed : (rs : List Cause) (past : Cursor) {c : Cursor} → rows_walked rs past ≡ Past c → refusal rs ≡ none
+pub rows-passed : (rs : List Cause) (past : Cursor) {c : Cursor} → rows_walked rs past ≡ Ok c → refusal rs ≡ none
 rows-passed rs past {c} e = by (refusal rs) refl e
   where
-    by : (o : Option Outcome) → refusal rs ≡ o → rows_walked_by past o ≡ Past c → refusal rs ≡ none
+    by : (o : Option Outcome) → refusal rs ≡ o → rows_walked_by past o ≡ Ok c → refusal rs ≡ none
     by (some o) q e = cc
     by none q e = q
