@@ -1,13 +1,12 @@
 -- `case_branches::walk_ptdf` meets its contract: the PTDF is within the file, so it is not missing.
 -- Assumes nothing.
-use Rattle.std.proofs.Common.{◌≡◌, ℕ, ◌+◌, sym, ap, ◌∙◌, arith}
+use Rattle.std.proofs.Common.{◌≡◌, ℕ, ◌+◌, sym, ap, ◌∙◌, arith, Ok}
 use Rattle.base_integers.specs.Meaning.Ranges.{outside}
 use Rattle.base_limits.specs.Meaning.Limits as limits
 use Rattle.base_measures.specs.Steps.Held.{ptdf-outside, ptdf-held}
 use Rattle.base_measures.specs.declared.Raw.{Raw}
 use Rattle.rules.specs.Meaning.Layout.{i32_at}
 use Rattle.bytes_read.specs.declared.Cursor.{Cursor}
-use Rattle.bytes_read.specs.declared.Walked.TheVariants.{Past}
 use Rattle.bytes_read.specs.Meaning.Field.{cursor, raw}
 use Rattle.bytes_read.specs.Meaning.Walk.{refused_at}
 use Rattle.bytes_read.specs.Steps.Record.{RecordWithin, FieldRead, signed-read}
@@ -19,12 +18,12 @@ use Rattle.case_branches.proofs.walk_ptdf.Goals.{After-new}
 first-at : (c : After-new) → c.new-first.result.at ≡ 0
 first-at c = ap (λ (d : Cursor). d.at) c.new-first.ensures
 
-ptdf-read : (c : After-new) → FieldRead c.in-Taken.ptdf (raw (i32_at c.args.«case».now (c.args.here.at + 0))) c.in-Taken.past 4
+ptdf-read : (c : After-new) → FieldRead c.in-Some.ptdf (raw (i32_at c.args.«case».now (c.args.here.at + 0))) c.in-Some.past 4
 ptdf-read c =
     let w : RecordWithin c.args.«case».now c.args.here.at 4 = record { inside = c.requires.at_in_bounds; small = c.requires.case_len_bound } in
-    signed-read w 0 (first-at c) (omega arith) c.signed.ensures c.in-Taken.is
+    signed-read w 0 (first-at c) (omega arith) c.take.ensures c.in-Some.is
 
-ptdf-test : (c : After-new) → outside limits.ptdf (i32_at c.args.«case».now c.args.here.at) ≡ outside limits.ptdf c.in-Taken.ptdf.0
+ptdf-test : (c : After-new) → outside limits.ptdf (i32_at c.args.«case».now c.args.here.at) ≡ outside limits.ptdf c.in-Some.ptdf.0
 ptdf-test c =
     let z : c.args.here.at + 0 ≡ c.args.here.at = omega arith in
     ap (λ (n : ℕ). outside limits.ptdf (i32_at c.args.«case».now n)) (sym z) ∙ ap (λ (x : Raw). outside limits.ptdf x.0) (sym (ptdf-read c).is)
@@ -38,5 +37,5 @@ returns-in_default-new c =
 pub returns : goal.returns
 returns c =
     let n = (goal.at.returns c).After-new in
-    ap Past (c.in_file.ensures ∙ ap (λ (k : ℕ). cursor (c.args.here.at + k)) (ptdf-read n).past)
-    ∙ ap (ptdf_by c.args.here.at) (sym (ptdf-test n ∙ (ptdf-held _ _ c.in-Held.field-0 (sym c.new.ensures ∙ c.in-Held.is)).0))
+    ap Ok (c.in_file.ensures ∙ ap (λ (k : ℕ). cursor (c.args.here.at + k)) (ptdf-read n).past)
+    ∙ ap (ptdf_by c.args.here.at) (sym (ptdf-test n ∙ (ptdf-held _ _ c.in-Some-new.field-0 (sym c.new.ensures ∙ c.in-Some-new.is)).0))

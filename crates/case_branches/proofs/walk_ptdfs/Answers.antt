@@ -1,11 +1,9 @@
 -- `case_branches::walk_ptdfs` meets its contract: one PTDF within the file for each turn. Assumes nothing.
-use Rattle.std.proofs.Common.{◌≡◌, ℕ, ◌+◌, ◌*◌, refl, sym, ap, ◌∙◌, arith}
+use Rattle.std.proofs.Common.{◌+◌, ◌*◌, refl, sym, ap, ◌∙◌, arith, Err}
 use Rattle.base_causes.specs.Meaning.Causes.{first_below}
 use Rattle.base_causes.proofs.Promised.CauseLaws.{first-later}
 use Rattle.bytes_read.specs.declared.Cursor.{Cursor}
-use Rattle.bytes_read.specs.declared.Walked.TheVariants.{Past}
-use Rattle.bytes_read.specs.Meaning.Field.{cursor}
-use Rattle.case_branches.specs.Steps.Branch.{ptdf_fault, ptdf_walked, one-refused, one-past, ptdfs-stop, ptdfs-end}
+use Rattle.case_branches.specs.Steps.Branch.{ptdf_fault, ptdf_walked, one-refused, one-past, ptdfs-stop}
 use Rattle.case_branches.proofs.walk_ptdfs.Goals as goal
 
 pub loop-init : goal.loop-init
@@ -25,11 +23,5 @@ loop-preserved c =
     let s = c.args.«case».now in
     let at = c.args.start.at in
     let one = c.walk_ptdf-walked.ensures ∙ ap (ptdf_walked s) c.loop.invariant.0 in
-    let p = one-past s (at + 4 * c.loop.counter) (sym one ∙ c.in-Past.is) in
+    let p = one-past s (at + 4 * c.loop.counter) (sym one ∙ c.in-Ok.is) in
     (ap (λ (d : Cursor). d.at) p.1 ∙ omega arith, first-later (ptdf_fault s at) c.loop.counter c.loop.invariant.1 p.0)
-
-pub returns : goal.returns
-returns c =
-    let all : c.loop.counter ≡ c.args.zones = omega arith in
-    ap (λ (k : ℕ). Past (cursor k)) (c.loop.invariant.0 ∙ ap (λ (k : ℕ). c.args.start.at + 4 * k) all)
-    ∙ ptdfs-end c.args.«case».now c.args.start.at c.args.zones c.loop.counter c.loop.invariant.1 (omega arith) (omega arith)

@@ -1,5 +1,5 @@
 -- The walk over the branches of a case, field by field as row 6 tests them. Assumes nothing.
-use Rattle.std.specs.Prelude.{◌≡◌, Bool, true, false, not, List, ℕ, zero, suc, ◌+◌, ◌*◌, ◌≤◌, ◌<◌, T}
+use Rattle.std.specs.Prelude.{◌≡◌, Bool, true, false, not, List, ℕ, zero, suc, ◌+◌, ◌*◌, ◌≤◌, ◌<◌, T, Result, Ok, Err}
 use Rattle.std.proofs.Math.Path.{refl, sym}
 use Rattle.std.proofs.Common.{ap, ◌∙◌, add-mul, add-one, arith}
 use Rattle.std.proofs.Math.Option.{Option, none, some}
@@ -13,8 +13,6 @@ use Rattle.base_causes.proofs.Promised.CauseLaws.{first-none, first-is, first-he
 use Rattle.rules.specs.Meaning.Verdict.{branch_fault}
 use Rattle.base_causes.specs.declared.Outcome.{Outcome}
 use Rattle.bytes_read.specs.declared.Cursor.{Cursor}
-use Rattle.bytes_read.specs.declared.Walked.{Walked}
-use Rattle.bytes_read.specs.declared.Walked.TheVariants.{Past, Refused}
 use Rattle.bytes_read.specs.Meaning.Field.{cursor}
 use Rattle.bytes_read.specs.Meaning.Walk.{refused_at, walked}
 use Rattle.bytes_read.specs.Steps.Record.{RecordWithin}
@@ -40,39 +38,39 @@ branch-within w m h = record { inside = omega (arith, branch-start-is w.headed m
 abbrev pub ptdf_fault : List ℕ → ℕ → ℕ → Bool
 ptdf_fault s at z = outside limits.ptdf (i32_at s (at + 4 * z))
 
-abbrev pub ptdf_by : ℕ → Bool → Walked
+abbrev pub ptdf_by : ℕ → Bool → Result Cursor Outcome
 ptdf_by at true = refused_at 6 at
-ptdf_by at false = Past (cursor (at + 4))
+ptdf_by at false = Ok (cursor (at + 4))
 
-abbrev pub ptdf_walked : List ℕ → ℕ → Walked
+abbrev pub ptdf_walked : List ℕ → ℕ → Result Cursor Outcome
 ptdf_walked s at = ptdf_by at (outside limits.ptdf (i32_at s at))
 
-abbrev pub ptdfs_by : ℕ → ℕ → Option ℕ → Walked
+abbrev pub ptdfs_by : ℕ → ℕ → Option ℕ → Result Cursor Outcome
 ptdfs_by at zones (some z) = refused_at 6 (at + 4 * z)
-ptdfs_by at zones none = Past (cursor (at + 4 * zones))
+ptdfs_by at zones none = Ok (cursor (at + 4 * zones))
 
-abbrev pub ptdfs_walked : List ℕ → ℕ → ℕ → Walked
+abbrev pub ptdfs_walked : List ℕ → ℕ → ℕ → Result Cursor Outcome
 ptdfs_walked s at zones = ptdfs_by at zones (first_below zones (ptdf_fault s at))
 
 module _ (s : List ℕ) (at zones n : ℕ) (clear : first_below n (ptdf_fault s at) ≡ none) where
   pub ptdfs-stop : n < zones → ptdf_fault s at n ≡ true → refused_at 6 (at + 4 * n) ≡ ptdfs_walked s at zones
   ptdfs-stop h e = sym (ap (ptdfs_by at zones) (first-here (ptdf_fault s at) n h clear e))
 
-  pub ptdfs-end : n ≤ zones → zones ≤ n → Past (cursor (at + 4 * zones)) ≡ ptdfs_walked s at zones
+  pub ptdfs-end : n ≤ zones → zones ≤ n → Ok (cursor (at + 4 * zones)) ≡ ptdfs_walked s at zones
   ptdfs-end h l = sym (ap (ptdfs_by at zones) (first-nowhere (ptdf_fault s at) n h l clear))
 
 -- ONE PTDF, READ BACK
-pub one-refused : (s : List ℕ) (at : ℕ) {x : Outcome} → ptdf_walked s at ≡ Refused x → (outside limits.ptdf (i32_at s at) ≡ true) × (Refused x ≡ refused_at 6 at)
+pub one-refused : (s : List ℕ) (at : ℕ) {x : Outcome} → ptdf_walked s at ≡ Err x → (outside limits.ptdf (i32_at s at) ≡ true) × (Err x ≡ refused_at 6 at)
 one-refused s at {x} e = by (outside limits.ptdf (i32_at s at)) refl e
   where
-    by : (b : Bool) → outside limits.ptdf (i32_at s at) ≡ b → ptdf_by at b ≡ Refused x → (outside limits.ptdf (i32_at s at) ≡ true) × (Refused x ≡ refused_at 6 at)
+    by : (b : Bool) → outside limits.ptdf (i32_at s at) ≡ b → ptdf_by at b ≡ Err x → (outside limits.ptdf (i32_at s at) ≡ true) × (Err x ≡ refused_at 6 at)
     by true q e = (q, sym e)
     by false q e = (cc, cc)
 
-pub one-past : (s : List ℕ) (at : ℕ) {d : Cursor} → ptdf_walked s at ≡ Past d → (outside limits.ptdf (i32_at s at) ≡ false) × (d ≡ cursor (at + 4))
+pub one-past : (s : List ℕ) (at : ℕ) {d : Cursor} → ptdf_walked s at ≡ Ok d → (outside limits.ptdf (i32_at s at) ≡ false) × (d ≡ cursor (at + 4))
 one-past s at {d} e = by (outside limits.ptdf (i32_at s at)) refl e
   where
-    by : (b : Bool) → outside limits.ptdf (i32_at s at) ≡ b → ptdf_by at b ≡ Past d → (outside limits.ptdf (i32_at s at) ≡ false) × (d ≡ cursor (at + 4))
+    by : (b : Bool) → outside limits.ptdf (i32_at s at) ≡ b → ptdf_by at b ≡ Ok d → (outside limits.ptdf (i32_at s at) ≡ false) × (d ≡ cursor (at + 4))
     by true q e = (cc, cc)
     by false q e = (q, cc)
 
@@ -96,7 +94,7 @@ module _ (s : List ℕ) (m : ℕ) (h : m < branches_in s) (clear : first_below m
   abbrev fault : ℕ → Bool
   fault = branch_fault (case_of s) m
 
-  abbrev walk : Walked
+  abbrev walk : Result Cursor Outcome
   walk = walked (branch_cause s) (cursor (link_at s 0))
 
   abbrev Stands : ℕ → Type 0
@@ -117,21 +115,21 @@ module _ (s : List ℕ) (m : ℕ) (h : m < branches_in s) (clear : first_below m
     abbrev found : Option ℕ
     found = first_below (zones_in s) (ptdf_fault s (at + 4))
 
-    pub ptdf-stops : {x : Outcome} → ptdfs_walked s (at + 4) (zones_in s) ≡ Refused x → Refused x ≡ walk
+    pub ptdf-stops : {x : Outcome} → ptdfs_walked s (at + 4) (zones_in s) ≡ Err x → Err x ≡ walk
     unfolding branch_fault case_of ram_in ptdf_in
     ptdf-stops {x} e = by found refl e
       where
-        by : (o : Option ℕ) → found ≡ o → ptdfs_by (at + 4) (zones_in s) o ≡ Refused x → Refused x ≡ walk
+        by : (o : Option ℕ) → found ≡ o → ptdfs_by (at + 4) (zones_in s) o ≡ Err x → Err x ≡ walk
         by (some z) q e =
             let f = first-is (zones_in s) (ptdf_fault s (at + 4)) z q in
             sym e ∙ stops (suc z) (omega (arith, f.place_in)) (ap (λ (n : ℕ). first_below n fault) (sym (add-one z)) ∙ none-behind fault z margin (first-none z (ptdf_fault s (at + 4)) f.none_before)) (held (ptdf_fault s (at + 4) z) f.holds)
         by none q e = cc
 
-    pub ptdfs-pass : {d : Cursor} → ptdfs_walked s (at + 4) (zones_in s) ≡ Past d → (d.at ≡ branch_at s (m + 1)) × (first_below (m + 1) (branch_cause s).fails ≡ none)
+    pub ptdfs-pass : {d : Cursor} → ptdfs_walked s (at + 4) (zones_in s) ≡ Ok d → (d.at ≡ branch_at s (m + 1)) × (first_below (m + 1) (branch_cause s).fails ≡ none)
     unfolding branch_fault case_of ram_in ptdf_in
     ptdfs-pass {d} e = by found refl e
       where
-        by : (o : Option ℕ) → found ≡ o → ptdfs_by (at + 4) (zones_in s) o ≡ Past d → (d.at ≡ branch_at s (m + 1)) × (first_below (m + 1) (branch_cause s).fails ≡ none)
+        by : (o : Option ℕ) → found ≡ o → ptdfs_by (at + 4) (zones_in s) o ≡ Ok d → (d.at ≡ branch_at s (m + 1)) × (first_below (m + 1) (branch_cause s).fails ≡ none)
         by (some z) q e = (cc, cc)
         by none q e =
             let p : d ≡ cursor (at + 4 + 4 * zones_in s) = cc in

@@ -1,6 +1,7 @@
 -- `case_file::read_body` meets its contract: row 5 for the bytes that are lent, then rows 6 to 8 in the case that
 -- is cut. Assumes nothing.
-use Rattle.std.proofs.Common.{◌≡◌, ℕ, List, Bool, false, ◌≤◌, length, take, not, sym, ap, subst, ◌∙◌, eq-eqb}
+use Rattle.std.proofs.lemmas.Result.{err_from_is_err_and}
+use Rattle.std.proofs.Common.{◌≡◌, Ok, Err, ℕ, List, Bool, false, ◌≤◌, length, take, not, sym, ap, subst, ◌∙◌, eq-eqb}
 use Rattle.rules.specs.Meaning.Layout.{case_length}
 use Rattle.base_causes.specs.Meaning.Causes.{refusal}
 use Rattle.base_causes.proofs.Promised.CauseLaws.{field-passes}
@@ -11,7 +12,6 @@ use Rattle.case_header.specs.declared.Counts.{Counts}
 use Rattle.case_header.specs.Meaning.Answer.{counts_of}
 use Rattle.case_header.specs.Meaning.CaseReadable.{HeaderValid, LengthValid, length_of}
 use Rattle.case_header.specs.Steps.CaseReadable.{limited, length-is, body}
-use Rattle.case_file.specs.declared.CaseAnswer.TheVariants.{Readable}
 use Rattle.case_file.specs.declared.Files.{Files}
 use Rattle.case_file.specs.Meaning.Answer.{case_by, case_answer}
 use Rattle.case_file.specs.Meaning.Files.{case_in}
@@ -47,29 +47,30 @@ pub returns-then-length_refused : goal.returns-then-length_refused
 returns-then-length_refused c =
     let s = c.args.«case».now in
     let h = c.requires.header_valid in
-    ap (case_by (counts_of (case_in c.args.files s))) (sym (refused-5 h c.args.files (tested c.args.files h c.demanded-end.ensures c.if-length_refused.ensures)))
+    c.refused.ensures ∙ ap (case_by (counts_of (case_in c.args.files s))) (sym (refused-5 h c.args.files (tested c.args.files h c.demanded-end.ensures c.if-length_refused.ensures)))
 
 -- ROWS 6 TO 8
-pub walk_parts-requires-clause-length_valid : goal.walk_parts-requires-clause-length_valid
-walk_parts-requires-clause-length_valid c = valid c.args.files c.requires.header_valid c.demanded-end.ensures c.if-length_refused.ensures
+pub invariant_of-whole : goal.invariant_of-whole
+invariant_of-whole c = record { whole = valid c.args.files c.requires.header_valid c.demanded-end.ensures c.if-length_refused.ensures }
 
-pub returns-in-Past : goal.returns-in-Past
-returns-in-Past c =
+pub returns : goal.returns
+returns c =
     let f = c.args.files in
     let h = c.requires.header_valid in
     let d = c.demanded-end.ensures in
     let e = c.if-length_refused.ensures in
     let s = take c.demanded-end.result c.args.«case».now in
-    ap Readable (valid f h d e).headed.counts
-    ∙ ap (case_by (counts_of s)) (sym (past-length f h d e ∙ rows-passed (parts s) (cursor (case_length s)) (sym c.walk_parts.ensures ∙ c.in-Past.is)))
+    ap Ok (valid f h d e).headed.counts
+    ∙ ap (case_by (counts_of s)) (sym (past-length f h d e ∙ rows-passed (parts s) (cursor (case_length s)) (sym c.walk_parts.ensures ∙ c.in_ok-walk_parts.was)))
     ∙ ap case_answer (file-is f h d e)
 
-pub returns-in-Refused : goal.returns-in-Refused
-returns-in-Refused c =
+pub returns-in_err-walk_parts : goal.returns-in_err-walk_parts
+returns-in_err-walk_parts c =
     let f = c.args.files in
     let h = c.requires.header_valid in
     let d = c.demanded-end.ensures in
     let e = c.if-length_refused.ensures in
     let s = take c.demanded-end.result c.args.«case».now in
-    ap (case_by (counts_of s)) (sym (past-length f h d e ∙ rows-refused (parts s) (cursor (case_length s)) (sym c.walk_parts.ensures ∙ c.in-Refused.is)))
+    let p = err_from_is_err_and c.from_residual.result c.from_residual.ensures.1 in
+    p.1 ∙ ap Err p.2 ∙ ap (case_by (counts_of s)) (sym (past-length f h d e ∙ rows-refused (parts s) (cursor (case_length s)) (sym c.walk_parts.ensures ∙ c.in_err-walk_parts.was)))
     ∙ ap case_answer (file-is f h d e)

@@ -1,6 +1,6 @@
 -- What reading a header answers: the refusal by rows 1 to 4 of the verdict table, or the counts and the cursor past
 -- it. Assumes nothing.
-use Rattle.std.specs.Prelude.{Bool, true, false, not, ◌&&◌, List, [], ◌∷◌, ℕ, length, eqb, pos}
+use Rattle.std.specs.Prelude.{Bool, true, false, not, ◌&&◌, List, [], ◌∷◌, ℕ, length, eqb, pos, Result, Ok, Err}
 use Rattle.std.proofs.Math.Option.{Option, none, some}
 use Rattle.base_integers.specs.Meaning.Ranges.{outside}
 use Rattle.base_limits.specs.Meaning.Limits as limits
@@ -12,19 +12,15 @@ use Rattle.bytes_read.specs.declared.Cursor.{Cursor}
 use Rattle.bytes_read.specs.Meaning.Field.{cursor, mark_at}
 use Rattle.case_header.specs.declared.Counts.{Counts}
 use Rattle.case_header.specs.declared.Header.{Header}
-use Rattle.case_header.specs.declared.HeaderField.{HeaderField}
-use Rattle.case_header.specs.declared.HeaderField.TheVariants as taken
-use Rattle.case_header.specs.declared.HeaderAnswer.{HeaderAnswer}
-use Rattle.case_header.specs.declared.HeaderAnswer.TheVariants as header
 
 abbrev pub counts_of : List ℕ → Counts
 counts_of s = record { version = case_version s; zones = zones_in s; branches = branches_in s; links = links_in s; orders = orders_in s; tolerance = record { 0 = limits.microcents_of (pos (tolerance_in s)) } }
 
-abbrev pub header_by : Counts → Cursor → Option Outcome → HeaderAnswer
-header_by k past (some o) = header.Refused o
-header_by k past none = header.Good k past
+abbrev pub header_by : Counts → Cursor → Option Outcome → Result (Counts × Cursor) Outcome
+header_by k past (some o) = Err o
+header_by k past none = Ok (k, past)
 
-abbrev pub header_answer : List ℕ → HeaderAnswer
+abbrev pub header_answer : List ℕ → Result (Counts × Cursor) Outcome
 header_answer s = header_by (counts_of s) (cursor case_header) (header_refusal s)
 
 -- the header's fields in the file, and the cursor past them
@@ -32,11 +28,11 @@ abbrev pub header_in : List ℕ → Header
 header_in s = record { mark = mark_at s 0; version = case_version s; zones = zones_in s; branches = branches_in s; links = links_in s; orders = orders_in s; tolerance = tolerance_in s; past = cursor case_header }
 
 -- ROW 1, by its test
-abbrev pub taken_by : Header → Bool → HeaderField
-taken_by h true = taken.Refused (verdict 1 0)
-taken_by h false = taken.Taken h
+abbrev pub taken_by : Header → Bool → Result Header Outcome
+taken_by h true = Err (verdict 1 0)
+taken_by h false = Ok h
 
-abbrev pub header_taken : List ℕ → HeaderField
+abbrev pub header_taken : List ℕ → Result Header Outcome
 header_taken s = taken_by (header_in s) (length s under case_header)
 
 -- ROWS 2 TO 4 of a header

@@ -1,6 +1,6 @@
 -- A readable case and its counts: what the stages after reading require; every branch, link and order is within the
 -- file. Assumes nothing.
-use Rattle.std.specs.Prelude.{◌≡◌, refl, Bool, true, false, cond, List, [], ◌∷◌, ℕ, suc, ◌+◌, ◌*◌, ◌≤◌, ◌<◌, length}
+use Rattle.std.specs.Prelude.{◌≡◌, refl, Bool, true, false, cond, List, [], ◌∷◌, ℕ, suc, ◌+◌, ◌*◌, ◌≤◌, ◌<◌, length, Ok, Err}
 use Rattle.std.proofs.Common.{sym, subst, ◌∙◌, mul-le-mul, mul-le-mul_right, arith}
 use Rattle.std.proofs.Math.Path.{ap}
 use Rattle.std.proofs.Math.Option.{Option, none, some, some-ne-none}
@@ -15,29 +15,32 @@ use Rattle.rules.proofs.Steps.Passed.{case-length}
 use Rattle.bytes_read.specs.declared.Cursor.{Cursor}
 use Rattle.bytes_read.specs.Meaning.Field.{cursor}
 use Rattle.case_header.specs.declared.Counts.{Counts}
-use Rattle.case_header.specs.declared.HeaderAnswer.TheVariants as header
 use Rattle.case_header.specs.Meaning.Answer.{counts_of, header_by, header_answer}
 use Rattle.case_header.specs.Meaning.CaseReadable.{CaseReadable, HeaderValid, LengthValid, CountsInRange, branch_start, link_start, order_start, length_of, branch_cause, link_cause, order_cause}
 
 -- WHAT AN ANSWER IMPLIES
-pub headed-of : (s : List ℕ) {k : Counts} {c : Cursor} → header_answer s ≡ header.Good k c → HeaderValid s k
+pub headed-of : (s : List ℕ) {k : Counts} {c : Cursor} → header_answer s ≡ Ok (k, c) → HeaderValid s k
 headed-of s {k} {c} e = by (header_refusal s) refl e
   where
-    by : (o : Option Outcome) → header_refusal s ≡ o → header_by (counts_of s) (cursor case_header) o ≡ header.Good k c → HeaderValid s k
+    by : (o : Option Outcome) → header_refusal s ≡ o → header_by (counts_of s) (cursor case_header) o ≡ Ok (k, c) → HeaderValid s k
     by (some o) q e = record { passed = cc; counts = cc }
-    by none q e = record { passed = q; counts = cc }
+    by none q e =
+        let p : ◌≡◌ {A = Counts × Cursor} (k, c) (counts_of s, cursor case_header) = cc in
+        record { passed = q; counts = ap (λ (t : Counts × Cursor). t.0) p }
 
-pub headed-past : (s : List ℕ) {k : Counts} {c : Cursor} → header_answer s ≡ header.Good k c → c ≡ cursor case_header
+pub headed-past : (s : List ℕ) {k : Counts} {c : Cursor} → header_answer s ≡ Ok (k, c) → c ≡ cursor case_header
 headed-past s {k} {c} e = by (header_refusal s) e
   where
-    by : (o : Option Outcome) → header_by (counts_of s) (cursor case_header) o ≡ header.Good k c → c ≡ cursor case_header
+    by : (o : Option Outcome) → header_by (counts_of s) (cursor case_header) o ≡ Ok (k, c) → c ≡ cursor case_header
     by (some o) e = cc
-    by none e = cc
+    by none e =
+        let p : ◌≡◌ {A = Counts × Cursor} (k, c) (counts_of s, cursor case_header) = cc in
+        ap (λ (t : Counts × Cursor). t.1) p
 
-pub header-refused-of : (s : List ℕ) {r : Outcome} → header_answer s ≡ header.Refused r → header_refusal s ≡ some r
+pub header-refused-of : (s : List ℕ) {r : Outcome} → header_answer s ≡ Err r → header_refusal s ≡ some r
 header-refused-of s {r} e = by (header_refusal s) refl e
   where
-    by : (o : Option Outcome) → header_refusal s ≡ o → header_by (counts_of s) (cursor case_header) o ≡ header.Refused r → header_refusal s ≡ some r
+    by : (o : Option Outcome) → header_refusal s ≡ o → header_by (counts_of s) (cursor case_header) o ≡ Err r → header_refusal s ≡ some r
     by (some o) q e = q ∙ cc
     by none q e = cc
 

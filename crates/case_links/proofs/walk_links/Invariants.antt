@@ -9,4 +9,4 @@ use Rattle.base_zone_set.specs.Steps.Pairs.{Seen}
 use Rattle.case_links.proofs.walk_links.Given as goal
 
 abbrev pub invariant-loop : goal.invariant-loop
-invariant-loop l = (l.cursor.at ≡ link_at l.case l.counter) × (first_below l.counter (link_cause l.case).fails ≡ none) × Seen (from_in l.case) (to_in l.case) l.counter l.seen × (l.k.zones ≤ 16)
+invariant-loop l = (l.cursor.at ≡ link_at l.case.bytes.now l.counter) × (first_below l.counter (link_cause l.case.bytes.now).fails ≡ none) × Seen (from_in l.case.bytes.now) (to_in l.case.bytes.now) l.counter l.seen × (l.case.counts.zones ≤ 16)

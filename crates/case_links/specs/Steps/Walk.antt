@@ -1,8 +1,10 @@
 -- The walk over the links of a case, field by field as row 7 tests them, with the set of the pairs seen.
 -- Assumes nothing.
-use Rattle.std.specs.Prelude.{◌≡◌, Bool, not, ◌||◌, List, ℕ, ◌+◌, ◌≤◌, ◌<◌, leb, ℤ}
+use Rattle.std.specs.Prelude.{◌≡◌, Bool, not, ◌||◌, List, ℕ, ◌+◌, ◌≤◌, ◌<◌, leb, ℤ, Option, None, Some, Result}
 use Rattle.std.proofs.Math.Path.{refl, sym, ap, subst}
+use Rattle.std.proofs.lemmas.Option.{none-some, same_Some}
 use Rattle.std.proofs.Common.{◌∙◌, arith, le-leb}
+use Rattle.base_causes.specs.declared.Outcome.{Outcome}
 use Rattle.std.proofs.Math.Bool.{true, false, cond}
 use Rattle.std.proofs.Math.Option.{none}
 use Rattle.std.proofs.Math.Dec.{T, eqb, eqb→eq}
@@ -17,10 +19,7 @@ use Rattle.rules.specs.Meaning.Hour.{case_of}
 use Rattle.base_causes.specs.Meaning.Causes.{first_below, first_field}
 use Rattle.base_causes.proofs.Promised.CauseLaws.{not-below, no_place, first-field}
 use Rattle.rules.specs.Meaning.Verdict.{unknown, repeated, link_fault}
-use Rattle.bytes_read.specs.declared.Walked.{Walked}
 use Rattle.bytes_read.specs.declared.Cursor.{Cursor}
-use Rattle.bytes_read.specs.declared.WordField.{WordField}
-use Rattle.bytes_read.specs.declared.WordField.TheVariants.{Taken, Short}
 use Rattle.bytes_read.specs.Meaning.Field.{cursor, word_field}
 use Rattle.bytes_read.specs.Steps.Walk.{Took, word-took, word-short}
 use Rattle.bytes_read.specs.Meaning.Walk.{refused_at, walked}
@@ -36,29 +35,31 @@ use Rattle.base_zone_set.specs.Steps.Pairs.{holds, same_pair, Seen}
 abbrev pub contracted_at : List ℕ → ℕ → ℕ → ℕ → ℕ
 contracted_at s version capacity at = cond (contracts version) (u32_at s at) capacity
 
-abbrev pub contracted_by : List ℕ → ℕ → ℕ → Bool → WordField
+abbrev pub contracted_by : List ℕ → ℕ → ℕ → Bool → Option (ℕ × Cursor)
 contracted_by s capacity at true = word_field s at
-contracted_by s capacity at false = Taken capacity (cursor at)
+contracted_by s capacity at false = Some (capacity, cursor at)
 
-abbrev pub contracted_field : List ℕ → ℕ → ℕ → ℕ → WordField
+abbrev pub contracted_field : List ℕ → ℕ → ℕ → ℕ → Option (ℕ × Cursor)
 contracted_field s version capacity at = contracted_by s capacity at (contracts version)
 
 module _ (s : List ℕ) (version capacity at : ℕ) where
-  pub contracted-took : {v : ℕ} {c : Cursor} → at ≤ length s → contracted_field s version capacity at ≡ Taken v c → Took s at (contracted_size version) (contracted_at s version capacity at) v c
+  pub contracted-took : {v : ℕ} {c : Cursor} → at ≤ length s → contracted_field s version capacity at ≡ Some (v, c) → Took s at (contracted_size version) (contracted_at s version capacity at) v c
   unfolding contracted_size
   contracted-took {v} {c} h e = by (contracts version) e
     where
-      by : (b : Bool) → contracted_by s capacity at b ≡ Taken v c → Took s at (cond b 4 0) (cond b (u32_at s at) capacity) v c
+      by : (b : Bool) → contracted_by s capacity at b ≡ Some (v, c) → Took s at (cond b 4 0) (cond b (u32_at s at) capacity) v c
       by true e = word-took s at e
-      by false e = let p : c ≡ cursor at = cc in record { inside = omega arith; is = cc; past = p ∙ ap cursor (omega arith) }
+      by false e =
+          let p = same_Some (capacity, cursor at) (v, c) e in
+          record { inside = omega arith; is = sym (ap (λ (t : ℕ × Cursor). t.0) p); past = sym (ap (λ (t : ℕ × Cursor). t.1) p) ∙ ap cursor (omega arith) }
 
-  pub contracted-short : contracted_field s version capacity at ≡ Short → length s < at + contracted_size version
+  pub contracted-short : contracted_field s version capacity at ≡ None → length s < at + contracted_size version
   unfolding contracted_size
   contracted-short e = by (contracts version) e
     where
-      by : (b : Bool) → contracted_by s capacity at b ≡ Short → length s < at + cond b 4 0
+      by : (b : Bool) → contracted_by s capacity at b ≡ None → length s < at + cond b 4 0
       by true e = word-short s at e
-      by false e = let never : false ≡ true = cc in absurd (subst (λ (b : Bool). T (not b)) never tt)
+      by false e = absurd (none-some (capacity, cursor at) (sym e))
 
 -- WHERE LINKS STAND: each begins where the one before ends, and the orders begin where the last ends
 pub link-next : (s : List ℕ) (l : ℕ) → link_at s l + 6 + contracted_size (case_version s) ≡ link_at s (l + 1)
@@ -100,7 +101,7 @@ module _ {s : List ℕ} {l at : ℕ} {seen : List ℕ} (t : LinkTurn s l at seen
   abbrev fault : ℕ → Bool
   fault = link_fault (case_of s) l
 
-  abbrev walk : Walked
+  abbrev walk : Result Cursor Outcome
   walk = walked (link_cause s) (cursor (order_at s 0))
 
   from_place : u8_at s (at + 0) ≡ from_in s l

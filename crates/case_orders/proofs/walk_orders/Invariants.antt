@@ -7,4 +7,4 @@ use Rattle.case_header.specs.Meaning.CaseReadable.{order_cause}
 use Rattle.case_orders.proofs.walk_orders.Given as goal
 
 abbrev pub invariant-loop : goal.invariant-loop
-invariant-loop l = (l.cursor.at ≡ order_at l.case l.counter) × (first_below l.counter (order_cause l.case).fails ≡ none)
+invariant-loop l = (l.cursor.at ≡ order_at l.case.bytes.now l.counter) × (first_below l.counter (order_cause l.case.bytes.now).fails ≡ none)

@@ -6,10 +6,13 @@ use Rattle.proposal_file.specs.Steps.ProposalValid.{number-inside, flow-is}
 use Rattle.proposal_file.proofs.flow_at.Goals as goal
 
 pub overflow_add-k : goal.overflow_add-k
-overflow_add-k c = omega (arith, limited (headed c.requires.proposal_valid.opened))
+overflow_add-k c = omega (arith, limited (headed c.args.hour.read.proposed.opened))
 
 pub number_at-requires : goal.number_at-requires
-number_at-requires c = number-inside c.requires.proposal_valid (c.args.k.orders + c.args.l) (omega arith)
+number_at-requires c = number-inside c.args.hour.read.proposed (c.args.hour.case.counts.orders + c.args.l) (omega arith)
 
-pub returns : goal.returns
-returns c = c.volume.ensures ∙ ap pos (c.number_at.ensures ∙ flow-is c.requires.proposal_valid.opened c.args.proposal.now c.args.l)
+pub returns-clause-value : goal.returns-clause-value
+returns-clause-value c = c.volume.ensures ∙ ap pos (c.number_at.ensures ∙ flow-is c.args.hour.read.proposed.opened c.args.hour.proposal.now c.args.l)
+
+pub returns-clause-upper_bound : goal.returns-clause-upper_bound
+returns-clause-upper_bound c = omega (arith, c.number_at.ensures ∙ flow-is c.args.hour.read.proposed.opened c.args.hour.proposal.now c.args.l)

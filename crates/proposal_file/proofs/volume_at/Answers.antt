@@ -6,7 +6,7 @@ use Rattle.proposal_file.specs.Steps.ProposalValid.{number-inside}
 use Rattle.proposal_file.proofs.volume_at.Goals as goal
 
 pub number_at-requires : goal.number_at-requires
-number_at-requires c = number-inside c.requires.proposal_valid c.args.i (omega arith)
+number_at-requires c = number-inside c.args.hour.read.proposed c.args.i (omega arith)
 
 pub returns : goal.returns
 unfolding volume_in

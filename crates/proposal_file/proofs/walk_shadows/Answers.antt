@@ -39,43 +39,43 @@ unfolding shadow_in
 tested s t m f e = sym (ap (outside limits.shadow_price) (e ∙ ap pos f.is))
 
 pub refuse-requires : goal.refuse-requires
-refuse-requires c = omega (arith, c.loop.invariant.0, inside c.args.proposal.now c.requires.case_readable c.requires.proposal_len c.loop-test.true)
+refuse-requires c = omega (arith, c.loop.invariant.0, inside c.args.proposal.now c.args.«case».readable c.requires.proposal_len c.loop-test.true)
 
 -- it is there
 pub returns-in_default : goal.returns-in_default
 returns-in_default c =
     let t = c.args.proposal.now in
-    let o = c.requires.case_readable in
+    let o = c.args.«case».readable in
     let e = c.requires.proposal_len in
-    absurd (omega (arith, word-lacks (here t o e c.loop-test.true c.loop.invariant.0) c.word.ensures c.in_default.is, inside t o e c.loop-test.true))
+    absurd (omega (arith, word-lacks (here t o e c.loop-test.true c.loop.invariant.0) c.take.ensures c.in_default.is, inside t o e c.loop-test.true))
 
 pub refuse-requires-in_default-shadow_price : goal.refuse-requires-in_default-shadow_price
-refuse-requires-in_default-shadow_price c = omega (arith, c.loop.invariant.0, inside c.args.proposal.now c.requires.case_readable c.requires.proposal_len c.loop-test.true)
+refuse-requires-in_default-shadow_price c = omega (arith, c.loop.invariant.0, inside c.args.proposal.now c.args.«case».readable c.requires.proposal_len c.loop-test.true)
 
 pub returns-in_default-shadow_price : goal.returns-in_default-shadow_price
 returns-in_default-shadow_price c =
-    let s = c.args.«case».now in
+    let s = c.args.«case».bytes.now in
     let t = c.args.proposal.now in
-    let o = c.requires.case_readable in
+    let o = c.args.«case».readable in
     let e = c.requires.proposal_len in
-    let taken = word_next (here t o e c.loop-test.true c.loop.invariant.0) c.word.ensures c.in-Taken.is in
-    let test = tested s t c.loop.counter taken c.unsigned.ensures in
+    let taken = word_next (here t o e c.loop-test.true c.loop.invariant.0) c.take.ensures c.in-Some.is in
+    let test = tested s t c.loop.counter taken c.from.ensures in
     c.refuse-in_default-shadow_price.ensures ∙ ap (refused_at 14) c.loop.invariant.0
     ∙ walk-stops (shadow_cause s t) (cursor (proposal_length s)) c.loop.counter c.loop.invariant.1 (in-turn t o e c.loop-test.true)
     (test ∙ cents-outside _ _ (sym c.shadow_price.ensures ∙ c.in_default-shadow_price.is))
 
 pub loop-preserved : goal.loop-preserved
 loop-preserved c =
-    let s = c.args.«case».now in
+    let s = c.args.«case».bytes.now in
     let t = c.args.proposal.now in
-    let taken = word_next (here t c.requires.case_readable c.requires.proposal_len c.loop-test.true c.loop.invariant.0) c.word.ensures c.in-Taken.is in
-    let test = tested s t c.loop.counter taken c.unsigned.ensures in (
+    let taken = word_next (here t c.args.«case».readable c.requires.proposal_len c.loop-test.true c.loop.invariant.0) c.take.ensures c.in-Some.is in
+    let test = tested s t c.loop.counter taken c.from.ensures in (
       ap (λ (d : Cursor). d.at) taken.taken.past ∙ shadow-next s c.loop.counter,
-      first-later (bad_shadow s t) c.loop.counter c.loop.invariant.1 (test ∙ (cents-held _ _ c.in-Held.field-0 (sym c.shadow_price.ensures ∙ c.in-Held.is)).0),
+      first-later (bad_shadow s t) c.loop.counter c.loop.invariant.1 (test ∙ (cents-held _ _ c.in-Some-shadow_price.field-0 (sym c.shadow_price.ensures ∙ c.in-Some-shadow_price.is)).0),
     )
 
 pub returns : goal.returns
 returns c =
-    let s = c.args.«case».now in
+    let s = c.args.«case».bytes.now in
     let t = c.args.proposal.now in
-    walk-done (shadow_cause s t) (shadow_at s) c.loop.invariant.0 c.loop.invariant.1 (omega (arith, branches-is c.requires.case_readable t)) (shadows-end s)
+    walk-done (shadow_cause s t) (shadow_at s) c.loop.invariant.0 c.loop.invariant.1 (omega (arith, branches-is c.args.«case».readable t)) (shadows-end s)

@@ -7,4 +7,4 @@ use Rattle.proposal_file.specs.Steps.ProposalValid.{bad_shadow}
 use Rattle.proposal_file.proofs.walk_shadows.Given as goal
 
 abbrev pub invariant-loop : goal.invariant-loop
-invariant-loop l = (l.cursor.at ≡ shadow_at l.case l.counter) × (first_below l.counter (bad_shadow l.case l.proposal) ≡ none)
+invariant-loop l = (l.cursor.at ≡ shadow_at l.case.bytes.now l.counter) × (first_below l.counter (bad_shadow l.case.bytes.now l.proposal) ≡ none)

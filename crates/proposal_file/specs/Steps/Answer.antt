@@ -1,5 +1,5 @@
 -- What a proposal's header implies; any 32 signed bits are a system price. Assumes nothing.
-use Rattle.std.specs.Prelude.{◌≡◌, refl, Bool, true, false, ◌||◌, List, ℕ, suc, ◌-◌, ◌^◌, ◌≤◌, ltb, length, pos, negsuc}
+use Rattle.std.specs.Prelude.{◌≡◌, refl, Bool, true, false, ◌||◌, List, ℕ, suc, ◌-◌, ◌^◌, ◌≤◌, ltb, length, pos, negsuc, Ok, Err}
 use Rattle.std.proofs.Common.{ap, arith, ltb-true, ltb-false, le-ltb}
 use Rattle.std.specs.Int.{w32}
 use mir.Val.{sel, to_z}
@@ -10,21 +10,20 @@ use Rattle.base_causes.specs.declared.Outcome.{Outcome}
 use Rattle.base_causes.specs.Meaning.Causes.{verdict}
 use Rattle.rules.specs.Meaning.Verdict.{◌under◌}
 use Rattle.proposal_file.specs.declared.Header.{Header}
-use Rattle.proposal_file.specs.declared.HeaderField.TheVariants as taken
 use Rattle.proposal_file.specs.Meaning.Answer.{header_in, taken_by, header_taken}
 
 -- A HEADER IS TAKEN where row 9 passes
-pub header-taken : (t : List ℕ) {h : Header} → header_taken t ≡ taken.Taken h → (proposal_header ≤ length t) × (h ≡ header_in t)
+pub header-taken : (t : List ℕ) {h : Header} → header_taken t ≡ Ok h → (proposal_header ≤ length t) × (h ≡ header_in t)
 header-taken t {h} e = by (length t under proposal_header) refl e
   where
-    by : (b : Bool) → length t under proposal_header ≡ b → taken_by (header_in t) b ≡ taken.Taken h → (proposal_header ≤ length t) × (h ≡ header_in t)
+    by : (b : Bool) → length t under proposal_header ≡ b → taken_by (header_in t) b ≡ Ok h → (proposal_header ≤ length t) × (h ≡ header_in t)
     by true q e = (ltb-false (length t) proposal_header cc, cc)
     by false q e = (ltb-false (length t) proposal_header q, cc)
 
-pub header_refused : (t : List ℕ) {r : Outcome} → header_taken t ≡ taken.Refused r → (length t under proposal_header ≡ true) × (r ≡ verdict 9 0)
+pub header_refused : (t : List ℕ) {r : Outcome} → header_taken t ≡ Err r → (length t under proposal_header ≡ true) × (r ≡ verdict 9 0)
 header_refused t {r} e = by (length t under proposal_header) refl e
   where
-    by : (b : Bool) → length t under proposal_header ≡ b → taken_by (header_in t) b ≡ taken.Refused r → (length t under proposal_header ≡ true) × (r ≡ verdict 9 0)
+    by : (b : Bool) → length t under proposal_header ≡ b → taken_by (header_in t) b ≡ Err r → (length t under proposal_header ≡ true) × (r ≡ verdict 9 0)
     by true q e = (q, cc)
     by false q e = (cc, cc)
 

@@ -1,6 +1,6 @@
 -- A proposal that passes rows 9 to 14, for a readable case: what the stages after reading require; its fields are
 -- within the file. Assumes nothing.
-use Rattle.std.specs.Prelude.{◌≡◌, refl, Bool, List, [], ◌∷◌, ℕ, ◌+◌, ◌*◌, ◌≤◌, ◌<◌, length, pos}
+use Rattle.std.specs.Prelude.{◌≡◌, refl, Bool, List, [], ◌∷◌, ℕ, ◌+◌, ◌*◌, ◌≤◌, ◌<◌, length, pos, Ok, Err}
 use Rattle.std.proofs.Math.Path.{ap}
 use Rattle.std.proofs.Common.{◌∙◌, arith}
 use Rattle.std.proofs.Math.Option.{Option, none, some}
@@ -17,7 +17,6 @@ use Rattle.case_header.specs.declared.Counts.{Counts}
 use Rattle.case_header.specs.Meaning.CaseReadable.{CaseReadable}
 use Rattle.case_header.specs.Steps.CaseReadable.{headed, limited}
 use Rattle.proposal_file.specs.declared.ProposalOpening.{ProposalOpening}
-use Rattle.proposal_file.specs.declared.ProposalAnswer.TheVariants as answer
 use Rattle.proposal_file.specs.Meaning.Answer.{opening_of, proposal_by, proposal_answer}
 use Rattle.proposal_file.specs.Meaning.ProposalValid.{ProposalValid}
 
@@ -36,24 +35,24 @@ abbrev pub shadow_cause : List ℕ → List ℕ → Cause
 shadow_cause s t = each_at 14 (branches_in s) (bad_shadow s t) (shadow_at s)
 
 -- WHAT AN ANSWER IMPLIES
-pub opening-is : (s t : List ℕ) {p : ProposalOpening} → proposal_answer s t ≡ answer.Sound p → p ≡ opening_of t
+pub opening-is : (s t : List ℕ) {p : ProposalOpening} → proposal_answer s t ≡ Ok p → p ≡ opening_of t
 opening-is s t {p} e = by (proposal_refusal s t) e
   where
-    by : (o : Option Outcome) → proposal_by (opening_of t) o ≡ answer.Sound p → p ≡ opening_of t
+    by : (o : Option Outcome) → proposal_by (opening_of t) o ≡ Ok p → p ≡ opening_of t
     by (some o) e = cc
     by none e = cc
 
-pub proposed-of : {s : List ℕ} {k : Counts} (t : List ℕ) {p : ProposalOpening} → CaseReadable s k → proposal_answer s t ≡ answer.Sound p → ProposalValid s k t
+pub proposed-of : {s : List ℕ} {k : Counts} (t : List ℕ) {p : ProposalOpening} → CaseReadable s k → proposal_answer s t ≡ Ok p → ProposalValid s k t
 proposed-of {s} {k} t {p} w e = by (proposal_refusal s t) refl e
   where
-    by : (o : Option Outcome) → proposal_refusal s t ≡ o → proposal_by (opening_of t) o ≡ answer.Sound p → ProposalValid s k t
+    by : (o : Option Outcome) → proposal_refusal s t ≡ o → proposal_by (opening_of t) o ≡ Ok p → ProposalValid s k t
     by (some o) q e = record { opened = w; passed = cc }
     by none q e = record { opened = w; passed = q }
 
-pub refused-of : (s t : List ℕ) {r : Outcome} → proposal_answer s t ≡ answer.Refused r → proposal_refusal s t ≡ some r
+pub refused-of : (s t : List ℕ) {r : Outcome} → proposal_answer s t ≡ Err r → proposal_refusal s t ≡ some r
 refused-of s t {r} e = by (proposal_refusal s t) refl e
   where
-    by : (o : Option Outcome) → proposal_refusal s t ≡ o → proposal_by (opening_of t) o ≡ answer.Refused r → proposal_refusal s t ≡ some r
+    by : (o : Option Outcome) → proposal_refusal s t ≡ o → proposal_by (opening_of t) o ≡ Err r → proposal_refusal s t ≡ some r
     by (some o) q e = q ∙ cc
     by none q e = cc
 
