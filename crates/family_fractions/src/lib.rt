@@ -7,53 +7,44 @@ ghost use Rattle.rules.specs.Meaning.Families.{parent_of};
 ghost use Rattle.rules.specs.Meaning.Verdict.{exceeds_parent, excess_fraction};
 ghost use Rattle.base_causes.specs.Meaning.Causes.{failing};
 ghost use Rattle.base_causes.specs.Meaning.Place.{place_of};
-ghost use Rattle.proposal_file.specs.Meaning.ProposalValid.{ProposalValid};
 ghost use Rattle.proposal_file.specs.Meaning.InRange.{VolumesInRange};
-ghost use Rattle.family_list.specs.Meaning.Answer.{FamiliesReadable};
 
-use base_causes::Place;
-use case_header::Counts;
 use case_orders::order_at;
-use family_list::{NO_PARENT, parent_at};
-use proposal_file::volume_at;
+use family_list::ReadableFamilies;
+use proposal_file::{HourRead, volume_at};
 
 // Whether the fraction of order i exceeds its parent's.
-fn exceeds_parent(case: &[u8], k: Counts, proposal: &[u8], families: &[u8], i: usize) -> bool
-    requires proposal_valid { ProposalValid «case».now k proposal.now }
-    requires volumes_in_range { VolumesInRange (case_of «case».now) (plan_of «case».now proposal.now) }
-    requires families_readable { FamiliesReadable families.now k.orders }
-    requires i_lt_orders { i < k.orders }
-    ensures { result ≡ exceeds_parent (case_of «case».now) (plan_of «case».now proposal.now) i
-        (parent_of families.now i) }
+fn exceeds_parent(hour: HourRead<'_>, families: ReadableFamilies<'_>, i: usize) -> bool
+    requires volumes_in_range { VolumesInRange (case_of hour.case.bytes.now) (plan_of hour.case.bytes.now hour.proposal.now) }
+    requires orders_value { families.orders ≡ hour.case.counts.orders }
+    requires i_lt_orders { i < families.orders }
+    ensures { result ≡ exceeds_parent (case_of hour.entry.case.bytes.now)
+        (plan_of hour.entry.case.bytes.now hour.entry.proposal.now) i (parent_of families.entry.list.now i) }
 {
-    let orders = k.orders;
-    let parent = parent_at(families, orders, i);
-    if parent == NO_PARENT {
+    let Some(parent) = families.parent(i) else {
         return false;
-    }
-    let child = order_at(case, k, i);
-    let above = order_at(case, k, parent);
+    };
+    let child = order_at(hour.case, i);
+    let above = order_at(hour.case, parent);
     let quantity = child.quantity;
     let parent_quantity = above.quantity;
-    let volume = volume_at(case, k, proposal, i);
-    let parent_volume = volume_at(case, k, proposal, parent);
+    let volume = volume_at(hour, i);
+    let parent_volume = volume_at(hour, parent);
     volume.greater_part(quantity, parent_volume, parent_quantity)
 }
 
 // The first child whose fraction exceeds its parent's, for a proposal that passes row 21 and a family list that
 // passes rows 16 and 17.
-pub fn first_over_parent(case: &[u8], k: Counts, proposal: &[u8], families: &[u8]) -> Place
-    requires proposal_valid { ProposalValid «case».now k proposal.now }
-    requires volumes_in_range { VolumesInRange (case_of «case».now) (plan_of «case».now proposal.now) }
-    requires families_readable { FamiliesReadable families.now k.orders }
-    ensures { place_of result ≡ failing (excess_fraction families.now (case_of «case».now)
-        (plan_of «case».now proposal.now)) }
+pub fn first_over_parent(hour: HourRead<'_>, families: ReadableFamilies<'_>) -> Option<usize>
+    requires volumes_in_range { VolumesInRange (case_of hour.case.bytes.now) (plan_of hour.case.bytes.now hour.proposal.now) }
+    requires orders_value { families.orders ≡ hour.case.counts.orders }
+    ensures { place_of result ≡ failing (excess_fraction families.entry.list.now (case_of hour.entry.case.bytes.now)
+        (plan_of hour.entry.case.bytes.now hour.entry.proposal.now)) }
 {
-    let orders = k.orders;
-    for i in 0..orders {
-        if exceeds_parent(case, k, proposal, families, i) {
-            return Place::At(i);
+    for i in 0..families.orders {
+        if exceeds_parent(hour, families, i) {
+            return Some(i);
         }
     }
-    Place::Nowhere
+    None
 }

@@ -2,8 +2,8 @@
 // 7), the balance (22), and the link rule with the flow-based parts (23, rules 2 and 4).
 #![tactic(auto)]
 
-ghost use Rattle.std.specs.Prelude.{◌≡◌, ◌+◌, ◌≤◌, ℤ};
-ghost use Rattle.std.proofs.Math.Option.{none};
+ghost use Rattle.std.specs.Prelude.{◌≡◌, ◌+◌, ◌≤◌, ℤ, IfOk, IfErr};
+ghost use Rattle.std.proofs.Math.Option.{none, some};
 ghost use Rattle.std.specs.Int.{w64};
 ghost use Rattle.std.proofs.Common.{SFits};
 ghost use Rattle.base_integers.specs.Meaning.Machine.{SumsFit};
@@ -11,14 +11,11 @@ ghost use Rattle.base_integers.specs.Meaning.Sums.{sum_to};
 ghost use Rattle.rules.specs.Meaning.Hour.{case_of, plan_of, net, fb_part};
 ghost use Rattle.rules.specs.Meaning.Hour as rules;
 ghost use Rattle.base_causes.specs.Meaning.Causes.{failing};
-ghost use Rattle.base_causes.specs.Meaning.Place.{place_of};
 ghost use Rattle.rules.specs.Meaning.Verdict.{excess_volume, overused_link};
 ghost use Rattle.base_measures.specs.Meaning.TenthsHold.{tenths_at, TenthsHold};
-ghost use Rattle.proposal_file.specs.Meaning.Read.{HourReadFrom};
 ghost use Rattle.proposal_file.specs.Meaning.InRange.{VolumesInRange};
 
-use base_causes::Place;
-use base_measures::{Microcents, Tenths};
+use base_measures::{Measure, Microcents, Tenths};
 use case_links::link_at;
 use case_orders::order_at;
 use proposal_file::{HourRead, flow_at, volume_at};
@@ -34,52 +31,40 @@ fn signed_volume(buys: bool, volume: Tenths) -> Tenths
     Tenths::ZERO.minus(volume)
 }
 
-// One pass over the orders: the first volume above its order's quantity; where there is none, the net position of
-// each zone and the welfare.
+// The net position of each zone, and the welfare.
 #[derive(Clone, Copy)]
 pub struct OrderSums {
-    pub excess: Place,
     pub nets: [Tenths; layout::ZONES],
     pub welfare: Microcents,
 }
 
-// Rules 1 and 7, and verdict 21.
-pub fn order_sums(case: &[u8], proposal: &[u8], hour: HourRead) -> OrderSums
-    requires { HourReadFrom «case».now proposal.now hour }
-    ensures excess { place_of result.excess ≡ failing (excess_volume (case_of «case».now)
-        (plan_of «case».now proposal.now)) }
-    ensures nets { place_of result.excess ≡ none → TenthsHold
-        (net (case_of «case».now) (plan_of «case».now proposal.now)) result.nets }
-    ensures welfare { place_of result.excess ≡ none → result.welfare.0
-        ≡ rules.welfare (case_of «case».now) (plan_of «case».now proposal.now) }
+// Rules 1 and 7, and verdict 21, in one pass over the orders: the sums, or the first order whose volume is above its
+// quantity.
+pub fn order_sums(hour: HourRead<'_>) -> Result<OrderSums, usize>
+    ensures excess { IfErr result (λ i. failing (excess_volume (case_of hour.entry.case.bytes.now)
+        (plan_of hour.entry.case.bytes.now hour.entry.proposal.now)) ≡ some i) }
+    ensures within { IfOk result (λ _. failing (excess_volume (case_of hour.entry.case.bytes.now)
+        (plan_of hour.entry.case.bytes.now hour.entry.proposal.now)) ≡ none) }
+    ensures nets { IfOk result (λ sums. TenthsHold (net (case_of hour.entry.case.bytes.now)
+        (plan_of hour.entry.case.bytes.now hour.entry.proposal.now)) sums.nets) }
+    ensures welfare { IfOk result (λ sums. sums.welfare.0 ≡ rules.welfare (case_of hour.entry.case.bytes.now)
+        (plan_of hour.entry.case.bytes.now hour.entry.proposal.now)) }
 {
-    let k = hour.counts;
-    let orders = k.orders;
+    let case = hour.case;
     let mut nets = [Tenths::ZERO; layout::ZONES];
     let mut welfare = Microcents::ZERO;
-    for i in 0..orders {
-        let order = order_at(case, k, i);
-        let volume = volume_at(case, k, proposal, i);
-        let quantity = order.quantity;
-        if volume.exceeds(quantity) {
-            return OrderSums {
-                excess: Place::At(i),
-                nets,
-                welfare: Microcents::ZERO,
-            };
+    for i in 0..case.counts.orders {
+        let order = order_at(case, i);
+        let volume = volume_at(hour, i);
+        if order.quantity < volume {
+            return Err(i);
         }
         let zone = order.zone;
         let signed = signed_volume(order.buys, volume);
-        let next = nets[zone].plus(signed);
-        nets[zone] = next;
-        let price = order.price;
-        welfare = welfare.plus(signed.cost(price.in_grains()));
+        nets[zone] = nets[zone].plus(signed);
+        welfare = welfare.plus(signed.cost(order.price.in_grains()));
     }
-    OrderSums {
-        excess: Place::Nowhere,
-        nets,
-        welfare,
-    }
+    Ok(OrderSums { nets, welfare })
 }
 
 // Rule 3: the sum of the net positions.
@@ -90,58 +75,39 @@ pub fn net_sum(nets: [Tenths; layout::ZONES], zones: usize) -> Tenths
 {
     let mut sum = Tenths::ZERO;
     for z in 0..zones {
-        let net = nets[z];
-        sum = sum.plus(net);
+        sum = sum.plus(nets[z]);
     }
     sum
 }
 
-// One pass over the links: the first whose flow, times 100,000, is above the LTA share times its capacity; where
-// there is none, the flow-based part of each zone, its net position less its LTA part.
-#[derive(Clone, Copy)]
-pub struct Exchange {
-    pub overused: Place,
-    pub parts: [Tenths; layout::ZONES],
-}
-
-// Rules 2 and 4, and verdict 23.
+// Rules 2 and 4, and verdict 23, in one pass over the links: the flow-based part of each zone, its net position less
+// its LTA part, or the first link whose flow, times 100,000, is above the LTA share times its capacity.
 pub fn link_sums(
-    case: &[u8],
-    proposal: &[u8],
-    hour: HourRead,
+    hour: HourRead<'_>,
     nets: [Tenths; layout::ZONES],
-) -> Exchange
-    requires hour_read_from { HourReadFrom «case».now proposal.now hour }
-    requires volumes_in_range { VolumesInRange (case_of «case».now) (plan_of «case».now proposal.now) }
-    requires tenths_hold { TenthsHold (net (case_of «case».now) (plan_of «case».now proposal.now)) nets }
-    ensures overused { place_of result.overused ≡ failing
-        (overused_link (case_of «case».now) (plan_of «case».now proposal.now)) }
-    ensures parts { place_of result.overused ≡ none → TenthsHold
-        (fb_part (case_of «case».now) (plan_of «case».now proposal.now)) result.parts }
+) -> Result<[Tenths; layout::ZONES], usize>
+    requires volumes_in_range { VolumesInRange (case_of hour.case.bytes.now) (plan_of hour.case.bytes.now hour.proposal.now) }
+    requires tenths_hold { TenthsHold (net (case_of hour.case.bytes.now) (plan_of hour.case.bytes.now hour.proposal.now)) nets }
+    ensures overused { IfErr result (λ l. failing (overused_link (case_of hour.entry.case.bytes.now)
+        (plan_of hour.entry.case.bytes.now hour.entry.proposal.now)) ≡ some l) }
+    ensures within { IfOk result (λ _. failing (overused_link (case_of hour.entry.case.bytes.now)
+        (plan_of hour.entry.case.bytes.now hour.entry.proposal.now)) ≡ none) }
+    ensures parts { IfOk result (λ parts. TenthsHold (fb_part (case_of hour.entry.case.bytes.now)
+        (plan_of hour.entry.case.bytes.now hour.entry.proposal.now)) parts) }
 {
-    let k = hour.counts;
+    let case = hour.case;
     let share = hour.opening.share;
-    let links = k.links;
     let mut parts = nets;
-    for l in 0..links {
-        let link = link_at(case, k, l);
-        let flow = flow_at(case, k, proposal, l);
-        let capacity = link.capacity;
-        if flow.scaled_by_one().exceeds(share.of_volume(capacity)) {
-            return Exchange {
-                overused: Place::At(l),
-                parts,
-            };
+    for l in 0..case.counts.links {
+        let link = link_at(case, l);
+        let flow = flow_at(hour, l);
+        if share.of_volume(link.capacity) < flow.scaled_by_one() {
+            return Err(l);
         }
         let to = link.to;
-        let into = parts[to].minus(flow);
-        parts[to] = into;
+        parts[to] = parts[to].minus(flow);
         let from = link.from;
-        let out_of = parts[from].plus(flow);
-        parts[from] = out_of;
+        parts[from] = parts[from].plus(flow);
     }
-    Exchange {
-        overused: Place::Nowhere,
-        parts,
-    }
+    Ok(parts)
 }

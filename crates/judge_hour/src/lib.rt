@@ -6,12 +6,12 @@ ghost use Rattle.rules.specs.Meaning.Layout.{report_room};
 ghost use Rattle.rules.specs.Meaning.Hour.{case_of, plan_of, prices_of};
 ghost use Rattle.rules.specs.Meaning.Verdict.{table};
 ghost use Rattle.judge_stages.specs.Meaning.Found.{list_of};
-ghost use Rattle.judge_hour.specs.Steps.Judged.{Reportable, Judged, concluded};
+ghost use Rattle.judge_hour.specs.Steps.Judged.{Reportable, Judged, verdict_of, concluded};
 ghost use Rattle.judge_hour.specs.Meaning.HourJudged.{HourJudged, FamilyHourJudged};
 
 use base_causes::Outcome;
 use case_file::Files;
-use judge_stages::{FamilyList, Found, find_in};
+use judge_stages::{ValuedHour, find_in};
 use report_file::write_report;
 
 fn byte_of(zones: usize) -> u8
@@ -30,26 +30,26 @@ fn number_of(verdict: Outcome) -> u8
 }
 
 // The verdict; it writes the report of an hour that is valued.
-fn conclude(found: Found, report: &mut [u8]) -> Outcome
+fn conclude(found: Result<ValuedHour<'_>, Outcome>, report: &mut [u8]) -> Outcome
     requires reportable { Reportable found }
     requires report_room_in_bounds { report_room ≤ length report.old }
-    ensures verdict { result ≡ found.verdict }
-    ensures report { report.new ≡ concluded found report.old }
+    ensures verdict { result ≡ verdict_of found.entry }
+    ensures report { report.new ≡ concluded found.entry report.old }
 {
-    let verdict = found.verdict;
-    if !found.valued {
-        return verdict;
+    match found {
+        Err(refusal) => refusal,
+        Ok(valued) => {
+            let prices = valued.prices;
+            write_report(
+                report,
+                number_of(valued.verdict),
+                byte_of(valued.hour.case.counts.zones),
+                valued.totals,
+                prices,
+            );
+            valued.verdict
+        }
     }
-    let totals = found.totals;
-    let prices = found.prices;
-    write_report(
-        report,
-        number_of(verdict),
-        byte_of(found.hour.counts.zones),
-        totals,
-        prices,
-    );
-    verdict
 }
 
 pub const REPORT_ROOM: usize = layout::REPORT_ROOM;
@@ -58,11 +58,10 @@ pub const REPORT_ROOM: usize = layout::REPORT_ROOM;
 fn judge_with_families(
     case: &[u8],
     proposal: &[u8],
-    families: &[u8],
-    list: FamilyList,
+    families: Option<&[u8]>,
     report: &mut [u8],
 ) -> Outcome
-    ensures { Judged (table (list_of list families.now) «case».now proposal.now (length report.old)
+    ensures { Judged (table (list_of families.entry) «case».now proposal.now (length report.old)
         (case_of «case».now) (plan_of «case».now proposal.now) (prices_of «case».now proposal.now))
         «case».now proposal.now report.old result report.new }
 {
@@ -72,17 +71,14 @@ fn judge_with_families(
             index: 0,
         };
     }
-    conclude(
-        find_in(Files::Apart, case, proposal, families, list),
-        report,
-    )
+    conclude(find_in(Files::Apart, case, proposal, families), report)
 }
 
 // THE JUDGEMENT of a case and a proposal. `host` spells out what follows for a caller.
 pub fn judge(case: &[u8], proposal: &[u8], report: &mut [u8]) -> Outcome
     ensures { HourJudged «case».now proposal.now report.old result report.new }
 {
-    judge_with_families(case, proposal, &case[..0], FamilyList::Absent, report)
+    judge_with_families(case, proposal, None, report)
 }
 
 // THE JUDGEMENT WITH A FAMILY LIST (S-11): rows 16 to 18 and 28 are asked too. The list only refuses: if it does
@@ -90,5 +86,5 @@ pub fn judge(case: &[u8], proposal: &[u8], report: &mut [u8]) -> Outcome
 pub fn judge_families(case: &[u8], proposal: &[u8], families: &[u8], report: &mut [u8]) -> Outcome
     ensures { FamilyHourJudged «case».now proposal.now families.now report.old result report.new }
 {
-    judge_with_families(case, proposal, families, FamilyList::Given, report)
+    judge_with_families(case, proposal, Some(families), report)
 }

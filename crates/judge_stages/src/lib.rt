@@ -1,245 +1,133 @@
 // THE DRIVER: what rows 1 to 26 of the verdict table find in an hour. `find_in`, at the end, reads the case (1 to
 // 8) and cuts it from its proposal if the two are joined. `find_after` then asks three stages in the table's order:
-// `read` (9 to 18), `clear` (21, 28, 22, 27, 23) and `value` (24 to 26). The verdict of a stage is 0 where its rows
-// pass. A stage may use what the stages before it established.
+// `read` (9 to 18), `clear` (21, 28, 22, 27, 23) and `value` (24 to 26). The first refusal ends the search. A stage
+// may use what the stages before it established.
 #![tactic(auto)]
 
-ghost use Rattle.std.specs.Prelude.{◌≡◌, true, not, cond, ◌&&◌, ℕ, ◌<◌, ◌≤◌, eqb, pos};
+ghost use Rattle.std.specs.Prelude.{◌≡◌, Err, not, cond, ◌&&◌, ◌<◌, ◌≤◌, eqb, pos, IfOk, IfErr};
+ghost use Rattle.std.specs.Option.{ForSome};
 ghost use Rattle.std.proofs.Math.Option.{none, some};
 ghost use Rattle.std.specs.Int.Signed.{lt_z};
 ghost use Rattle.base_integers.specs.Meaning.Ranges.{is_zero};
 ghost use Rattle.base_integers.specs.Meaning.Sums.{sum_to};
 ghost use Rattle.base_integers.specs.Meaning.Machine.{SumsFit};
-ghost use Rattle.rules.specs.Meaning.Hour.{case_of, plan_of, prices_of, net, fb_part};
-ghost use Rattle.rules.specs.Meaning.Hour as rules;
-ghost use Rattle.base_causes.specs.Meaning.Place.{place_of};
-ghost use Rattle.base_causes.specs.Meaning.Causes.{verdict, failing, refusal, answer};
-ghost use Rattle.rules.specs.Meaning.Verdict.{excess_volume};
-ghost use Rattle.case_header.specs.Meaning.CaseReadable.{CaseReadable};
+ghost use Rattle.rules.specs.Meaning.Hour.{case_of, plan_of, prices_of};
+ghost use Rattle.rules.specs.Meaning.Verdict.{fraction_causes};
+ghost use Rattle.base_causes.specs.Meaning.Causes.{verdict, refusal};
 ghost use Rattle.case_file.specs.declared.Files.TheVariants.{Joined};
 ghost use Rattle.case_file.specs.Steps.Files.{proposal_start};
-ghost use Rattle.family_list.specs.Meaning.Answer.{FamiliesReadable};
 ghost use Rattle.base_measures.specs.Meaning.TenthsHold.{tenths_at};
-ghost use Rattle.proposal_file.specs.Meaning.Read.{HourReadFrom};
 ghost use Rattle.proposal_file.specs.Meaning.InRange.{VolumesInRange};
-ghost use Rattle.judge_stages.specs.declared.FamilyList.TheVariants.{Given};
 ghost use Rattle.judge_stages.specs.Meaning.Found.{Finds, FindsIn, HourCleared, hour_causes, list_of};
-ghost use Rattle.judge_stages.specs.Steps.Found.{read_causes, clear_causes, order_causes, link_answer, value_causes, unread_as, uncleared_as, refused_as};
-ghost use Rattle.judge_stages.specs.Steps.Listed.{Admitted, listed_answer, fraction_place};
+ghost use Rattle.judge_stages.specs.Steps.Found.{admitted_causes, read_causes, clear_causes, value_causes, balance_answer};
+ghost use Rattle.judge_stages.specs.Steps.Listed.{list_read};
 
-use base_causes::{Outcome, Place};
-use base_measures::{Cents, Grains, Microcents, MicrocentsAnswer, Share, Tenths};
+mod reading;
+
+use base_causes::{Outcome, refused};
+use base_measures::{Grains, Microcents, Share, Tenths};
 use case_branches::ptdf_table;
-use case_file::{CaseAnswer, Files, read_case};
-use case_header::Counts;
+use case_file::{Files, read_case};
+use case_header::ReadableCase;
 use family_fractions::first_over_parent;
-use family_list::{FamilyAnswer, read_families};
+use family_list::{ReadableFamilies, read_families};
 use judge_clearing::{link_sums, net_sum, order_sums};
 use judge_network::branch_sums;
-use judge_totals::{totals, zone_sums};
-use proposal_file::{HourRead, ProposalAnswer, ProposalOpening, read_proposal};
+use judge_totals::{PricedHour, totals, zone_sums};
+use proposal_file::{HourRead, read_proposal};
+use reading::Reading;
 use report_file::Totals;
 
-// Whether there is a family list (S-11). An enum holds no slice, so the list is passed next to this mark; without a
-// list that slice is empty.
-#[derive(Clone, Copy)]
-pub enum FamilyList {
-    Given,
-    Absent,
-}
-
-// What `read` answers: the verdict of rows 9 to 18 and, where they pass, what was read.
-#[derive(Clone, Copy)]
-struct Reading {
-    verdict: Outcome,
-    hour: HourRead,
-}
-
-// What `clear` answers: the verdict of rows 21, 28, 22, 27 and 23 and, where they pass, net positions, flow-based
-// parts and welfare.
+// What `clear` leaves of an hour: net positions, flow-based parts and welfare.
 #[derive(Clone, Copy)]
 pub struct Cleared {
-    pub verdict: Outcome,
     pub nets: [Tenths; layout::ZONES],
     pub parts: [Tenths; layout::ZONES],
     pub welfare: Microcents,
 }
 
-// The verdict and, for a valued hour (verdict 0 or 26), what was read, its clearing, prices and totals. The answer
-// of `clear` is kept whole, so its arrays are copied once.
+// A valued hour: its verdict, 0 or 26, what was read, its clearing, prices and totals. What `clear` leaves is kept
+// whole, so its arrays are copied once.
 #[derive(Clone, Copy)]
-pub struct Found {
+pub struct ValuedHour<'a> {
     pub verdict: Outcome,
-    pub valued: bool,
-    pub hour: HourRead,
+    pub hour: HourRead<'a>,
     pub cleared: Cleared,
     pub prices: [Grains; layout::ZONES],
     pub totals: Totals,
 }
 
-// The answer of a stage whose rows all pass.
-const PASSED: Outcome = Outcome {
-    number: 0,
-    index: 0,
-};
-
-const NOTHING_READ: HourRead = HourRead {
-    counts: Counts {
-        version: 0,
-        zones: 0,
-        branches: 0,
-        links: 0,
-        orders: 0,
-        tolerance: Microcents::ZERO,
-    },
-    opening: ProposalOpening {
-        share: Share::LEAST,
-        system: Cents::SHADOW_PRICE_LEAST,
-    },
-};
-
-const NO_TOTALS: Totals = Totals {
-    welfare: Microcents::ZERO,
-    bound: Microcents::ZERO,
-    gap: Microcents::ZERO,
-    rent: Microcents::ZERO,
-    owed: Microcents::ZERO,
-};
-
-// Refused before anything is cleared.
-fn uncleared(verdict: Outcome) -> Cleared
-    ensures { result ≡ uncleared_as verdict }
-{
-    Cleared {
-        verdict,
-        nets: [Tenths::ZERO; layout::ZONES],
-        parts: [Tenths::ZERO; layout::ZONES],
-        welfare: Microcents::ZERO,
-    }
-}
-
-// Refused: there is nothing to report.
-fn refused_by(verdict: Outcome) -> Found
-    ensures { result ≡ refused_as verdict }
-{
-    let cleared = uncleared(verdict);
-    Found {
-        verdict,
-        valued: false,
-        hour: NOTHING_READ,
-        cleared,
-        prices: [Grains::ZERO; layout::ZONES],
-        totals: NO_TOTALS,
-    }
-}
-
 // A row that fails at a place.
-fn outcome(number: u32, place: usize) -> Outcome
+fn refused_at<T>(number: u32, place: usize) -> Result<T, Outcome>
     requires { place < 4294967296 }
-    ensures { result ≡ verdict number place }
+    ensures { result ≡ Err (verdict number place) }
 {
-    Outcome {
-        number,
-        index: place as u32,
-    }
+    refused(number, place as u32)
 }
 
-// Rows 16 to 18, where there is a family list.
-fn read_with_families(families: &[u8], list: FamilyList, orders: usize) -> FamilyAnswer
-    requires { orders ≤ 512 }
-    ensures { result ≡ listed_answer list families.now orders }
+// Rows 15 to 18: a tolerance too wide to be accepted (S-12), and the family list, where there is one.
+fn admit<'a>(
+    case: ReadableCase<'_>,
+    families: Option<&'a [u8]>,
+) -> Result<Option<ReadableFamilies<'a>>, Outcome>
+    ensures refused { IfErr result (λ o. refusal (admitted_causes (list_of families.entry)
+        (case_of «case».entry.bytes.now)) ≡ some o) }
+    ensures passed { IfOk result (λ _. refusal (admitted_causes (list_of families.entry)
+        (case_of «case».entry.bytes.now)) ≡ none) }
+    ensures list { IfOk result (λ read. list_read read ≡ list_of families.entry) }
+    ensures orders { IfOk result (λ read. ForSome read (λ f. f.orders ≡ «case».entry.counts.orders)) }
 {
-    match list {
-        FamilyList::Given => read_families(families, orders),
-        FamilyList::Absent => FamilyAnswer::Sound,
-    }
-}
-
-// Rows 15 to 18: a tolerance too wide to be accepted (S-12), and the family list.
-fn admit(k: Counts, families: &[u8], list: FamilyList) -> Outcome
-    requires { k.orders ≤ 512 }
-    ensures { Admitted k list families.now result }
-{
-    let tolerance = k.tolerance;
-    let MicrocentsAnswer::Held(_) = tolerance.accepted_tolerance() else {
-        return outcome(15, 0);
+    let Some(_) = case.counts.tolerance.accepted_tolerance() else {
+        return refused(15, 0);
     };
-    match read_with_families(families, list, k.orders) {
-        FamilyAnswer::Refused(refusal) => refusal,
-        FamilyAnswer::Sound => PASSED,
-    }
-}
-
-fn not_read(verdict: Outcome) -> Reading
-    ensures { result ≡ unread_as verdict }
-{
-    Reading {
-        verdict,
-        hour: NOTHING_READ,
-    }
+    let Some(list) = families else {
+        return Ok(None);
+    };
+    Ok(Some(read_families(list, case.counts.orders)?))
 }
 
 // ROWS 9 TO 18, of a readable case: the proposal, then the tolerance and the family list.
-fn read(case: &[u8], counts: Counts, proposal: &[u8], families: &[u8], list: FamilyList) -> Reading
-    requires { CaseReadable «case».now counts }
-    ensures verdict { result.verdict ≡ answer (refusal (read_causes (list_of list families.now) «case».now proposal.now)) }
-    ensures hour { result.verdict.number ≡ 0 → HourReadFrom «case».now proposal.now result.hour }
-    ensures families { result.verdict.number ≡ 0 → list ≡ Given → FamiliesReadable families.now result.hour.counts.orders }
+fn read<'a>(
+    case: ReadableCase<'a>,
+    proposal: &'a [u8],
+    families: Option<&'a [u8]>,
+) -> Result<Reading<'a>, Outcome>
+    ensures refused { IfErr result (λ o. refusal (read_causes (list_of families.entry) «case».entry.bytes.now
+        proposal.now) ≡ some o) }
+    ensures passed { IfOk result (λ _. refusal (read_causes (list_of families.entry) «case».entry.bytes.now
+        proposal.now) ≡ none) }
+    ensures case_is { IfOk result (λ read. read.hour.case.bytes.now ≡ «case».entry.bytes.now) }
+    ensures proposal_is { IfOk result (λ read. read.hour.proposal.now ≡ proposal.now) }
+    ensures list { IfOk result (λ read. list_read read.families ≡ list_of families.entry) }
 {
-    match read_proposal(case, counts, proposal) {
-        ProposalAnswer::Refused(refusal) => not_read(refusal),
-        ProposalAnswer::Sound(opening) => Reading {
-            verdict: admit(counts, families, list),
-            hour: HourRead { counts, opening },
-        },
-    }
+    let opening = read_proposal(case, proposal)?;
+    let families = admit(case, families)?;
+    let hour = HourRead {
+        case,
+        proposal,
+        opening,
+    };
+    Ok(Reading { hour, families })
 }
 
-// Row 28, where there is a family list.
-fn first_over(
-    case: &[u8],
-    proposal: &[u8],
-    families: &[u8],
-    list: FamilyList,
-    hour: HourRead,
-) -> Place
-    requires hour_read_from { HourReadFrom «case».now proposal.now hour }
-    requires volumes_in_range { VolumesInRange (case_of «case».now) (plan_of «case».now proposal.now) }
-    requires families_readable { list ≡ Given → FamiliesReadable families.now hour.counts.orders }
-    ensures { place_of result ≡ fraction_place (list_of list families.now) (case_of «case».now)
-        (plan_of «case».now proposal.now) }
+// Row 28, where there is a family list, for a proposal that passes row 21.
+fn hold_families(reading: Reading<'_>) -> Result<(), Outcome>
+    requires { VolumesInRange (case_of reading.hour.case.bytes.now)
+        (plan_of reading.hour.case.bytes.now reading.hour.proposal.now) }
+    ensures refused { IfErr result (λ o. refusal (fraction_causes (list_read reading.entry.families)
+        (case_of reading.entry.hour.case.bytes.now)
+        (plan_of reading.entry.hour.case.bytes.now reading.entry.hour.proposal.now)) ≡ some o) }
+    ensures passed { IfOk result (λ _. refusal (fraction_causes (list_read reading.entry.families)
+        (case_of reading.entry.hour.case.bytes.now)
+        (plan_of reading.entry.hour.case.bytes.now reading.entry.hour.proposal.now)) ≡ none) }
 {
-    let k = hour.counts;
-    match list {
-        FamilyList::Given => first_over_parent(case, k, proposal, families),
-        FamilyList::Absent => Place::Nowhere,
+    let Some(families) = reading.families else {
+        return Ok(());
+    };
+    if let Some(i) = first_over_parent(reading.hour, families) {
+        return refused_at(28, i);
     }
-}
-
-// Rows 21 and 28, of the orders: the first volume above its quantity, and the families.
-fn order_verdict(
-    case: &[u8],
-    proposal: &[u8],
-    families: &[u8],
-    list: FamilyList,
-    hour: HourRead,
-    excess: Place,
-) -> Outcome
-    requires hour_read_from { HourReadFrom «case».now proposal.now hour }
-    requires families_readable { list ≡ Given → FamiliesReadable families.now hour.counts.orders }
-    requires excess_value { place_of excess ≡ failing (excess_volume (case_of «case».now) (plan_of «case».now proposal.now)) }
-    ensures verdict { result ≡ answer (refusal (order_causes (list_of list families.now) (case_of «case».now)
-        (plan_of «case».now proposal.now))) }
-    ensures volumes { result.number ≡ 0 → place_of excess ≡ none }
-{
-    if let Place::At(i) = excess {
-        return outcome(21, i);
-    }
-    let over = first_over(case, proposal, families, list, hour);
-    if let Place::At(i) = over {
-        return outcome(28, i);
-    }
-    PASSED
+    Ok(())
 }
 
 // Row 22: the net positions do not add up to zero.
@@ -255,143 +143,111 @@ fn is_unbalanced(nets: [Tenths; layout::ZONES], zones: usize) -> bool
 fn share_without_link(links: usize, share: Share) -> bool
     ensures { result ≡ (eqb links 0 && lt_z (pos 0) share.0) }
 {
-    if links == 0 {
-        return share.is_above_zero();
-    }
-    false
+    links == 0 && share.is_above_zero()
 }
 
-// Rows 22, 27 and 23: the balance, the share without links, and the first link that is overused.
-fn link_verdict(hour: HourRead, nets: [Tenths; layout::ZONES], overused: Place) -> Outcome
-    requires zones_bound { hour.counts.zones ≤ 16 }
-    requires sums_fit { SumsFit (λ z. tenths_at nets z) hour.counts.zones }
-    requires by_index { (l : ℕ) → place_of overused ≡ some l → l < 4294967296 }
-    ensures { result ≡ link_answer (not (is_zero (sum_to hour.counts.zones (λ z. tenths_at nets z))))
-        (eqb hour.counts.links 0 && lt_z (pos 0) hour.opening.share.0) (place_of overused) }
+// Rows 22 and 27: the balance, and the share without links.
+fn hold_balance(hour: HourRead<'_>, nets: [Tenths; layout::ZONES]) -> Result<(), Outcome>
+    requires zones_bound { hour.case.counts.zones ≤ 16 }
+    requires sums_fit { SumsFit (λ z. tenths_at nets z) hour.case.counts.zones }
+    ensures { result ≡ balance_answer (not (is_zero (sum_to hour.entry.case.counts.zones (λ z. tenths_at nets z))))
+        (eqb hour.entry.case.counts.links 0 && lt_z (pos 0) hour.entry.opening.share.0) }
 {
-    let k = hour.counts;
-    let share = hour.opening.share;
-    let unbalanced = is_unbalanced(nets, k.zones);
-    let no_domain = share_without_link(k.links, share);
+    let unbalanced = is_unbalanced(nets, hour.case.counts.zones);
+    let no_domain = share_without_link(hour.case.counts.links, hour.opening.share);
     if unbalanced {
-        return outcome(22, 0);
+        return refused(22, 0);
     }
     if no_domain {
-        return outcome(27, 0);
+        return refused(27, 0);
     }
-    if let Place::At(l) = overused {
-        return outcome(23, l);
-    }
-    PASSED
+    Ok(())
 }
 
 // ROWS 21, 28, 22, 27 AND 23: the orders and the links, with net positions, flow-based parts and welfare.
-fn clear(case: &[u8], proposal: &[u8], families: &[u8], list: FamilyList, hour: HourRead) -> Cleared
-    requires hour_read_from { HourReadFrom «case».now proposal.now hour }
-    requires families_readable { list ≡ Given → FamiliesReadable families.now hour.counts.orders }
-    ensures verdict { result.verdict ≡ answer (refusal (clear_causes (list_of list families.now) (case_of «case».now)
-        (plan_of «case».now proposal.now))) }
-    ensures cleared { result.verdict.number ≡ 0 → HourCleared (case_of «case».now) (plan_of «case».now proposal.now) result }
+fn clear(reading: Reading<'_>) -> Result<Cleared, Outcome>
+    ensures refused { IfErr result (λ o. refusal (clear_causes (list_read reading.entry.families)
+        (case_of reading.entry.hour.case.bytes.now)
+        (plan_of reading.entry.hour.case.bytes.now reading.entry.hour.proposal.now)) ≡ some o) }
+    ensures passed { IfOk result (λ _. refusal (clear_causes (list_read reading.entry.families)
+        (case_of reading.entry.hour.case.bytes.now)
+        (plan_of reading.entry.hour.case.bytes.now reading.entry.hour.proposal.now)) ≡ none) }
+    ensures cleared { IfOk result (λ cleared. HourCleared (case_of reading.entry.hour.case.bytes.now)
+        (plan_of reading.entry.hour.case.bytes.now reading.entry.hour.proposal.now) cleared) }
 {
+    let hour = reading.hour;
     // 21, the volumes; 28, the families.
-    let accepted = order_sums(case, proposal, hour);
-    let excess = accepted.excess;
-    let unfilled = order_verdict(case, proposal, families, list, hour, excess);
-    if unfilled.number != 0 {
-        return uncleared(unfilled);
-    }
-    let nets = accepted.nets;
+    let sums = match order_sums(hour) {
+        Ok(sums) => sums,
+        Err(i) => return refused_at(21, i),
+    };
+    hold_families(reading)?;
     // 22, the balance; 27, the share without links; 23, the links.
-    let exchange = link_sums(case, proposal, hour, nets);
-    let overused = exchange.overused;
-    let verdict = link_verdict(hour, nets, overused);
-    let parts = exchange.parts;
-    let welfare = accepted.welfare;
-    Cleared {
-        verdict,
+    let nets = sums.nets;
+    hold_balance(hour, nets)?;
+    let parts = match link_sums(hour, nets) {
+        Ok(parts) => parts,
+        Err(l) => return refused_at(23, l),
+    };
+    Ok(Cleared {
         nets,
         parts,
-        welfare,
-    }
+        welfare: sums.welfare,
+    })
 }
 
 // Row 26: its number where the gap exceeds the tolerance, else 0.
 fn gap_verdict(gap: Microcents, tolerance: Microcents) -> u32
     ensures { result ≡ cond (lt_z tolerance.0 gap.0) 26 0 }
 {
-    if gap.exceeds(tolerance) { 26 } else { 0 }
+    if tolerance < gap { 26 } else { 0 }
 }
 
 // ROWS 24 TO 26: the branches, the zone prices and the gap, with all that is found in a valued hour.
-fn value(case: &[u8], proposal: &[u8], hour: HourRead, cleared: Cleared) -> Found
-    requires hour_read_from { HourReadFrom «case».now proposal.now hour }
-    requires hour_cleared { HourCleared (case_of «case».now) (plan_of «case».now proposal.now) cleared }
-    ensures { Finds (value_causes (case_of «case».now) (plan_of «case».now proposal.now)
-        (prices_of «case».now proposal.now)) «case».now proposal.now result }
+fn value(hour: HourRead<'_>, cleared: Cleared) -> Result<ValuedHour<'_>, Outcome>
+    requires { HourCleared (case_of hour.case.bytes.now) (plan_of hour.case.bytes.now hour.proposal.now) cleared }
+    ensures { Finds (value_causes (case_of hour.entry.case.bytes.now)
+        (plan_of hour.entry.case.bytes.now hour.entry.proposal.now)
+        (prices_of hour.entry.case.bytes.now hour.entry.proposal.now)) hour.entry.case.bytes.now
+        hour.entry.proposal.now result }
 {
-    let k = hour.counts;
-    let nets = cleared.nets;
-    let parts = cleared.parts;
-    let table = ptdf_table(case, k);
-    let branches = branch_sums(case, proposal, hour, table, parts);
-    let overloaded = branches.overloaded;
-    if let Place::At(m) = overloaded {
-        return refused_by(outcome(24, m));
-    }
-    let prices = branches.prices;
-    let zoned = zone_sums(nets, prices, k.zones);
-    let outside = zoned.outside;
-    if let Place::At(z) = outside {
-        return refused_by(outcome(25, z));
-    }
-    let totals = totals(
-        case,
-        proposal,
-        hour,
-        cleared.welfare,
-        prices,
-        branches.total,
-        zoned.rent,
-    );
-    let gap = totals.gap;
-    let number = gap_verdict(gap, k.tolerance);
-    Found {
+    let table = ptdf_table(hour.case);
+    let network = match branch_sums(hour, table, cleared.parts) {
+        Ok(network) => network,
+        Err(m) => return refused_at(24, m),
+    };
+    let prices = network.prices;
+    let rent = match zone_sums(cleared.nets, prices, hour.case.counts.zones) {
+        Ok(rent) => rent,
+        Err(z) => return refused_at(25, z),
+    };
+    let priced = PricedHour { hour, prices };
+    let totals = totals(priced, cleared.welfare, network.total, rent);
+    let number = gap_verdict(totals.gap, hour.case.counts.tolerance);
+    Ok(ValuedHour {
         verdict: Outcome { number, index: 0 },
-        valued: true,
         hour,
         cleared,
         prices,
         totals,
-    }
+    })
 }
 
 // The hour of a readable case: the table's rows from 9 on, in order, stage by stage.
-fn find_after(
-    case: &[u8],
-    counts: Counts,
-    proposal: &[u8],
-    families: &[u8],
-    list: FamilyList,
-) -> Found
-    requires { CaseReadable «case».now counts }
-    ensures { Finds (hour_causes (list_of list families.now) «case».now proposal.now) «case».now
-        proposal.now result }
+fn find_after<'a>(
+    case: ReadableCase<'a>,
+    proposal: &'a [u8],
+    families: Option<&'a [u8]>,
+) -> Result<ValuedHour<'a>, Outcome>
+    ensures { Finds (hour_causes (list_of families.entry) «case».entry.bytes.now proposal.now)
+        «case».entry.bytes.now proposal.now result }
 {
     // 9 to 14, the proposal; 15, the tolerance; 16 to 18, the family list where there is one (S-11).
-    let reading = read(case, counts, proposal, families, list);
-    let unread = reading.verdict;
-    if unread.number != 0 {
-        return refused_by(unread);
-    }
-    let hour = reading.hour;
+    let reading = read(case, proposal, families)?;
     // 21, the volumes; 28, the families; 22, the balance; 27, the share without links; 23, the links.
-    let cleared = clear(case, proposal, families, list, hour);
-    let not_cleared = cleared.verdict;
-    if not_cleared.number != 0 {
-        return refused_by(not_cleared);
-    }
+    let cleared = clear(reading)?;
     // 24, the branches; 25, the zone prices; 26, the gap.
-    value(case, proposal, hour, cleared)
+    value(reading.hour, cleared)
 }
 
 // Where the proposal begins: after the case if they are joined.
@@ -404,33 +260,32 @@ fn proposal_start(files: Files, end: usize) -> usize
     }
 }
 
-// THE HOUR, from its first byte. If case and proposal are joined, the input is lent as both, and its header, which
-// says where to cut, is read once.
-pub fn find_in(
+// THE HOUR, from its first byte, with a family list (S-11) or without one. If case and proposal are joined, the
+// input is lent as both, and its header, which says where to cut, is read once.
+pub fn find_in<'a>(
     files: Files,
-    case: &[u8],
-    proposal: &[u8],
-    families: &[u8],
-    list: FamilyList,
-) -> Found
+    case: &'a [u8],
+    proposal: &'a [u8],
+    families: Option<&'a [u8]>,
+) -> Result<ValuedHour<'a>, Outcome>
     requires { files ≡ Joined → proposal.now ≡ «case».now }
-    ensures { FindsIn files (list_of list families.now) «case».now proposal.now result }
+    ensures { FindsIn files (list_of families.entry) «case».now proposal.now result }
 {
     // 1 to 8, the case. Reborrow: passing `case` directly makes LLVM reload the slice as one 16-byte load right
     // after two 8-byte stores, which stalls the processor.
-    match read_case(files, &case[..]) {
-        CaseAnswer::Refused(refusal) => refused_by(refusal),
-        CaseAnswer::Readable(counts) => {
-            let end = counts.demanded();
-            let start = proposal_start(files, end);
-            find_after(&case[..end], counts, &proposal[start..], families, list)
-        }
-    }
+    let counts = read_case(files, &case[..])?;
+    let end = counts.demanded();
+    let start = proposal_start(files, end);
+    let readable = ReadableCase {
+        bytes: &case[..end],
+        counts,
+    };
+    find_after(readable, &proposal[start..], families)
 }
 
 // The same for two files, without a family list.
-pub fn find(case: &[u8], proposal: &[u8]) -> Found
+pub fn find<'a>(case: &'a [u8], proposal: &'a [u8]) -> Result<ValuedHour<'a>, Outcome>
     ensures { Finds (hour_causes none «case».now proposal.now) «case».now proposal.now result }
 {
-    find_in(Files::Apart, case, proposal, &case[..0], FamilyList::Absent)
+    find_in(Files::Apart, case, proposal, None)
 }

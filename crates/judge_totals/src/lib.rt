@@ -2,88 +2,65 @@
 // owed and the five totals (rules 7 to 11).
 #![tactic(auto)]
 
-ghost use Rattle.std.specs.Prelude.{◌≡◌, cond, ◌≤◌, eqb, ◌*ℤ◌};
-ghost use Rattle.std.proofs.Math.Option.{none};
+ghost use Rattle.std.specs.Prelude.{◌≡◌, cond, ◌≤◌, eqb, ◌*ℤ◌, IfOk, IfErr};
+ghost use Rattle.std.proofs.Math.Option.{none, some};
 ghost use Rattle.base_integers.specs.Meaning.Order.{larger};
 ghost use Rattle.base_integers.specs.Meaning.Ranges.{outside};
 ghost use Rattle.base_integers.specs.Meaning.Sums.{sum_to};
 ghost use Rattle.base_limits.specs.Meaning.Limits as limits;
-ghost use Rattle.rules.specs.Meaning.Hour.{case_of, plan_of, prices_of};
 ghost use Rattle.rules.specs.Meaning.Hour as rules;
 ghost use Rattle.rules.specs.Meaning.Report.{totals_of};
 ghost use Rattle.base_causes.specs.Meaning.Causes.{first_below};
-ghost use Rattle.base_causes.specs.Meaning.Place.{place_of};
 ghost use Rattle.proposal_file.specs.Meaning.InRange.{VolumesInRange};
 ghost use Rattle.base_measures.specs.Meaning.TenthsHold.{tenths_at};
-ghost use Rattle.proposal_file.specs.Meaning.Read.{HourReadFrom};
-ghost use Rattle.report_file.specs.Meaning.Prices.{grains_at, PricesHold, PricesInRange};
+ghost use Rattle.report_file.specs.Meaning.Prices.{grains_at};
 ghost use Rattle.report_file.specs.Meaning.Written.{totals_in};
 ghost use Rattle.judge_totals.specs.Meaning.Rent.{RentFits};
+ghost use Rattle.judge_totals.specs.Meaning.Priced.{case_in, plan_in, prices_in};
 
-use base_causes::Place;
-use base_measures::{Grains, GrainsAnswer, Microcents, Tenths};
+mod priced;
+
+use base_measures::{Grains, Measure, Microcents, Tenths};
 use book_order::surplus;
 use case_links::{contracted_at, link_at};
 use case_orders::order_at;
-use proposal_file::HourRead;
+pub use priced::PricedHour;
 use report_file::Totals;
 
-// One pass over the zones: the first whose price is outside its limits; where there is none, the congestion rent.
-#[derive(Clone, Copy)]
-pub struct ZoneSums {
-    pub outside: Place,
-    pub rent: Microcents,
-}
-
-// Verdict 25 and rule 11. The rent fits as long as the prices are within their limits.
+// Verdict 25 and rule 11, in one pass over the zones: the congestion rent, or the first zone whose price is outside
+// its limits. The rent fits as long as the prices are within their limits.
 pub fn zone_sums(
     nets: [Tenths; layout::ZONES],
     prices: [Grains; layout::ZONES],
     zones: usize,
-) -> ZoneSums
+) -> Result<Microcents, usize>
     requires zones_bound { zones ≤ 16 }
     requires rent_fits { RentFits nets prices zones }
-    ensures outside { place_of result.outside ≡ first_below zones (λ z. outside limits.zone_price (grains_at prices z)) }
-    ensures rent { place_of result.outside ≡ none → result.rent.0 ≡ sum_to zones (λ z. tenths_at nets z *ℤ grains_at prices z) }
+    ensures outside { IfErr result (λ z. first_below zones (λ z. outside limits.zone_price (grains_at prices z)) ≡ some z) }
+    ensures within { IfOk result (λ _. first_below zones (λ z. outside limits.zone_price (grains_at prices z)) ≡ none) }
+    ensures rent { IfOk result (λ rent. rent.0 ≡ sum_to zones (λ z. tenths_at nets z *ℤ grains_at prices z)) }
 {
     let mut sum = Microcents::ZERO;
     for z in 0..zones {
         let price = prices[z];
-        let GrainsAnswer::Held(_) = price.zone_price() else {
-            return ZoneSums {
-                outside: Place::At(z),
-                rent: sum,
-            };
+        let Some(_) = price.zone_price() else {
+            return Err(z);
         };
-        let net = nets[z];
-        sum = sum.plus(net.cost(price));
+        sum = sum.plus(nets[z].cost(price));
     }
-    ZoneSums {
-        outside: Place::Nowhere,
-        rent: sum,
-    }
+    Ok(sum)
 }
 
 // Rule 8: all order surpluses.
-pub fn surpluses(
-    case: &[u8],
-    proposal: &[u8],
-    hour: HourRead,
-    prices: [Grains; layout::ZONES],
-) -> Microcents
-    requires hour_read_from { HourReadFrom «case».now proposal.now hour }
-    requires prices_hold { PricesHold (case_of «case».now) (prices_of «case».now proposal.now) prices }
-    requires prices_in_range { PricesInRange (case_of «case».now) (prices_of «case».now proposal.now) }
-    ensures { result.0 ≡ rules.surplus (case_of «case».now) (prices_of «case».now proposal.now) }
+pub fn surpluses(priced: PricedHour<'_>) -> Microcents
+    ensures { result.0 ≡ rules.surplus (case_in priced.entry) (prices_in priced.entry) }
 {
-    let k = hour.counts;
-    let orders = k.orders;
+    let case = priced.hour.case;
     let mut sum = Microcents::ZERO;
-    for i in 0..orders {
-        let order = order_at(case, k, i);
+    for i in 0..case.counts.orders {
+        let order = order_at(case, i);
         let zone = order.zone;
-        let price = prices[zone];
-        sum = sum.plus(surplus(order, price));
+        sum = sum.plus(surplus(order, priced.prices[zone]));
     }
     sum
 }
@@ -97,29 +74,20 @@ pub struct LinkTotals {
 
 // Rule 9: capacities and contracted volumes (S-4) at the positive spreads. A negative spread makes the product
 // negative, so the product is raised to zero.
-pub fn link_totals(
-    case: &[u8],
-    proposal: &[u8],
-    hour: HourRead,
-    prices: [Grains; layout::ZONES],
-) -> LinkTotals
-    requires hour_read_from { HourReadFrom «case».now proposal.now hour }
-    requires prices_hold { PricesHold (case_of «case».now) (prices_of «case».now proposal.now) prices }
-    requires prices_in_range { PricesInRange (case_of «case».now) (prices_of «case».now proposal.now) }
-    ensures total { result.total.0 ≡ rules.link_total (case_of «case».now) (prices_of «case».now proposal.now) }
-    ensures owed { result.owed.0 ≡ rules.owed (case_of «case».now) (prices_of «case».now proposal.now) }
+pub fn link_totals(priced: PricedHour<'_>) -> LinkTotals
+    ensures total { result.total.0 ≡ rules.link_total (case_in priced.entry) (prices_in priced.entry) }
+    ensures owed { result.owed.0 ≡ rules.owed (case_in priced.entry) (prices_in priced.entry) }
 {
-    let k = hour.counts;
-    let links = k.links;
+    let case = priced.hour.case;
     let mut total = Microcents::ZERO;
     let mut owed = Microcents::ZERO;
-    for l in 0..links {
-        let link = link_at(case, k, l);
+    for l in 0..case.counts.links {
+        let link = link_at(case, l);
         let capacity = link.capacity;
-        let contracted = contracted_at(case, k, l, capacity);
+        let contracted = contracted_at(case, l, capacity);
         let to = link.to;
         let from = link.from;
-        let spread = prices[to].minus(prices[from]);
+        let spread = priced.prices[to].minus(priced.prices[from]);
         total = total.plus(capacity.cost(spread).positive());
         owed = owed.plus(contracted.cost(spread).positive());
     }
@@ -134,34 +102,25 @@ fn network_bound(links: usize, on_branches: Microcents, on_links: Microcents) ->
     if links == 0 {
         return on_branches;
     }
-    on_branches.larger(on_links)
+    on_branches.max(on_links)
 }
 
 // Rules 7 to 11: the five totals of a cleared hour with its prices within their limits.
 pub fn totals(
-    case: &[u8],
-    proposal: &[u8],
-    hour: HourRead,
+    priced: PricedHour<'_>,
     total_welfare: Microcents,
-    prices: [Grains; layout::ZONES],
     on_branches: Microcents,
     congestion: Microcents,
 ) -> Totals
-    requires hour_read_from { HourReadFrom «case».now proposal.now hour }
-    requires volumes_in_range { VolumesInRange (case_of «case».now) (plan_of «case».now proposal.now) }
-    requires prices_hold { PricesHold (case_of «case».now) (prices_of «case».now proposal.now) prices }
-    requires prices_in_range { PricesInRange (case_of «case».now) (prices_of «case».now proposal.now) }
-    requires on_branches_value { on_branches.0 ≡ rules.branch_total (case_of «case».now) (prices_of «case».now proposal.now) }
-    requires total_welfare_value { total_welfare.0 ≡ rules.welfare (case_of «case».now) (plan_of «case».now proposal.now) }
-    requires congestion_value { congestion.0 ≡ rules.rent (case_of «case».now) (plan_of «case».now proposal.now) (prices_of «case».now proposal.now) }
-    ensures { totals_in result ≡ totals_of (case_of «case».now) (plan_of «case».now proposal.now)
-        (prices_of «case».now proposal.now) }
+    requires volumes_in_range { VolumesInRange (case_in priced) (plan_in priced) }
+    requires on_branches_value { on_branches.0 ≡ rules.branch_total (case_in priced) (prices_in priced) }
+    requires total_welfare_value { total_welfare.0 ≡ rules.welfare (case_in priced) (plan_in priced) }
+    requires congestion_value { congestion.0 ≡ rules.rent (case_in priced) (plan_in priced) (prices_in priced) }
+    ensures { totals_in result ≡ totals_of (case_in priced.entry) (plan_in priced.entry) (prices_in priced.entry) }
 {
-    let on_links = link_totals(case, proposal, hour, prices);
-    let link_total = on_links.total;
-    let owed = on_links.owed;
-    let network = network_bound(hour.counts.links, on_branches, link_total);
-    let bound = surpluses(case, proposal, hour, prices).plus(network);
+    let LinkTotals { total, owed } = link_totals(priced);
+    let network = network_bound(priced.hour.case.counts.links, on_branches, total);
+    let bound = surpluses(priced).plus(network);
     let gap = bound.minus(total_welfare);
     Totals {
         welfare: total_welfare,

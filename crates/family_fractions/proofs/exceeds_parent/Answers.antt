@@ -10,7 +10,7 @@ use Rattle.case_header.specs.declared.Counts.{Counts}
 use Rattle.case_orders.specs.Meaning.Order.{order_of}
 use Rattle.proposal_file.specs.Meaning.ProposalValid.{ProposalValid}
 use Rattle.proposal_file.specs.Meaning.InRange.{VolumesInRange}
-use Rattle.family_fractions.specs.Steps.Fraction.{has-parent, no-parent, product-fits, fraction-test}
+use Rattle.family_fractions.specs.Steps.Fraction.{product-fits, fraction-test}
 use Rattle.family_fractions.proofs.exceeds_parent.Goals as goal
 
 module _ {s t : List ℕ} {k : Counts} (p : ProposalValid s k t) where
@@ -24,33 +24,30 @@ module _ {s t : List ℕ} {k : Counts} (p : ProposalValid s k t) where
   fits v i j h l e q =
       product-fits (case_of s) (plan_of s t) (case-sound s p.opened.readable) v i j (all_in i h) (all_in j l) e (ap (λ (o : Order). o.quantity.0) q)
 
-pub returns-then-parent-eq-NO_PARENT : goal.returns-then-parent-eq-NO_PARENT
-returns-then-parent-eq-NO_PARENT c =
-    sym (ap (exceeds_parent (case_of c.args.«case».now) (plan_of c.args.«case».now c.args.proposal.now) c.args.i) (no-parent c.args.families.now c.args.i c.parent_at-parent.ensures c.if-parent-eq-NO_PARENT.true))
+pub returns-in_default : goal.returns-in_default
+returns-in_default c = sym (ap (exceeds_parent (case_of c.args.hour.case.bytes.now) (plan_of c.args.hour.case.bytes.now c.args.hour.proposal.now) c.args.i) (sym c.in_default.ensures))
 
-pub order_at-above-requires-clause-i_lt_orders : goal.order_at-above-requires-clause-i_lt_orders
-order_at-above-requires-clause-i_lt_orders c =
-    c.requires.families_readable.exist.exists c.args.i c.parent_at-parent.result c.requires.i_lt_orders (has-parent c.args.families.now c.args.i c.parent_at-parent.ensures c.if-parent-eq-NO_PARENT.false)
+pub order_at-above-requires : goal.order_at-above-requires
+order_at-above-requires c = omega (arith, c.args.families.readable.exist.exists c.args.i c.in-Some.parent c.requires.i_lt_orders (sym c.in-Some.ensures))
 
-pub volume_at-parent_volume-requires-clause-i_lt_orders : goal.volume_at-parent_volume-requires-clause-i_lt_orders
-volume_at-parent_volume-requires-clause-i_lt_orders c =
-    c.requires.families_readable.exist.exists c.args.i c.parent_at-parent.result c.requires.i_lt_orders (has-parent c.args.families.now c.args.i c.parent_at-parent.ensures c.if-parent-eq-NO_PARENT.false)
+pub volume_at-parent_volume-requires : goal.volume_at-parent_volume-requires
+volume_at-parent_volume-requires c = omega (arith, c.args.families.readable.exist.exists c.args.i c.in-Some.parent c.requires.i_lt_orders (sym c.in-Some.ensures))
 
 pub greater_part-requires-clause-sfits : goal.greater_part-requires-clause-sfits
 greater_part-requires-clause-sfits c =
-    let parent-in = c.requires.families_readable.exist.exists c.args.i c.parent_at-parent.result c.requires.i_lt_orders (has-parent c.args.families.now c.args.i c.parent_at-parent.ensures c.if-parent-eq-NO_PARENT.false) in
-    fits c.requires.proposal_valid c.requires.volumes_in_range c.parent_at-parent.result c.args.i parent-in c.requires.i_lt_orders c.volume_at-parent_volume.ensures c.order_at-child.ensures
+    let parent-in = c.args.families.readable.exist.exists c.args.i c.in-Some.parent c.requires.i_lt_orders (sym c.in-Some.ensures) in
+    fits c.args.hour.read.proposed c.requires.volumes_in_range c.in-Some.parent c.args.i (omega arith) (omega arith) c.volume_at-parent_volume.ensures c.order_at-child.ensures
 
 pub greater_part-requires-clause-sfits_2 : goal.greater_part-requires-clause-sfits_2
 greater_part-requires-clause-sfits_2 c =
-    let parent-in = c.requires.families_readable.exist.exists c.args.i c.parent_at-parent.result c.requires.i_lt_orders (has-parent c.args.families.now c.args.i c.parent_at-parent.ensures c.if-parent-eq-NO_PARENT.false) in
-    fits c.requires.proposal_valid c.requires.volumes_in_range c.args.i c.parent_at-parent.result c.requires.i_lt_orders parent-in c.volume_at-volume.ensures c.order_at-above.ensures
+    let parent-in = c.args.families.readable.exist.exists c.args.i c.in-Some.parent c.requires.i_lt_orders (sym c.in-Some.ensures) in
+    fits c.args.hour.read.proposed c.requires.volumes_in_range c.args.i c.in-Some.parent (omega arith) (omega arith) c.volume_at-volume.ensures c.order_at-above.ensures
 
 pub returns : goal.returns
 unfolding case_of plan_of
 returns c =
-    let cs = case_of c.args.«case».now in
-    let p = plan_of c.args.«case».now c.args.proposal.now in
+    let cs = case_of c.args.hour.case.bytes.now in
+    let p = plan_of c.args.hour.case.bytes.now c.args.hour.proposal.now in
     c.greater_part.ensures
-    ∙ fraction-test cs p c.args.i c.parent_at-parent.result c.volume_at-parent_volume.ensures (ap (λ (o : Order). o.quantity.0) c.order_at-child.ensures) c.volume_at-volume.ensures (ap (λ (o : Order). o.quantity.0) c.order_at-above.ensures)
-    ∙ sym (ap (exceeds_parent cs p c.args.i) (has-parent c.args.families.now c.args.i c.parent_at-parent.ensures c.if-parent-eq-NO_PARENT.false))
+    ∙ fraction-test cs p c.args.i c.in-Some.parent c.volume_at-parent_volume.ensures (ap (λ (o : Order). o.quantity.0) c.order_at-child.ensures) c.volume_at-volume.ensures (ap (λ (o : Order). o.quantity.0) c.order_at-above.ensures)
+    ∙ ap (exceeds_parent cs p c.args.i) c.in-Some.ensures

@@ -9,9 +9,9 @@ use Rattle.case_header.specs.declared.Counts.{Counts}
 use Rattle.proposal_file.specs.Meaning.ProposalValid.{ProposalValid}
 use Rattle.family_fractions.proofs.first_over_parent.Goals as goal
 
-orders-are : {s t : List ℕ} {k : Counts} → ProposalValid s k t → (f : ℕ → Bool) → first_below k.orders f ≡ first_below (case_of s).orders f
+orders-are : {s t : List ℕ} {k : Counts} {orders : ℕ} → ProposalValid s k t → orders ≡ k.orders → (f : ℕ → Bool) → first_below orders f ≡ first_below (case_of s).orders f
 unfolding case_of
-orders-are p f = ap (λ (k : Counts). first_below k.orders f) p.opened.counts
+orders-are p e f = ap (λ (n : ℕ). first_below n f) (e ∙ ap (λ (k : Counts). k.orders) p.opened.counts)
 
 abbrev above : List ℕ → List ℕ → List ℕ → ℕ → Bool
 above s t f i = exceeds_parent (case_of s) (plan_of s t) i (parent_of f i)
@@ -22,14 +22,14 @@ loop-i-init c = refl
 
 pub returns-then-exceeds_parent : goal.returns-then-exceeds_parent
 returns-then-exceeds_parent c =
-    sym (first-here (above c.args.«case».now c.args.proposal.now c.args.families.now) c.loop-i.i c.loop-i-test.true c.loop-i.invariant (sym c.exceeds_parent.ensures ∙ c.if-exceeds_parent.true))
-    ∙ orders-are c.requires.proposal_valid _
+    sym (first-here (above c.args.hour.case.bytes.now c.args.hour.proposal.now c.args.families.list.now) c.loop-i.i c.loop-i-test.true c.loop-i.invariant (sym c.exceeds_parent.ensures ∙ c.if-exceeds_parent.true))
+    ∙ orders-are c.args.hour.read.proposed c.requires.orders_value _
 
 pub loop-i-preserved : goal.loop-i-preserved
 loop-i-preserved c =
-    first-later (above c.args.«case».now c.args.proposal.now c.args.families.now) c.loop-i.i c.loop-i.invariant (sym c.exceeds_parent.ensures ∙ c.if-exceeds_parent.false)
+    first-later (above c.args.hour.case.bytes.now c.args.hour.proposal.now c.args.families.list.now) c.loop-i.i c.loop-i.invariant (sym c.exceeds_parent.ensures ∙ c.if-exceeds_parent.false)
 
 pub returns : goal.returns
 returns c =
-    sym (first-nowhere (above c.args.«case».now c.args.proposal.now c.args.families.now) c.loop-i.i (omega arith) (omega arith) c.loop-i.invariant)
-    ∙ orders-are c.requires.proposal_valid _
+    sym (first-nowhere (above c.args.hour.case.bytes.now c.args.hour.proposal.now c.args.families.list.now) c.loop-i.i (omega arith) (omega arith) c.loop-i.invariant)
+    ∙ orders-are c.args.hour.read.proposed c.requires.orders_value _

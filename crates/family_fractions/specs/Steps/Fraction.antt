@@ -1,7 +1,7 @@
 -- The products that row 28 compares fit 64 bits, and the comparison is the row's. Assumes nothing.
-use Rattle.std.specs.Prelude.{◌≡◌, Bool, cond, List, ℕ, ◌<◌, ℤ, pos, ◌*ℤ◌}
-use Rattle.std.proofs.Common.{sym, ap, ◌∙◌, arith, ne_eqb, eq-eqb, SFits}
-use Rattle.std.proofs.Math.Option.{none, some}
+use Rattle.std.specs.Prelude.{◌≡◌, ℕ, ◌<◌, ℤ, pos, ◌*ℤ◌}
+use Rattle.std.proofs.Common.{arith, SFits}
+use Rattle.std.proofs.Math.Option.{some}
 use Rattle.std.specs.Int.Signed.{lt_z}
 use Rattle.std.specs.Int.{w64}
 use Rattle.base_integers.specs.Steps.Size.{near_fits, near_mul, near-unsigned}
@@ -9,17 +9,7 @@ use Rattle.base_integers.specs.Steps.Machine.{sfits-by}
 use Rattle.rules.specs.Meaning.Hour.{Case, Plan}
 use Rattle.rules.proofs.Steps.Passed.{CaseSound}
 use Rattle.proposal_file.specs.Meaning.InRange.{VolumesInRange}
-use Rattle.rules.specs.Meaning.Families.{no_parent, named, parent_in, parent_of}
 use Rattle.rules.specs.Meaning.Verdict.{exceeds_parent}
-
--- the parent as read
-pub has-parent : (f : List ℕ) (i : ℕ) {v : ℕ} → v ≡ parent_in f i → (v ≡ no_parent → ⊥) → parent_of f i ≡ some v
-unfolding parent_of
-has-parent f i {v} e h = sym (ap named e) ∙ ap (λ (b : Bool). cond b none (some v)) (ne_eqb v no_parent h)
-
-pub no-parent : (f : List ℕ) (i : ℕ) {v : ℕ} → v ≡ parent_in f i → v ≡ no_parent → parent_of f i ≡ none
-unfolding parent_of
-no-parent f i {v} e h = sym (ap named e) ∙ ap (λ (b : Bool). cond b none (some v)) (eq-eqb v no_parent h)
 
 module _ (c : Case) (p : Plan) (s : CaseSound c) (in-quantity : VolumesInRange c p) where
   -- a volume of one order times a quantity of another

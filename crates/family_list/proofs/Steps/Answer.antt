@@ -1,5 +1,5 @@
 -- What a family list's answer implies, and what rows 16 to 18 leave where they pass. Assumes nothing.
-use Rattle.std.specs.Prelude.{◌≡◌, refl, Bool, true, false, cond, ◌||◌, ℕ, ◌≤◌, ◌<◌, length, T, eqb}
+use Rattle.std.specs.Prelude.{◌≡◌, refl, Bool, true, false, cond, ◌||◌, ℕ, ◌≤◌, ◌<◌, length, T, eqb, Ok, Err}
 use Rattle.std.proofs.Math.Path.{sym, ap}
 use Rattle.std.proofs.Common.{◌∙◌, arith, eqb-true, eq-eqb, ne_eqb, le-leb}
 use Rattle.std.proofs.Math.Bool.{not}
@@ -12,14 +12,12 @@ use Rattle.base_causes.specs.declared.Outcome.{Outcome}
 use Rattle.base_causes.specs.Meaning.Causes.{verdict, first_below, refusal}
 use Rattle.base_causes.proofs.Promised.CauseLaws.{field-fails, field-passes, row-found, row-clear, else-refusal, refusal-append, none_each, number-passes, cause_numbered}
 use Rattle.bytes_read.specs.declared.Cursor.{Cursor}
-use Rattle.bytes_read.specs.declared.Walked.TheVariants as walk
 use Rattle.bytes_read.specs.Meaning.Field.{cursor}
 use Rattle.bytes_read.specs.Meaning.Walk.{walked, rows_walked_by, rows_walked}
 use Rattle.bytes_read.specs.Steps.Walked.{last-part}
 use Rattle.rules.specs.Meaning.Hour.{Case}
 use Rattle.rules.specs.Meaning.Families.{family_header, no_parent, family_version, family_length, named, parent_in, parent_of, missing, leads_back}
 use Rattle.rules.specs.Meaning.Verdict.{differ, not_mark, family_causes}
-use Rattle.family_list.specs.declared.FamilyAnswer.TheVariants.{Sound, Refused}
 use Rattle.family_list.specs.Meaning.Parents.{Exist}
 use Rattle.family_list.specs.Meaning.Answer.{wrong_list, absent, parent_cause, circle_cause, list_causes, rows_beside, family_by, family_answer, header_by}
 use Rattle.family_list.specs.Meaning.Answer.{ListLengthValid, FamiliesReadable}
@@ -78,17 +76,17 @@ exist-of f orders h = record { exists = λ i j l e. by (parent_of f i) j e (h i 
 
 -- WHAT THE WALK'S ANSWER IMPLIES
 module _ (f : List ℕ) (orders : ℕ) where
-  pub header_refused : (past : Cursor) {o : Outcome} → header_by (wrong_list f orders) ≡ walk.Refused o → walk.Refused o ≡ rows_walked (list_causes f orders) past
+  pub header_refused : (past : Cursor) {o : Outcome} → header_by (wrong_list f orders) ≡ Err o → Err o ≡ rows_walked (list_causes f orders) past
   header_refused past {o} e = by (wrong_list f orders) refl e
     where
-      by : (b : Bool) → wrong_list f orders ≡ b → header_by b ≡ walk.Refused o → walk.Refused o ≡ rows_walked (list_causes f orders) past
+      by : (b : Bool) → wrong_list f orders ≡ b → header_by b ≡ Err o → Err o ≡ rows_walked (list_causes f orders) past
       by true q e = sym e ∙ sym (ap (rows_walked_by past) (field-fails 16 0 (parent_cause f orders ∷ []) q))
       by false q e = cc
 
-  pub header-past : {c : Cursor} → header_by (wrong_list f orders) ≡ walk.Past c → (wrong_list f orders ≡ false) × (c ≡ cursor family_header)
+  pub header-past : {c : Cursor} → header_by (wrong_list f orders) ≡ Ok c → (wrong_list f orders ≡ false) × (c ≡ cursor family_header)
   header-past {c} e = by (wrong_list f orders) e
     where
-      by : (b : Bool) → header_by b ≡ walk.Past c → (b ≡ false) × (c ≡ cursor family_header)
+      by : (b : Bool) → header_by b ≡ Ok c → (b ≡ false) × (c ≡ cursor family_header)
       by true e = (cc, cc)
       by false e = (refl, cc)
 
@@ -126,19 +124,19 @@ known-passed f orders h e = list-known f orders h (none_each (list_causes f orde
 
 -- WHAT AN ANSWER IMPLIES, for a case with this many orders
 module _ (f : List ℕ) (c : Case) {orders : ℕ} (count : c.orders ≡ orders) where
-  pub refused-of : {o : Outcome} → family_answer f orders ≡ Refused o → refusal (family_causes (some f) c) ≡ some o
+  pub refused-of : {o : Outcome} → family_answer f orders ≡ Err o → refusal (family_causes (some f) c) ≡ some o
   refused-of {o} e = ap refusal (rows_are f c count) ∙ by (refusal (rows_beside f orders)) e
     where
-      by : (x : Option Outcome) → family_by x ≡ Refused o → x ≡ some o
+      by : (x : Option Outcome) → family_by x ≡ Err o → x ≡ some o
       by (some y) e = cc
       by none e = cc
 
-  pub passed-of : family_answer f orders ≡ Sound → refusal (family_causes (some f) c) ≡ none
+  pub passed-of : family_answer f orders ≡ Ok tt → refusal (family_causes (some f) c) ≡ none
   passed-of e = ap refusal (rows_are f c count) ∙ by (refusal (rows_beside f orders)) e
     where
-      by : (x : Option Outcome) → family_by x ≡ Sound → x ≡ none
+      by : (x : Option Outcome) → family_by x ≡ Ok tt → x ≡ none
       by (some y) e = cc
       by none e = refl
 
-  pub known_of : orders ≤ 512 → family_answer f orders ≡ Sound → FamiliesReadable f orders
+  pub known_of : orders ≤ 512 → family_answer f orders ≡ Ok tt → FamiliesReadable f orders
   known_of h e = known-passed f orders h (ap refusal (sym (rows_are f c count)) ∙ passed-of e)

@@ -3,9 +3,12 @@
 use Rattle.std.specs.Prelude.{◌≡◌, Bool, true, false, cond, List, ℕ, ◌+◌, ◌≤◌, ◌<◌, eqb, length, set}
 use Rattle.std.proofs.Common.{sym, ◌∙◌, arith, ne_eqb, length-set}
 use Rattle.std.proofs.Math.Path.{ap}
+use Rattle.std.specs.declared.option.Option as code
+use Rattle.std.specs.declared.option.Option.TheVariants.{None, Some}
 use Rattle.std.proofs.Math.Option.{none, some, none-ne-some, some-injective}
 use Rattle.std.proofs.Math.Decide.{ℕ_discrete}
 use Rattle.base_causes.proofs.Promised.CauseLaws.{no_less}
+use Rattle.base_causes.specs.Meaning.Place.{place_of}
 use Rattle.rules.specs.Meaning.Families.{no_parent, named, parent_in, parent_of}
 use Rattle.family_list.specs.Meaning.Parents.{Exist}
 use Rattle.family_list.proofs.Steps.Ancestors.{has-parent}
@@ -28,6 +31,14 @@ named-order v h = ap (λ (b : Bool). cond b none (some v)) (ne_eqb v no_parent (
 pub parent_is : (f : List ℕ) (j k : ℕ) → parent_of f j ≡ some k → parent_in f j ≡ k
 unfolding parent_of
 parent_is f j k e = named_some (parent_in f j) k e
+
+-- what the code answers of it
+pub parent-found : (o : code.Option ℕ) {k : ℕ} → place_of o ≡ some k → o ≡ Some k
+parent-found (Some j) e = ap Some (some-injective _ _ e)
+parent-found None e = absurd (none-ne-some _ e)
+
+pub parent-known : {o : code.Option ℕ} {j k : ℕ} → place_of o ≡ some k → o ≡ Some j → k ≡ j
+parent-known {o} {j} {k} e q = some-injective k j (sym e ∙ ap place_of q)
 
 -- a turn of the loop that copies them
 pub take_none : (f up : List ℕ) → length up ≡ 512 → ParentsTaken f 0 up

@@ -1,38 +1,20 @@
 -- ONCE AROUND: the least order on a circle, found by a walk from an order that leads back to itself until the walk
 -- is back there. Assumes nothing.
-use Rattle.std.specs.Prelude.{◌≡◌, refl, Bool, true, false, cond, ltb}
+use Rattle.std.specs.Prelude.{◌≡◌, refl}
 use Rattle.std.proofs.Math.Path.{sym, ap}
-use Rattle.std.proofs.Common.{◌∙◌, add-one, ltb-true, ltb-false}
+use Rattle.std.proofs.Common.{◌∙◌, add-one, subst}
 use Rattle.std.proofs.Math.Option.{Option, some, some-injective}
-use Prim.Native.Nat.{ℕ, zero, suc, ◌+◌, ◌-◌, ◌≤◌, ◌<◌}
+use Prim.Native.Nat.{ℕ, zero, suc, ◌+◌, ◌-◌, ◌≤◌, ◌<◌, min}
 use Rattle.std.proofs.Math.Decide.{dec_lt}
 use native.Mathlib.Omega.{arith}
 use Rattle.rules.specs.Meaning.Families.{onward, ancestor, LeadsBack}
 use Rattle.family_list.specs.Meaning.Parents.{Exist}
 use Rattle.family_list.proofs.Steps.Ancestors.{ancestor-add, earlier, stays-in, short}
-use Rattle.family_list.specs.Steps.Round.{smaller, Least, Round}
+use Rattle.family_list.specs.Steps.Round.{Least, Round}
 
-module _ (a b : ℕ) where
-  pub smaller-left : smaller a b ≤ a
-  smaller-left = by (ltb b a) refl
-    where
-      by : (c : Bool) → ltb b a ≡ c → cond c b a ≤ a
-      by true e = omega (arith, ltb-true b a e)
-      by false e = omega arith
-
-  pub smaller-right : smaller a b ≤ b
-  smaller-right = by (ltb b a) refl
-    where
-      by : (c : Bool) → ltb b a ≡ c → cond c b a ≤ b
-      by true e = omega arith
-      by false e = omega (arith, ltb-false b a e)
-
-  pub smaller-one : (P : ℕ → Type 0) → P a → P b → P (smaller a b)
-  smaller-one P p q = by (ltb b a)
-    where
-      by : (c : Bool) → P (cond c b a)
-      by true = q
-      by false = p
+-- the lesser of two is one of them
+pub min-one : (a b : ℕ) (P : ℕ → Type 0) → P a → P b → P (min a b)
+min-one a b P p q = elim (dec_lt b a) [ yes h ↦ let e : b ≡ min a b = omega arith in subst P e q | no h ↦ let e : a ≡ min a b = omega arith in subst P e p ]
 
 module _ (parent : ℕ → Option ℕ) {n : ℕ} (x : Exist n parent) {tip : ℕ} (h : tip < n) where
   -- the first step
@@ -72,7 +54,7 @@ module _ (parent : ℕ → Option ℕ) {n : ℕ} (x : Exist n parent) {tip : ℕ
         back : steps ≡ r.whole → at ≡ tip
         back e = some-injective at tip (sym r.there ∙ ap (λ (s : ℕ). ancestor parent s tip) e ∙ r.circle)
 
-    pub round-goes-on : (at ≡ tip → ⊥) → (k : ℕ) × (parent at ≡ some k) × Round parent n tip (steps + 1) k (smaller least at)
+    pub round-goes-on : (at ≡ tip → ⊥) → (k : ℕ) × (parent at ≡ some k) × Round parent n tip (steps + 1) k (min least at)
     unfolding ancestor
     round-goes-on d =
         let l = not_round d in
@@ -87,17 +69,17 @@ module _ (parent : ℕ → Option ℕ) {n : ℕ} (x : Exist n parent) {tip : ℕ
             one-or-more = omega arith;
             within = omega arith;
             there = ap (λ (s : ℕ). ancestor parent s tip) (add-one steps) ∙ next.1;
-            passed = λ s k m e. elim (dec_lt s steps) [ yes b ↦ omega (arith, smaller-left least at, r.passed s k b e) | no g ↦ last s k (omega arith) e ];
+            passed = λ s k m e. elim (dec_lt s steps) [ yes b ↦ omega (arith, r.passed s k b e) | no g ↦ last s k (omega arith) e ];
             place = chosen.0;
             is = chosen.1;
           },
         )
       where
-        last : (s k : ℕ) → s ≡ steps → ancestor parent s tip ≡ some k → smaller least at ≤ k
-        last s k q e = omega (arith, smaller-right least at, some-injective at k (sym r.there ∙ ap (λ (m : ℕ). ancestor parent m tip) (sym q) ∙ e))
+        last : (s k : ℕ) → s ≡ steps → ancestor parent s tip ≡ some k → min least at ≤ k
+        last s k q e = omega (arith, some-injective at k (sym r.there ∙ ap (λ (m : ℕ). ancestor parent m tip) (sym q) ∙ e))
 
-        chosen : (s : ℕ) × (ancestor parent s tip ≡ some (smaller least at))
-        chosen = smaller-one least at (λ (k : ℕ). (s : ℕ) × (ancestor parent s tip ≡ some k)) (r.place, r.is) (steps, r.there)
+        chosen : (s : ℕ) × (ancestor parent s tip ≡ some (min least at))
+        chosen = min-one least at (λ (k : ℕ). (s : ℕ) × (ancestor parent s tip ≡ some k)) (r.place, r.is) (steps, r.there)
 
   -- back at tip
   pub round-ends : {steps at least : ℕ} → Round parent n tip steps at least → at ≡ tip → (i : ℕ) → Least parent n i tip least

@@ -1,11 +1,11 @@
 -- How the orders that lead back to themselves are found: a walk up from each order in turn, over orders that no
 -- walk has visited. Entry i is the parent of order i until walk w visits i, then 512 + w. Laws over plain
 -- variables. Assumes nothing.
-use Rattle.std.specs.Prelude.{◌≡◌, ◌⊎◌, Bool, cond, List, ltb, length, get_or, set}
+use Rattle.std.specs.Prelude.{◌≡◌, ◌⊎◌, Bool, cond, List, ltb, length, set}
 use Rattle.std.proofs.Math.Path.{refl, ap}
 use Rattle.std.proofs.Common.{sym, subst, ◌∙◌, inl, inr, mul-le-mul_right, arith, lt-ltb, le-ltb, get_or-set_same, get_or-set_other}
 use Rattle.std.proofs.Math.Option.{Option, none, some, none-ne-some, some-injective}
-use Prim.Native.Nat.{ℕ, zero, suc, ◌+◌, ◌*◌, ◌-◌, ◌≤◌, ◌<◌}
+use Prim.Native.Nat.{ℕ, zero, suc, ◌+◌, ◌*◌, ◌-◌, ◌≤◌, ◌<◌, min}
 use Rattle.std.proofs.Math.Decide.{dec_lt, ℕ_discrete}
 use Rattle.std.proofs.Math.Dec.{not_T}
 use Rattle.base_causes.specs.Meaning.Causes.{first_below}
@@ -14,8 +14,7 @@ use Rattle.rules.specs.Meaning.Families.{onward, ancestor, LeadsBack, leads_back
 use Rattle.family_list.specs.Meaning.Parents.{Exist}
 use Rattle.family_list.proofs.Steps.Ancestors.{ancestor-add, stays-in, rounds}
 use Rattle.family_list.specs.Steps.Round.{Least}
-use Rattle.family_list.specs.Steps.Round.{smaller}
-use Rattle.family_list.proofs.Steps.Round.{smaller-left, smaller-right, smaller-one}
+use Rattle.family_list.proofs.Steps.Round.{min-one}
 use Rattle.family_list.proofs.Promised.Circle.{leads-back}
 use Rattle.family_list.specs.Steps.Walk.{held, LeadsTo, as_before, been-at, SearchSoFar, Trail}
 use Rattle.family_list.specs.Steps.Walk as shown
@@ -181,19 +180,19 @@ module _ (parent : ℕ → Option ℕ) {n : ℕ} (few : n ≤ 512) (x : Exist n 
       by (as_before q) = absurd (s.walked.ahead tip i t.tip-in (omega arith) (omega arith) (sym q ∙ e))
       by (been-at q f w) = record { steps = w.steps; one-or-more = w.one-or-more; back = w.there }
 
-  pub next-found : {r : ℕ} → Least parent n i tip r → SearchSoFar parent n (i + 1) (smaller first r) v
+  pub next-found : {r : ℕ} → Least parent n i tip r → SearchSoFar parent n (i + 1) (min first r) v
   next-found {r} l = record {
     walked = after;
-    first-in = omega (arith, smaller-left first r, s.first-in);
-    back = smaller-one first r (λ (k : ℕ). k < n → LeadsBack parent k) s.back (λ h. l.back);
+    first-in = omega (arith, s.first-in);
+    back = min-one first r (λ (k : ℕ). k < n → LeadsBack parent k) s.back (λ h. l.back);
     none-less = λ j h g b. by j h g b (walk.each j h);
   }
     where
-      by : (j : ℕ) → j < n → n ≤ v j → LeadsBack parent j → Now parent n i u tip v j → smaller first r ≤ j
-      by j h g b (as_before e) = omega (arith, smaller-left first r, s.none-less j h (omega arith) b)
+      by : (j : ℕ) → j < n → n ≤ v j → LeadsBack parent j → Now parent n i u tip v j → min first r ≤ j
+      by j h g b (as_before e) = omega (arith, s.none-less j h (omega arith) b)
       by j h g b (been-at e f w) = elim (dec_lt j i) [
         | yes q ↦ absurd (omega (arith, s.walked.before j h q))
-        | no q ↦ let a = around parent w b in omega (arith, smaller-right first r, l.no_less a.0 j a.1 (omega arith))
+        | no q ↦ let a = around parent w b in omega (arith, l.no_less a.0 j a.1 (omega arith))
       ]
 
   -- THE WALK ENDED at an order that earlier walks had visited, or that has no parent: no order that it visited

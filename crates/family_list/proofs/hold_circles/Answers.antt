@@ -6,10 +6,10 @@ use Rattle.family_list.proofs.Steps.Answer.{by-18, by-none}
 use Rattle.family_list.proofs.hold_circles.Goals as goal
 
 pub overflow_cast-result : goal.overflow_cast-result
-overflow_cast-result c = omega (arith, place-below _ _ _ 512 (sym c.in-At.ensures) c.requires.families_readable.whole.few)
+overflow_cast-result c = omega (arith, place-below _ _ _ 512 (sym c.in-Some.ensures) c.args.families.readable.whole.few)
 
-pub returns-in-At : goal.returns-in-At
-returns-in-At c = ap family_by (sym (by-18 c.args.families.now c.args.orders (sym c.in-At.ensures)))
+pub returns-in-Some : goal.returns-in-Some
+returns-in-Some c = ap family_by (sym (by-18 c.args.families.list.now c.args.families.orders (sym c.in-Some.ensures)))
 
 pub returns : goal.returns
-returns c = ap family_by (sym (by-none c.args.families.now c.args.orders (sym c.in_default.ensures)))
+returns c = ap family_by (sym (by-none c.args.families.list.now c.args.families.orders (sym c.in_default.ensures)))

@@ -6,7 +6,7 @@ use Rattle.family_list.specs.Steps.Round.{Round}
 use Rattle.family_list.proofs.least_on_circle.Given as goal
 
 abbrev pub invariant-loop-at : goal.invariant-loop-at
-invariant-loop-at l = Round (parent_of l.families) l.orders l.tip l.steps l.at l.least
+invariant-loop-at l = Round (parent_of l.families.list.now) l.families.orders l.tip l.steps l.at l.least
 
 abbrev pub decreases-loop-at : goal.decreases-loop-at
-decreases-loop-at l = l.orders - l.steps
+decreases-loop-at l = l.families.orders - l.steps

@@ -46,7 +46,7 @@ returns-then-is_absent-clause-walk c =
     let at = c.loop-i.cursor.at in
     let l = c.loop-i-test.true in
     let p = c.loop-i.invariant.place in
-    let read = half-read (within k i at l p) 0 (ap (λ (d : Cursor). d.at) c.new.ensures) (omega arith) c.half.ensures c.in-Taken.is in
+    let read = half-read (within k i at l p) 0 (ap (λ (d : Cursor). d.at) c.new.ensures) (omega arith) c.take.ensures c.in-Some.is in
     walk-stops (parent_cause f c.args.orders) (cursor (family_length c.args.orders)) i c.loop-i.invariant.exist l (tested k i at l p (number_is k i at l p read.is) c.is_absent.ensures ∙ c.if-is_absent.true)
 
 pub loop-i-preserved : goal.loop-i-preserved
@@ -57,12 +57,12 @@ loop-i-preserved c =
     let at = c.loop-i.cursor.at in
     let l = c.loop-i-test.true in
     let p = c.loop-i.invariant.place in
-    let read = half-read (within k i at l p) 0 (ap (λ (d : Cursor). d.at) c.new.ensures) (omega arith) c.half.ensures c.in-Taken.is in
+    let read = half-read (within k i at l p) 0 (ap (λ (d : Cursor). d.at) c.new.ensures) (omega arith) c.take.ensures c.in-Some.is in
     let number = number_is k i at l p read.is in
     record {
       place = ap (λ (d : Cursor). d.at) c.in_file-cursor.ensures ∙ omega (arith, read.past, p);
       exist = first-later (absent f c.args.orders) i c.loop-i.invariant.exist (tested k i at l p number c.is_absent.ensures ∙ c.if-is_absent.false);
-      taken = take_more f c.loop-i.up i c.in-Taken.parent (omega (arith, k.few)) c.loop-i.invariant.taken number;
+      taken = take_more f c.loop-i.up i c.in-Some.parent (omega (arith, k.few)) c.loop-i.invariant.taken number;
     }
 
 pub returns-clause-walk : goal.returns-clause-walk

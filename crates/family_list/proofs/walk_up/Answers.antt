@@ -14,7 +14,7 @@ loop-up-smaller c =
 pub loop-up-preserved : goal.loop-up-preserved
 loop-up-preserved c =
     let stored = put-set c.loop-up.up c.loop-up.tip (512 + c.args.i) (omega arith) in
-    record {
+    rw c.from-next.ensures record {
       tip-in = c.loop-up-test.true;
       long = length-set c.loop-up.up c.loop-up.tip (512 + c.args.i) ∙ c.loop-up.invariant.long;
       walking = λ parent w. walk_steps parent c.args.orders c.requires.orders_bound c.args.i (held c.args.up.now) c.loop-up.tip c.loop-up.invariant.tip-in (held c.loop-up.up)

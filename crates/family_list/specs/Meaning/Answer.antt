@@ -1,16 +1,10 @@
 -- What reading a family list answers, by rows 16 to 18 of the verdict table. Assumes nothing.
-use Rattle.std.specs.Prelude.{Bool, true, false, ◌||◌, List, [], ◌∷◌, ℕ, length, ◌≡◌, ◌≤◌}
+use Rattle.std.specs.Prelude.{Bool, true, false, ◌||◌, List, [], ◌∷◌, ℕ, length, ◌≡◌, ◌≤◌, Result, Ok, Err}
 use Rattle.std.proofs.Math.Option.{Option, none, some}
 use Rattle.base_causes.specs.declared.Outcome.{Outcome}
 use Rattle.base_causes.specs.Meaning.Causes.{Cause, verdict, refusal, once, each}
-use Rattle.bytes_read.specs.declared.Walked.{Walked}
-use Rattle.bytes_read.specs.declared.Walked.TheVariants as walk
+use Rattle.bytes_read.specs.declared.Cursor.{Cursor}
 use Rattle.bytes_read.specs.Meaning.Walk.{past_at}
-use Rattle.rules.specs.Meaning.Families.{family_header, family_version, family_length, parent_of, missing, leads_back}
-use Rattle.rules.specs.Meaning.Verdict.{differ, not_mark}
-use Rattle.family_list.specs.declared.FamilyAnswer.{FamilyAnswer}
-use Rattle.family_list.specs.declared.FamilyAnswer.TheVariants.{Sound, Refused}
-use Rattle.base_causes.specs.Meaning.Causes.{verdict, refusal}
 use Rattle.rules.specs.Meaning.Families.{family_header, family_version, family_length, parent_of, missing, leads_back}
 use Rattle.rules.specs.Meaning.Verdict.{differ, not_mark}
 use Rattle.family_list.specs.Meaning.Parents.{Exist}
@@ -39,20 +33,20 @@ abbrev pub rows_beside : List ℕ → ℕ → List Cause
 rows_beside f orders = list_cause f orders ∷ parent_cause f orders ∷ circle_cause f orders ∷ []
 
 -- THE ANSWER
-abbrev pub family_by : Option Outcome → FamilyAnswer
-family_by (some o) = Refused o
-family_by none = Sound
+abbrev pub family_by : Option Outcome → Result Unit Outcome
+family_by (some o) = Err o
+family_by none = Ok tt
 
-abbrev pub family_answer : List ℕ → ℕ → FamilyAnswer
+abbrev pub family_answer : List ℕ → ℕ → Result Unit Outcome
 family_answer f orders = family_by (refusal (rows_beside f orders))
 
 -- for row 18 alone
-abbrev pub circle_answer : List ℕ → ℕ → FamilyAnswer
+abbrev pub circle_answer : List ℕ → ℕ → Result Unit Outcome
 circle_answer f orders = family_by (refusal (circle_cause f orders ∷ []))
 
 -- the walk over the header, by the test of row 16
-abbrev pub header_by : Bool → Walked
-header_by true = walk.Refused (verdict 16 0)
+abbrev pub header_by : Bool → Result Cursor Outcome
+header_by true = Err (verdict 16 0)
 header_by false = past_at family_header
 
 -- ROW 16 PASSED: the length is right, for at most 512 orders

@@ -1,13 +1,7 @@
 -- THE PARENTS, copied from a family list into an array while row 17 is asked; no walk has visited them yet.
 -- Assumes nothing.
-use Rattle.std.specs.Prelude.{◌≡◌, Bool, true, false, cond, List, ℕ, ◌+◌, ◌≤◌, ◌<◌, eqb, length, set}
-use Rattle.std.proofs.Common.{sym, ◌∙◌, arith, ne_eqb, length-set}
-use Rattle.std.proofs.Math.Path.{ap}
-use Rattle.std.proofs.Math.Option.{none, some, none-ne-some, some-injective}
-use Rattle.std.proofs.Math.Decide.{ℕ_discrete}
-use Rattle.base_causes.proofs.Promised.CauseLaws.{no_less}
-use Rattle.rules.specs.Meaning.Families.{no_parent, named, parent_in, parent_of}
-use Rattle.family_list.specs.Meaning.Parents.{Exist}
+use Rattle.std.specs.Prelude.{◌≡◌, List, ℕ, ◌<◌, length}
+use Rattle.rules.specs.Meaning.Families.{parent_in, parent_of}
 use Rattle.family_list.specs.Steps.Walk.{held, SearchSoFar}
 
 -- the first n entries, of 512

@@ -1,17 +1,9 @@
 -- ONCE AROUND: the least order on a circle, found by a walk from an order that leads back to itself until the walk
 -- is back there. Assumes nothing.
-use Rattle.std.specs.Prelude.{◌≡◌, refl, Bool, true, false, cond, ltb}
-use Rattle.std.proofs.Math.Path.{sym, ap}
-use Rattle.std.proofs.Common.{◌∙◌, add-one, ltb-true, ltb-false}
-use Rattle.std.proofs.Math.Option.{Option, some, some-injective}
-use Prim.Native.Nat.{ℕ, zero, suc, ◌+◌, ◌-◌, ◌≤◌, ◌<◌}
-use Rattle.std.proofs.Math.Decide.{dec_lt}
-use native.Mathlib.Omega.{arith}
-use Rattle.rules.specs.Meaning.Families.{onward, ancestor, LeadsBack}
-use Rattle.family_list.specs.Meaning.Parents.{Exist}
-
-abbrev pub smaller : ℕ → ℕ → ℕ
-smaller a b = cond (ltb b a) b a
+use Rattle.std.specs.Prelude.{◌≡◌}
+use Rattle.std.proofs.Math.Option.{Option, some}
+use Prim.Native.Nat.{ℕ, ◌≤◌, ◌<◌}
+use Rattle.rules.specs.Meaning.Families.{ancestor, LeadsBack}
 
 -- THE LEAST, from i on, of the orders that an order leads to; it leads back to itself
 pub record Least (parent : ℕ → Option ℕ) (n i tip least : ℕ) : Type 0 where

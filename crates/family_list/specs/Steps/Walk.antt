@@ -1,18 +1,10 @@
 -- How the orders that lead back to themselves are found: a walk up from each order in turn, over orders that no
 -- walk has visited. Entry i is the parent of order i until walk w visits i, then 512 + w. Laws over plain
 -- variables. Assumes nothing.
-use Rattle.std.specs.Prelude.{◌≡◌, ◌⊎◌, Bool, cond, List, ltb, length, get_or, set}
-use Rattle.std.proofs.Math.Path.{refl, ap}
-use Rattle.std.proofs.Common.{sym, subst, ◌∙◌, inl, inr, mul-le-mul_right, arith, lt-ltb, le-ltb, get_or-set_same, get_or-set_other}
-use Rattle.std.proofs.Math.Option.{Option, none, some, none-ne-some, some-injective}
-use Prim.Native.Nat.{ℕ, zero, suc, ◌+◌, ◌*◌, ◌-◌, ◌≤◌, ◌<◌}
-use Rattle.std.proofs.Math.Decide.{dec_lt, ℕ_discrete}
-use Rattle.std.proofs.Math.Dec.{not_T}
-use Rattle.base_causes.specs.Meaning.Causes.{first_below}
-use Rattle.base_causes.proofs.Promised.CauseLaws.{first_some, first-none}
-use Rattle.rules.specs.Meaning.Families.{onward, ancestor, LeadsBack, leads_back}
-use Rattle.family_list.specs.Meaning.Parents.{Exist}
-use Rattle.family_list.specs.Steps.Round.{Least}
+use Rattle.std.specs.Prelude.{◌≡◌, ◌⊎◌, List, get_or}
+use Rattle.std.proofs.Math.Option.{Option, some}
+use Prim.Native.Nat.{ℕ, ◌+◌, ◌≤◌, ◌<◌}
+use Rattle.rules.specs.Meaning.Families.{ancestor, LeadsBack}
 
 abbrev pub held : List ℕ → ℕ → ℕ
 held up j = get_or up j 0

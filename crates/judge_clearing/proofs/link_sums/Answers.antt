@@ -6,6 +6,8 @@ use Rattle.std.proofs.Math.ListN.{set}
 use Rattle.std.proofs.Math.IntN.{ℤ, pos, ◌+ℤ◌, ◌-ℤ◌, ◌*ℤ◌, +ℤ_idr}
 use Rattle.std.specs.Int.{w64}
 use Rattle.std.specs.Int.Signed.{lt_z}
+use Rattle.std.specs.Ordering.{int_cmp, is_lt}
+use Rattle.base_measures.specs.Steps.Derived.{less-is}
 use Rattle.base_integers.specs.Meaning.Sums.{sum_to}
 use Rattle.base_integers.specs.Steps.Size.{Near, near_fits, near_sub, near_mul, near-pos, near-unsigned}
 use Rattle.base_integers.specs.Steps.Machine.{sfits-by}
@@ -18,7 +20,8 @@ use Rattle.rules.specs.Meaning.Verdict.{◌over◌}
 use Rattle.rules.proofs.Promised.Fits.{flow-in, partial-near}
 use Rattle.case_links.specs.declared.Link.{Link}
 use Rattle.case_links.specs.Meaning.Link.{link_of}
-use Rattle.proposal_file.specs.declared.HourRead.{HourRead}
+use Rattle.case_header.specs.declared.Counts.{Counts}
+use Rattle.proposal_file.specs.declared.ProposalOpening.{ProposalOpening}
 use Rattle.proposal_file.specs.Meaning.Read.{HourReadFrom}
 use Rattle.proposal_file.specs.Meaning.InRange.{VolumesInRange}
 use Rattle.proposal_file.specs.Steps.Read.{sound, links-is, share-is, share-in}
@@ -26,11 +29,10 @@ use Rattle.base_measures.specs.declared.Tenths.{Tenths}
 use Rattle.base_measures.specs.declared.Load.{Load}
 use Rattle.base_measures.specs.Meaning.TenthsHold.{tenths_at, TenthsHold}
 use Rattle.judge_clearing.specs.Steps.Parts.{partly, in-set, out-next, out-set}
-use Rattle.judge_clearing.specs.Steps.InRange.{word_small}
 use Rattle.judge_clearing.proofs.link_sums.Goals as goal
 
 -- LINK l OF THE HOUR, as it was read
-module _ {s t : List ℕ} {hour : HourRead} (h : HourReadFrom s t hour) (l : ℕ) (i : l < hour.counts.links) where
+module _ {s t : List ℕ} {counts : Counts} {opening : ProposalOpening} (h : HourReadFrom s t counts opening) (l : ℕ) (i : l < counts.links) where
   inside : l < (case_of s).links
   inside = omega (arith, links-is h)
 
@@ -55,17 +57,17 @@ module _ {s t : List ℕ} {hour : HourRead} (h : HourReadFrom s t hour) (l : ℕ
     from-in : k.from < 16
     from-in = omega (arith, from-is, from-small)
 
-    room-fits : SFits w64 (hour.opening.share.0 *ℤ k.capacity.0)
+    room-fits : SFits w64 (opening.share.0 *ℤ k.capacity.0)
     unfolding case_of plan_of
     room-fits =
         sfits-by w64 (λ j. share-is h j *ℤ (e j).capacity.0)
         (near_fits w64 (omega arith) (near_mul (near-unsigned _ 100000 (share-in h)) (near-unsigned _ 100000 ((sound h).capacity-in l inside))))
 
     -- the test of its flow
-    answered : {f : Tenths} {u r : Load} {b : Bool} → f.0 ≡ pos (flow_in s t l) → u.0 ≡ f.0 *ℤ pos parts_in_one → r.0 ≡ hour.opening.share.0 *ℤ k.capacity.0 → b ≡ lt_z r.0 u.0
+    answered : {f : Tenths} {u r : Load} {b : Bool} → f.0 ≡ pos (flow_in s t l) → u.0 ≡ f.0 *ℤ pos parts_in_one → r.0 ≡ opening.share.0 *ℤ k.capacity.0 → b ≡ is_lt (int_cmp r.0 u.0)
         → b ≡ link_use (case_of s) (plan_of s t) l over link_room (case_of s) (plan_of s t) l
     unfolding link_room link_use case_of plan_of
-    answered q u r a = a ∙ (λ j. lt_z ((r ∙ (λ n. share-is h n *ℤ (e n).capacity.0)) j) ((u ∙ ap (λ (x : ℤ). x *ℤ pos parts_in_one) q) j))
+    answered {u = w} {r = x} q u r a = a ∙ less-is x.0 w.0 ∙ (λ j. lt_z ((r ∙ (λ n. share-is h n *ℤ (e n).capacity.0)) j) ((u ∙ ap (λ (x : ℤ). x *ℤ pos parts_in_one) q) j))
 
   -- where no flow so far is above its room, the parts fit
   module _ (passed : first_below (l + 1) (λ j. link_use (case_of s) (plan_of s t) j over link_room (case_of s) (plan_of s t) j) ≡ none) where
@@ -90,100 +92,99 @@ loop-l-init c = record {
 pub scaled_by_one-requires : goal.scaled_by_one-requires
 unfolding flow_in
 scaled_by_one-requires c =
-    sfits-by w64 (ap (λ (x : ℤ). x *ℤ pos parts_in_one) c.flow_at-flow.ensures)
-    (near_fits w64 (omega arith) (near_mul (near-unsigned _ 4294967295 (word_small c.args.proposal.now _ (record { byte = λ i. omega (arith, c.type_inv.proposal i) }))) (near-pos parts_in_one)))
+    sfits-by w64 (ap (λ (x : ℤ). x *ℤ pos parts_in_one) c.flow_at-flow.ensures.value)
+    (near_fits w64 (omega arith) (near_mul (near-unsigned _ 4294967295 (omega (arith, c.flow_at-flow.ensures.upper_bound))) (near-pos parts_in_one)))
 
 pub of_volume-requires : goal.of_volume-requires
-of_volume-requires c = room-fits c.requires.hour_read_from c.loop-l.l c.loop-l-test.true c.link_at-link.ensures
+of_volume-requires c = room-fits c.args.hour.read c.loop-l.l c.loop-l-test.true c.link_at-link.ensures
 
-pub returns-then-exceeds-clause-overused : goal.returns-then-exceeds-clause-overused
-returns-then-exceeds-clause-overused c =
-    let h = c.requires.hour_read_from in
+pub returns-then-lt-clause-overused : goal.returns-then-lt-clause-overused
+returns-then-lt-clause-overused c =
+    let h = c.args.hour.read in
     let l = c.loop-l.l in
     let i = c.loop-l-test.true in
-    sym (first-here _ l (inside h l i) c.loop-l.invariant.within
-    (sym (answered h l i c.link_at-link.ensures c.flow_at-flow.ensures c.scaled_by_one.ensures c.of_volume.ensures c.exceeds.ensures) ∙ c.if-exceeds.true))
+    first-here _ l (inside h l i) c.loop-l.invariant.within
+    (sym (answered h l i c.link_at-link.ensures c.flow_at-flow.ensures.value c.scaled_by_one.ensures c.of_volume.ensures c.lt.ensures) ∙ c.if-lt.true)
 
 pub offset_bounds-parts-to : goal.offset_bounds-parts-to
-offset_bounds-parts-to c = omega (arith, to-in c.requires.hour_read_from c.loop-l.l c.loop-l-test.true c.link_at-link.ensures)
+offset_bounds-parts-to c = omega (arith, to-in c.args.hour.read c.loop-l.l c.loop-l-test.true c.link_at-link.ensures)
 
 pub bounds-parts-to : goal.bounds-parts-to
-bounds-parts-to c = to-in c.requires.hour_read_from c.loop-l.l c.loop-l-test.true c.link_at-link.ensures
+bounds-parts-to c = to-in c.args.hour.read c.loop-l.l c.loop-l-test.true c.link_at-link.ensures
 
-pub minus-into-requires : goal.minus-into-requires
+pub minus-requires : goal.minus-requires
 unfolding plan_of
-minus-into-requires c =
-    let h = c.requires.hour_read_from in
+minus-requires c =
+    let h = c.args.hour.read in
     let l = c.loop-l.l in
     let i = c.loop-l-test.true in
     let e = c.link_at-link.ensures in
     let to = c.link_at-link.result.to in
-    let passed = first-later _ l c.loop-l.invariant.within (sym (answered h l i e c.flow_at-flow.ensures c.scaled_by_one.ensures c.of_volume.ensures c.exceeds.ensures) ∙ c.if-exceeds.false) in
-    sfits-by w64 (λ j. c.loop-l.invariant.parts.each to (to-in h l i e) j -ℤ c.flow_at-flow.ensures j)
+    let passed = first-later _ l c.loop-l.invariant.within (sym (answered h l i e c.flow_at-flow.ensures.value c.scaled_by_one.ensures c.of_volume.ensures c.lt.ensures) ∙ c.if-lt.false) in
+    sfits-by w64 (λ j. c.loop-l.invariant.parts.each to (to-in h l i e) j -ℤ c.flow_at-flow.ensures.value j)
     (near_fits w64 (omega arith) (near_sub (near h l i passed c.requires.volumes_in_range l (omega arith) to) (near-unsigned _ 100000 (flows-small h l i passed l (omega arith)))))
 
 pub offset_bounds-parts-to-in-loop-l : goal.offset_bounds-parts-to-in-loop-l
-offset_bounds-parts-to-in-loop-l c = omega (arith, to-in c.requires.hour_read_from c.loop-l.l c.loop-l-test.true c.link_at-link.ensures)
+offset_bounds-parts-to-in-loop-l c = omega (arith, to-in c.args.hour.read c.loop-l.l c.loop-l-test.true c.link_at-link.ensures)
 
 pub bounds-parts-to-in-loop-l : goal.bounds-parts-to-in-loop-l
-bounds-parts-to-in-loop-l c = to-in c.requires.hour_read_from c.loop-l.l c.loop-l-test.true c.link_at-link.ensures
+bounds-parts-to-in-loop-l c = to-in c.args.hour.read c.loop-l.l c.loop-l-test.true c.link_at-link.ensures
 
 pub offset_bounds-parts-from : goal.offset_bounds-parts-from
-offset_bounds-parts-from c = omega (arith, from-in c.requires.hour_read_from c.loop-l.l c.loop-l-test.true c.link_at-link.ensures)
+offset_bounds-parts-from c = omega (arith, from-in c.args.hour.read c.loop-l.l c.loop-l-test.true c.link_at-link.ensures)
 
 pub bounds-parts-from : goal.bounds-parts-from
-bounds-parts-from c = from-in c.requires.hour_read_from c.loop-l.l c.loop-l-test.true c.link_at-link.ensures
+bounds-parts-from c = from-in c.args.hour.read c.loop-l.l c.loop-l-test.true c.link_at-link.ensures
 
-pub plus-out_of-requires : goal.plus-out_of-requires
+pub plus-requires : goal.plus-requires
 unfolding plan_of
-plus-out_of-requires c =
-    let h = c.requires.hour_read_from in
+plus-requires c =
+    let h = c.args.hour.read in
     let l = c.loop-l.l in
     let i = c.loop-l-test.true in
     let e = c.link_at-link.ensures in
     let to = c.link_at-link.result.to in
     let from = c.link_at-link.result.from in
     let xs = c.loop-l.parts in
-    let cs = case_of c.args.«case».now in
-    let p = plan_of c.args.«case».now c.args.proposal.now in
-    let passed = first-later _ l c.loop-l.invariant.within (sym (answered h l i e c.flow_at-flow.ensures c.scaled_by_one.ensures c.of_volume.ensures c.exceeds.ensures) ∙ c.if-exceeds.false) in
-    let entered = in-set cs p l xs to c.minus-into.result (to-is h l i e) (to-small h l i) c.loop-l.invariant.parts (c.minus-into.ensures ∙ ap (λ (y : ℤ). tenths_at xs to -ℤ y) c.flow_at-flow.ensures) in
-    sfits-by w64 (ap (λ (x : ℤ). tenths_at (set xs to c.minus-into.result) from +ℤ x) c.flow_at-flow.ensures ∙ out-next cs p l _ from c.minus-into.result (from-is h l i e) (from-small h l i) entered)
+    let cs = case_of c.args.hour.case.bytes.now in
+    let p = plan_of c.args.hour.case.bytes.now c.args.hour.proposal.now in
+    let passed = first-later _ l c.loop-l.invariant.within (sym (answered h l i e c.flow_at-flow.ensures.value c.scaled_by_one.ensures c.of_volume.ensures c.lt.ensures) ∙ c.if-lt.false) in
+    let entered = in-set cs p l xs to c.minus.result (to-is h l i e) (to-small h l i) c.loop-l.invariant.parts (c.minus.ensures ∙ ap (λ (y : ℤ). tenths_at xs to -ℤ y) c.flow_at-flow.ensures.value) in
+    sfits-by w64 (ap (λ (x : ℤ). tenths_at (set xs to c.minus.result) from +ℤ x) c.flow_at-flow.ensures.value ∙ out-next cs p l _ from c.minus.result (from-is h l i e) (from-small h l i) entered)
     (near_fits w64 (omega arith) (near h l i passed c.requires.volumes_in_range (l + 1) (omega arith) from))
 
 pub offset_bounds-parts-from-in-loop-l : goal.offset_bounds-parts-from-in-loop-l
-offset_bounds-parts-from-in-loop-l c = omega (arith, from-in c.requires.hour_read_from c.loop-l.l c.loop-l-test.true c.link_at-link.ensures)
+offset_bounds-parts-from-in-loop-l c = omega (arith, from-in c.args.hour.read c.loop-l.l c.loop-l-test.true c.link_at-link.ensures)
 
 pub bounds-parts-from-in-loop-l : goal.bounds-parts-from-in-loop-l
-bounds-parts-from-in-loop-l c = from-in c.requires.hour_read_from c.loop-l.l c.loop-l-test.true c.link_at-link.ensures
+bounds-parts-from-in-loop-l c = from-in c.args.hour.read c.loop-l.l c.loop-l-test.true c.link_at-link.ensures
 
 pub loop-l-preserved : goal.loop-l-preserved
 unfolding plan_of
 loop-l-preserved c =
-    let h = c.requires.hour_read_from in
+    let h = c.args.hour.read in
     let l = c.loop-l.l in
     let i = c.loop-l-test.true in
     let e = c.link_at-link.ensures in
     let to = c.link_at-link.result.to in
     let from = c.link_at-link.result.from in
     let xs = c.loop-l.parts in
-    let cs = case_of c.args.«case».now in
-    let p = plan_of c.args.«case».now c.args.proposal.now in
-    let entered = in-set cs p l xs to c.minus-into.result (to-is h l i e) (to-small h l i) c.loop-l.invariant.parts (c.minus-into.ensures ∙ ap (λ (y : ℤ). tenths_at xs to -ℤ y) c.flow_at-flow.ensures) in
+    let cs = case_of c.args.hour.case.bytes.now in
+    let p = plan_of c.args.hour.case.bytes.now c.args.hour.proposal.now in
+    let entered = in-set cs p l xs to c.minus.result (to-is h l i e) (to-small h l i) c.loop-l.invariant.parts (c.minus.ensures ∙ ap (λ (y : ℤ). tenths_at xs to -ℤ y) c.flow_at-flow.ensures.value) in
     record {
-      within = first-later _ l c.loop-l.invariant.within (sym (answered h l i e c.flow_at-flow.ensures c.scaled_by_one.ensures c.of_volume.ensures c.exceeds.ensures) ∙ c.if-exceeds.false);
-      parts = out-set cs p l _ from c.plus-out_of.result (from-is h l i e) (from-small h l i) entered
-          (c.plus-out_of.ensures ∙ ap (λ (x : ℤ). tenths_at (set xs to c.minus-into.result) from +ℤ x) c.flow_at-flow.ensures);
+      within = first-later _ l c.loop-l.invariant.within (sym (answered h l i e c.flow_at-flow.ensures.value c.scaled_by_one.ensures c.of_volume.ensures c.lt.ensures) ∙ c.if-lt.false);
+      parts = out-set cs p l _ from c.plus.result (from-is h l i e) (from-small h l i) entered
+          (c.plus.ensures ∙ ap (λ (x : ℤ). tenths_at (set xs to c.minus.result) from +ℤ x) c.flow_at-flow.ensures.value);
     }
 
-pub returns-clause-overused : goal.returns-clause-overused
-returns-clause-overused c =
-    sym (first-nowhere _ c.loop-l.l (omega (arith, links-is c.requires.hour_read_from)) (omega (arith, links-is c.requires.hour_read_from)) c.loop-l.invariant.within)
+pub returns-clause-within : goal.returns-clause-within
+returns-clause-within c = first-nowhere _ c.loop-l.l (omega (arith, links-is c.args.hour.read)) (omega (arith, links-is c.args.hour.read)) c.loop-l.invariant.within
 
 pub returns-clause-parts : goal.returns-clause-parts
 unfolding fb_part lta_part inflow outflow
 returns-clause-parts c =
-    let cs = case_of c.args.«case».now in
-    let p = plan_of c.args.«case».now c.args.proposal.now in
-    let e : c.loop-l.l ≡ cs.links = omega (arith, links-is c.requires.hour_read_from) in
-    λ n. subst (λ (k : ℕ). TenthsHold (partly cs p k k) c.loop-l.parts) e c.loop-l.invariant.parts
+    let cs = case_of c.args.hour.case.bytes.now in
+    let p = plan_of c.args.hour.case.bytes.now c.args.hour.proposal.now in
+    let e : c.loop-l.l ≡ cs.links = omega (arith, links-is c.args.hour.read) in
+    subst (λ (k : ℕ). TenthsHold (partly cs p k k) c.loop-l.parts) e c.loop-l.invariant.parts

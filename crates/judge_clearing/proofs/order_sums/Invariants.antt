@@ -14,7 +14,7 @@ use Rattle.judge_clearing.proofs.order_sums.Given as goal
 
 abbrev pub invariant-loop-i : goal.invariant-loop-i
 invariant-loop-i l = record {
-  within : first_below l.i (λ j. (plan_of l.case l.proposal).volume j over (case_of l.case).quantity j) ≡ none;
-  nets : TenthsHold (keyed (case_of l.case).zone (order_net (case_of l.case) (plan_of l.case l.proposal)) l.i) l.nets;
-  welfare : l.welfare.0 ≡ sum_to l.i (λ j. pos parts_in_one *ℤ order_welfare (case_of l.case) (plan_of l.case l.proposal) j);
+  within : first_below l.i (λ j. (plan_of l.hour.case.bytes.now l.hour.proposal.now).volume j over (case_of l.hour.case.bytes.now).quantity j) ≡ none;
+  nets : TenthsHold (keyed (case_of l.hour.case.bytes.now).zone (order_net (case_of l.hour.case.bytes.now) (plan_of l.hour.case.bytes.now l.hour.proposal.now)) l.i) l.nets;
+  welfare : l.welfare.0 ≡ sum_to l.i (λ j. pos parts_in_one *ℤ order_welfare (case_of l.hour.case.bytes.now) (plan_of l.hour.case.bytes.now l.hour.proposal.now) j);
 }

@@ -1,8 +1,7 @@
 -- What the verdicts before a stage leave; from it the sums of the stage fit. Assumes nothing.
-use Rattle.std.specs.Prelude.{◌≡◌, List, ℕ, ◌+◌, ◌≤◌, ◌<◌, get_or}
+use Rattle.std.specs.Prelude.{◌≡◌, ◌≤◌}
 use Rattle.std.proofs.Math.Option.{none}
-use Rattle.std.proofs.Common.{arith, nltb→le}
-use Rattle.rules.specs.Meaning.Layout.{u32_at}
+use Rattle.std.proofs.Common.{nltb→le}
 use Rattle.rules.specs.Meaning.Hour.{Case, Plan, link_use, link_room}
 use Rattle.base_causes.specs.Meaning.Causes.{failing}
 use Rattle.base_causes.proofs.Promised.CauseLaws.{not-below}
@@ -16,11 +15,3 @@ volumes-in {c} {p} e = record { within = λ i h. nltb→le (c.quantity i) (p.vol
 
 pub flows-in : {c : Case} {p : Plan} → CaseSound c → p.share ≤ 100000 → failing (overused_link c p) ≡ none → FlowsInRange c p
 flows-in {c} {p} cs share e = record { within = λ l h. flow-in c cs p share l h (nltb→le (link_room c p l) (link_use c p l) (not-below _ _ e l h)) }
-
--- an unsigned field of 32 bits, from bytes below 256
-pub record Bytes (s : List ℕ) : Type 0 where
-  pub byte : (i : ℕ) → get_or s i 0 < 256
-
-pub word_small : (s : List ℕ) (k : ℕ) → Bytes s → u32_at s k ≤ 4294967295
-unfolding u32_at
-word_small s k b = omega (arith, b.byte k, b.byte (k + 1), b.byte (k + 2), b.byte (k + 3))

@@ -18,17 +18,17 @@ past_room fs s t room h = field-passes 30 0 (hour_causes fs s t) (le-ltb room 17
 pub returns-then-report-lt-REPORT_ROOM : goal.returns-then-report-lt-REPORT_ROOM
 unfolding table room_causes reports
 returns-then-report-lt-REPORT_ROOM c =
-    let s = c.args.«case».now in
+    let s = c.args.case.now in
     let t = c.args.proposal.now in
     let b = c.args.report.now in
-    let fs = list_of c.args.list c.args.families.now in
+    let fs = list_of c.args.families in
     refused (table fs s t (length b) (case_of s) (plan_of s t) (prices_of s t)) s t b 30 0 refl (field-fails 30 0 (hour_causes fs s t) (lt-ltb (length b) 176 c.if-report-lt-REPORT_ROOM.true))
 
 -- THE HOUR
 pub returns : goal.returns
 returns c =
-    let s = c.args.«case».now in
+    let s = c.args.case.now in
     let t = c.args.proposal.now in
     let b = c.args.report.now in
-    let fs = list_of c.args.list c.args.families.now in
+    let fs = list_of c.args.families in
     same_rows (past_room fs s t (length b) c.if-report-lt-REPORT_ROOM.false) (judged (hour_causes fs s t) s t b c.find_in.result c.find_in.ensures c.conclude.ensures.verdict c.conclude.ensures.report)

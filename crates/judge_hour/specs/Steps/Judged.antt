@@ -1,5 +1,5 @@
 -- What the judgement answers by a list of rows, and what it concludes from what the driver finds. Assumes nothing.
-use Rattle.std.specs.Prelude.{◌≡◌, refl, Bool, true, false, not, cond, ◌||◌, List, ◌++◌, ℕ, zero, suc, ◌≤◌, ◌<◌, length, drop, T, eqb, ℤ}
+use Rattle.std.specs.Prelude.{◌≡◌, refl, Bool, true, false, cond, ◌||◌, List, ◌++◌, ℕ, zero, suc, ◌≤◌, ◌<◌, length, drop, T, eqb, ℤ, Result, Ok, Err}
 use Rattle.std.proofs.Common.{sym, ap, subst, ◌∙◌, arith, eqb→eq}
 use Rattle.std.proofs.Math.Option.{Option, none, some}
 use Rattle.base_integers.specs.Meaning.Bytes.{signed64}
@@ -11,7 +11,7 @@ use Rattle.rules.specs.Meaning.Report.{Totals, header_bytes, total_bytes, price_
 use Rattle.rules.specs.Meaning.Verdict.{table, outcome, family_outcome}
 use Rattle.report_file.specs.Meaning.Written.{totals_in}
 use Rattle.report_file.specs.Meaning.Prices.{grains_at}
-use Rattle.judge_stages.specs.declared.Found.{Found}
+use Rattle.judge_stages.specs.declared.ValuedHour.{ValuedHour}
 use Rattle.judge_stages.specs.Meaning.Found.{Finds}
 use Rattle.judge_hour.specs.Meaning.HourJudged.{HourJudged, FamilyHourJudged}
 
@@ -61,52 +61,54 @@ same-report number zones x price c p d b e t h =
     ap (λ (n : ℕ). header_bytes number n ++ total_bytes x ++ price_bytes n price ++ drop (zone_price_at n) b) e
     ∙ (λ j. header_bytes number c.zones ++ total_bytes (t j) ++ price-ext c.zones price (zone_price c d) h j ++ drop (zone_price_at c.zones) b)
 
--- THE BUFFER after what was found
-abbrev pub report_of : Found → List ℕ → List ℕ
-report_of r b = report_text r.verdict.number r.hour.counts.zones (totals_in r.totals) (grains_at r.prices) ++ drop (zone_price_at r.hour.counts.zones) b
+-- THE VERDICT and THE BUFFER after what was found
+abbrev pub verdict_of : Result ValuedHour Outcome → Outcome
+verdict_of (Ok v) = v.verdict
+verdict_of (Err o) = o
 
-abbrev pub concluded : Found → List ℕ → List ℕ
-concluded r b = cond r.valued (report_of r b) b
+abbrev pub report_of : ValuedHour → List ℕ → List ℕ
+report_of v b = report_text v.verdict.number v.hour.case.counts.zones (totals_in v.totals) (grains_at v.prices) ++ drop (zone_price_at v.hour.case.counts.zones) b
+
+abbrev pub concluded : Result ValuedHour Outcome → List ℕ → List ℕ
+concluded (Ok v) b = report_of v b
+concluded (Err o) b = b
 
 -- what writing it needs
-pub record Reportable (r : Found) : Type 0 where
-  pub valued-is : r.valued ≡ reports r.verdict.number
-  pub few-zones : r.hour.counts.zones ≤ 16
+pub record ReportableHour (v : ValuedHour) : Type 0 where
+  pub valued-is : reports v.verdict.number ≡ true
+  pub few-zones : v.hour.case.counts.zones ≤ 16
+
+abbrev pub Reportable : Result ValuedHour Outcome → Type 0
+Reportable (Ok v) = ReportableHour v
+Reportable (Err o) = Unit {0}
 
 or-either : (a b : Bool) {X : Type 0} → (T a → X) → (T b → X) → T (a || b) → X
 or-either true b f g t = f tt
 or-either false b f g t = g t
 
-unturned : (b : Bool) → not b ≡ false → b ≡ true
-unturned true e = refl
-unturned false e = sym e
-
-pub number_small : (r : Found) → Reportable r → not r.valued ≡ false → r.verdict.number < 256
+pub number_small : (v : ValuedHour) → ReportableHour v → v.verdict.number < 256
 unfolding reports
-number_small r h e = or-either (eqb r.verdict.number 0) (eqb r.verdict.number 26) (λ t. below 0 (eqb→eq r.verdict.number 0 t) (omega arith)) (λ t. below 26 (eqb→eq r.verdict.number 26 t) (omega arith)) (subst T (sym (sym h.valued-is ∙ unturned r.valued e)) tt)
+number_small v h = or-either (eqb v.verdict.number 0) (eqb v.verdict.number 26) (λ t. below 0 (eqb→eq v.verdict.number 0 t) (omega arith)) (λ t. below 26 (eqb→eq v.verdict.number 26 t) (omega arith)) (subst T (sym h.valued-is) tt)
   where
-    below : (n : ℕ) → r.verdict.number ≡ n → n < 256 → r.verdict.number < 256
+    below : (n : ℕ) → v.verdict.number ≡ n → n < 256 → v.verdict.number < 256
     below n q l = omega arith
 
-pub judged : (rows : List Cause) (s t b : List ℕ) (f : Found) {r : Outcome} {b' : List ℕ} → Finds rows s t f → r ≡ f.verdict → b' ≡ concluded f b → Judged rows s t b r b'
+pub reportable : (rows : List Cause) (s t : List ℕ) (r : Result ValuedHour Outcome) → Finds rows s t r → Reportable r
+reportable rows s t (Ok v) f = record { valued-is = f.valued-is; few-zones = f.few-zones }
+reportable rows s t (Err o) f = tt
+
+pub judged : (rows : List Cause) (s t b : List ℕ) (f : Result ValuedHour Outcome) {r : Outcome} {b' : List ℕ} → Finds rows s t f → r ≡ verdict_of f → b' ≡ concluded f b → Judged rows s t b r b'
 unfolding written
-judged rows s t b f h e q = record {
+judged rows s t b (Ok v) h e q = record {
   given = e ∙ h.verdict-is;
-  buffer = q ∙ by f.valued refl ∙ ap (λ (o : Outcome). written o (case_of s) (plan_of s t) (prices_of s t) b) h.verdict-is;
+  buffer = q
+      ∙ same-report v.verdict.number v.hour.case.counts.zones (totals_in v.totals) (grains_at v.prices) (case_of s) (plan_of s t) (prices_of s t) b h.zones-are h.totals-are h.prices-are.each
+      ∙ ap (λ (x : Bool). cond x (report_bytes v.verdict.number (case_of s) (plan_of s t) (prices_of s t) ++ drop (report_size (case_of s)) b) b) (sym h.valued-is)
+      ∙ ap (λ (o : Outcome). written o (case_of s) (plan_of s t) (prices_of s t) b) h.verdict-is;
 }
-  where
-    by : (v : Bool) → f.valued ≡ v → cond v (report_of f b) b ≡ written f.verdict (case_of s) (plan_of s t) (prices_of s t) b
-    by true q = same-report f.verdict.number f.hour.counts.zones (totals_in f.totals) (grains_at f.prices) (case_of s) (plan_of s t) (prices_of s t) b (h.zones-are q) (h.totals-are q) (h.prices-are q).each
-        ∙ ap (λ (x : Bool). cond x (report_bytes f.verdict.number (case_of s) (plan_of s t) (prices_of s t) ++ drop (report_size (case_of s)) b) b) (sym q ∙ h.valued-is)
-    by false q = ap (λ (x : Bool). cond x (report_bytes f.verdict.number (case_of s) (plan_of s t) (prices_of s t) ++ drop (report_size (case_of s)) b) b) (sym q ∙ h.valued-is)
-
--- an hour that is not valued, and one that is
-pub unwritten : (f : Found) (b : List ℕ) → not f.valued ≡ true → b ≡ concluded f b
-unwritten f b e = sym (ap (λ (v : Bool). cond v (report_of f b) b) (turned f.valued e))
-  where
-    turned : (v : Bool) → not v ≡ true → v ≡ false
-    turned true e = sym e
-    turned false e = refl
-
-pub written_out : (f : Found) (b : List ℕ) → not f.valued ≡ false → report_of f b ≡ concluded f b
-written_out f b e = sym (ap (λ (v : Bool). cond v (report_of f b) b) (unturned f.valued e))
+judged rows s t b (Err o) h e q = record {
+  given = e ∙ h.verdict-is;
+  buffer = q
+      ∙ ap (λ (x : Bool). cond x (report_bytes o.number (case_of s) (plan_of s t) (prices_of s t) ++ drop (report_size (case_of s)) b) b) (sym h.not-valued)
+      ∙ ap (λ (o : Outcome). written o (case_of s) (plan_of s t) (prices_of s t) b) h.verdict-is;
+}

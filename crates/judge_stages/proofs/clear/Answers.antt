@@ -1,89 +1,108 @@
 -- The rows of the orders and, where they pass, those of the links.
 use Rattle.std.proofs.Common.{◌≡◌, List, ℕ, not, ◌&&◌, eqb, pos, sym, ap, subst, ◌∙◌, arith}
-use Rattle.std.proofs.Math.Option.{Option}
 use Rattle.std.specs.Int.Signed.{lt_z}
+use Rattle.std.proofs.lemmas.Result.{err_from_is_err_and}
 use Rattle.base_integers.specs.Meaning.Ranges.{is_zero}
 use Rattle.base_integers.specs.Meaning.Sums.{sum_to}
 use Rattle.base_integers.specs.Meaning.Machine.{SumsFit}
 use Rattle.base_integers.specs.Steps.Machine.{fit-ext}
 use Rattle.base_integers.specs.Steps.Sums.{sum-ext}
 use Rattle.rules.specs.Meaning.Hour.{case_of, plan_of, net, net_sum, no_link}
-use Rattle.rules.specs.Meaning.Verdict.{overused_link}
+use Rattle.rules.specs.Meaning.Verdict.{◌over◌}
 use Rattle.rules.proofs.Promised.Fits.{balance-sums}
-use Rattle.base_causes.specs.declared.Outcome.{Outcome}
-use Rattle.base_causes.specs.Meaning.Causes.{failing, refusal, answer}
 use Rattle.base_causes.proofs.Promised.CauseLaws.{place-below}
 use Rattle.base_measures.specs.declared.Tenths.{Tenths}
 use Rattle.base_measures.specs.Meaning.TenthsHold.{tenths_at, TenthsHold}
-use Rattle.proposal_file.specs.declared.HourRead.{HourRead}
+use Rattle.case_header.specs.declared.Counts.{Counts}
+use Rattle.proposal_file.specs.declared.ProposalOpening.{ProposalOpening}
 use Rattle.proposal_file.specs.Meaning.Read.{HourReadFrom}
 use Rattle.proposal_file.specs.Meaning.InRange.{VolumesInRange}
 use Rattle.proposal_file.specs.Steps.Read.{sound, zones-is, few-zones, links-is, share-is, share-in}
 use Rattle.judge_clearing.specs.Steps.InRange.{volumes-in, flows-in}
-use Rattle.judge_stages.specs.declared.Cleared.{Cleared}
-use Rattle.judge_stages.specs.Meaning.Found.{list_of}
-use Rattle.judge_stages.specs.Steps.Found.{link_causes, orders-silent, verdict-refuses, verdict-passes, link_answer, links-answer, links-pass}
+use Rattle.judge_stages.specs.Steps.Found.{balance_answer, balance-refuses, balance-passes, refused-21, refused-28, refused-balance, refused-23, all-cleared}
+use Rattle.judge_stages.specs.Steps.Listed.{list_read}
 use Rattle.judge_stages.proofs.clear.Goals as goal
 
--- THE NET POSITIONS of the hour: their sum, and the verdict from the tests that the machine computes
-module _ {s t : List ℕ} {hour : HourRead} (h : HourReadFrom s t hour) {nets : List Tenths} (n : TenthsHold (net (case_of s) (plan_of s t)) nets) where
-  sums-fit : VolumesInRange (case_of s) (plan_of s t) → SumsFit (λ z. tenths_at nets z) hour.counts.zones
+-- THE NET POSITIONS of the hour: their sum, and the two tests that the machine computes
+module _ {s t : List ℕ} {counts : Counts} {opening : ProposalOpening} (h : HourReadFrom s t counts opening) {nets : List Tenths} (n : TenthsHold (net (case_of s) (plan_of s t)) nets) where
+  sums-fit : VolumesInRange (case_of s) (plan_of s t) → SumsFit (λ z. tenths_at nets z) counts.zones
   sums-fit v =
       fit-ext _ _ _ (λ z l. n.each z (omega (arith, few-zones h)))
       (subst (λ (k : ℕ). SumsFit (λ z. net (case_of s) (plan_of s t) z) k) (sym (zones-is h)) (balance-sums _ (sound h) _ v.within))
 
-  verdict-is : {o : Option ℕ} {v : Outcome} → o ≡ failing (overused_link (case_of s) (plan_of s t))
-      → v ≡ link_answer (not (is_zero (sum_to hour.counts.zones (λ z. tenths_at nets z)))) (eqb hour.counts.links 0 && lt_z (pos 0) hour.opening.share.0) o
-      → v ≡ answer (refusal (link_causes (case_of s) (plan_of s t)))
+  balance-is : balance_answer (not (is_zero (sum_to counts.zones (λ z. tenths_at nets z)))) (eqb counts.links 0 && lt_z (pos 0) opening.share.0)
+      ≡ balance_answer (not (is_zero (net_sum (case_of s) (plan_of s t)))) (no_link (case_of s) && (plan_of s t).share over 0)
   unfolding net_sum no_link
-  verdict-is q e =
+  balance-is =
       let sum = sum-ext _ _ _ (λ z l. n.each z (omega (arith, few-zones h))) ∙ ap (λ (k : ℕ). sum_to k (λ z. net (case_of s) (plan_of s t) z)) (zones-is h) in
-      e ∙ (λ j. link_answer (not (is_zero (sum j))) (eqb (links-is h j) 0 && lt_z (pos 0) (share-is h j)) (q j)) ∙ sym (links-answer (case_of s) (plan_of s t))
+      λ j. balance_answer (not (is_zero (sum j))) (eqb (links-is h j) 0 && lt_z (pos 0) (share-is h j))
 
--- 21 AND 28
-pub returns-then-unfilled-ne0-clause-verdict : goal.returns-then-unfilled-ne0-clause-verdict
-returns-then-unfilled-ne0-clause-verdict c =
-    let h = case_of c.args.«case».now in
-    let p = plan_of c.args.«case».now c.args.proposal.now in
-    let l = list_of c.args.list c.args.families.now in
-    ap (λ (r : Cleared). r.verdict) c.uncleared.ensures ∙ verdict-refuses (link_causes h p) (orders-silent l h p) c.order_verdict-unfilled.ensures.verdict (omega (arith, c.if-unfilled-ne0.true))
+-- 21
+pub refused_at-requires : goal.refused_at-requires
+refused_at-requires c = place-below _ _ _ 4294967296 c.in-Err.ensures.excess (omega (arith, (sound c.args.reading.hour.read).orders-in))
 
--- 22, 27 AND 23
-pub link_sums-exchange-requires-clause-volumes_in_range : goal.link_sums-exchange-requires-clause-volumes_in_range
-link_sums-exchange-requires-clause-volumes_in_range c = volumes-in (sym c.order_sums-accepted.ensures.excess ∙ c.order_verdict-unfilled.ensures.volumes (omega (arith, c.if-unfilled-ne0.false)))
+pub returns-in-Err-clause-refused : goal.returns-in-Err-clause-refused
+returns-in-Err-clause-refused c =
+    let h = case_of c.args.reading.hour.case.bytes.now in
+    let p = plan_of c.args.reading.hour.case.bytes.now c.args.reading.hour.proposal.now in
+    rw c.refused_at.ensures (refused-21 (list_read c.args.reading.families) h p c.in-Err.ensures.excess)
 
-pub link_verdict-verdict-requires-clause-zones_bound : goal.link_verdict-verdict-requires-clause-zones_bound
-link_verdict-verdict-requires-clause-zones_bound c = few-zones c.requires.hour_read_from
+-- 28
+pub hold_families-requires : goal.hold_families-requires
+hold_families-requires c = volumes-in c.in-Ok.ensures.within
 
-pub link_verdict-verdict-requires-clause-sums_fit : goal.link_verdict-verdict-requires-clause-sums_fit
-link_verdict-verdict-requires-clause-sums_fit c =
-    let none-above = c.order_verdict-unfilled.ensures.volumes (omega (arith, c.if-unfilled-ne0.false)) in
-    sums-fit c.requires.hour_read_from (c.order_sums-accepted.ensures.nets none-above) (volumes-in (sym c.order_sums-accepted.ensures.excess ∙ none-above))
+pub returns-in_err-hold_families-clause-refused : goal.returns-in_err-hold_families-clause-refused
+returns-in_err-hold_families-clause-refused c =
+    let h = case_of c.args.reading.hour.case.bytes.now in
+    let p = plan_of c.args.reading.hour.case.bytes.now c.args.reading.hour.proposal.now in
+    let q = err_from_is_err_and c.from_residual.result c.from_residual.ensures.1 in
+    rw (q.1, q.2) (refused-28 (list_read c.args.reading.families) h p c.in-Ok.ensures.within c.in_err-hold_families.ensures.refused)
 
-pub link_verdict-verdict-requires-clause-by_index : goal.link_verdict-verdict-requires-clause-by_index
-link_verdict-verdict-requires-clause-by_index c =
-    λ l q. place-below _ _ l 4294967296 (sym c.link_sums-exchange.ensures.overused ∙ q) (omega (arith, (sound c.requires.hour_read_from).links-in))
+-- 22 AND 27
+pub hold_balance-requires-clause-zones_bound : goal.hold_balance-requires-clause-zones_bound
+hold_balance-requires-clause-zones_bound c = few-zones c.args.reading.hour.read
 
-pub returns-clause-verdict : goal.returns-clause-verdict
-returns-clause-verdict c =
-    let h = case_of c.args.«case».now in
-    let p = plan_of c.args.«case».now c.args.proposal.now in
-    let l = list_of c.args.list c.args.families.now in
-    let filled : c.order_verdict-unfilled.result.number ≡ 0 = omega (arith, c.if-unfilled-ne0.false) in
-    verdict-passes (link_causes h p) (orders-silent l h p) c.order_verdict-unfilled.ensures.verdict filled
-    (verdict-is c.requires.hour_read_from (c.order_sums-accepted.ensures.nets (c.order_verdict-unfilled.ensures.volumes filled)) c.link_sums-exchange.ensures.overused c.link_verdict-verdict.ensures)
+pub hold_balance-requires-clause-sums_fit : goal.hold_balance-requires-clause-sums_fit
+hold_balance-requires-clause-sums_fit c = sums-fit c.args.reading.hour.read c.in-Ok.ensures.nets (volumes-in c.in-Ok.ensures.within)
+
+pub returns-in_err-hold_balance-clause-refused : goal.returns-in_err-hold_balance-clause-refused
+returns-in_err-hold_balance-clause-refused c =
+    let h = case_of c.args.reading.hour.case.bytes.now in
+    let p = plan_of c.args.reading.hour.case.bytes.now c.args.reading.hour.proposal.now in
+    let q = err_from_is_err_and c.from_residual-in_err-hold_balance.result c.from_residual-in_err-hold_balance.ensures.1 in
+    let answer = sym (balance-is c.args.reading.hour.read c.in-Ok.ensures.nets) ∙ sym c.hold_balance.ensures ∙ c.in_err-hold_balance.was in
+    rw (q.1, q.2) (refused-balance (list_read c.args.reading.families) h p c.in-Ok.ensures.within c.in_ok-hold_families.ensures.passed (balance-refuses h p answer))
+
+-- 23
+pub link_sums-requires-clause-volumes_in_range : goal.link_sums-requires-clause-volumes_in_range
+link_sums-requires-clause-volumes_in_range c = volumes-in c.in-Ok.ensures.within
+
+pub refused_at-requires-in-Err-link_sums : goal.refused_at-requires-in-Err-link_sums
+refused_at-requires-in-Err-link_sums c = place-below _ _ _ 4294967296 c.in-Err-link_sums.ensures.overused (omega (arith, (sound c.args.reading.hour.read).links-in))
+
+pub returns-in-Err-link_sums-clause-refused : goal.returns-in-Err-link_sums-clause-refused
+returns-in-Err-link_sums-clause-refused c =
+    let h = case_of c.args.reading.hour.case.bytes.now in
+    let p = plan_of c.args.reading.hour.case.bytes.now c.args.reading.hour.proposal.now in
+    let balance = balance-passes h p (sym (balance-is c.args.reading.hour.read c.in-Ok.ensures.nets) ∙ sym c.hold_balance.ensures ∙ c.in_ok-hold_balance.was) in
+    rw c.refused_at-in-Err-link_sums.ensures
+    (refused-23 (list_read c.args.reading.families) h p c.in-Ok.ensures.within c.in_ok-hold_families.ensures.passed balance c.in-Err-link_sums.ensures.overused)
+
+-- ALL PASS
+pub returns-clause-passed : goal.returns-clause-passed
+returns-clause-passed c =
+    let h = case_of c.args.reading.hour.case.bytes.now in
+    let p = plan_of c.args.reading.hour.case.bytes.now c.args.reading.hour.proposal.now in
+    let balance = balance-passes h p (sym (balance-is c.args.reading.hour.read c.in-Ok.ensures.nets) ∙ sym c.hold_balance.ensures ∙ c.in_ok-hold_balance.was) in
+    all-cleared (list_read c.args.reading.families) h p c.in-Ok.ensures.within c.in_ok-hold_families.ensures.passed balance c.in-Ok-link_sums.ensures.within
 
 pub returns-clause-cleared : goal.returns-clause-cleared
 returns-clause-cleared c =
-    let h = c.requires.hour_read_from in
-    let none-above = c.order_verdict-unfilled.ensures.volumes (omega (arith, c.if-unfilled-ne0.false)) in
-    let nets = c.order_sums-accepted.ensures.nets none-above in
-    let v = verdict-is h nets c.link_sums-exchange.ensures.overused c.link_verdict-verdict.ensures in
-    λ z. let over = links-pass (case_of c.args.«case».now) (plan_of c.args.«case».now c.args.proposal.now) (sym (ap (λ (o : Outcome). o.number) v) ∙ z) in
+    let h = c.args.reading.hour.read in
     record {
-      volumes-in = volumes-in (sym c.order_sums-accepted.ensures.excess ∙ none-above);
-      flows-in = flows-in (sound h) (share-in h) over;
-      nets-are = nets;
-      parts_are = c.link_sums-exchange.ensures.parts (c.link_sums-exchange.ensures.overused ∙ over);
-      welfare-is = c.order_sums-accepted.ensures.welfare none-above;
+      volumes-in = volumes-in c.in-Ok.ensures.within;
+      flows-in = flows-in (sound h) (share-in h) c.in-Ok-link_sums.ensures.within;
+      nets-are = c.in-Ok.ensures.nets;
+      parts_are = c.in-Ok-link_sums.ensures.parts;
+      welfare-is = c.in-Ok.ensures.welfare;
     }

@@ -1,6 +1,8 @@
 -- The case is refused, or it is cut from its proposal and the hour is judged.
 use Rattle.std.proofs.Common.{◌≡◌, List, ◌++◌, ℕ, ◌-◌, ◌≤◌, length, take, drop, length-drop, sym, ap, subst, ◌∙◌, arith}
 use Rattle.std.proofs.Math.Seq.{length-take-le, take_all}
+use Rattle.std.specs.Prelude.{Err}
+use Rattle.std.proofs.lemmas.Result.{err_from_is_err_and}
 use Rattle.rules.specs.Meaning.Hour.{case_of, plan_of, prices_of}
 use Rattle.rules.specs.Meaning.Verdict.{case_causes, case_refusal, proposal_causes, judgement_causes}
 use Rattle.case_header.specs.declared.Counts.{Counts}
@@ -35,51 +37,52 @@ module _ (files : Files) (lent behind : List ℕ) {k : Counts} (readable : CaseR
       ∙ ap (λ (n : ℕ). drop n behind) begin-is
       ∙ proposal-rest files lent behind readable same
 
-pub demanded-end-requires : goal.demanded-end-requires
-demanded-end-requires c = limited (headed (opened_of (case_in c.args.files c.args.«case».now) (sym c.in-Readable.ensures)))
-
-pub slice_bounds-find_after-end : goal.slice_bounds-find_after-end
-slice_bounds-find_after-end c =
-    let readable = opened_of (case_in c.args.files c.args.«case».now) (sym c.in-Readable.ensures) in
-    sym (length-take-le _ _ (case-inside c.args.files c.args.«case».now c.args.proposal.now readable c.demanded-end.ensures c.proposal_start-start.ensures c.requires))
-
-pub slice_bounds-find_after-count : goal.slice_bounds-find_after-count
-slice_bounds-find_after-count c =
-    let readable = opened_of (case_in c.args.files c.args.«case».now) (sym c.in-Readable.ensures) in
-    proposal-inside c.args.files c.args.«case».now c.args.proposal.now readable c.demanded-end.ensures c.proposal_start-start.ensures c.requires
-
-pub slice_bounds-find_after-start : goal.slice_bounds-find_after-start
-slice_bounds-find_after-start c =
-    let readable = opened_of (case_in c.args.files c.args.«case».now) (sym c.in-Readable.ensures) in
-    proposal-inside c.args.files c.args.«case».now c.args.proposal.now readable c.demanded-end.ensures c.proposal_start-start.ensures c.requires
-
-pub find_after-requires : goal.find_after-requires
-find_after-requires c =
-    let readable = opened_of (case_in c.args.files c.args.«case».now) (sym c.in-Readable.ensures) in
-    subst (λ (s : List ℕ). CaseReadable s c.in-Readable.counts) (sym (file-is c.args.files c.args.«case».now c.args.proposal.now readable c.demanded-end.ensures c.proposal_start-start.ensures c.requires)) readable
-
-pub returns-in-Refused : goal.returns-in-Refused
+pub returns-in_err-counts : goal.returns-in_err-counts
 unfolding case_refusal
-returns-in-Refused c =
-    let s = case_in c.args.files c.args.«case».now in
+returns-in_err-counts c =
+    let s = case_in c.args.files c.args.case.now in
     let t = proposal_in c.args.files c.args.proposal.now in
-    let l = list_of c.args.list c.args.families.now in
+    let l = list_of c.args.families in
     let of-case = case_causes s (case_of s) in
     let of-proposal = proposal_causes s t (case_of s) (plan_of s t) (prices_of s t) in
-    let q = refused-of s (sym c.in-Refused.ensures) in
+    let q = refused-of s (sym c.read_case.ensures ∙ c.in_err-counts.was) in
     let silent = read-silent l s t in
-    finds-refused _ c.refused_by.ensures
+    let p = err_from_is_err_and c.from_residual.result c.from_residual.ensures.1 in
+    finds-refused (hour_causes l s t) s t _ (p.1 ∙ ap Err p.2)
     (writes-no-report (read_causes l s t) _ silent.not-0 silent.not-26 (first-refuses of-case (of-proposal ++ admitted_causes l (case_of s)) _ q))
     (first-refuses of-case (of-proposal ++ judgement_causes l (case_of s) (plan_of s t) (prices_of s t)) _ q)
 
-pub returns-in-Readable : goal.returns-in-Readable
-returns-in-Readable c =
+pub demanded-end-requires : goal.demanded-end-requires
+demanded-end-requires c = limited (headed (opened_of (case_in c.args.files c.args.case.now) (sym c.read_case.ensures ∙ c.in_ok-counts.was)))
+
+pub slice_bounds-readable-end : goal.slice_bounds-readable-end
+slice_bounds-readable-end c =
+    let readable = opened_of (case_in c.args.files c.args.case.now) (sym c.read_case.ensures ∙ c.in_ok-counts.was) in
+    sym (length-take-le _ _ (case-inside c.args.files c.args.case.now c.args.proposal.now readable c.demanded-end.ensures c.proposal_start-start.ensures c.requires))
+
+pub slice_bounds-find_after-count : goal.slice_bounds-find_after-count
+slice_bounds-find_after-count c =
+    let readable = opened_of (case_in c.args.files c.args.case.now) (sym c.read_case.ensures ∙ c.in_ok-counts.was) in
+    proposal-inside c.args.files c.args.case.now c.args.proposal.now readable c.demanded-end.ensures c.proposal_start-start.ensures c.requires
+
+pub slice_bounds-find_after-start : goal.slice_bounds-find_after-start
+slice_bounds-find_after-start c =
+    let readable = opened_of (case_in c.args.files c.args.case.now) (sym c.read_case.ensures ∙ c.in_ok-counts.was) in
+    proposal-inside c.args.files c.args.case.now c.args.proposal.now readable c.demanded-end.ensures c.proposal_start-start.ensures c.requires
+
+pub invariant_of-readable : goal.invariant_of-readable
+invariant_of-readable c =
+    let readable = opened_of (case_in c.args.files c.args.case.now) (sym c.read_case.ensures ∙ c.in_ok-counts.was) in
+    record { readable = subst (λ (s : List ℕ). CaseReadable s c.in_ok-counts.counts) (sym (file-is c.args.files c.args.case.now c.args.proposal.now readable c.demanded-end.ensures c.proposal_start-start.ensures c.requires)) readable }
+
+pub returns : goal.returns
+returns c =
     let files = c.args.files in
-    let lent = c.args.«case».now in
+    let lent = c.args.case.now in
     let behind = c.args.proposal.now in
-    let readable = opened_of (case_in files lent) (sym c.in-Readable.ensures) in
-    let l = list_of c.args.list c.args.families.now in
+    let readable = opened_of (case_in c.args.files c.args.case.now) (sym c.read_case.ensures ∙ c.in_ok-counts.was) in
+    let l = list_of c.args.families in
     let r = c.find_after.result in
     let text = take (length behind - c.proposal_start-start.result) (drop c.proposal_start-start.result behind) in
-    subst (λ (t : List ℕ). Finds (hour_causes l (case_in files lent) t) (case_in files lent) t r) (text-is files lent behind readable c.demanded-end.ensures c.proposal_start-start.ensures c.requires)
-    (subst (λ (s : List ℕ). Finds (hour_causes l s text) s text r) (file-is files lent behind readable c.demanded-end.ensures c.proposal_start-start.ensures c.requires) c.find_after.ensures)
+    subst (λ (t : List ℕ). Finds (hour_causes l (case_in files lent) t) (case_in files lent) t r) (text-is c.args.files c.args.case.now c.args.proposal.now readable c.demanded-end.ensures c.proposal_start-start.ensures c.requires)
+    (subst (λ (s : List ℕ). Finds (hour_causes l s text) s text r) (file-is c.args.files c.args.case.now c.args.proposal.now readable c.demanded-end.ensures c.proposal_start-start.ensures c.requires) c.find_after.ensures)

@@ -1,16 +1,20 @@
--- What rows 15 to 18 rest on: the case has the counts that were read, and few orders. Assumes nothing.
+-- What rows 15 to 18 rest on: the counts that were read are the case's, and it has few orders. Assumes nothing.
+use Rattle.std.specs.Prelude.{◌≡◌, List, ℕ, ◌≤◌, pos}
 use Rattle.std.proofs.Common.{sym, ap, arith}
-use Rattle.std.specs.Prelude.{List, ℕ, ◌≤◌}
+use Rattle.base_limits.specs.Meaning.Limits as limits
 use Rattle.rules.specs.Meaning.Hour.{case_of}
 use Rattle.rules.proofs.Steps.Passed.{case-sound}
 use Rattle.case_header.specs.declared.Counts.{Counts}
-use Rattle.proposal_file.specs.Meaning.ProposalValid.{ProposalValid}
-use Rattle.judge_stages.specs.Steps.Listed.{Counted}
+use Rattle.case_header.specs.Meaning.CaseReadable.{CaseReadable}
 
--- the case that has these counts
-pub counted : {s : List ℕ} {k : Counts} {t : List ℕ} → ProposalValid s k t → Counted (case_of s) k
-unfolding case_of
-counted p = record { tolerance-is = ap (λ (k : Counts). k.tolerance.0) p.opened.counts; orders-is = sym (ap (λ (k : Counts). k.orders) p.opened.counts) }
+module _ {s : List ℕ} {k : Counts} (r : CaseReadable s k) where
+  pub tolerance-is : k.tolerance.0 ≡ limits.microcents_of (pos (case_of s).tolerance)
+  unfolding case_of
+  tolerance-is = ap (λ (k : Counts). k.tolerance.0) r.counts
 
-pub few-orders : {s : List ℕ} {k : Counts} {t : List ℕ} → ProposalValid s k t → k.orders ≤ 512
-few-orders {s} p = omega (arith, (counted p).orders-is, (case-sound s p.opened.readable).orders-in)
+  pub orders-is : (case_of s).orders ≡ k.orders
+  unfolding case_of
+  orders-is = sym (ap (λ (k : Counts). k.orders) r.counts)
+
+  pub few-orders : k.orders ≤ 512
+  few-orders = omega (arith, orders-is, (case-sound s r.readable).orders-in)

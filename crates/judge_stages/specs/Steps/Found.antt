@@ -1,7 +1,7 @@
--- What the driver finds in an hour by a list of rows: the verdict and, for a valued hour, what the report holds and
--- its net positions. Assumes nothing.
-use Rattle.std.specs.Prelude.{◌≡◌, refl, Bool, true, false, not, cond, ◌&&◌, ◌||◌, List, [], ◌∷◌, ◌++◌, ℕ, ◌<◌, replicate, T, eqb, pos}
-use Rattle.std.proofs.Common.{sym, ap, subst, ◌∙◌, append_assoc, arith, eqb→eq}
+-- What the driver finds in an hour by a list of rows: a refusal or, for a valued hour, what the report holds and its
+-- net positions. Assumes nothing.
+use Rattle.std.specs.Prelude.{◌≡◌, refl, Bool, true, false, not, cond, ◌&&◌, ◌||◌, List, [], ◌∷◌, ◌++◌, ℕ, T, eqb, Result, Ok, Err}
+use Rattle.std.proofs.Common.{sym, ap, subst, ◌∙◌, append_assoc, eqb→eq}
 use Rattle.std.proofs.Math.Option.{Option, none, some}
 use Rattle.base_integers.specs.Meaning.Ranges.{is_zero}
 use Rattle.rules.specs.Meaning.Hour.{Case, Plan, Prices, case_of, plan_of, prices_of, net_sum, no_link}
@@ -9,14 +9,8 @@ use Rattle.rules.specs.Meaning.Report.{reports}
 use Rattle.rules.specs.Meaning.Verdict.{◌over◌, case_causes, proposal_causes, wide_tolerance, family_causes, excess_volume, fraction_causes, unbalanced, share_without_link, overused_link, exchange_causes, clearing_causes}
 use Rattle.base_causes.specs.declared.Outcome.{Outcome}
 use Rattle.base_causes.specs.Meaning.Causes.{Cause, verdict, first_below, failing, cause_else, refusal, answer, once}
-use Rattle.base_causes.proofs.Promised.CauseLaws.{else-refusal, refusal-append, lacks, not-refused, zero-none, behind}
-use Rattle.base_measures.specs.declared.Microcents.{Microcents}
-use Rattle.proposal_file.specs.declared.HourRead.{HourRead}
-use Rattle.base_measures.specs.Meaning.TenthsHold.{no_tenths}
-use Rattle.report_file.specs.Meaning.Prices.{no_grains}
-use Rattle.judge_stages.specs.declared.Reading.{Reading}
-use Rattle.judge_stages.specs.declared.Cleared.{Cleared}
-use Rattle.judge_stages.specs.declared.Found.{Found}
+use Rattle.base_causes.proofs.Promised.CauseLaws.{else-refusal, refusal-append, lacks, not-refused, behind, row-found, row-clear}
+use Rattle.judge_stages.specs.declared.ValuedHour.{ValuedHour}
 use Rattle.judge_stages.specs.Meaning.Found.{hour_causes, Finds}
 
 -- THE STAGES, in order: `read_case` and `read`, 1 to 18; `clear`, 21 and 28 of the orders and 22, 27 and 23 of the
@@ -51,63 +45,25 @@ stages fs s t =
     sym (append_assoc of-case (of-proposal ++ of-lists) ((of-orders ++ of-links) ++ of-network)
     ∙ ap (λ (rows : List Cause). of-case ++ rows) (append_assoc of-proposal of-lists ((of-orders ++ of-links) ++ of-network) ∙ ap (λ (rows : List Cause). of-proposal ++ (of-lists ++ rows)) (append_assoc of-orders of-links of-network)))
 
--- refused; valued
-abbrev no_money : Microcents
-no_money = record { 0 = pos 0 }
+-- REFUSED, by rows of which none writes a report
+pub finds-refused : (rows : List Cause) (s t : List ℕ) (o : Outcome) {r : Result ValuedHour Outcome} → r ≡ Err o → reports o.number ≡ false → refusal rows ≡ some o → Finds rows s t r
+finds-refused rows s t o e w q = subst (λ (r : Result ValuedHour Outcome). Finds rows s t r) (sym e) (record { verdict-is = sym (ap answer q); not-valued = w })
 
-abbrev nothing_read : HourRead
-nothing_read = record {
-  counts = record { version = 0; zones = 0; branches = 0; links = 0; orders = 0; tolerance = no_money };
-  opening = record { share = record { 0 = pos 0 }; system = record { 0 = pos 0 } };
+-- other rows with the same refusal
+pub same_rows : (qs rows : List Cause) (s t : List ℕ) (r : Result ValuedHour Outcome) → refusal qs ≡ refusal rows → Finds rows s t r → Finds qs s t r
+same_rows qs rows s t (Err o) e f = record { verdict-is = f.verdict-is ∙ ap answer (sym e); not-valued = f.not-valued }
+same_rows qs rows s t (Ok r) e f = record {
+  verdict-is = f.verdict-is ∙ ap answer (sym e);
+  valued-is = f.valued-is;
+  few-zones = f.few-zones;
+  zones-are = f.zones-are;
+  case-is = f.case-is;
+  proposal-is = f.proposal-is;
+  hour-is = f.hour-is;
+  cleared-is = f.cleared-is;
+  prices-are = f.prices-are;
+  totals-are = f.totals-are;
 }
-
-abbrev pub unread_as : Outcome → Reading
-unread_as o = record { verdict = o; hour = nothing_read }
-
-abbrev pub uncleared_as : Outcome → Cleared
-uncleared_as o = record { verdict = o; nets = replicate 16 no_tenths; parts = replicate 16 no_tenths; welfare = no_money }
-
-abbrev pub refused_with : Outcome → Cleared → Found
-refused_with o x = record {
-  verdict = o;
-  valued = false;
-  hour = nothing_read;
-  cleared = x;
-  prices = replicate 16 no_grains;
-  totals = record { welfare = no_money; bound = no_money; gap = no_money; rent = no_money; owed = no_money };
-}
-
-abbrev pub refused_as : Outcome → Found
-refused_as o = refused_with o (uncleared_as o)
-
-false-true : {X : Type 0} → false ≡ true → X
-false-true e = absurd (subst (λ (b : Bool). T (not b)) e tt)
-
-module _ {rows : List Cause} {s t : List ℕ} where
-  pub finds-refused : (o : Outcome) {r : Found} → r ≡ refused_as o → reports o.number ≡ false → refusal rows ≡ some o → Finds rows s t r
-  finds-refused o e w q = subst (λ (r : Found). Finds rows s t r) (sym e) (record {
-    verdict-is = sym (ap answer q);
-    valued-is = sym w;
-    few-zones = omega arith;
-    zones-are = λ f. false-true f;
-    hour-is = λ f. false-true f;
-    cleared-is = λ f. false-true f;
-    prices-are = λ f. false-true f;
-    totals-are = λ f. false-true f;
-  })
-
-  -- other rows with the same refusal
-  pub same_rows : {qs : List Cause} {r : Found} → refusal qs ≡ refusal rows → Finds rows s t r → Finds qs s t r
-  same_rows e f = record {
-    verdict-is = f.verdict-is ∙ ap answer (sym e);
-    valued-is = f.valued-is;
-    few-zones = f.few-zones;
-    zones-are = f.zones-are;
-    hour-is = f.hour-is;
-    cleared-is = f.cleared-is;
-    prices-are = f.prices-are;
-    totals-are = f.totals-are;
-  }
 
 -- two lists of rows: the first refuses, or it passes and the second decides
 pub first-refuses : (qs rs : List Cause) (o : Outcome) → refusal qs ≡ some o → refusal (qs ++ rs) ≡ some o
@@ -127,82 +83,96 @@ writes-no-report rows o a b e = λ j.
     not-by (eqb o.number 0) (λ t. not-refused 0 rows a o e (eqb→eq o.number 0 t)) j
     || not-by (eqb o.number 26) (λ t. not-refused 26 rows b o e (eqb→eq o.number 26 t)) j
 
--- A STAGE, whose rows lack 0 and 26: it refuses by its verdict, or its verdict is 0 and the rows after it are asked
+-- A STAGE, whose rows lack 0 and 26: it refuses, or it passes and the rows after it are asked
 pub record Silent (qs : List Cause) : Type 0 where
   pub not-0 : T (lacks 0 qs)
   pub not-26 : T (lacks 26 qs)
 
-module _ {qs : List Cause} (rs : List Cause) {v : Outcome} (l : Silent qs) (e : v ≡ answer (refusal qs)) where
-  refuses : 0 < v.number → refusal qs ≡ some v
-  refuses h = by (refusal qs) refl
-    where
-      by : (o : Option Outcome) → refusal qs ≡ o → refusal qs ≡ some v
-      by (some x) p = p ∙ ap (λ (o : Outcome). some o) (sym (e ∙ ap answer p))
-      by none p = absurd (omega (arith, h, ap (λ (o : Outcome). o.number) (e ∙ ap answer p)))
+module _ {qs : List Cause} (rs : List Cause) (l : Silent qs) (s t : List ℕ) where
+  pub stage-refuses : {o : Outcome} {r : Result ValuedHour Outcome} → r ≡ Err o → refusal qs ≡ some o → Finds (qs ++ rs) s t r
+  stage-refuses {o} e q = finds-refused (qs ++ rs) s t o e (writes-no-report qs o l.not-0 l.not-26 q) (first-refuses qs rs o q)
 
-  passes : v.number ≡ 0 → refusal (qs ++ rs) ≡ refusal rs
-  passes h = first_passes qs rs (zero-none qs l.not-0 (sym (ap (λ (o : Outcome). o.number) e) ∙ h))
-
-  -- for the verdict, and for what is found
-  pub verdict-refuses : 0 < v.number → v ≡ answer (refusal (qs ++ rs))
-  verdict-refuses h = sym (ap answer (first-refuses qs rs v (refuses h)))
-
-  pub verdict-passes : {w : Outcome} → v.number ≡ 0 → w ≡ answer (refusal rs) → w ≡ answer (refusal (qs ++ rs))
-  verdict-passes h q = q ∙ sym (ap answer (passes h))
-
-  pub stage-refuses : {s t : List ℕ} {r : Found} → 0 < v.number → r ≡ refused_as v → Finds (qs ++ rs) s t r
-  stage-refuses h q = finds-refused v q (writes-no-report qs v l.not-0 l.not-26 (refuses h)) (first-refuses qs rs v (refuses h))
-
-  pub stage-passes : {s t : List ℕ} {r : Found} → v.number ≡ 0 → Finds rs s t r → Finds (qs ++ rs) s t r
-  stage-passes h f = same_rows (passes h) f
+  pub stage-passes : (r : Result ValuedHour Outcome) → refusal qs ≡ none → Finds rs s t r → Finds (qs ++ rs) s t r
+  stage-passes r e f = same_rows (qs ++ rs) rs s t r (first_passes qs rs e) f
 
 pub read-silent : (fs : Option (List ℕ)) (s t : List ℕ) → Silent (read_causes fs s t)
 unfolding case_causes proposal_causes lacks
 read-silent none s t = record { not-0 = tt; not-26 = tt }
 read-silent (some f) s t = record { not-0 = tt; not-26 = tt }
 
-pub orders-silent : (fs : Option (List ℕ)) (c : Case) (p : Plan) → Silent (order_causes fs c p)
-unfolding lacks
-orders-silent none c p = record { not-0 = tt; not-26 = tt }
-orders-silent (some f) c p = record { not-0 = tt; not-26 = tt }
-
 pub clear-silent : (fs : Option (List ℕ)) (c : Case) (p : Plan) → Silent (clear_causes fs c p)
 unfolding lacks
 clear-silent none c p = record { not-0 = tt; not-26 = tt }
 clear-silent (some f) c p = record { not-0 = tt; not-26 = tt }
 
--- A STAGE'S ANSWER: the verdict of rows that refuse, and what holds where they pass
-pub answers : (rows : List Cause) {o : Outcome} {v : Outcome} → v ≡ o → refusal rows ≡ some o → v ≡ answer (refusal rows)
-answers rows e q = e ∙ sym (ap answer q)
+-- ROWS 22 AND 27, by their tests
+abbrev pub balance_causes : Case → Plan → List Cause
+balance_causes c p = unbalanced c p ∷ share_without_link c p ∷ []
 
-pub never-0 : {X : Type 0} {v : Outcome} (n k : ℕ) → v ≡ verdict n k → 0 < n → v.number ≡ 0 → X
-never-0 n k e h z = absurd (omega (arith, h, z, ap (λ (o : Outcome). o.number) e))
+abbrev pub balance_answer : Bool → Bool → Result Unit Outcome
+balance_answer true b = Err (verdict 22 0)
+balance_answer false true = Err (verdict 27 0)
+balance_answer false false = Ok tt
 
--- ROWS 22, 27 AND 23, by their tests
-abbrev pub link_answer : Bool → Bool → Option ℕ → Outcome
-link_answer true b o = verdict 22 0
-link_answer false true o = verdict 27 0
-link_answer false false (some l) = verdict 23 l
-link_answer false false none = verdict 0 0
+abbrev pub answered_by : Option Outcome → Result Unit Outcome
+answered_by (some o) = Err o
+answered_by none = Ok tt
 
-pub links-answer : (c : Case) (p : Plan) → answer (refusal (link_causes c p)) ≡ link_answer (not (is_zero (net_sum c p))) (no_link c && p.share over 0) (failing (overused_link c p))
+pub balance-answers : (c : Case) (p : Plan) → balance_answer (not (is_zero (net_sum c p))) (no_link c && p.share over 0) ≡ answered_by (refusal (balance_causes c p))
 unfolding refusal first_below
-links-answer c p = by (not (is_zero (net_sum c p))) (no_link c && p.share over 0) (failing (overused_link c p))
+balance-answers c p = by (not (is_zero (net_sum c p))) (no_link c && p.share over 0)
   where
-    by : (a b : Bool) (o : Option ℕ) → answer (cause_else (once 22 a) (failing (once 22 a)) (cause_else (once 27 b) (failing (once 27 b)) (cause_else (overused_link c p) o none))) ≡ link_answer a b o
-    by true b o = refl
-    by false true o = refl
-    by false false (some l) = refl
-    by false false none = refl
+    by : (a b : Bool) → balance_answer a b ≡ answered_by (cause_else (once 22 a) (failing (once 22 a)) (cause_else (once 27 b) (failing (once 27 b)) none))
+    by true b = refl
+    by false true = refl
+    by false false = refl
 
-pub links-pass : (c : Case) (p : Plan) → (answer (refusal (link_causes c p))).number ≡ 0 → failing (overused_link c p) ≡ none
-links-pass c p e = by (not (is_zero (net_sum c p))) (no_link c && p.share over 0) (failing (overused_link c p)) (sym (ap (λ (o : Outcome). o.number) (links-answer c p)) ∙ e)
+pub balance-refuses : (c : Case) (p : Plan) {o : Outcome} → balance_answer (not (is_zero (net_sum c p))) (no_link c && p.share over 0) ≡ Err o → refusal (balance_causes c p) ≡ some o
+balance-refuses c p {o} e = by (refusal (balance_causes c p)) (sym (balance-answers c p) ∙ e)
   where
-    by : (a b : Bool) (o : Option ℕ) → (link_answer a b o).number ≡ 0 → o ≡ none
-    by true b o e = absurd (omega (arith, e))
-    by false true o e = absurd (omega (arith, e))
-    by false false (some l) e = absurd (omega (arith, e))
-    by false false none e = refl
+    by : (x : Option Outcome) → answered_by x ≡ Err o → x ≡ some o
+    by (some y) e = cc
+    by none e = cc
+
+pub balance-passes : (c : Case) (p : Plan) → balance_answer (not (is_zero (net_sum c p))) (no_link c && p.share over 0) ≡ Ok tt → refusal (balance_causes c p) ≡ none
+balance-passes c p e = by (refusal (balance_causes c p)) (sym (balance-answers c p) ∙ e)
+  where
+    by : (x : Option Outcome) → answered_by x ≡ Ok tt → x ≡ none
+    by (some y) e = cc
+    by none e = refl
+
+-- THE ROWS OF `clear`, one after another
+module _ (fs : Option (List ℕ)) (c : Case) (p : Plan) where
+  orders-first : clear_causes fs c p ≡ excess_volume c p ∷ (fraction_causes fs c p ++ link_causes c p)
+  orders-first = refl
+
+  pub refused-21 : {i : ℕ} → failing (excess_volume c p) ≡ some i → refusal (clear_causes fs c p) ≡ some (verdict 21 i)
+  refused-21 {i} e = row-found (excess_volume c p) (fraction_causes fs c p ++ link_causes c p) i e
+
+  module _ (volumes : failing (excess_volume c p) ≡ none) where
+    past-21 : refusal (clear_causes fs c p) ≡ refusal (fraction_causes fs c p ++ link_causes c p)
+    past-21 = row-clear (excess_volume c p) (fraction_causes fs c p ++ link_causes c p) volumes
+
+    pub refused-28 : {o : Outcome} → refusal (fraction_causes fs c p) ≡ some o → refusal (clear_causes fs c p) ≡ some o
+    refused-28 {o} e = past-21 ∙ first-refuses (fraction_causes fs c p) (link_causes c p) o e
+
+    module _ (fractions : refusal (fraction_causes fs c p) ≡ none) where
+      past-28 : refusal (clear_causes fs c p) ≡ refusal (balance_causes c p ++ (overused_link c p ∷ []))
+      past-28 = past-21 ∙ first_passes (fraction_causes fs c p) (link_causes c p) fractions
+
+      pub refused-balance : {o : Outcome} → refusal (balance_causes c p) ≡ some o → refusal (clear_causes fs c p) ≡ some o
+      refused-balance {o} e = past-28 ∙ first-refuses (balance_causes c p) (overused_link c p ∷ []) o e
+
+      module _ (balance : refusal (balance_causes c p) ≡ none) where
+        past-balance : refusal (clear_causes fs c p) ≡ refusal (overused_link c p ∷ [])
+        past-balance = past-28 ∙ first_passes (balance_causes c p) (overused_link c p ∷ []) balance
+
+        pub refused-23 : {l : ℕ} → failing (overused_link c p) ≡ some l → refusal (clear_causes fs c p) ≡ some (verdict 23 l)
+        refused-23 {l} e = past-balance ∙ row-found (overused_link c p) [] l e
+
+        pub all-cleared : failing (overused_link c p) ≡ none → refusal (clear_causes fs c p) ≡ none
+        unfolding refusal
+        all-cleared e = past-balance ∙ row-clear (overused_link c p) [] e
 
 -- THE GAP, row 26: its number, which like 0 writes a report
 pub gap-answers : (b : Bool) → verdict (cond b 26 0) 0 ≡ answer (refusal (once 26 b ∷ []))

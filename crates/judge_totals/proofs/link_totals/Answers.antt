@@ -13,13 +13,14 @@ use Rattle.rules.specs.Meaning.Hour.{case_of, prices_of, spread, link_value, lin
 use Rattle.rules.proofs.Promised.Fits.{system-near, apart-prices, linkTotal-sums, owed-sums}
 use Rattle.case_links.specs.declared.Link.{Link}
 use Rattle.case_links.specs.Meaning.Link.{link_of}
-use Rattle.proposal_file.specs.declared.HourRead.{HourRead}
+use Rattle.case_header.specs.declared.Counts.{Counts}
+use Rattle.proposal_file.specs.declared.ProposalOpening.{ProposalOpening}
 use Rattle.proposal_file.specs.Meaning.Read.{HourReadFrom}
 use Rattle.proposal_file.specs.Steps.Read.{sound, links-is, shadow-in}
 use Rattle.report_file.specs.Meaning.Prices.{grains_at, PricesHold, PricesInRange}
 use Rattle.judge_totals.proofs.link_totals.Goals as goal
 
-module _ {s t : List ℕ} {hour : HourRead} (h : HourReadFrom s t hour) where
+module _ {s t : List ℕ} {counts : Counts} {opening : ProposalOpening} (h : HourReadFrom s t counts opening) where
   totals-fit : PricesInRange (case_of s) (prices_of s t) → SumsFit (λ j. link_value (case_of s) (prices_of s t) j) (case_of s).links
   totals-fit r = linkTotal-sums _ (sound h) _ (system-near s t) (shadow-in h) r.within
 
@@ -27,7 +28,7 @@ module _ {s t : List ℕ} {hour : HourRead} (h : HourReadFrom s t hour) where
   owed-fit r = owed-sums _ (sound h) _ (system-near s t) (shadow-in h) r.within
 
   -- LINK l OF THE HOUR, as it was read
-  module _ (l : ℕ) (i : l < hour.counts.links) where
+  module _ (l : ℕ) (i : l < counts.links) where
     inside : l < (case_of s).links
     inside = omega (arith, links-is h)
 
@@ -89,81 +90,81 @@ pub loop-l-init : goal.loop-l-init
 unfolding sum_to
 loop-l-init c = record { total = refl; owed = refl }
 
-pub offset_bounds-prices-to : goal.offset_bounds-prices-to
-offset_bounds-prices-to c = omega (arith, to-in c.requires.hour_read_from c.loop-l.l c.loop-l-test.true c.link_at-link.ensures)
+pub offset_bounds-priced-to : goal.offset_bounds-priced-to
+offset_bounds-priced-to c = omega (arith, to-in c.args.priced.hour.read c.loop-l.l c.loop-l-test.true c.link_at-link.ensures)
 
-pub bounds-prices-to : goal.bounds-prices-to
-bounds-prices-to c = to-in c.requires.hour_read_from c.loop-l.l c.loop-l-test.true c.link_at-link.ensures
+pub bounds-priced-to : goal.bounds-priced-to
+bounds-priced-to c = to-in c.args.priced.hour.read c.loop-l.l c.loop-l-test.true c.link_at-link.ensures
 
-pub offset_bounds-prices-from : goal.offset_bounds-prices-from
-offset_bounds-prices-from c = omega (arith, from-in c.requires.hour_read_from c.loop-l.l c.loop-l-test.true c.link_at-link.ensures)
+pub offset_bounds-priced-from : goal.offset_bounds-priced-from
+offset_bounds-priced-from c = omega (arith, from-in c.args.priced.hour.read c.loop-l.l c.loop-l-test.true c.link_at-link.ensures)
 
-pub bounds-prices-from : goal.bounds-prices-from
-bounds-prices-from c = from-in c.requires.hour_read_from c.loop-l.l c.loop-l-test.true c.link_at-link.ensures
+pub bounds-priced-from : goal.bounds-priced-from
+bounds-priced-from c = from-in c.args.priced.hour.read c.loop-l.l c.loop-l-test.true c.link_at-link.ensures
 
 pub minus-spread-requires : goal.minus-spread-requires
-minus-spread-requires c = spread-fits c.requires.hour_read_from c.loop-l.l c.loop-l-test.true c.link_at-link.ensures c.requires.prices_hold c.requires.prices_in_range
+minus-spread-requires c = spread-fits c.args.priced.hour.read c.loop-l.l c.loop-l-test.true c.link_at-link.ensures c.args.priced.hold c.args.priced.in_range
 
 pub cost-requires : goal.cost-requires
 cost-requires c =
-    let h = c.requires.hour_read_from in
+    let h = c.args.priced.hour.read in
     let l = c.loop-l.l in
     let i = c.loop-l-test.true in
     let e = c.link_at-link.ensures in
-    volume-fits h l i e c.requires.prices_hold c.minus-spread.ensures (capacity-is h l i e) c.requires.prices_in_range ((sound h).capacity-in l (inside h l i))
+    volume-fits h l i e c.args.priced.hold c.minus-spread.ensures (capacity-is h l i e) c.args.priced.in_range ((sound h).capacity-in l (inside h l i))
 
 pub plus-total-requires : goal.plus-total-requires
 unfolding link_value
 plus-total-requires c =
-    let h = c.requires.hour_read_from in
+    let h = c.args.priced.hour.read in
     let l = c.loop-l.l in
     let i = c.loop-l-test.true in
     let e = c.link_at-link.ensures in
-    step_fits (totals-fit h c.requires.prices_in_range) l (inside h l i) c.loop-l.invariant.total
-    (volume-term h l i e c.requires.prices_hold c.minus-spread.ensures (capacity-is h l i e) c.cost.ensures c.positive.ensures)
+    step_fits (totals-fit h c.args.priced.in_range) l (inside h l i) c.loop-l.invariant.total
+    (volume-term h l i e c.args.priced.hold c.minus-spread.ensures (capacity-is h l i e) c.cost.ensures c.positive.ensures)
 
 pub cost-requires-in-loop-l : goal.cost-requires-in-loop-l
 cost-requires-in-loop-l c =
-    let h = c.requires.hour_read_from in
+    let h = c.args.priced.hour.read in
     let l = c.loop-l.l in
     let i = c.loop-l-test.true in
-    volume-fits h l i c.link_at-link.ensures c.requires.prices_hold c.minus-spread.ensures (contracted-is h l i c.contracted_at-contracted.ensures) c.requires.prices_in_range (contracted-most h l i)
+    volume-fits h l i c.link_at-link.ensures c.args.priced.hold c.minus-spread.ensures (contracted-is h l i c.contracted_at-contracted.ensures) c.args.priced.in_range (contracted-most h l i)
 
 pub plus-owed-requires : goal.plus-owed-requires
 unfolding link_owed
 plus-owed-requires c =
-    let h = c.requires.hour_read_from in
+    let h = c.args.priced.hour.read in
     let l = c.loop-l.l in
     let i = c.loop-l-test.true in
-    step_fits (owed-fit h c.requires.prices_in_range) l (inside h l i) c.loop-l.invariant.owed
-    (volume-term h l i c.link_at-link.ensures c.requires.prices_hold c.minus-spread.ensures (contracted-is h l i c.contracted_at-contracted.ensures) c.cost-in-loop-l.ensures c.positive-in-loop-l.ensures)
+    step_fits (owed-fit h c.args.priced.in_range) l (inside h l i) c.loop-l.invariant.owed
+    (volume-term h l i c.link_at-link.ensures c.args.priced.hold c.minus-spread.ensures (contracted-is h l i c.contracted_at-contracted.ensures) c.cost-in-loop-l.ensures c.positive-in-loop-l.ensures)
 
 pub loop-l-preserved : goal.loop-l-preserved
 unfolding link_value link_owed
 loop-l-preserved c =
-    let h = c.requires.hour_read_from in
+    let h = c.args.priced.hour.read in
     let l = c.loop-l.l in
     let i = c.loop-l-test.true in
     let e = c.link_at-link.ensures in
     record {
-      total = step (totals-fit h c.requires.prices_in_range) l c.loop-l.invariant.total
-          (volume-term h l i e c.requires.prices_hold c.minus-spread.ensures (capacity-is h l i e) c.cost.ensures c.positive.ensures) c.plus-total.ensures;
-      owed = step (owed-fit h c.requires.prices_in_range) l c.loop-l.invariant.owed
-          (volume-term h l i e c.requires.prices_hold c.minus-spread.ensures (contracted-is h l i c.contracted_at-contracted.ensures) c.cost-in-loop-l.ensures c.positive-in-loop-l.ensures) c.plus-owed.ensures;
+      total = step (totals-fit h c.args.priced.in_range) l c.loop-l.invariant.total
+          (volume-term h l i e c.args.priced.hold c.minus-spread.ensures (capacity-is h l i e) c.cost.ensures c.positive.ensures) c.plus-total.ensures;
+      owed = step (owed-fit h c.args.priced.in_range) l c.loop-l.invariant.owed
+          (volume-term h l i e c.args.priced.hold c.minus-spread.ensures (contracted-is h l i c.contracted_at-contracted.ensures) c.cost-in-loop-l.ensures c.positive-in-loop-l.ensures) c.plus-owed.ensures;
     }
 
 pub returns-clause-total : goal.returns-clause-total
 unfolding link_total
 returns-clause-total c =
-    let cs = case_of c.args.«case».now in
-    let d = prices_of c.args.«case».now c.args.proposal.now in
-    let e : c.loop-l.l ≡ cs.links = omega (arith, links-is c.requires.hour_read_from) in
+    let cs = case_of c.args.priced.hour.case.bytes.now in
+    let d = prices_of c.args.priced.hour.case.bytes.now c.args.priced.hour.proposal.now in
+    let e : c.loop-l.l ≡ cs.links = omega (arith, links-is c.args.priced.hour.read) in
     c.loop-l.invariant.total ∙ ap (λ (n : ℕ). sum_to n (λ j. link_value cs d j)) e
 
 pub returns-clause-owed : goal.returns-clause-owed
 unfolding owed
 returns-clause-owed c =
-    let cs = case_of c.args.«case».now in
-    let d = prices_of c.args.«case».now c.args.proposal.now in
-    let e : c.loop-l.l ≡ cs.links = omega (arith, links-is c.requires.hour_read_from) in
+    let cs = case_of c.args.priced.hour.case.bytes.now in
+    let d = prices_of c.args.priced.hour.case.bytes.now c.args.priced.hour.proposal.now in
+    let e : c.loop-l.l ≡ cs.links = omega (arith, links-is c.args.priced.hour.read) in
     c.loop-l.invariant.owed ∙ ap (λ (n : ℕ). sum_to n (λ j. link_owed cs d j)) e

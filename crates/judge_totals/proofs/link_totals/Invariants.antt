@@ -6,6 +6,6 @@ use Rattle.judge_totals.proofs.link_totals.Given as goal
 
 abbrev pub invariant-loop-l : goal.invariant-loop-l
 invariant-loop-l l = record {
-  total : l.total.0 ≡ sum_to l.l (λ j. link_value (case_of l.case) (prices_of l.case l.proposal) j);
-  owed : l.owed.0 ≡ sum_to l.l (λ j. link_owed (case_of l.case) (prices_of l.case l.proposal) j);
+  total : l.total.0 ≡ sum_to l.l (λ j. link_value (case_of l.priced.hour.case.bytes.now) (prices_of l.priced.hour.case.bytes.now l.priced.hour.proposal.now) j);
+  owed : l.owed.0 ≡ sum_to l.l (λ j. link_owed (case_of l.priced.hour.case.bytes.now) (prices_of l.priced.hour.case.bytes.now l.priced.hour.proposal.now) j);
 }

@@ -11,18 +11,19 @@ use Rattle.rules.proofs.Promised.Fits.{system-near, surplus-sums}
 use Rattle.book_order.specs.declared.Order.{Order}
 use Rattle.book_order.specs.Meaning.Admitted.{surplus_at}
 use Rattle.case_orders.specs.Meaning.Order.{order_of}
-use Rattle.proposal_file.specs.declared.HourRead.{HourRead}
+use Rattle.case_header.specs.declared.Counts.{Counts}
+use Rattle.proposal_file.specs.declared.ProposalOpening.{ProposalOpening}
 use Rattle.proposal_file.specs.Meaning.Read.{HourReadFrom}
 use Rattle.proposal_file.specs.Steps.Read.{sound, orders-is, shadow-in}
 use Rattle.report_file.specs.Meaning.Prices.{grains_at, PricesHold, PricesInRange}
 use Rattle.judge_totals.proofs.surpluses.Goals as goal
 
-module _ {s t : List ℕ} {hour : HourRead} (h : HourReadFrom s t hour) where
+module _ {s t : List ℕ} {counts : Counts} {opening : ProposalOpening} (h : HourReadFrom s t counts opening) where
   fit : PricesInRange (case_of s) (prices_of s t) → SumsFit (λ j. order_surplus (case_of s) (prices_of s t) j) (case_of s).orders
   fit r = surplus-sums _ (sound h) _ (system-near s t) (shadow-in h) r.within
 
   -- ORDER i OF THE HOUR, as it was read
-  module _ (i : ℕ) (l : i < hour.counts.orders) where
+  module _ (i : ℕ) (l : i < counts.orders) where
     inside : i < (case_of s).orders
     inside = omega (arith, orders-is h)
 
@@ -62,39 +63,39 @@ pub loop-i-init : goal.loop-i-init
 unfolding sum_to
 loop-i-init c = refl
 
-pub offset_bounds-prices-zone : goal.offset_bounds-prices-zone
-offset_bounds-prices-zone c = omega (arith, zone-in c.requires.hour_read_from c.loop-i.i c.loop-i-test.true c.order_at-order.ensures)
+pub offset_bounds-priced-zone : goal.offset_bounds-priced-zone
+offset_bounds-priced-zone c = omega (arith, zone-in c.args.priced.hour.read c.loop-i.i c.loop-i-test.true c.order_at-order.ensures)
 
-pub bounds-prices-zone : goal.bounds-prices-zone
-bounds-prices-zone c = zone-in c.requires.hour_read_from c.loop-i.i c.loop-i-test.true c.order_at-order.ensures
+pub bounds-priced-zone : goal.bounds-priced-zone
+bounds-priced-zone c = zone-in c.args.priced.hour.read c.loop-i.i c.loop-i-test.true c.order_at-order.ensures
 
 pub surplus-requires-clause-within : goal.surplus-requires-clause-within
-surplus-requires-clause-within c = quantity-in c.requires.hour_read_from c.loop-i.i c.loop-i-test.true c.order_at-order.ensures
+surplus-requires-clause-within c = quantity-in c.args.priced.hour.read c.loop-i.i c.loop-i-test.true c.order_at-order.ensures
 
 pub surplus-requires-clause-within_2 : goal.surplus-requires-clause-within_2
-surplus-requires-clause-within_2 c = price-in c.requires.hour_read_from c.loop-i.i c.loop-i-test.true c.order_at-order.ensures
+surplus-requires-clause-within_2 c = price-in c.args.priced.hour.read c.loop-i.i c.loop-i-test.true c.order_at-order.ensures
 
 pub surplus-requires-clause-within_3 : goal.surplus-requires-clause-within_3
-surplus-requires-clause-within_3 c = zone-price-in c.requires.hour_read_from c.loop-i.i c.loop-i-test.true c.order_at-order.ensures c.requires.prices_hold c.requires.prices_in_range
+surplus-requires-clause-within_3 c = zone-price-in c.args.priced.hour.read c.loop-i.i c.loop-i-test.true c.order_at-order.ensures c.args.priced.hold c.args.priced.in_range
 
 pub plus-sum-requires : goal.plus-sum-requires
 plus-sum-requires c =
-    let h = c.requires.hour_read_from in
+    let h = c.args.priced.hour.read in
     let i = c.loop-i.i in
     let l = c.loop-i-test.true in
-    step_fits (fit h c.requires.prices_in_range) i (inside h i l) c.loop-i.invariant (term-is h i l c.order_at-order.ensures c.requires.prices_hold c.surplus.ensures)
+    step_fits (fit h c.args.priced.in_range) i (inside h i l) c.loop-i.invariant (term-is h i l c.order_at-order.ensures c.args.priced.hold c.surplus.ensures)
 
 pub loop-i-preserved : goal.loop-i-preserved
 loop-i-preserved c =
-    let h = c.requires.hour_read_from in
+    let h = c.args.priced.hour.read in
     let i = c.loop-i.i in
     let l = c.loop-i-test.true in
-    step (fit h c.requires.prices_in_range) i c.loop-i.invariant (term-is h i l c.order_at-order.ensures c.requires.prices_hold c.surplus.ensures) c.plus-sum.ensures
+    step (fit h c.args.priced.in_range) i c.loop-i.invariant (term-is h i l c.order_at-order.ensures c.args.priced.hold c.surplus.ensures) c.plus-sum.ensures
 
 pub returns : goal.returns
 unfolding surplus
 returns c =
-    let cs = case_of c.args.«case».now in
-    let d = prices_of c.args.«case».now c.args.proposal.now in
-    let e : c.loop-i.i ≡ cs.orders = omega (arith, orders-is c.requires.hour_read_from) in
+    let cs = case_of c.args.priced.hour.case.bytes.now in
+    let d = prices_of c.args.priced.hour.case.bytes.now c.args.priced.hour.proposal.now in
+    let e : c.loop-i.i ≡ cs.orders = omega (arith, orders-is c.args.priced.hour.read) in
     c.loop-i.invariant ∙ ap (λ (n : ℕ). sum_to n (λ j. order_surplus cs d j)) e

@@ -7,7 +7,8 @@ use Rattle.base_integers.specs.Steps.Machine.{sfits-by}
 use Rattle.rules.specs.Meaning.Hour.{case_of, plan_of, prices_of, surplus, branch_total, link_total, welfare, no_link, network_bound, bound, gap}
 use Rattle.rules.specs.Meaning.Report.{totals_of}
 use Rattle.rules.proofs.Promised.Fits.{system-near, bound-near, gap-near}
-use Rattle.proposal_file.specs.declared.HourRead.{HourRead}
+use Rattle.case_header.specs.declared.Counts.{Counts}
+use Rattle.proposal_file.specs.declared.ProposalOpening.{ProposalOpening}
 use Rattle.proposal_file.specs.Meaning.Read.{HourReadFrom}
 use Rattle.proposal_file.specs.Meaning.InRange.{VolumesInRange}
 use Rattle.proposal_file.specs.Steps.Read.{sound, links-is, shadow-in}
@@ -18,8 +19,8 @@ use Rattle.judge_totals.proofs.totals.Goals as goal
 abbrev taken : ℕ → ℤ → ℤ → ℤ
 taken n x y = cond (eqb n 0) x (larger x y)
 
-module _ {s t : List ℕ} {hour : HourRead} (h : HourReadFrom s t hour) {branches links network surpluses : ℤ} (b : branches ≡ branch_total (case_of s) (prices_of s t)) (l : links ≡ link_total (case_of s) (prices_of s t))
-    (n : network ≡ taken hour.counts.links branches links) (q : surpluses ≡ surplus (case_of s) (prices_of s t)) where
+module _ {s t : List ℕ} {counts : Counts} {opening : ProposalOpening} (h : HourReadFrom s t counts opening) {branches links network surpluses : ℤ} (b : branches ≡ branch_total (case_of s) (prices_of s t)) (l : links ≡ link_total (case_of s) (prices_of s t))
+    (n : network ≡ taken counts.links branches links) (q : surpluses ≡ surplus (case_of s) (prices_of s t)) where
   -- the bound and the gap as the machine adds them
   bound-of : surpluses +ℤ network ≡ bound (case_of s) (prices_of s t)
   unfolding bound network_bound no_link
@@ -37,19 +38,19 @@ module _ {s t : List ℕ} {hour : HourRead} (h : HourReadFrom s t hour) {branche
     gap-fits r k = sfits-by w64 gap-of (near_fits w64 (omega arith) (gap-near _ (sound h) _ (system-near s t) (shadow-in h) r.within _ k.within))
 
 pub plus-bound-requires : goal.plus-bound-requires
-plus-bound-requires c = bound-fits c.requires.hour_read_from c.requires.on_branches_value c.link_totals-on_links.ensures.total c.network_bound-network.ensures c.surpluses.ensures c.requires.prices_in_range
+plus-bound-requires c = bound-fits c.args.priced.hour.read c.requires.on_branches_value c.link_totals.ensures.total c.network_bound-network.ensures c.surpluses.ensures c.args.priced.in_range
 
 pub minus-gap-requires : goal.minus-gap-requires
 minus-gap-requires c =
-    gap-fits c.requires.hour_read_from c.requires.on_branches_value c.link_totals-on_links.ensures.total c.network_bound-network.ensures c.surpluses.ensures
-    c.plus-bound.ensures c.requires.total_welfare_value c.requires.prices_in_range c.requires.volumes_in_range
+    gap-fits c.args.priced.hour.read c.requires.on_branches_value c.link_totals.ensures.total c.network_bound-network.ensures c.surpluses.ensures
+    c.plus-bound.ensures c.requires.total_welfare_value c.args.priced.in_range c.requires.volumes_in_range
 
 pub returns : goal.returns
 unfolding totals_of
 returns c =
-    let h = c.requires.hour_read_from in
+    let h = c.args.priced.hour.read in
     let b = c.requires.on_branches_value in
-    let l = c.link_totals-on_links.ensures.total in
+    let l = c.link_totals.ensures.total in
     let n = c.network_bound-network.ensures in
     let q = c.surpluses.ensures in
     λ j. record {
@@ -57,5 +58,5 @@ returns c =
       bound = (c.plus-bound.ensures ∙ bound-of h b l n q) j;
       gap = (c.minus-gap.ensures ∙ gap-of h b l n q c.plus-bound.ensures c.requires.total_welfare_value) j;
       rent = c.requires.congestion_value j;
-      owed = c.link_totals-on_links.ensures.owed j;
+      owed = c.link_totals.ensures.owed j;
     }

@@ -12,21 +12,21 @@ unfolding first_below sum_to
 loop-z-init c = record { within = refl; rent = refl }
 
 pub returns-in_default-clause-outside : goal.returns-in_default-clause-outside
-returns-in_default-clause-outside c = sym (first-here _ c.loop-z.z c.loop-z-test.true c.loop-z.invariant.within (grains-outside _ _ (sym c.in_default.ensures)))
+returns-in_default-clause-outside c = first-here _ c.loop-z.z c.loop-z-test.true c.loop-z.invariant.within (grains-outside _ _ (sym c.in_default.ensures))
 
 pub cost-requires : goal.cost-requires
 cost-requires c =
-    let passed = first-later _ c.loop-z.z c.loop-z.invariant.within (grains-held _ _ _ (sym c.in-Held.ensures)).0 in
+    let passed = first-later _ c.loop-z.z c.loop-z.invariant.within (grains-held _ _ _ (sym c.in-Some.ensures)).0 in
     (c.requires.rent_fits.sums (c.loop-z.z + 1) (omega arith) passed).term c.loop-z.z (omega arith)
 
 pub plus-sum-requires : goal.plus-sum-requires
 plus-sum-requires c =
-    let passed = first-later _ c.loop-z.z c.loop-z.invariant.within (grains-held _ _ _ (sym c.in-Held.ensures)).0 in
+    let passed = first-later _ c.loop-z.z c.loop-z.invariant.within (grains-held _ _ _ (sym c.in-Some.ensures)).0 in
     step_fits (c.requires.rent_fits.sums (c.loop-z.z + 1) (omega arith) passed) c.loop-z.z (omega arith) c.loop-z.invariant.rent c.cost.ensures
 
 pub loop-z-preserved : goal.loop-z-preserved
 loop-z-preserved c =
-    let passed = first-later _ c.loop-z.z c.loop-z.invariant.within (grains-held _ _ _ (sym c.in-Held.ensures)).0 in
+    let passed = first-later _ c.loop-z.z c.loop-z.invariant.within (grains-held _ _ _ (sym c.in-Some.ensures)).0 in
     record {
       within = passed;
       rent = step (c.requires.rent_fits.sums (c.loop-z.z + 1) (omega arith) passed) c.loop-z.z c.loop-z.invariant.rent c.cost.ensures c.plus-sum.ensures;
