@@ -12,32 +12,21 @@ fn fail(rt: &impl Eprint, what: &str, why: io::Error) {
     let _ = eprintln!(rt; "{what}: {why}");
 }
 
-// Reads once and returns what `read` returns. With a full buffer it reads on and drops the bytes.
-fn read_some(input: &mut impl Read, buffer: &mut [u8], kept: usize) -> io::Result<usize>
-    requires { kept ≤ length buffer.old }
-{
-    if kept < buffer.len() {
-        return input.read(&mut buffer[kept..]);
-    }
-    let mut dropped = [0u8; 4096];
-    input.read(&mut dropped)
-}
-
 // Keeps the start of the input, reads on to its end and returns how much it kept. The buffer has more bytes than any
-// legal hour, so the bytes dropped past it change no line (law `start-enough` of text_lines). A proved
-// loop must end, but an input need not: the turns have a number that no run uses up.
+// legal hour, so the bytes dropped past it change no line (law `start-enough` of text_lines).
 fn read_all(input: &mut impl Read, buffer: &mut [u8]) -> io::Result<usize>
     ensures { IfOk result (λ kept. kept ≤ length buffer.new) }
 {
     let mut kept = 0;
-    for _ in 0..u64::MAX {
-        let got = read_some(input, buffer, kept)?;
+    while kept < buffer.len() {
+        let got = input.read(&mut buffer[kept..])?;
         if got == 0 {
             return Ok(kept);
         }
-        kept += got.min(buffer.len() - kept);
+        kept += got;
     }
-    Err(io::Error::from(io::ErrorKind::TimedOut))
+    io::copy(input, &mut io::sink())?;
+    Ok(kept)
 }
 
 fn print(rt: &(impl Print + Eprint), input: &[u8]) {

@@ -8,8 +8,8 @@ ghost use Rattle.rules.specs.Meaning.Report.{header_bytes, total_bytes, price_by
 ghost use Rattle.report_file.specs.Meaning.Written.{totals_in};
 ghost use Rattle.report_file.specs.Meaning.Prices.{grains_at};
 
-use base_measures::{Grains, Microcents};
-use bytes_write::put_signed64;
+use base_measures::{Grains, Measure, Microcents};
+use bytes_write::put;
 
 #[derive(Clone, Copy)]
 pub struct Totals {
@@ -20,6 +20,7 @@ pub struct Totals {
     pub owed: Microcents,
 }
 
+#[tactic(auto, unfolding(rules::specs::Meaning::Report::header_bytes, base_integers::specs::Meaning::Bytes::bytes_of))]
 fn put_header(report: &mut [u8], number: u8, zones: u8)
     requires { welfare_at ≤ length report.old }
     ensures { report.new ≡ sets report.old 0 (header_bytes number zones) }
@@ -38,11 +39,11 @@ fn put_totals(report: &mut [u8], totals: Totals)
     requires { prices_at ≤ length report.old }
     ensures { report.new ≡ sets report.old welfare_at (total_bytes (totals_in totals)) }
 {
-    put_signed64(report, layout::WELFARE_AT, totals.welfare.bits());
-    put_signed64(report, layout::BOUND_AT, totals.bound.bits());
-    put_signed64(report, layout::GAP_AT, totals.gap.bits());
-    put_signed64(report, layout::RENT_AT, totals.rent.bits());
-    put_signed64(report, layout::OWED_AT, totals.owed.bits());
+    put::<8>(report, layout::WELFARE_AT, totals.welfare.bits());
+    put::<8>(report, layout::BOUND_AT, totals.bound.bits());
+    put::<8>(report, layout::GAP_AT, totals.gap.bits());
+    put::<8>(report, layout::RENT_AT, totals.rent.bits());
+    put::<8>(report, layout::OWED_AT, totals.owed.bits());
 }
 
 fn put_prices(report: &mut [u8], zones: usize, prices: [Grains; layout::ZONES])
@@ -50,9 +51,8 @@ fn put_prices(report: &mut [u8], zones: usize, prices: [Grains; layout::ZONES])
     requires zones_in_bounds { zone_price_at zones ≤ length report.old }
     ensures { report.new ≡ sets report.old prices_at (price_bytes zones (grains_at prices)) }
 {
-    for z in 0..zones {
-        let price = prices[z];
-        put_signed64(
+    for (z, price) in prices[..zones].iter().enumerate() {
+        put::<8>(
             report,
             layout::PRICES_AT + layout::ZONE_PRICE * z,
             price.bits(),
@@ -74,5 +74,5 @@ pub fn write_report(
 {
     put_header(report, number, zones);
     put_totals(report, totals);
-    put_prices(report, zones as usize, prices);
+    put_prices(report, usize::from(zones), prices);
 }

@@ -1,5 +1,5 @@
 // The lines of an hour, put into a lent buffer at a position: the verdict, the totals and the zones' prices. Each
-// function returns the position past its text.
+// function returns the position past its text, as in text_decimal, which says why.
 #![tactic(auto)]
 
 ghost use Rattle.std.specs.Prelude.{◌++◌, ◌+◌, ◌≤◌, length};
@@ -11,7 +11,7 @@ ghost use Rattle.report_file.specs.Meaning.Written.{totals_in};
 ghost use Rattle.report_file.specs.Meaning.Prices.{grains_at};
 
 use base_causes::Outcome;
-use base_measures::{Grains, Microcents};
+use base_measures::{Grains, Measure, Microcents};
 use report_file::Totals;
 use text_decimal::{put_count, put_money, put_price};
 
@@ -19,12 +19,9 @@ fn put_text(out: &mut [u8], at: usize, text: &[u8]) -> usize
     requires { at + length text.now ≤ length out.old }
     ensures { Put out.old at text.now out.new result }
 {
-    let mut i = 0;
-    while i < text.len() {
-        out[at + i] = text[i];
-        i += 1;
-    }
-    at + text.len()
+    let end = at + text.len();
+    out[at..end].copy_from_slice(text);
+    end
 }
 
 // A line's name, a count and a space.
@@ -84,8 +81,8 @@ fn put_prices(out: &mut [u8], at: usize, zones: usize, prices: [Grains; 16]) -> 
     ensures { Put out.old at (price_lines zones (grains_at prices)) out.new result }
 {
     let mut next = at;
-    for z in 0..zones {
-        next = put_zone(out, next, z, prices[z]);
+    for (z, price) in prices[..zones].iter().enumerate() {
+        next = put_zone(out, next, z, *price);
     }
     next
 }

@@ -10,7 +10,7 @@ ghost use Rattle.text_lines.specs.Meaning.Printed.{desk_room, DeskPrinted};
 
 use base_output::{Written, refused};
 use case_file::Files;
-use judge_stages::{FamilyList, find_in};
+use judge_stages::find_in;
 use text_hour::{put_hour, put_verdict};
 
 // All lines for an input.
@@ -19,15 +19,19 @@ fn put_lines(input: &[u8], out: &mut [u8]) -> usize
     ensures { Put out.old 0 (desk_text input.now) out.new result }
 {
     // The input is lent as case and as proposal: the driver cuts it by the header, which it reads once.
-    let found = find_in(Files::Joined, input, input, &input[..0], FamilyList::Absent);
-    let verdict = found.verdict;
-    let at = put_verdict(out, 0, verdict);
-    if found.valued {
-        let totals = found.totals;
-        let prices = found.prices;
-        return put_hour(out, at, found.hour.counts.zones, totals, prices);
+    match find_in(Files::Joined, input, input, None) {
+        Err(refusal) => put_verdict(out, 0, refusal),
+        Ok(valued) => {
+            let at = put_verdict(out, 0, valued.verdict);
+            put_hour(
+                out,
+                at,
+                valued.hour.case.counts.zones,
+                valued.totals,
+                valued.prices,
+            )
+        }
     }
-    at
 }
 
 // The room that the lines of every input have.
@@ -48,10 +52,5 @@ pub fn lines(input: &[u8], out: &mut [u8]) -> Written
     if too_short(out.len()) {
         return refused(31, 0);
     }
-    let length = put_lines(input, out);
-    Written {
-        number: 0,
-        index: 0,
-        length,
-    }
+    Written::from(Ok(put_lines(input, out)))
 }

@@ -6,4 +6,4 @@ use Rattle.report_file.specs.Meaning.Prices.{grains_at}
 use Rattle.report_file.proofs.put_prices.Given as goal
 
 abbrev pub invariant-loop-z : goal.invariant-loop-z
-invariant-loop-z l = l.report ≡ sets l.fn.report 48 (price_bytes l.z (grains_at l.prices))
+invariant-loop-z l = l.report ≡ sets l.fn.report 48 (price_bytes l.z (grains_at l.fn.prices))

@@ -12,5 +12,5 @@ returns c =
     let a = c.args in
     let e = c.put_totals.ensures ∙ (λ j. sets (c.put_header.ensures j) 8 (total_bytes (totals_in a.totals))) in
     c.put_prices.ensures
-    ∙ (λ j. sets (e j) 48 (price_bytes a.zones (grains_at a.prices)))
+    ∙ (λ j. sets (e j) 48 (price_bytes (c.from.ensures j) (grains_at a.prices)))
     ∙ report-run a.report.now a.number a.zones (totals_in a.totals) (grains_at a.prices) c.requires.zones_in_bounds

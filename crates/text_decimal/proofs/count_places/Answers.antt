@@ -1,19 +1,19 @@
--- `count_places`: four places less are left after a division by 10,000, and no number has more than twenty.
--- Assumes nothing.
-use Rattle.std.specs.Prelude.{◌≡◌, ℕ, ◌/◌}
-use Rattle.std.proofs.Common.{ap, arith}
+-- `count_places`: a number has a digit more than the power of ten that it reaches; 0 has as many as 1. Assumes nothing.
+use Rattle.std.specs.Prelude.{◌≡◌, ℕ, ◌+◌, ◌*◌, ◌^◌, ◌≤◌, ◌<◌, max}
+use Rattle.std.proofs.Common.{ap, ◌∙◌, arith, pow-suc}
+use Rattle.std.proofs.Math.Decide.{dec_lt}
 use Rattle.text_rules.specs.Meaning.Text.{places}
-use Rattle.text_rules.proofs.Steps.Places.{places-myriad, places-at-most}
+use Rattle.text_rules.proofs.Steps.Places.{places-one, places-past, places-at-most}
 use Rattle.text_decimal.proofs.count_places.Goals as goal
 
-pub overflow_add-k : goal.overflow_add-k
-overflow_add-k c = omega (arith, places-at-most 19 c.args.n (omega arith))
+power-reached : (m r : ℕ) → 10 ^ r ≤ m → m < 10 * 10 ^ r → r + 1 ≡ places m
+power-reached m r h l = omega (arith, places-past r m h, places-at-most r m (omega (arith, pow-suc 10 r)))
 
-pub loop-rest-preserved : goal.loop-rest-preserved
-loop-rest-preserved c =
-    let rest = c.loop-rest.rest in
-    let step : rest / c.power-myriad.result ≡ rest / 10000 = ap (λ (p : ℕ). rest / p) c.power-myriad.ensures in
-    omega (arith, step, places-myriad rest (omega arith), ap places step)
+one-for-zero : (n : ℕ) → places (max n 1) ≡ places n
+one-for-zero n = elim (dec_lt 0 n) [
+  | yes l ↦ let same : max n 1 ≡ n = omega arith in ap places same
+  | no g ↦ omega (arith, places-one (max n 1) (omega arith), places-one n (omega arith))
+]
 
-pub overflow_add-result : goal.overflow_add-result
-overflow_add-result c = omega (arith, places-at-most 19 c.args.n (omega arith))
+pub returns : goal.returns
+returns c = power-reached (max c.args.n 1) c.ilog10.result (omega (arith, c.ilog10.ensures.power_le)) (omega (arith, c.ilog10.ensures.next_power_gt)) ∙ one-for-zero c.args.n

@@ -1,14 +1,14 @@
--- `text_hour::put_text` meets its contract: a turn puts one byte more of the text. Assumes nothing.
-use Rattle.std.proofs.Common.{◌≡◌, ℕ, [], ◌∷◌, ◌++◌, ◌+◌, ◌<◌, length, take, get_or, sym, ap, ◌∙◌, arith, add-one}
-use Rattle.std.proofs.Math.Seq.{take-suc}
-use Rattle.text_rules.proofs.Steps.Put.{put_as, put_then, put_byte}
+-- `text_hour::put_text` meets its contract: the copied part is the text. Assumes nothing.
+use Rattle.std.proofs.Common.{◌+◌, ◌-◌, length, refl, ap, ◌∙◌, arith}
+use borrow.Rule.Slice.PartMut.{put_mid}
+use Rattle.bytes_write.specs.Steps.Halves.{copied}
 use Rattle.text_hour.proofs.put_text.Goals as goal
 
-pub loop-i-preserved : goal.loop-i-preserved
-loop-i-preserved c =
-    let t = c.args.text.now in
-    let i = c.loop-i.i in
-    let h : i < length t = omega arith in
-    let one : take i t ++ (get_or t i 0 ∷ []) ≡ take (i + 1) t = sym (take-suc t i 0 h) ∙ ap (λ (k : ℕ). take k t) (sym (add-one i)) in
-    let p = put_as one (put_then c.loop-i.invariant.1 (put_byte c.loop-i.out (c.args.at + i) (get_or t i 0))) in
-    (omega arith, record { bytes = p.bytes; position = omega (arith, p.position) })
+pub returns : goal.returns
+returns c =
+    let a = c.args in
+    let n = length a.text.now in
+    record {
+      bytes = ap (put_mid a.at (a.at + n - a.at) a.out.now) c.copy_from_slice.ensures.after ∙ copied a.out.now a.text.now a.at (a.at + n - a.at) (omega arith) (omega arith);
+      position = refl;
+    }

@@ -14,7 +14,7 @@ use Rattle.base_causes.specs.declared.Outcome.{Outcome}
 use Rattle.base_causes.specs.Meaning.Causes.{answer}
 use Rattle.base_causes.proofs.Promised.CauseLaws.{else-refusal}
 use Rattle.rules.specs.Meaning.Verdict.{header_refusal, differ, not_mark, case_refusal}
-use Rattle.rules.specs.Meaning.Cut.{good, case_end, case_part, proposal_part}
+use Rattle.rules.specs.Meaning.Cut.{case_end, case_part, proposal_part}
 use Rattle.rules.proofs.Steps.CaseEnd.{end_refused, end-good, SameHeader, same-refusal, same_length}
 use Rattle.text_lines.proofs.Steps.Header.{case-at-most, proposal-at-most}
 use Rattle.text_lines.proofs.Steps.Refused.{header_refused, long, too_long}

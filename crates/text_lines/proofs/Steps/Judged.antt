@@ -9,15 +9,15 @@ use Rattle.std.proofs.Math.Option.{Option, none}
 use Rattle.rules.specs.Meaning.Layout.{report_room}
 use Rattle.rules.specs.Meaning.Hour.{case_of, plan_of, prices_of, zone_price}
 use Rattle.base_causes.specs.declared.Outcome.{Outcome}
-use Rattle.base_causes.specs.Meaning.Causes.{answer}
+use Rattle.base_causes.specs.Meaning.Causes.{refusal, answer}
 use Rattle.base_causes.proofs.Promised.CauseLaws.{field-passes}
 use Rattle.rules.specs.Meaning.Verdict.{room_causes, table, outcome}
 use Rattle.rules.specs.Meaning.Report.{Totals, totals_of, reports}
 use Rattle.rules.specs.Meaning.Lines.{verdict_line, price_lines, total_lines, hour_lines, lines_of, hour_text}
 use Rattle.report_file.specs.Meaning.Written.{totals_in}
 use Rattle.report_file.specs.Meaning.Prices.{grains_at}
-use Rattle.judge_stages.specs.declared.Found.{Found}
-use Rattle.judge_stages.specs.Meaning.Found.{Finds, hour_causes}
+use Rattle.judge_stages.specs.declared.ValuedHour.{ValuedHour}
+use Rattle.judge_stages.specs.Meaning.Found.{Refused, Valued, hour_causes}
 use Rattle.text_hour.specs.Steps.Texts.{prices-same}
 
 module _ (s t : List ℕ) where
@@ -41,20 +41,20 @@ module _ (s t : List ℕ) where
   all_lines e = ap (λ (b : Bool). verdict_line (outcome s t report_room) ++ cond b (hour_lines zones totals price) []) e
 
 -- WHAT THE DRIVER FINDS, as the lines have it
-module _ {s t : List ℕ} {f : Found} (h : Finds (hour_causes none s t) s t f) where
-  pub verdict-found : f.verdict ≡ outcome s t report_room
+module _ (s t : List ℕ) where
+  pub verdict-found : {o : Outcome} → o ≡ answer (refusal (hour_causes none s t)) → o ≡ outcome s t report_room
   unfolding outcome table room_causes
-  verdict-found = h.verdict-is ∙ ap (λ (o : Option Outcome). answer o) (sym (field-passes 30 0 (hour_causes none s t) refl))
+  verdict-found e = e ∙ ap (λ (o : Option Outcome). answer o) (sym (field-passes 30 0 (hour_causes none s t) refl))
 
-  reports-found : {b : Bool} → f.valued ≡ b → reports (outcome s t report_room).number ≡ b
-  reports-found v = ap (λ (o : Outcome). reports o.number) (sym verdict-found) ∙ sym h.valued-is ∙ v
+  reports-found : {o : Outcome} {b : Bool} → o ≡ answer (refusal (hour_causes none s t)) → reports o.number ≡ b → reports (outcome s t report_room).number ≡ b
+  reports-found e r = ap (λ (o : Outcome). reports o.number) (sym (verdict-found e)) ∙ r
 
-  pub line-found : f.valued ≡ false → verdict_line f.verdict ≡ hour_text s t
-  line-found v = ap verdict_line verdict-found ∙ sym (one_line s t (reports-found v))
+  pub line-found : {o : Outcome} → Refused (hour_causes none s t) o → verdict_line o ≡ hour_text s t
+  line-found h = ap verdict_line (verdict-found h.verdict-is) ∙ sym (one_line s t (reports-found h.verdict-is h.not-valued))
 
-  pub lines-found : f.valued ≡ true → verdict_line f.verdict ++ hour_lines f.hour.counts.zones (totals_in f.totals) (grains_at f.prices) ≡ hour_text s t
+  pub lines-found : {r : ValuedHour} → Valued (hour_causes none s t) s t r → verdict_line r.verdict ++ hour_lines r.hour.case.counts.zones (totals_in r.totals) (grains_at r.prices) ≡ hour_text s t
   unfolding hour_lines
-  lines-found v =
-      (λ i. verdict_line (verdict-found i) ++ (total_lines (h.totals-are v i) ++ price_lines (h.zones-are v i) (grains_at f.prices)))
-      ∙ ap (λ (l : List ℕ). verdict_line (outcome s t report_room) ++ (total_lines (totals s t) ++ l)) (prices-same (zones s t) (grains_at f.prices) (price s t) (h.prices-are v).each)
-      ∙ sym (all_lines s t (reports-found v))
+  lines-found {r} h =
+      (λ i. verdict_line (verdict-found h.verdict-is i) ++ (total_lines (h.totals-are i) ++ price_lines (h.zones-are i) (grains_at r.prices)))
+      ∙ ap (λ (l : List ℕ). verdict_line (outcome s t report_room) ++ (total_lines (totals s t) ++ l)) (prices-same (zones s t) (grains_at r.prices) (price s t) h.prices-are.each)
+      ∙ sym (all_lines s t (reports-found h.verdict-is h.valued-is))

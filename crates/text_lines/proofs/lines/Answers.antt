@@ -8,4 +8,4 @@ pub returns-then-too_short : goal.returns-then-too_short
 returns-then-too_short c = met-refusal c.args.input.now c.args.out.now (ltb-true _ _ (sym c.too_short.ensures ∙ c.if-too_short.true)) c.refused.ensures
 
 pub returns : goal.returns
-returns c = met-answer c.args.input.now c.args.out.now (ltb-false _ _ (sym c.too_short.ensures ∙ c.if-too_short.false)) c.put_lines-length.ensures
+returns c = rw c.from.ensures (met-answer c.args.input.now c.args.out.now (ltb-false _ _ (sym c.too_short.ensures ∙ c.if-too_short.false)) c.put_lines.ensures)

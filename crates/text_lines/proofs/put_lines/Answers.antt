@@ -8,24 +8,33 @@ use Rattle.text_lines.proofs.Promised.Room.{first-room, hour-room}
 use Rattle.base_causes.specs.declared.Outcome.{Outcome}
 use Rattle.text_lines.proofs.put_lines.Goals as goal
 
+pub put_verdict-requires : goal.put_verdict-requires
+put_verdict-requires c =
+    let s = case_part c.args.input.now in
+    let t = proposal_part c.args.input.now in
+    omega (arith, ap (λ (o : Outcome). length (verdict_line o)) (verdict-found s t c.in-Err.ensures.verdict-is), first-room s t, c.requires)
+
 pub put_verdict-at-requires : goal.put_verdict-at-requires
 put_verdict-at-requires c =
     let s = case_part c.args.input.now in
     let t = proposal_part c.args.input.now in
-    omega (arith, ap (λ (o : Outcome). length (verdict_line o)) (verdict-found c.find_in-found.ensures), first-room s t, c.requires)
+    omega (arith, ap (λ (o : Outcome). length (verdict_line o)) (verdict-found s t c.in-Ok.ensures.verdict-is), first-room s t, c.requires)
 
 pub put_hour-requires-clause-prices_in_bounds : goal.put_hour-requires-clause-prices_in_bounds
 put_hour-requires-clause-prices_in_bounds c =
     let s = case_part c.args.input.now in
     let t = proposal_part c.args.input.now in
     let p = c.put_verdict-at.ensures in
-    let text = lines-found c.find_in-found.ensures c.if-found.true in
+    let text = lines-found s t c.in-Ok.ensures in
     omega (arith, simp length-append at (ap length text), hour-room s t, p.position, put-length p, c.requires)
 
-pub returns-then-found : goal.returns-then-found
+pub returns-in-Err : goal.returns-in-Err
 unfolding desk_text
-returns-then-found c = put_as (lines-found c.find_in-found.ensures c.if-found.true) (put_then c.put_verdict-at.ensures c.put_hour.ensures)
+returns-in-Err c = put_as (line-found (case_part c.args.input.now) (proposal_part c.args.input.now) c.in-Err.ensures) c.put_verdict.ensures
 
-pub returns : goal.returns
+pub returns-in-Ok : goal.returns-in-Ok
 unfolding desk_text
-returns c = put_as (line-found c.find_in-found.ensures c.if-found.false) c.put_verdict-at.ensures
+returns-in-Ok c =
+    put_as
+    (lines-found (case_part c.args.input.now) (proposal_part c.args.input.now) c.in-Ok.ensures)
+    (put_then c.put_verdict-at.ensures c.put_hour.ensures)

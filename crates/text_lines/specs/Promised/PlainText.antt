@@ -1,12 +1,9 @@
 -- ALL THAT THE DESK PRINTS for an input, in plain bytes: where the input is cut, and which lines its two parts have.
 -- The clause `text` of the exported entry cites it. Assumes nothing.
 use Rattle.std.specs.Prelude.{◌≡◌, ◌⊎◌, ◌≢◌, List, [], ◌++◌, ℕ, ◌≤◌, ◌<◌, length}
-use Rattle.std.proofs.Common.{ap, ◌∙◌, length-take-le}
 use Rattle.rules.specs.Meaning.Verdict.{outcome}
-use Rattle.rules.specs.Meaning.Cut.{case_part, proposal_part}
-use Rattle.rules.specs.Meaning.Lines.{desk_text}
-use Rattle.rules.proofs.Promised.PlainCut.{HeaderFacts, Demands, parts-joined, cut-there, too_few, bad-header}
-use Rattle.rules.proofs.Promised.PlainLines.{VerdictLine, AllLines, all_lines, one_line}
+use Rattle.rules.proofs.Promised.PlainCut.{HeaderFacts, Demands}
+use Rattle.rules.proofs.Promised.PlainLines.{VerdictLine, AllLines}
 
 pub record PlainText (input text : List ℕ) : Type 0 where
   pub case-bytes : List ℕ
