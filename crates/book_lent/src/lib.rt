@@ -11,10 +11,9 @@ pub fn book_surplus(orders: &[OrderRow], zone_prices: &[i64]) -> Surplus
     ensures { result ≡ lent_answer orders.now zone_prices.now }
 {
     let mut state = open_book(orders.len(), zone_prices);
-    let mut i = 0;
-    while state.asks_row(i, orders.len()) {
-        state = add_row(state, orders[i], zone_prices);
-        i += 1;
+    for row in orders {
+        let Ok(open) = state else { break };
+        state = add_row(open, *row, zone_prices);
     }
     close_book(state)
 }

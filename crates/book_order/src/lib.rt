@@ -9,8 +9,9 @@ ghost use Rattle.rules.specs.Meaning.Hour as rules;
 ghost use Rattle.book_order.specs.Meaning.Answer.{admitted};
 ghost use Rattle.book_order.specs.Meaning.Admitted.{surplus_at};
 
-use base_measures::{Cents, CentsAnswer, Grains, Microcents, Raw, Tenths, TenthsAnswer};
+use base_measures::{Cents, Grains, Measure, Microcents, Raw, Tenths};
 
+// `buys` is a Bool as in `above` and `signed` of document 01, which an enum of two sides would only be turned into.
 #[derive(Clone, Copy)]
 pub struct Order {
     pub zone: usize,
@@ -19,33 +20,19 @@ pub struct Order {
     pub price: Cents,
 }
 
-#[derive(Clone, Copy)]
-pub enum OrderAnswer {
-    Held(Order),
-    Outside,
-}
-
 // The order of a row whose fields are all in range, with `zones` zones. Side 0 buys, 1 sells.
-pub fn admit(zones: usize, zone: usize, side: u8, quantity: u32, price: Raw) -> OrderAnswer
+#[tactic(auto, unfolding(rules::specs::Meaning::Verdict::bad_row, rules::specs::Meaning::Verdict::row_fault, base_causes::specs::Meaning::Causes::any_below))]
+pub fn admit(zones: usize, zone: usize, side: u8, quantity: u32, price: Raw) -> Option<Order>
     ensures { result ≡ admitted zones zone side quantity price.0 }
 {
-    if zones <= zone {
-        return OrderAnswer::Outside;
+    if zones <= zone || 1 < side {
+        return None;
     }
-    if 1 < side {
-        return OrderAnswer::Outside;
-    }
-    let TenthsAnswer::Held(held_quantity) = Tenths::quantity(Raw::unsigned(quantity)) else {
-        return OrderAnswer::Outside;
-    };
-    let CentsAnswer::Held(held_price) = Cents::order_price(price) else {
-        return OrderAnswer::Outside;
-    };
-    OrderAnswer::Held(Order {
+    Some(Order {
         zone,
         buys: side == 0,
-        quantity: held_quantity,
-        price: held_price,
+        quantity: Tenths::quantity(Raw::from(quantity))?,
+        price: Cents::order_price(price)?,
     })
 }
 

@@ -2,7 +2,7 @@
 // at the end gives the sum of rule 8 or a refusal.
 #![tactic(auto)]
 
-ghost use Rattle.std.specs.Prelude.{◌≡◌, ◌+◌, ◌<◌, length, ◌+ℤ◌};
+ghost use Rattle.std.specs.Prelude.{◌≡◌, Err, ◌+◌, ◌^◌, ◌<◌, length, ◌+ℤ◌};
 ghost use Rattle.std.specs.Int.{w64};
 ghost use Rattle.std.proofs.Common.{SFits};
 ghost use Rattle.base_integers.specs.Meaning.Ranges as ranges;
@@ -10,15 +10,15 @@ ghost use Rattle.base_limits.specs.Meaning.Limits as limits;
 ghost use Rattle.base_measures.specs.Meaning.Held.{grains_in};
 ghost use Rattle.book_order.specs.Meaning.Answer.{admitted};
 ghost use Rattle.base_causes.specs.Meaning.Place.{place_of};
-ghost use Rattle.rules.specs.Meaning.Book.{price_at};
-ghost use Rattle.book_surplus.specs.Meaning.BookState.{new_state, is_open, asks_row, refused_row, with_row, first_price_outside, open_of, add_of, answered, close_of, counted, Ready};
+ghost use Rattle.book_surplus.specs.Meaning.BookState.{new_state, refused_row, with_row, total_of, first_price_outside, priced, open_of, add_of, answer_of, close_of, counted, Ready};
 ghost use Rattle.book_surplus.specs.Steps.BookState.{OrderIn};
 
-use base_causes::{Place, count_outside};
-use base_measures::{Grains, GrainsAnswer, Microcents, Raw};
-use book_order::{Order, OrderAnswer, admit, surplus};
+use base_causes::{Outcome, count_outside, refused};
+use base_measures::{Grains, Measure, Microcents, Raw};
+use book_order::{Order, admit, surplus};
 
-// A row as the host lends it. Side 0 buys, 1 sells; the quantity is in tenths, the price in cents.
+// A row as the host lends it. Side 0 buys, 1 sells; the quantity is in tenths, the price in cents. The C interface
+// has these numbers.
 #[repr(C)]
 #[derive(Clone, Copy)]
 pub struct OrderRow {
@@ -28,7 +28,8 @@ pub struct OrderRow {
     pub price: i32,
 }
 
-// The answer: number and index as in the verdict table, and the sum in microcents, which is 0 for a refusal.
+// The answer: number and index as in the verdict table, and the sum in microcents, which is 0 for a refusal. The C
+// interface has it in this form; code here has a `Result`.
 #[repr(C)]
 #[derive(Clone, Copy)]
 pub struct Surplus {
@@ -37,59 +38,31 @@ pub struct Surplus {
     pub sum: Microcents,
 }
 
-// The state after some rows: the refusal so far, or the number 0; how many rows were taken; and their sum. The
-// number 25 stands until a row is refused.
+// The state after some rows, none of which is refused: what the prices are refused by once every row is taken, if they
+// are; how many rows were taken; and their sum.
 #[derive(Clone, Copy)]
 pub struct BookState {
-    number: u32,
-    index: u32,
+    prices: Result<(), Outcome>,
     taken: u32,
     sum: Microcents,
 }
 
 impl BookState {
-    fn new(number: u32, index: u32) -> BookState
-        ensures { result ≡ new_state number index }
+    fn new(prices: Result<(), Outcome>) -> BookState
+        ensures { result ≡ new_state prices }
     {
         BookState {
-            number,
-            index,
+            prices,
             taken: 0,
             sum: Microcents::ZERO,
         }
     }
 
-    // A row may still change it: it is refused by neither 4 nor 8.
-    fn is_open(self) -> bool
-        ensures { result ≡ is_open self }
-    {
-        if self.number == 0 {
-            return true;
-        }
-        self.number == 25
-    }
-
-    // Whether to read row `i` of `count`.
-    pub fn asks_row(self, i: usize, count: usize) -> bool
-        ensures { result ≡ asks_row self i count }
-    {
-        if self.is_open() {
-            return i < count;
-        }
-        false
-    }
-
     // Refused at the row after those taken.
-    fn refuse_row(self) -> BookState
-        ensures { result ≡ refused_row self }
+    fn refuse_row(self) -> Result<BookState, Outcome>
+        ensures { result ≡ Err (refused_row self) }
     {
-        let sum = self.sum;
-        BookState {
-            number: 8,
-            index: self.taken,
-            taken: self.taken,
-            sum,
-        }
+        refused(8, self.taken)
     }
 
     fn take_row(self, surplus: Microcents) -> BookState
@@ -97,13 +70,19 @@ impl BookState {
         requires sfits { SFits w64 (self.sum.0 +ℤ surplus.0) }
         ensures { result ≡ with_row self surplus.0 }
     {
-        let sum = self.sum.plus(surplus);
         BookState {
-            number: self.number,
-            index: self.index,
             taken: self.taken + 1,
-            sum,
+            sum: self.sum.plus(surplus),
+            ..self
         }
+    }
+
+    // Rule 8's sum after the last row, if the prices are in range.
+    fn total(self) -> Result<Microcents, Outcome>
+        ensures { result ≡ total_of self }
+    {
+        self.prices?;
+        Ok(self.sum)
     }
 }
 
@@ -116,75 +95,59 @@ pub const ROWS_LEAST: usize = 0;
 
 pub const ROWS_GREATEST: usize = layout::ORDERS;
 
-// The price of a zone, within its limits.
-fn zone_price(prices: &[i64], zone: usize) -> GrainsAnswer
-    requires { zone < length prices.now }
-    ensures { result ≡ grains_in limits.zone_price (price_at prices.now zone) }
+// A zone's price, within its limits.
+fn zone_price(price: i64) -> Option<Grains>
+    ensures { result ≡ grains_in limits.zone_price price }
 {
-    Grains::lent_price(Raw::lent(prices[zone]))
+    Grains::lent_price(Raw::from(price))
 }
 
-fn price_outside(prices: &[i64], zone: usize) -> bool
-    requires { zone < length prices.now }
-    ensures { result ≡ ranges.outside limits.zone_price (price_at prices.now zone) }
+fn price_outside(price: i64) -> bool
+    ensures { result ≡ ranges.outside limits.zone_price price }
 {
-    let GrainsAnswer::Held(_price) = zone_price(prices, zone) else {
-        return true;
-    };
-    false
+    zone_price(price).is_none()
 }
 
 // The first zone whose price is out of range.
-pub fn first_price_outside(prices: &[i64]) -> Place
+pub fn first_price_outside(prices: &[i64]) -> Option<usize>
     ensures { place_of result ≡ first_price_outside prices.now }
 {
-    let mut zone = 0;
-    while zone < prices.len() {
-        if price_outside(prices, zone) {
-            return Place::At(zone);
-        }
-        zone += 1;
-    }
-    Place::Nowhere
+    prices.iter().position(|price| price_outside(*price))
+}
+
+// What at most 16 prices are refused by.
+fn judge_prices(prices: &[i64]) -> Result<(), Outcome>
+    requires { length prices.now < 2 ^ 32 }
+    ensures { result ≡ priced (first_price_outside prices.now) }
+{
+    let Some(zone) = first_price_outside(prices) else {
+        return Ok(());
+    };
+    refused(25, zone as u32)
 }
 
 // The state of the book before the first row of `count`.
-pub fn open_book(count: usize, prices: &[i64]) -> BookState
+pub fn open_book(count: usize, prices: &[i64]) -> Result<BookState, Outcome>
     ensures { result ≡ open_of count prices.now }
 {
     if count_outside(PRICES_LEAST, PRICES_GREATEST, prices.len()) {
-        return BookState::new(4, 5);
+        return refused(4, 5);
     }
     if count_outside(ROWS_LEAST, ROWS_GREATEST, count) {
-        return BookState::new(4, 8);
+        return refused(4, 8);
     }
-    let Place::At(zone) = first_price_outside(prices) else {
-        return BookState::new(0, 0);
-    };
-    BookState::new(25, zone as u32)
+    Ok(BookState::new(judge_prices(prices)))
 }
 
-fn wide(x: u8) -> usize
-    ensures { result ≡ x }
-{
-    x as usize
-}
-
-fn row_price(row: OrderRow) -> Raw
-    ensures { result.0 ≡ row.price }
-{
-    Raw::signed(row.price)
-}
-
-fn admit_row(zones: usize, row: OrderRow) -> OrderAnswer
+fn admit_row(zones: usize, row: OrderRow) -> Option<Order>
     ensures { result ≡ admitted zones row.zone row.side row.quantity row.price }
 {
     admit(
         zones,
-        wide(row.zone),
+        usize::from(row.zone),
         row.side,
         row.quantity,
-        row_price(row),
+        Raw::from(row.price),
     )
 }
 
@@ -193,36 +156,46 @@ fn order_surplus(order: Order, prices: &[i64]) -> Microcents
     requires { OrderIn (length prices.now) order }
     ensures { result.0 ≡ counted order prices.now }
 {
-    let GrainsAnswer::Held(price) = zone_price(prices, order.zone) else {
+    let Some(price) = zone_price(prices[order.zone]) else {
         return Microcents::ZERO;
     };
     surplus(order, price)
 }
 
-// The state with the row that it asks for.
-pub fn add_row(state: BookState, row: OrderRow, prices: &[i64]) -> BookState
+// The state with one row more.
+pub fn add_row(state: BookState, row: OrderRow, prices: &[i64]) -> Result<BookState, Outcome>
     requires { Ready state }
     ensures { result ≡ add_of state row prices.now }
 {
-    let OrderAnswer::Held(order) = admit_row(prices.len(), row) else {
+    let Some(order) = admit_row(prices.len(), row) else {
         return state.refuse_row();
     };
-    state.take_row(order_surplus(order, prices))
+    Ok(state.take_row(order_surplus(order, prices)))
 }
 
-fn answer(number: u32, index: u32, sum: Microcents) -> Surplus
-    ensures { result ≡ answered number index sum.0 }
-{
-    Surplus { number, index, sum }
+// A refusal's sum is 0.
+impl From<Result<Microcents, Outcome>> for Surplus {
+    ghost from_gives = { λ total r. r ≡ answer_of total };
+
+    fn from(total: Result<Microcents, Outcome>) -> Surplus {
+        match total {
+            Ok(sum) => Surplus {
+                number: 0,
+                index: 0,
+                sum,
+            },
+            Err(refusal) => Surplus {
+                number: refusal.number,
+                index: refusal.index,
+                sum: Microcents::ZERO,
+            },
+        }
+    }
 }
 
-// The answer after the last row.
-pub fn close_book(state: BookState) -> Surplus
+// The answer after the last row, or after the refusal of the counts or of a row.
+pub fn close_book(state: Result<BookState, Outcome>) -> Surplus
     ensures { result ≡ close_of state }
 {
-    if state.number == 0 {
-        let sum = state.sum;
-        return answer(state.number, state.index, sum);
-    }
-    answer(state.number, state.index, Microcents::ZERO)
+    Surplus::from(state.and_then(BookState::total))
 }

@@ -1,24 +1,18 @@
--- `book_surplus::first_price_outside` meets its contract: at each zone the search goes on, or has found the first.
-use Rattle.std.proofs.Common.{sym, ◌∙◌, refl, arith}
-use Rattle.base_causes.specs.Meaning.Causes.{first_below}
-use Rattle.base_causes.proofs.Promised.CauseLaws.{first-here, first-later, first-nowhere}
+-- `book_surplus::first_price_outside` meets its contract: the first zone is what `position` answers.
+use Rattle.std.specs.Prelude.{pos}
+use Rattle.std.proofs.Common.{ap, ◌∙◌, rules, tests}
+use Rattle.std.proofs.lemmas.Iterator.{YieldsList-from_slice}
+use Rattle.std.proofs.lemmas.Iterator.Search.{position_from_yields_List}
+use Rattle.base_integers.specs.Meaning.Ranges.{outside}
+use Rattle.base_limits.specs.Meaning.Limits as limits
+use Rattle.base_causes.specs.Meaning.Place.{place_of}
 use Rattle.book_surplus.specs.Meaning.BookState.{first_price_outside}
+use Rattle.book_surplus.proofs.Steps.Position.{place_of_position}
 use Rattle.book_surplus.proofs.first_price_outside.Goals as goal
-
-pub loop-zone-init : goal.loop-zone-init
-unfolding first_below
-loop-zone-init c = record { in_prices = omega arith; none_before = refl }
-
-pub returns-then-price_outside : goal.returns-then-price_outside
-unfolding first_price_outside
-returns-then-price_outside c = sym (first-here _ c.loop-zone.zone c.loop-zone-test.true c.loop-zone.invariant.none_before (sym c.price_outside.ensures ∙ c.if-price_outside.true))
-
-pub loop-zone-preserved : goal.loop-zone-preserved
-loop-zone-preserved c = record {
-  in_prices = omega arith;
-  none_before = first-later _ c.loop-zone.zone c.loop-zone.invariant.none_before (sym c.price_outside.ensures ∙ c.if-price_outside.false);
-}
 
 pub returns : goal.returns
 unfolding first_price_outside
-returns c = sym (first-nowhere _ c.loop-zone.zone (omega arith) (omega arith) c.loop-zone.invariant.none_before)
+returns c =
+    let test = outside limits.zone_price in
+    let found = position_from_yields_List test _ _ c.position.result c.position.ensures.ran (YieldsList-from_slice c.args.prices.now cc) (λ x b q k. search (rules, tests)) in
+    ap place_of found ∙ place_of_position test (pos 0) c.args.prices.now

@@ -7,5 +7,5 @@ use Rattle.book_surplus.proofs.order_surplus.Goals as goal
 
 pub surplus-requires-clause-within_3 : goal.surplus-requires-clause-within_3
 surplus-requires-clause-within_3 c =
-    let h = grains-held _ _ c.in-Held.price (sym c.zone_price.ensures ∙ c.in-Held.is) in
+    let h = grains-held _ _ c.in-Some.price (sym c.zone_price.ensures ∙ c.in-Some.is) in
     rw h.1 (within limits.zone_price _ (is_false h.0))

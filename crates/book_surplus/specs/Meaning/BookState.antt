@@ -1,5 +1,5 @@
--- The lent book row by row: the state after each row, and the answer at the end.
-use Rattle.std.specs.Prelude.{Bool, true, false, not, ◌&&◌, ◌||◌, List, ℕ, ◌+◌, ◌*◌, ◌<◌, length, eqb, ltb, ℤ, pos, ◌+ℤ◌}
+-- The lent book row by row: the state after each row, or the refusal by 4 or 8; and the answer at the end.
+use Rattle.std.specs.Prelude.{Bool, true, false, not, List, ℕ, ◌+◌, ◌*◌, ◌<◌, length, ℤ, pos, ◌+ℤ◌, Result, Ok, Err}
 use Rattle.std.proofs.Math.Option.{Option, none, some}
 use Rattle.base_integers.specs.Meaning.Ranges.{outside}
 use Rattle.base_integers.specs.Steps.Size.{Near}
@@ -9,7 +9,9 @@ use Rattle.book_order.specs.Meaning.Answer.{order_of}
 use Rattle.book_order.specs.Meaning.Admitted.{surplus_at}
 use Rattle.book_order.specs.declared.Order.{Order}
 use Rattle.rules.specs.Meaning.Layout.{zone_counts, order_counts}
-use Rattle.base_causes.specs.Meaning.Causes.{first_below}
+use Rattle.base_causes.specs.declared.Outcome.{Outcome}
+use Rattle.base_causes.specs.Meaning.Causes.{verdict, first_below}
+use Rattle.base_measures.specs.declared.Microcents.{Microcents}
 use Rattle.rules.specs.Meaning.Verdict.{bad_row}
 use Rattle.rules.specs.Meaning.Book.{price_at}
 use Rattle.book_surplus.specs.declared.BookState.{BookState}
@@ -17,33 +19,31 @@ use Rattle.book_surplus.specs.declared.OrderRow.{OrderRow}
 use Rattle.book_surplus.specs.declared.Surplus.{Surplus}
 
 -- no row taken yet
-abbrev pub new_state : ℕ → ℕ → BookState
-new_state number index = record { number = number; index = index; taken = 0; sum = record { 0 = pos 0 } }
+abbrev pub new_state : Result (Unit {0}) Outcome → BookState
+new_state prices = record { prices = prices; taken = 0; sum = record { 0 = pos 0 } }
 
--- refused by neither 4 nor 8: a row may still change it, and the next row is read
-abbrev pub is_open : BookState → Bool
-is_open a = eqb a.number 0 || eqb a.number 25
-
-abbrev pub asks_row : BookState → ℕ → ℕ → Bool
-asks_row a i count = is_open a && ltb i count
-
-abbrev pub refused_row : BookState → BookState
-refused_row a = record { number = 8; index = a.taken; taken = a.taken; sum = a.sum }
+-- refused at the row after those taken
+abbrev pub refused_row : BookState → Outcome
+refused_row a = verdict 8 a.taken
 
 abbrev pub with_row : BookState → ℤ → BookState
-with_row a x = record { number = a.number; index = a.index; taken = a.taken + 1; sum = record { 0 = a.sum.0 +ℤ x } }
+with_row a x = record { prices = a.prices; taken = a.taken + 1; sum = record { 0 = a.sum.0 +ℤ x } }
 
 -- OPENED: by the number of prices, the number of rows, and the first price out of range
 unfoldable pub first_price_outside : List ℤ → Option ℕ
 first_price_outside prices = first_below (length prices) (λ z. outside limits.zone_price (price_at prices z))
 
-abbrev pub open_by : Bool → Bool → Option ℕ → BookState
-open_by true b z = new_state 4 5
-open_by false true z = new_state 4 8
-open_by false false (some z) = new_state 25 z
-open_by false false none = new_state 0 0
+-- such a price refuses the book once every row is taken
+abbrev pub priced : Option ℕ → Result (Unit {0}) Outcome
+priced (some z) = Err (verdict 25 z)
+priced none = Ok tt
 
-abbrev pub open_of : ℕ → List ℤ → BookState
+abbrev pub open_by : Bool → Bool → Option ℕ → Result BookState Outcome
+open_by true b z = Err (verdict 4 5)
+open_by false true z = Err (verdict 4 8)
+open_by false false z = Ok (new_state (priced z))
+
+abbrev pub open_of : ℕ → List ℤ → Result BookState Outcome
 open_of count prices = open_by (outside zone_counts (pos (length prices))) (outside order_counts (pos count)) (first_price_outside prices)
 
 -- ONE ROW MORE: its surplus counts where the zone's price is in range
@@ -56,19 +56,31 @@ bad_in prices o = bad_row (length prices) o.zone o.side o.quantity o.price
 abbrev pub row_order : OrderRow → Order
 row_order o = order_of o.zone o.side (pos o.quantity) o.price
 
-abbrev pub add_by : BookState → Bool → ℤ → BookState
-add_by a true x = refused_row a
-add_by a false x = with_row a x
+abbrev pub add_by : BookState → Bool → ℤ → Result BookState Outcome
+add_by a true x = Err (refused_row a)
+add_by a false x = Ok (with_row a x)
 
-abbrev pub add_of : BookState → OrderRow → List ℤ → BookState
+abbrev pub add_of : BookState → OrderRow → List ℤ → Result BookState Outcome
 add_of a o prices = add_by a (bad_in prices o) (counted (row_order o) prices)
 
 -- CLOSED: a refusal's sum is 0
 abbrev pub answered : ℕ → ℕ → ℤ → Surplus
 answered number index sum = record { number = number; index = index; sum = record { 0 = sum } }
 
-abbrev pub close_of : BookState → Surplus
-close_of a = answered a.number a.index (only (eqb a.number 0) a.sum.0)
+abbrev pub answer_of : Result Microcents Outcome → Surplus
+answer_of (Ok sum) = answered 0 0 sum.0
+answer_of (Err o) = answered o.number o.index (pos 0)
+
+abbrev pub total_by : Result (Unit {0}) Outcome → Microcents → Result Microcents Outcome
+total_by (Ok u) sum = Ok sum
+total_by (Err o) sum = Err o
+
+abbrev pub total_of : BookState → Result Microcents Outcome
+total_of a = total_by a.prices a.sum
+
+abbrev pub close_of : Result BookState Outcome → Surplus
+close_of (Ok a) = answer_of (total_of a)
+close_of (Err o) = answer_of (Err o)
 
 -- room for one row more: a surplus is at most 4.5e15, and 512 of them are far below 2 ^ 63
 pub record Ready (a : BookState) : Type 0 where

@@ -1,8 +1,8 @@
 -- `short_hour::put_links` meets its contract: no pair yet, and the pair of one link more. Assumes nothing.
 use Rattle.std.proofs.Common.{List, ℤ, ◌+◌, ◌*◌, ◌<◌, refl, ap, ◌∙◌, arith}
 use Rattle.std.proofs.lemmas.List.Edits.{sets}
-use Rattle.rules.specs.Meaning.Hour.{case_of, plan_of, prices_of, gap}
-use Rattle.short_rules.specs.Meaning.Shortfalls.{link_shortfall}
+use Rattle.rules.specs.Meaning.Hour.{gap}
+use Rattle.short_single.specs.Meaning.OfHour.{link_of, hour_of, cleared_of, rates_of}
 use Rattle.short_rules.specs.Meaning.Answer.{pairs_to}
 use Rattle.proposal_file.specs.Steps.Read.{links-is}
 use Rattle.short_hour.specs.Steps.Pairs.{numbers_in, writable, run_more}
@@ -14,22 +14,20 @@ unfolding pairs_to
 loop-l-init c = refl
 
 pub put-requires-clause-n_bound : goal.put-requires-clause-n_bound
-put-requires-clause-n_bound c = omega (arith, few c.requires.hour_accepted)
+put-requires-clause-n_bound c = omega (arith, few c.args.hour.now.accepted)
 
 pub put-requires-clause-writable : goal.put-requires-clause-writable
 put-requires-clause-writable c =
-    let s = c.args.«case».now in
-    let t = c.args.proposal.now in
-    let j = c.requires.hour_accepted in
-    let inside : c.loop-l.l < (case_of s).links = omega (arith, links-is j.read) in
-    writable {x = link_shortfall (case_of s) (plan_of s t) (prices_of s t) c.loop-l.l} (gap (case_of s) (plan_of s t) (prices_of s t)) c.link_shortfall.ensures (j.accounted.link-within c.loop-l.l inside) j.gap-small
+    let h = c.args.hour.now in
+    let j = h.accepted in
+    let inside : c.loop-l.l < (hour_of h).links = omega (arith, links-is j.read) in
+    writable {x = link_of h c.loop-l.l} (gap (hour_of h) (cleared_of h) (rates_of h)) c.link_shortfall.ensures (j.accounted.link-within c.loop-l.l inside) j.gap-small
 
 pub loop-l-preserved : goal.loop-l-preserved
 loop-l-preserved c =
-    let s = c.args.«case».now in
-    let t = c.args.proposal.now in
+    let h = c.args.hour.now in
     let l = c.loop-l in
-    let k = c.args.hour.counts in
+    let k = h.hour.«case».counts in
     c.put.ensures
     ∙ ap (λ (x : List ℤ). sets x (2 * (k.orders + k.branches + l.l)) (numbers_in c.link_shortfall.result)) l.invariant
-    ∙ run_more c.args.out.now (2 * (k.orders + k.branches)) l.l (k.orders + k.branches + l.l) (link_shortfall (case_of s) (plan_of s t) (prices_of s t)) (omega arith) c.link_shortfall.ensures
+    ∙ run_more c.args.out.now (2 * (k.orders + k.branches)) l.l (k.orders + k.branches + l.l) (link_of h) (omega arith) c.link_shortfall.ensures

@@ -14,7 +14,8 @@ use Rattle.base_measures.specs.declared.Tenths.{Tenths}
 use Rattle.rules.specs.Meaning.Hour.{Case, Plan, Prices, case_of, plan_of, prices_of, buys, above, fb_part, link_use, link_room, branch_use, branch_room, zone_price, surplus_of, order_surplus, spread, gap}
 use Rattle.rules.proofs.Steps.Passed.{CaseSound}
 use Rattle.rules.proofs.Promised.Fits.{in-grains, near-above, apart-prices, fbPart-near, branchUse-sums, flow-in, volumes-in}
-use Rattle.proposal_file.specs.declared.HourRead.{HourRead}
+use Rattle.case_header.specs.declared.Counts.{Counts}
+use Rattle.proposal_file.specs.declared.ProposalOpening.{ProposalOpening}
 use Rattle.base_measures.specs.Meaning.TenthsHold.{tenths_at}
 use Rattle.proposal_file.specs.Steps.Read.{sound, share-is, share-in, shadow-in}
 use Rattle.short_rules.specs.Meaning.Shortfalls.{earned, order_shortfall, branch_shortfall, link_shortfall}
@@ -25,7 +26,7 @@ use Rattle.short_single.specs.Meaning.HourAccepted.{HourAccepted}
 abbrev pub load_on : List ℤ → List Tenths → ℕ → ℤ
 load_on row parts z = get_or row z (pos 0) *ℤ tenths_at parts z
 
-module _ {s t : List ℕ} {hour : HourRead} (j : HourAccepted s t hour) where
+module _ {s t : List ℕ} {k : Counts} {opening : ProposalOpening} (j : HourAccepted s t k opening) where
   abbrev c : Case
   c = case_of s
 
@@ -76,7 +77,7 @@ module _ {s t : List ℕ} {hour : HourRead} (j : HourAccepted s t hour) where
   }
 
   -- BRANCH m
-  pub rest-is : pos parts_in_one -ℤ hour.opening.share.0 ≡ pos parts_in_one -ℤ pos (plan_of s t).share
+  pub rest-is : pos parts_in_one -ℤ opening.share.0 ≡ pos parts_in_one -ℤ pos (plan_of s t).share
   rest-is = ap (λ (x : ℤ). pos parts_in_one -ℤ x) (share-is j.read)
 
   pub rest-near : Near 200000 (pos parts_in_one -ℤ pos (plan_of s t).share)
