@@ -5,7 +5,7 @@ ghost use Rattle.std.specs.Prelude.{◌≡◌, ◌≤◌, length};
 ghost use Rattle.std.proofs.lemmas.List.Edits.{sets};
 ghost use Rattle.sheet_branches.specs.Meaning.Answer.{SheetAnswered};
 
-use base_causes::{Place, count_outside};
+use base_causes::count_outside;
 use base_output::{Written, refused};
 use case_header::Counts;
 use sheet_lines::{branch_part, read_lines};
@@ -13,19 +13,12 @@ use sheet_lines::{branch_part, read_lines};
 // A row for each possible branch, and one more that all further lines share.
 const TABLE: usize = (layout::BRANCHES + 1) * (layout::MARGIN + layout::PTDF * layout::ZONES);
 
-// The branches, at the start of the output.
-fn put_branches(branches: &[u8], out: &mut [u8])
-    requires { length branches.now ≤ length out.old }
-    ensures { out.new ≡ sets out.old 0 branches.now }
-{
-    for i in 0..branches.len() {
-        out[i] = branches[i];
-    }
-}
-
 // The branch part of a case, from a sheet's text and the zone count; `host` exports it. The sheet is read once,
 // into a table. A refusal must leave the output unchanged, so the output is written only after every row of the
 // table of causes has passed.
+//
+// The numbers are the rows of that table, as the C interface answers them: a Result inside would only be turned back
+// into a `Written` here.
 #[tactic(auto, using(crate::proofs::Steps::Rows::row_54, crate::proofs::Steps::Rows::row_55), unfolding(sheet_lines::specs::Meaning::Sheet::sheet_outcome, sheet_lines::specs::Meaning::Sheet::sheet_written, sheet_lines::specs::Meaning::Sheet::sheet_output))]
 pub fn sheet_branches(sheet: &[u8], zones: usize, out: &mut [u8]) -> Written
     ensures { SheetAnswered zones sheet.now out.old out.new result }
@@ -35,27 +28,23 @@ pub fn sheet_branches(sheet: &[u8], zones: usize, out: &mut [u8]) -> Written
     }
     let mut table = [0u8; TABLE];
     let found = read_lines(sheet, zones, &mut table);
-    let malformed = found.malformed;
-    if let Place::At(line) = malformed {
+    if let Some(line) = found.malformed {
         return refused(51, line);
     }
-    let finer = found.finer;
-    if let Place::At(line) = finer {
+    if let Some(line) = found.finer {
         return refused(52, line);
     }
-    let outside = found.outside;
-    if let Place::At(line) = outside {
+    if let Some(line) = found.outside {
         return refused(53, line);
     }
-    let lines = found.lines;
-    if Counts::BRANCHES_GREATEST < lines {
+    if Counts::BRANCHES_GREATEST < found.lines {
         return refused(54, 0);
     }
-    let length = branch_part(zones, lines);
+    let length = branch_part(zones, found.lines);
     if out.len() < length {
         return refused(55, 0);
     }
-    put_branches(&table[..length], out);
+    out[..length].copy_from_slice(&table[..length]);
     Written {
         number: 0,
         index: 0,

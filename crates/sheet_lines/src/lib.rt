@@ -4,21 +4,18 @@
 
 ghost use Rattle.std.specs.Prelude.{◌≡◌, ◌+◌, ◌*◌, ◌≤◌, length};
 ghost use Rattle.std.proofs.lemmas.List.Edits.{sets};
-ghost use Rattle.std.specs.Int.{w32};
-ghost use Rattle.std.proofs.Common.{SFits};
 ghost use Rattle.base_integers.specs.Meaning.Bytes.{signed32};
 ghost use Rattle.base_integers.specs.Meaning.Ranges as ranges;
-ghost use Rattle.base_causes.specs.Meaning.Place.{place_of};
 ghost use Rattle.sheet_numbers.specs.Steps.Capped.{cap};
 ghost use Rattle.sheet_lines.specs.Meaning.Sheet.{decimal_count, limit, branch_part};
-ghost use Rattle.sheet_lines.specs.Steps.Entries.{turned, entry_of_number};
+ghost use Rattle.sheet_lines.specs.Steps.Entries.{entry_at, place, turned, entry_of_number};
 ghost use Rattle.sheet_lines.specs.Meaning.Lines.{SheetRead};
-ghost use Rattle.sheet_lines.specs.Steps.Lines.{mark_of, comma_missing, LineRead, row_of, first_with};
+ghost use Rattle.sheet_lines.specs.Steps.Lines.{mark_of, comma_missing, LineRead};
 
-use base_causes::Place;
-use base_measures::{Ptdf, PtdfAnswer, Raw, Tenths, TenthsAnswer};
-use bytes_write::put_low32;
-use sheet_numbers::{Number, NumberAnswer, TextCursor};
+use base_integers::Bits;
+use base_measures::{Ptdf, Raw, Tenths};
+use bytes_write::put;
+use sheet_numbers::{Number, TextCursor};
 
 // The faults of a number: a decimal after ours is not zero; it is out of range.
 #[derive(Clone, Copy)]
@@ -27,67 +24,67 @@ struct Flaws {
     outside: bool,
 }
 
-// A line whose fields are all numbers, with their faults and where the next line starts. Or a malformed line.
-#[derive(Clone, Copy)]
-enum LineAnswer {
-    Read(Flaws, TextCursor),
-    Malformed,
-}
-
 // The first line of each cause, and how many lines there are.
 #[derive(Clone, Copy)]
 pub struct SheetFaults {
-    pub malformed: Place,
-    pub finer: Place,
-    pub outside: Place,
+    pub malformed: Option<usize>,
+    pub finer: Option<usize>,
+    pub outside: Option<usize>,
     pub lines: usize,
 }
 
-// ENTRIES. How many decimals an entry of a branch has.
-fn decimal_count(j: usize) -> usize
-    ensures { result ≡ decimal_count j }
-{
-    if j == 0 {
-        return 1;
-    }
-    5
+// ENTRIES. What an entry of a branch is: its margin, or the PTDF of a zone.
+#[derive(Clone, Copy)]
+enum Entry {
+    Margin,
+    Ptdf,
 }
 
-// Sheets count export positive: a PTDF's sign is turned, a margin's is not.
-fn turned(j: usize, negative: bool) -> bool
-    ensures { result ≡ turned j negative }
-{
-    if j == 0 {
-        return negative;
+impl Entry {
+    // The margin comes first.
+    fn at(j: usize) -> Entry
+        ensures { result ≡ entry_at j }
+    {
+        if j == 0 { Entry::Margin } else { Entry::Ptdf }
     }
-    !negative
-}
 
-// A number as entry j of a branch.
-fn entry(j: usize, x: Number) -> Raw
-    requires { x.units ≤ cap }
-    ensures { result.0 ≡ entry_of_number j x }
-{
-    if turned(j, x.negative) {
-        return Raw::signed(-(x.units as i32));
+    fn decimals(self) -> usize
+        ensures { result ≡ decimal_count (place self) }
+    {
+        match self {
+            Entry::Margin => 1,
+            Entry::Ptdf => 5,
+        }
     }
-    Raw::signed(x.units as i32)
-}
 
-// Whether entry j is outside its measure's limits.
-fn out_of_range(j: usize, x: Raw) -> bool
-    ensures { result ≡ ranges.outside (limit j) x.0 }
-{
-    if j == 0 {
-        let TenthsAnswer::Held(_) = Tenths::margin(x) else {
-            return true;
-        };
-        return false;
+    // Sheets count export positive: a PTDF's sign is turned, a margin's is not.
+    fn turned(self, negative: bool) -> bool
+        ensures { result ≡ turned (place self) negative }
+    {
+        match self {
+            Entry::Margin => negative,
+            Entry::Ptdf => !negative,
+        }
     }
-    let PtdfAnswer::Held(_) = Ptdf::new(x) else {
-        return true;
-    };
-    false
+
+    // A number of a sheet as the field of this entry.
+    fn field(self, x: Number) -> i32
+        requires { x.units ≤ cap }
+        ensures { result ≡ entry_of_number (place self) x }
+    {
+        let size = x.units as i32;
+        if self.turned(x.negative) { -size } else { size }
+    }
+
+    // Whether a field is outside its measure's limits.
+    fn out_of_range(self, x: i32) -> bool
+        ensures { result ≡ ranges.outside (limit (place self)) x }
+    {
+        match self {
+            Entry::Margin => Tenths::margin(Raw::from(x)).is_none(),
+            Entry::Ptdf => Ptdf::new(Raw::from(x)).is_none(),
+        }
+    }
 }
 
 // The bytes of n branches.
@@ -103,10 +100,7 @@ pub fn branch_part(zones: usize, n: usize) -> usize
 fn mark(zones: usize, j: usize) -> u8
     ensures { result ≡ mark_of zones j }
 {
-    if j < zones {
-        return b',';
-    }
-    b'\n'
+    if j < zones { b',' } else { b'\n' }
 }
 
 // Whether the sheet ends with a field that is not the last of its line. Without this test the next field, an empty
@@ -114,31 +108,28 @@ fn mark(zones: usize, j: usize) -> u8
 fn comma_missing(zones: usize, j: usize, end: usize, length: usize) -> bool
     ensures { result ≡ comma_missing zones j end length }
 {
-    if j < zones {
-        return length <= end;
-    }
-    false
+    j < zones && length <= end
 }
 
-// An entry in signed 32 bits.
-fn put_signed32(table: &mut [u8], at: usize, x: Raw)
-    requires at_in_bounds { at + 4 ≤ length table.old }
-    requires sfits { SFits w32 x.0 }
-    ensures { table.new ≡ sets table.old at (signed32 x.0) }
+// A field in two's complement.
+#[tactic(auto, unfolding(base_integers::specs::Meaning::Bytes::signed32))]
+fn put_signed32(table: &mut [u8], at: usize, x: i32)
+    requires { at + 4 ≤ length table.old }
+    ensures { table.new ≡ sets table.old at (signed32 x) }
 {
-    put_low32(table, at, x.bits());
+    put::<4>(table, at, Bits(u64::from(x.cast_unsigned())));
 }
 
-// The line that starts at the cursor. Its numbers go into the table at `base`.
+// The line that starts at the cursor, if its fields are all numbers: their faults, and where the next line starts.
+// Its numbers go into the table at `base`.
 fn read_line(
     sheet: &[u8],
     start: TextCursor,
     zones: usize,
     table: &mut [u8],
     base: usize,
-) -> LineAnswer
+) -> Option<(Flaws, TextCursor)>
     requires at_in_bounds { start.at ≤ length sheet.now }
-    requires zones_bound { zones ≤ 16 }
     requires zones_in_bounds { base + 4 * (zones + 1) ≤ length table.old }
     ensures { LineRead zones sheet.now start.at base table.old table.new result }
 {
@@ -146,46 +137,18 @@ fn read_line(
     let mut finer = false;
     let mut outside = false;
     for j in 0..zones + 1 {
-        let NumberAnswer::Read(x, piece) = cursor.number(sheet, mark(zones, j), decimal_count(j))
-        else {
-            return LineAnswer::Malformed;
-        };
+        let entry = Entry::at(j);
+        let (x, piece) = cursor.number(sheet, mark(zones, j), entry.decimals())?;
         if comma_missing(zones, j, piece.end, sheet.len()) {
-            return LineAnswer::Malformed;
+            return None;
         }
-        let y = entry(j, x);
+        let y = entry.field(x);
         put_signed32(table, base + 4 * j, y);
-        finer = finer | x.finer;
-        outside = outside | out_of_range(j, y);
+        finer |= x.finer;
+        outside |= entry.out_of_range(y);
         cursor = piece.next;
     }
-    LineAnswer::Read(Flaws { finer, outside }, cursor)
-}
-
-// The first place so far, after one place more.
-fn first(found: Place, n: usize, holds: bool) -> Place
-    ensures { place_of result ≡ first_with (place_of found) n holds }
-{
-    match found {
-        Place::At(k) => Place::At(k),
-        Place::Nowhere => {
-            if holds {
-                return Place::At(n);
-            }
-            Place::Nowhere
-        }
-    }
-}
-
-// The row of the table for line n. Lines past the 64th are read only for their causes: they share one more row,
-// which is never written out.
-fn row(n: usize) -> usize
-    ensures { result ≡ row_of n }
-{
-    if n < layout::BRANCHES {
-        return n;
-    }
-    layout::BRANCHES
+    Some((Flaws { finer, outside }, cursor))
 }
 
 // One walk over the whole sheet. A malformed line ends it, since row 51 is asked before the others.
@@ -195,26 +158,29 @@ pub fn read_lines(sheet: &[u8], zones: usize, table: &mut [u8]) -> SheetFaults
     ensures { SheetRead zones sheet.now table.old table.new result }
 {
     let mut cursor = TextCursor { at: 0 };
-    let mut finer = Place::Nowhere;
-    let mut outside = Place::Nowhere;
-    let mut n = 0;
+    let mut finer = None;
+    let mut outside = None;
+    // No range or iterator counts the lines: where one ends is known only once it is read.
+    let mut n: usize = 0;
     while cursor.at < sheet.len() {
-        let base = branch_part(zones, row(n));
-        let LineAnswer::Read(flaws, next) = read_line(sheet, cursor, zones, table, base) else {
+        // Lines past the 64th are read only for their causes: they share one more row, which is never written out.
+        let row = n.min(layout::BRANCHES);
+        let base = branch_part(zones, row);
+        let Some((flaws, next)) = read_line(sheet, cursor, zones, table, base) else {
             return SheetFaults {
-                malformed: Place::At(n),
+                malformed: Some(n),
                 finer,
                 outside,
                 lines: n,
             };
         };
-        finer = first(finer, n, flaws.finer);
-        outside = first(outside, n, flaws.outside);
+        finer = finer.or(flaws.finer.then_some(n));
+        outside = outside.or(flaws.outside.then_some(n));
         cursor = next;
         n += 1;
     }
     SheetFaults {
-        malformed: Place::Nowhere,
+        malformed: None,
         finer,
         outside,
         lines: n,

@@ -3,7 +3,7 @@
 use Rattle.std.specs.Prelude.{◌≡◌, true, false, ℕ, ◌+◌, ◌≤◌, ◌<◌, length, get_or, set, take, drop, pos}
 use Rattle.std.proofs.Math.Path.{sym, ap}
 use Rattle.std.proofs.Common.{◌∙◌, add-one, arith, lt-ltb, le-ltb, length-take, take-suc}
-use mathlib.Core.List.{List, [], ◌∷◌}
+use mathlib.Core.List.{List, [], ◌∷◌, ◌++◌}
 use Rattle.std.proofs.Math.Option.{none, some}
 use Rattle.std.proofs.lemmas.List.Edits.{sets, sets-eq}
 use Rattle.std.proofs.Math.Seq.{length-sets, take-append_seam}
@@ -11,7 +11,7 @@ use Rattle.base_integers.specs.Steps.Bytes.{sets-append}
 use Rattle.base_integers.specs.Meaning.Ranges.{outside}
 use Rattle.base_integers.specs.Steps.Ranges.{nat-within, is_false}
 use Rattle.rules.specs.Meaning.Layout.{zone_counts}
-use Rattle.base_causes.specs.declared.Place.TheVariants.{At, Nowhere}
+use Rattle.std.specs.Prelude.{None, Some}
 use Rattle.base_causes.specs.Meaning.Place.{place_of}
 use Rattle.base_causes.specs.Meaning.Causes.{verdict, refusal, each}
 use Rattle.base_causes.proofs.Promised.CauseLaws.{row-found, row-clear, field-fails, field-passes}
@@ -55,11 +55,11 @@ module _ (zones : ℕ) (sheet out : List ℕ) where
     unfolding sheet_refusal sheet_causes
     from-1 = field-passes 50 0 _ z
 
-    pub answer-51 : {k : ℕ} {w : Written} → s.malformed ≡ At k → w ≡ refused_by 51 k → SheetAnswered zones sheet out out w
+    pub answer-51 : {k : ℕ} {w : Written} → s.malformed ≡ Some k → w ≡ refused_by 51 k → SheetAnswered zones sheet out out w
     unfolding sheet_refusal sheet_causes
     answer-51 {k} e q = refuse (from-1 ∙ row-found (each 51 (line_count sheet) (malformed_at zones sheet)) _ k (sym r.malformed-is ∙ ap place_of e)) q
 
-    module _ (m : s.malformed ≡ Nowhere) where
+    module _ (m : s.malformed ≡ None) where
       lines_are : LinesRead zones sheet old new s
       lines_are = r.lines-read (ap place_of m)
 
@@ -67,20 +67,20 @@ module _ (zones : ℕ) (sheet out : List ℕ) where
       unfolding sheet_refusal sheet_causes
       from-2 = from-1 ∙ row-clear (each 51 (line_count sheet) (malformed_at zones sheet)) _ (sym r.malformed-is ∙ ap place_of m)
 
-      pub answer-52 : {k : ℕ} {w : Written} → s.finer ≡ At k → w ≡ refused_by 52 k → SheetAnswered zones sheet out out w
+      pub answer-52 : {k : ℕ} {w : Written} → s.finer ≡ Some k → w ≡ refused_by 52 k → SheetAnswered zones sheet out out w
       unfolding sheet_refusal sheet_causes
       answer-52 {k} e q = refuse (from-2 ∙ row-found (each 52 (line_count sheet) (too_fine_at zones sheet)) _ k (sym lines_are.finer-is ∙ ap place_of e)) q
 
-      module _ (f : s.finer ≡ Nowhere) where
+      module _ (f : s.finer ≡ None) where
         from-3 : From 3
         unfolding sheet_refusal sheet_causes
         from-3 = from-2 ∙ row-clear (each 52 (line_count sheet) (too_fine_at zones sheet)) _ (sym lines_are.finer-is ∙ ap place_of f)
 
-        pub answer-53 : {k : ℕ} {w : Written} → s.outside ≡ At k → w ≡ refused_by 53 k → SheetAnswered zones sheet out out w
+        pub answer-53 : {k : ℕ} {w : Written} → s.outside ≡ Some k → w ≡ refused_by 53 k → SheetAnswered zones sheet out out w
         unfolding sheet_refusal sheet_causes
         answer-53 {k} e q = refuse (from-3 ∙ row-found (each 53 (line_count sheet) (out_of_range_at zones sheet)) _ k (sym lines_are.outside-is ∙ ap place_of e)) q
 
-        module _ (o : s.outside ≡ Nowhere) where
+        module _ (o : s.outside ≡ None) where
           from-4 : From 4
           unfolding sheet_refusal sheet_causes
           from-4 = from-3 ∙ row-clear (each 53 (line_count sheet) (out_of_range_at zones sheet)) _ (sym lines_are.outside-is ∙ ap place_of o)
@@ -119,6 +119,12 @@ module _ (zones : ℕ) (sheet out : List ℕ) where
                 let inside : 0 + length bytes ≤ length old = omega (arith, part_length, ap length t, length-sets old 0 bytes) in
                 let front : take part new ≡ bytes = (λ i. take (part_length i) (t i)) ∙ ap (take (length bytes)) (sets-eq bytes old 0 inside) ∙ take-append_seam bytes (drop (0 + length bytes) old) in
                 owed (output.met-answer bytes out (none-refused h) (omega (arith, part_length)) part_length (b ∙ ap (sets out 0) front))
+
+-- bytes copied over the start of an output
+pub copied : (from out : List ℕ) (n : ℕ) → length from ≡ n → n ≤ length out → from ++ drop n out ≡ sets out 0 from
+copied from out n e h =
+    let past : n ≡ 0 + length from = omega arith in
+    ap (λ (k : ℕ). from ++ drop k out) past ∙ sym (sets-eq from out 0 (omega arith))
 
 -- one more byte copied
 pub copy-next : (from l : List ℕ) (i : ℕ) → i < length from → set (sets l 0 (take i from)) i (get_or from i 0) ≡ sets l 0 (take (i + 1) from)

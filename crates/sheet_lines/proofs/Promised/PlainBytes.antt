@@ -19,7 +19,7 @@ use Rattle.base_causes.specs.Meaning.Causes.{answer}
 use Rattle.base_causes.proofs.Promised.CauseLaws.{zero-none, lacks}
 use Rattle.base_output.specs.Meaning.Output.{written_by, output_after}
 use Rattle.sheet_numbers.specs.Meaning.Numeral.{value}
-use Rattle.sheet_numbers.proofs.Promised.PlainNumbers.{Times, times-value}
+use Rattle.sheet_numbers.proofs.Promised.PlainNumbers.{times-value}
 use Rattle.sheet_lines.specs.Meaning.Sheet.{entry, field_of, entry_of, line_of, line_count, branch_part, line_bytes, sheet_causes, sheet_refusal, sheet_outcome, sheet_bytes, sheet_written, sheet_output}
 use Rattle.sheet_lines.proofs.Steps.Lines.{lines-length}
 use Rattle.sheet_lines.proofs.Steps.Stands.{line-there}
@@ -27,7 +27,7 @@ use Rattle.sheet_lines.specs.Promised.PlainText.{Cells}
 use Rattle.sheet_lines.proofs.Promised.PlainText.{cells_are}
 use Rattle.sheet_lines.specs.Promised.PlainCauses.{InRange, Before55}
 use Rattle.sheet_lines.proofs.Promised.PlainCauses.{answers}
-use Rattle.sheet_lines.specs.Promised.PlainBytes.{modulo32, Stands, Branches, BranchesOf}
+use Rattle.sheet_lines.specs.Promised.PlainBytes.{modulo32, Stands, Branches}
 
 modulo-is : (x : ℤ) → SFits w32 x → of_z w32 x ≡ modulo32 x
 modulo-is (pos n) f = omega (arith, f.sfits)

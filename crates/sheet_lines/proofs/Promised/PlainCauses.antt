@@ -21,11 +21,11 @@ use Rattle.base_causes.specs.Meaning.Causes.{Cause, Pass, verdict, refusal, answ
 use Rattle.base_causes.proofs.Promised.CauseLaws.{empty, First, no_place, any_none, all_pass, Comes, past, none_left, row-by-number, row-answers, zero-none, cause_numbered, lacks, before}
 use Rattle.sheet_numbers.specs.Meaning.Numeral.{digits, starts, negative, unsigned, whole, is_number, value, finer}
 use Rattle.sheet_numbers.specs.Meaning.Numeral as numeral
-use Rattle.sheet_numbers.proofs.Promised.PlainNumbers.{Number, Times, number-bytes, value-times, times-value}
+use Rattle.sheet_numbers.proofs.Promised.PlainNumbers.{Number, number-bytes, value-times, times-value}
 use Rattle.sheet_lines.specs.Meaning.Sheet.{fields, decimal_count, limit, entry, field_of, entry_of, malformed, too_fine, out_of_range, line_of, line_count, branch_part, sheet_causes, sheet_refusal, sheet_outcome}
 use Rattle.sheet_lines.specs.Promised.PlainText.{LineText, Cells}
 use Rattle.sheet_lines.proofs.Promised.PlainText.{fields-bytes, cells_of, cells_are, empty-sheet}
-use Rattle.sheet_lines.specs.Promised.PlainCauses.{Formed, Whole, InRange, Each, FirstNot, Before51, Before52, Before53, Before54, Before55, Answers, AnswersTo}
+use Rattle.sheet_lines.specs.Promised.PlainCauses.{Formed, Whole, InRange, Each, FirstNot, Before51, Before52, Before53, Before54, Before55, Answers}
 
 -- A PTDF CHANGES SIGN, and its range is the same on both sides of zero
 turned : (n : ℕ) (x : ℤ) → Within (range (minus n) (pos n)) (neg_ℤ x) → (neg_ℤ (pos n) ≤ℤ x) × (x ≤ℤ pos n)

@@ -18,7 +18,20 @@ use Rattle.sheet_numbers.specs.Steps.Capped.{cap, capped}
 use Rattle.sheet_numbers.proofs.Steps.Capped.{capped-over, capped-within}
 use Rattle.sheet_numbers.specs.Meaning.Pieces.{held_number}
 use Rattle.sheet_lines.specs.Meaning.Sheet.{decimal_count, limit, entry}
-use Rattle.sheet_lines.specs.Steps.Entries.{turned, entry_of_number}
+use Rattle.sheet_lines.specs.Steps.Entries.{entry_at, place, turned, entry_of_number}
+
+-- entry j is read by what it is alone
+pub decimals-at : (j : ℕ) → decimal_count (place (entry_at j)) ≡ decimal_count j
+decimals-at zero = refl
+decimals-at (suc z) = refl
+
+pub limit-at : (j : ℕ) → limit (place (entry_at j)) ≡ limit j
+limit-at zero = refl
+limit-at (suc z) = refl
+
+pub number-at : (j : ℕ) (x : Number) → entry_of_number (place (entry_at j)) x ≡ entry_of_number j x
+number-at zero x = refl
+number-at (suc z) x = refl
 
 -- the margin, and a PTDF
 pub ptdf-decimals : (j : ℕ) → (j ≡ 0 → ⊥) → decimal_count j ≡ 5

@@ -1,11 +1,16 @@
 -- The walk over a line's fields and over a sheet's lines: where it stands, and what it has found so far.
 -- Assumes nothing.
-use Rattle.std.specs.Prelude.{◌≡◌, refl, Bool, true, false, cond, ◌||◌, ℕ, zero, suc, ◌+◌, ◌*◌, ◌-◌, ◌≤◌, ◌<◌, eqb, ltb, leb, get_or, drop, ℤ}
+use Rattle.std.specs.Prelude.{◌≡◌, refl, Bool, true, false, cond, ◌||◌, ℕ, zero, suc, ◌+◌, ◌*◌, ◌-◌, ◌≤◌, ◌<◌, eqb, ltb, leb, min, get_or, drop, ℤ}
 use Rattle.std.proofs.Common.{sym, ◌∙◌, add-zero, mul-le-mul, add-one, arith, eq-eqb, ne_eqb, ltb-true, ltb-false, leb-true, leb-false, length-drop, length-append, drop_of_length-le, get_or-drop, drop-drop}
 use Rattle.std.proofs.Math.Path.{ap}
 use Rattle.std.proofs.Math.Bool.{not, or-true}
 use mathlib.Core.List.{List, [], ◌∷◌, ◌++◌}
 use Rattle.std.proofs.Math.Option.{Option, none, some, some-ne-none}
+use Rattle.std.specs.declared.option.Option.TheVariants.{None, Some}
+use Rattle.std.specs.declared.option.Option as code
+use Rattle.std.specs.Option.{option_or}
+use Rattle.std.specs.Bool.{then_some}
+use Rattle.base_causes.specs.Meaning.Place.{place_of}
 use Rattle.std.proofs.Math.ListN.{length}
 use Rattle.std.proofs.lemmas.List.Edits.{sets}
 use Rattle.base_integers.specs.Steps.Ranges.{is_false}
@@ -22,12 +27,10 @@ use Rattle.sheet_numbers.specs.Meaning.Pieces.{piece_to, piece_at}
 use Rattle.sheet_numbers.specs.Steps.Pieces.{before-le, Cut, cut}
 use Rattle.sheet_numbers.proofs.Steps.Marks.{split-within, within_has, number-lacks}
 use Rattle.sheet_lines.specs.declared.Flaws.{Flaws}
-use Rattle.sheet_lines.specs.declared.LineAnswer.{LineAnswer}
-use Rattle.sheet_lines.specs.declared.LineAnswer.TheVariants as answer
-use Rattle.sheet_lines.specs.Meaning.Sheet.{lines, fields, field_of, entry_of, malformed, too_fine, out_of_range, line_of, line_count, branch_part, entry_bytes, line_bytes}
+use Rattle.sheet_lines.specs.Meaning.Sheet.{lines, fields, field_of, entry_of, malformed, line_of, line_count, branch_part, entry_bytes, line_bytes}
 use Rattle.sheet_lines.proofs.Steps.Entries.{comma, newline}
 use Rattle.sheet_lines.proofs.Steps.Split.{fields-cut, fields-last, fields-some, lines_cut}
-use Rattle.sheet_lines.specs.Steps.Lines.{no_number, line_at, mark_of, comma_missing, LineValid, line_by, line_flaws, LineRead, row_of, first_with}
+use Rattle.sheet_lines.specs.Steps.Lines.{no_number, line_at, mark_of, comma_missing, line_by, row_of, first_with}
 
 -- the pieces after the first n are those of the text from a place on
 pieces_more : (all rest : List (List ℕ)) (n : ℕ) (p : List ℕ) (ps : List (List ℕ)) → drop n all ≡ rest → rest ≡ p ∷ ps → drop (n + 1) all ≡ ps
@@ -196,11 +199,13 @@ module _ (zones : ℕ) (sheet : List ℕ) (start j at : ℕ) (f : FieldsFrom zon
         by true e c n m = early-read p (ltb-true j zones e) c n (leb-false (length sheet) p.end m)
         by false e c n m = last-read p (ltb-false j zones e) c n
 
-pub line_read : (f : Flaws) (n : TextCursor) (b : Bool) {g : Flaws} {m : TextCursor} → line_by f n b ≡ answer.Read g m → (b ≡ false) × ((g ≡ f) × (m ≡ n))
+pub line_read : (f : Flaws) (n : TextCursor) (b : Bool) {g : Flaws} {m : TextCursor} → line_by f n b ≡ Some (g, m) → (b ≡ false) × ((g ≡ f) × (m ≡ n))
 line_read f n true e = (cc, (cc, cc))
-line_read f n false e = (refl, (cc, cc))
+line_read f n false {g} {m} e =
+    let p : ◌≡◌ {A = Flaws × TextCursor} (g, m) (f, n) = cc in
+    (refl, (ap (λ (x : Flaws × TextCursor). x.0) p, ap (λ (x : Flaws × TextCursor). x.1) p))
 
-pub line-malformed : (f : Flaws) (n : TextCursor) (b : Bool) → line_by f n b ≡ answer.Malformed → b ≡ true
+pub line-malformed : (f : Flaws) (n : TextCursor) (b : Bool) → line_by f n b ≡ None → b ≡ true
 line-malformed f n true e = refl
 line-malformed f n false e = cc
 
@@ -260,6 +265,14 @@ row-le n = by (ltb n 64) refl
     by true e = omega (arith, ltb-true n 64 e)
     by false e = omega arith
 
+-- as the code has it
+pub row_min : (n : ℕ) → min n 64 ≡ row_of n
+row_min n = by (ltb n 64) refl
+  where
+    by : (b : Bool) → ltb n 64 ≡ b → min n 64 ≡ cond b n 64
+    by true e = omega (arith, ltb-true n 64 e)
+    by false e = omega (arith, ltb-false n 64 e)
+
 pub first_more : (n : ℕ) (f : ℕ → Bool) {p : Option ℕ} {b : Bool} → p ≡ first_below n f → b ≡ f n → first_with p n b ≡ first_below (n + 1) f
 unfolding first_below
 first_more n f e d = (λ i. first_with (e i) n (d i)) ∙ same (first_below n f) ∙ ap (λ (m : ℕ). first_below m f) (sym (add-one n))
@@ -267,6 +280,12 @@ first_more n f e d = (λ i. first_with (e i) n (d i)) ∙ same (first_below n f)
     same : (o : Option ℕ) → first_with o n (f n) ≡ elim o [ some k ↦ some k | none ↦ cond (f n) (some n) none ]
     same (some k) = refl
     same none = refl
+
+-- as the code has it
+pub first_or : (p : code.Option ℕ) (n : ℕ) (b : Bool) → place_of (option_or p (then_some b n)) ≡ first_with (place_of p) n b
+first_or None n true = refl
+first_or None n false = refl
+first_or (Some k) n b = refl
 
 -- nothing found yet, and nothing here
 pub first-none : (p : Option ℕ) (n : ℕ) (b : Bool) → first_with p n b ≡ none → (p ≡ none) × (b ≡ false)

@@ -1,6 +1,6 @@
 -- The invariants of the two walks, over a line's fields and over a sheet's lines: how each starts, what a turn
 -- changes and what holds at the end. Assumes nothing.
-use Rattle.std.specs.Prelude.{◌≡◌, Bool, true, cond, ◌||◌, ℕ, ◌+◌, ◌*◌, ◌≤◌, ◌<◌, drop, ℤ}
+use Rattle.std.specs.Prelude.{◌≡◌, Bool, true, cond, ◌||◌, ℕ, ◌+◌, ◌*◌, ◌≤◌, ◌<◌, drop, ℤ, Option, None, Some}
 use Rattle.std.proofs.Math.Path.{refl, sym, ap}
 use Rattle.std.proofs.Common.{◌∙◌, arith, lt-ltb}
 use Rattle.std.proofs.Math.Bool.{false, not}
@@ -13,16 +13,12 @@ use Rattle.base_integers.specs.Meaning.Ranges.{outside}
 use Rattle.base_causes.specs.Meaning.Causes.{any_below, first_below}
 use Rattle.base_causes.specs.Meaning.Place.{place_of}
 use Rattle.base_causes.proofs.Promised.CauseLaws.{any-later, first-here, first-later}
-use Rattle.base_causes.specs.declared.Place.{Place}
-use Rattle.base_causes.specs.declared.Place.TheVariants.{At, Nowhere}
 use Rattle.sheet_numbers.specs.declared.TextCursor.{TextCursor}
 use Rattle.sheet_numbers.specs.declared.Piece.{Piece}
 use Rattle.sheet_numbers.specs.Meaning.Numeral.{before, is_number, finer}
 use Rattle.sheet_numbers.proofs.Steps.Scan.{clash}
 use Rattle.sheet_numbers.specs.Steps.Pieces.{Cut}
 use Rattle.sheet_lines.specs.declared.Flaws.{Flaws}
-use Rattle.sheet_lines.specs.declared.LineAnswer.{LineAnswer}
-use Rattle.sheet_lines.specs.declared.LineAnswer.TheVariants as answer
 use Rattle.sheet_lines.specs.Meaning.Sheet.{decimal_count, limit, entry, field_of, entry_of, malformed, too_fine, out_of_range, line_count, branch_part, entry_bytes, line_bytes, sheet_bytes}
 use Rattle.sheet_lines.proofs.Steps.Entries.{held_entry, held-outside, held-exact}
 use Rattle.sheet_lines.specs.Meaning.Lines.{malformed_at, too_fine_at, out_of_range_at, SheetRead}
@@ -63,7 +59,7 @@ module _ (zones : ℕ) (sheet : List ℕ) (start base : ℕ) (old : List ℕ) wh
   unfolding any_below entry_bytes
   line-start h = record { most = omega arith; from = fields-start zones sheet start h; numbers = refl; finer-is = refl; outside-is = refl; kept = refl; bytes = λ e. refl }
 
-  malformed-read : {table : List ℕ} → malformed zones line ≡ true → LineRead zones sheet start base old table answer.Malformed
+  malformed-read : {table : List ℕ} → malformed zones line ≡ true → LineRead zones sheet start base old table None
   malformed-read e = record { answer-is = sym (ap (line_by _ _) e); bytes-are = λ v. absurd (clash (sym e ∙ v.wellformed)) }
 
   module _ (at : ℕ) (table : List ℕ) (f o : Bool) (j : ℕ) (s : LineSoFar zones sheet start base old at table f o j) where
@@ -71,10 +67,10 @@ module _ (zones : ℕ) (sheet : List ℕ) (start base : ℕ) (old : List ℕ) wh
       abbrev text : List ℕ
       text = before (mark_of zones j) (drop at sheet)
 
-      pub line-no-number : is_number text ≡ false → LineRead zones sheet start base old table answer.Malformed
+      pub line-no-number : is_number text ≡ false → LineRead zones sheet start base old table None
       line-no-number n = malformed-read (field-no-number zones sheet start j at s.from (omega arith) p c n)
 
-      pub line-unseparated : comma_missing zones j p.end (length sheet) ≡ true → LineRead zones sheet start base old table answer.Malformed
+      pub line-unseparated : comma_missing zones j p.end (length sheet) ≡ true → LineRead zones sheet start base old table None
       line-unseparated m = malformed-read (field-unseparated zones sheet start j at s.from (omega arith) p c m)
 
       pub line-turn : {f' o' : Bool} {y : ℤ} {table' : List ℕ} → comma_missing zones j p.end (length sheet) ≡ false → is_number text ≡ true
@@ -97,21 +93,21 @@ module _ (zones : ℕ) (sheet : List ℕ) (start base : ℕ) (old : List ℕ) wh
                 w ∙ (λ i. sets (s.bytes (or_left o _ none) i) (base + 4 * j) (signed32 (exact i))) ∙ next-entry old base j line;
           }
 
-    pub line-end : zones + 1 ≤ j → LineRead zones sheet start base old table (answer.Read (record { finer = f; outside = o }) (record { at = at }))
+    pub line-end : zones + 1 ≤ j → LineRead zones sheet start base old table (Some (record { finer = f; outside = o }, record { at = at }))
     unfolding too_fine out_of_range
     line-end h =
         let all : j ≡ zones + 1 = omega (arith, s.most) in
         let n : any_below (zones + 1) (no_number line) ≡ false = ap (λ (k : ℕ). any_below k (no_number line)) (sym all) ∙ s.numbers in
         let o_is : o ≡ out_of_range zones line = s.outside-is ∙ ap (λ (k : ℕ). any_below k (outside_field line)) all in
         record {
-          answer-is = (λ i. answer.Read (record { finer = (s.finer-is ∙ ap (λ (k : ℕ). any_below k (finer_field line)) all) i; outside = o_is i }) (record { at = s.from.past (omega arith) i }))
+          answer-is = (λ i. Some (record { finer = (s.finer-is ∙ ap (λ (k : ℕ). any_below k (finer_field line)) all) i; outside = o_is i }, record { at = s.from.past (omega arith) i }))
               ∙ ap (line_by (line_flaws zones line) _) (sym (malformed-no zones line (s.from.count (omega arith)) n));
           bytes-are = λ v. s.bytes (o_is ∙ v.in-range) ∙ ap (λ (k : ℕ). sets old base (entry_bytes k line)) all;
         }
 
 -- READING A SHEET: none of the first n lines is malformed, and f and o are the first of them that is too fine or
 -- too large. If none is too large, the first 64 stand at the start of the table
-pub record SheetSoFar (zones : ℕ) (sheet old : List ℕ) (at : ℕ) (table : List ℕ) (f o : Place) (n : ℕ) : Type 0 where
+pub record SheetSoFar (zones : ℕ) (sheet old : List ℕ) (at : ℕ) (table : List ℕ) (f o : Option ℕ) (n : ℕ) : Type 0 where
   pub from : LinesFrom sheet n at
   pub wellformed : first_below n (malformed_at zones sheet) ≡ none
   pub finer-is : place_of f ≡ first_below n (too_fine_at zones sheet)
@@ -119,23 +115,23 @@ pub record SheetSoFar (zones : ℕ) (sheet old : List ℕ) (at : ℕ) (table : L
   pub kept : length table ≡ length old
   pub bytes : place_of o ≡ none → n ≤ 64 → table ≡ sets old 0 (line_bytes zones n sheet)
 
-pub sheet-start : (zones : ℕ) (sheet old : List ℕ) → SheetSoFar zones sheet old 0 old Nowhere Nowhere 0
+pub sheet-start : (zones : ℕ) (sheet old : List ℕ) → SheetSoFar zones sheet old 0 old None None 0
 unfolding first_below line_bytes
 sheet-start zones sheet old = record { from = lines_start sheet; wellformed = refl; finer-is = refl; outside-is = refl; kept = refl; bytes = λ e h. refl }
 
-module _ (zones : ℕ) (sheet old : List ℕ) (at : ℕ) (table : List ℕ) (f o : Place) (n : ℕ) (s : SheetSoFar zones sheet old at table f o n) where
-  module _ {base : ℕ} {table' : List ℕ} {r : LineAnswer} (h : at < length sheet) (l : LineRead zones sheet at base table table' r) where
+module _ (zones : ℕ) (sheet old : List ℕ) (at : ℕ) (table : List ℕ) (f o : Option ℕ) (n : ℕ) (s : SheetSoFar zones sheet old at table f o n) where
+  module _ {base : ℕ} {table' : List ℕ} {r : Option (Flaws × TextCursor)} (h : at < length sheet) (l : LineRead zones sheet at base table table' r) where
     this-line : malformed_at zones sheet n ≡ malformed zones (line_at sheet at)
     this-line = ap (malformed zones) (line-here sheet n at s.from h)
 
-    pub sheet-malformed : {last : List ℕ} → r ≡ answer.Malformed → SheetRead zones sheet old last (record { malformed = At n; finer = f; outside = o; lines = n })
+    pub sheet-malformed : {last : List ℕ} → r ≡ None → SheetRead zones sheet old last (record { malformed = Some n; finer = f; outside = o; lines = n })
     sheet-malformed e = record {
       malformed-is = sym (first-here (malformed_at zones sheet) n (line-in sheet n at s.from h) s.wellformed (this-line ∙ line-malformed _ _ _ (sym l.answer-is ∙ e)));
       lines-read = λ q. absurd (some-ne-none n q);
     }
 
     -- the next line starts past this one, and the walk goes on
-    pub sheet-turn : {f' o' : Place} {g : Flaws} {next : TextCursor} → r ≡ answer.Read g next → place_of f' ≡ first_with (place_of f) n g.finer → place_of o' ≡ first_with (place_of o) n g.outside
+    pub sheet-turn : {f' o' : Option ℕ} {g : Flaws} {next : TextCursor} → r ≡ Some (g, next) → place_of f' ≡ first_with (place_of f) n g.finer → place_of o' ≡ first_with (place_of o) n g.outside
         → base ≡ branch_part zones (row_of n) → length table' ≡ length table → (at < next.at) × SheetSoFar zones sheet old next.at table' f' o' (n + 1)
     sheet-turn {f'} {o'} {g} {next} e x y b k =
         let d = line_read _ _ _ (sym l.answer-is ∙ e) in
@@ -158,7 +154,7 @@ module _ (zones : ℕ) (sheet old : List ℕ) (at : ℕ) (table : List ℕ) (f o
           },
         )
 
-  pub sheet-end : length sheet ≤ at → SheetRead zones sheet old table (record { malformed = Nowhere; finer = f; outside = o; lines = n })
+  pub sheet-end : length sheet ≤ at → SheetRead zones sheet old table (record { malformed = None; finer = f; outside = o; lines = n })
   unfolding sheet_bytes
   sheet-end h =
       let all : line_count sheet ≡ n = lines-done sheet n at s.from h in

@@ -1,28 +1,12 @@
 -- WHAT IS WRITTEN, IN PLAIN BYTES (S-1): where each number of a sheet answered 0 stands in the output; a refusal
 -- leaves every byte unchanged. `get_or out i 0` is the byte at place i of the output, counted from 0. A branch takes
 -- 4 + 4 * zones bytes: its margin, then each PTDF with its sign changed. Assumes nothing.
-use Rattle.std.specs.Prelude.{◌≡◌, refl, ◌≢◌, ℕ, suc, ◌+◌, ◌*◌, ◌-◌, ◌/◌, ◌%◌, ◌^◌, ◌≤◌, ◌<◌, take, ℤ, pos, negsuc, ◌≤ℤ◌}
-use Rattle.std.proofs.Math.Path.{sym, ap}
-use Rattle.std.proofs.Common.{◌∙◌, arith, get_or-take, SFits, of_z}
-use mathlib.Core.List.{List, [], ◌++◌}
-use Rattle.std.proofs.Math.Option.{Option, none, some}
-use Rattle.std.proofs.Math.ListN.{length, get_or, drop, length-append, length-drop}
-use Rattle.std.proofs.Math.Seq.{get_or-drop, drop-append_seam}
+use Rattle.std.specs.Prelude.{◌≡◌, ℕ, suc, ◌+◌, ◌*◌, ◌-◌, ◌/◌, ◌%◌, ◌^◌, ◌≤◌, ◌<◌, ℤ, pos, negsuc}
+use mathlib.Core.List.{List, []}
+use Rattle.std.proofs.Math.ListN.{length, get_or}
 use Rattle.std.proofs.Math.IntN.{neg_ℤ}
-use Rattle.std.specs.Int.{w32}
-use Rattle.base_integers.specs.Steps.Size.{Near, near-pos, near-neg, near_le, near_within, near_fits}
-use Rattle.base_integers.specs.Meaning.Ranges.{range, minus}
-use Rattle.base_integers.specs.Meaning.Bytes.{signed32}
-use Rattle.base_integers.specs.Steps.Bytes.{byte_at}
-use Rattle.base_causes.specs.declared.Outcome.{Outcome}
-use Rattle.base_causes.specs.Meaning.Causes.{answer}
-use Rattle.base_causes.proofs.Promised.CauseLaws.{zero-none, lacks}
-use Rattle.base_output.specs.Meaning.Output.{written_by, output_after}
-use Rattle.sheet_numbers.specs.Meaning.Numeral.{value}
-use Rattle.sheet_numbers.proofs.Promised.PlainNumbers.{Times, times-value}
-use Rattle.sheet_lines.specs.Meaning.Sheet.{entry, field_of, entry_of, line_of, line_count, branch_part, line_bytes, sheet_causes, sheet_refusal, sheet_outcome, sheet_bytes, sheet_written, sheet_output}
+use Rattle.sheet_numbers.proofs.Promised.PlainNumbers.{Times}
 use Rattle.sheet_lines.specs.Promised.PlainText.{Cells}
-use Rattle.sheet_lines.specs.Promised.PlainCauses.{InRange, Before55}
 
 -- a number modulo 2 ^ 32 (two's complement): -1 is 2 ^ 32 - 1
 abbrev pub modulo32 : ℤ → ℕ

@@ -1,29 +1,14 @@
 -- THE ANSWER TO A SHEET IN PLAIN NUMBERS (S-1), both ways: which sheets give 50 to 55, which line is named, and which
 -- sheets give 0. `rows` are the sheet's fields, line by line (`Cells` of `PlainText`). Every limit is the paper's own
 -- number: 1 to 16 zones, tenths of a MW, hundred-thousandths, 64 lines, 4 bytes for each number. Assumes nothing.
-use Rattle.std.specs.Prelude.{◌≡◌, ◌↔◌, ◌⊎◌, Bool, ◌||◌, List, [], ◌∷◌, eqb, ltb, get_or, ℤ, neg_ℤ, ◌≤ℤ◌}
-use Rattle.std.proofs.Math.Path.{refl, ap, subst}
-use Rattle.std.proofs.Common.{sym, ◌∙◌, inl, inr, arith, lt→ltb, T_not}
-use Rattle.std.proofs.Math.Bool.{true, false, not}
-use Rattle.std.proofs.Math.Option.{Option, none}
-use Prim.Native.Nat.{ℕ, zero, suc, ◌+◌, ◌*◌, ◌≤◌, ◌<◌}
-use Rattle.std.proofs.Math.Decide.{dec_lt}
-use borrow.Author.Tests.{not-false, eqb-true, eq-eqb}
-use Rattle.std.proofs.Math.Dec.{T, ltb→lt, nltb→le, not_T}
+use Rattle.std.specs.Prelude.{◌≡◌, ◌⊎◌, List, [], get_or, ℤ, neg_ℤ, ◌≤ℤ◌}
+use Prim.Native.Nat.{ℕ, suc, ◌+◌, ◌*◌, ◌≤◌, ◌<◌}
 use Rattle.std.proofs.Math.ListN.{length}
 use Rattle.std.proofs.Math.IntN.{pos}
-use Rattle.base_integers.specs.Steps.Difference.{at, ⊝◌, le-by, le-fact}
-use Rattle.base_integers.specs.Meaning.Ranges.{range, minus, outside, Within}
-use Rattle.base_integers.specs.Steps.Ranges.{within, inside, nat-within, nat-inside, is_false, not_is, nor-left, nor-right}
-use Rattle.base_limits.specs.Meaning.Limits as limits
 use Rattle.base_causes.specs.declared.Outcome.{Outcome}
-use Rattle.base_causes.specs.Meaning.Causes.{Cause, Pass, verdict, refusal, answer}
-use Rattle.base_causes.proofs.Promised.CauseLaws.{empty, First, no_place, any_none, all_pass, Comes, past, none_left, row-by-number, row-answers, zero-none, cause_numbered, lacks, before}
-use Rattle.sheet_numbers.specs.Meaning.Numeral.{digits, starts, negative, unsigned, whole, is_number, value, finer}
-use Rattle.sheet_numbers.specs.Meaning.Numeral as numeral
-use Rattle.sheet_numbers.proofs.Promised.PlainNumbers.{Number, Times, number-bytes, value-times, times-value}
-use Rattle.sheet_lines.specs.Meaning.Sheet.{fields, decimal_count, limit, entry, field_of, entry_of, malformed, too_fine, out_of_range, line_of, line_count, branch_part, sheet_causes, sheet_refusal, sheet_outcome}
-use Rattle.sheet_lines.specs.Promised.PlainText.{LineText, Cells}
+use Rattle.base_causes.specs.Meaning.Causes.{verdict}
+use Rattle.sheet_numbers.proofs.Promised.PlainNumbers.{Number, Times}
+use Rattle.sheet_lines.specs.Promised.PlainText.{Cells}
 
 -- A LINE OF GOOD FORM: a margin and one PTDF for each zone, every one a number
 pub record Formed (zones : ℕ) (cells : List (List ℕ)) : Type 0 where

@@ -1,10 +1,7 @@
 -- A SHEET IS ITS LINES, A LINE ITS FIELDS, in plain bytes and both ways. `get_or text i 0` is the byte at place i of
 -- the text, counted from 0. Byte 10 ends a line, and the last line may lack it; byte 44 stands between two fields.
 -- Each sheet has its fields in exactly one way (`cells_of`, `cells_are`). Assumes nothing.
-use Rattle.std.specs.Prelude.{◌≡◌, refl, ◌↔◌, ◌⊎◌, ◌≢◌, Bool, true, false, cond, List, [], ◌∷◌, ◌++◌, ℕ, zero, suc, ◌<◌, eqb, length, get_or}
-use Rattle.std.proofs.Common.{sym, ap, subst, ◌∙◌, inl, inr, append_assoc, arith, eqb-true, ne_eqb, length-append}
-use Rattle.std.proofs.lemmas.Bool.{eqb-false}
-use Rattle.sheet_lines.specs.Meaning.Sheet.{onto, lines, fields, line_of, line_count}
+use Rattle.std.specs.Prelude.{◌≡◌, ◌⊎◌, ◌≢◌, List, [], ◌∷◌, ◌++◌, ℕ, ◌<◌, length, get_or}
 
 -- a text without a byte
 abbrev pub Without : ℕ → List ℕ → Type 0

@@ -1,30 +1,16 @@
 -- The walk over a line's fields and over a sheet's lines: where it stands, and what it has found so far.
 -- Assumes nothing.
-use Rattle.std.specs.Prelude.{◌≡◌, refl, Bool, true, false, cond, ◌||◌, ℕ, zero, suc, ◌+◌, ◌*◌, ◌-◌, ◌≤◌, ◌<◌, eqb, ltb, leb, get_or, drop, ℤ}
-use Rattle.std.proofs.Common.{sym, ◌∙◌, add-zero, mul-le-mul, add-one, arith, eq-eqb, ne_eqb, ltb-true, ltb-false, leb-true, leb-false, length-drop, length-append, drop_of_length-le, get_or-drop, drop-drop}
-use Rattle.std.proofs.Math.Path.{ap}
-use Rattle.std.proofs.Math.Bool.{not, or-true}
-use mathlib.Core.List.{List, [], ◌∷◌, ◌++◌}
-use Rattle.std.proofs.Math.Option.{Option, none, some, some-ne-none}
-use Rattle.std.proofs.Math.ListN.{length}
+use Rattle.std.specs.Prelude.{◌≡◌, Bool, true, false, cond, ℕ, ◌+◌, ltb, leb, drop, Option, None, Some}
+use Rattle.std.proofs.Math.Bool.{not}
+use mathlib.Core.List.{List}
+use Rattle.std.proofs.Math.Option.{none, some}
+use Rattle.std.proofs.Math.Option as math
 use Rattle.std.proofs.lemmas.List.Edits.{sets}
-use Rattle.base_integers.specs.Steps.Ranges.{is_false}
-use Rattle.base_integers.specs.Meaning.Bytes.{signed32}
-use Rattle.base_integers.specs.Steps.Bytes.{bytes-length, sets-append}
-use Rattle.base_causes.specs.Meaning.Causes.{any_below, first_below}
-use Rattle.base_causes.proofs.Promised.CauseLaws.{any_some}
 use Rattle.sheet_numbers.specs.declared.TextCursor.{TextCursor}
-use Rattle.sheet_numbers.specs.declared.Piece.{Piece}
-use Rattle.sheet_numbers.specs.Meaning.Numeral.{has, before, after, is_number}
-use Rattle.sheet_numbers.specs.Meaning.Scan.{Separator}
-use Rattle.sheet_numbers.proofs.Steps.Scan.{clash}
-use Rattle.sheet_numbers.specs.Meaning.Pieces.{piece_to, piece_at}
-use Rattle.sheet_numbers.specs.Steps.Pieces.{before-le, Cut, cut}
-use Rattle.sheet_numbers.proofs.Steps.Marks.{split-within, within_has, number-lacks}
+use Rattle.sheet_numbers.specs.Meaning.Numeral.{before, is_number}
+use Rattle.sheet_numbers.specs.Meaning.Pieces.{piece_at}
 use Rattle.sheet_lines.specs.declared.Flaws.{Flaws}
-use Rattle.sheet_lines.specs.declared.LineAnswer.{LineAnswer}
-use Rattle.sheet_lines.specs.declared.LineAnswer.TheVariants as answer
-use Rattle.sheet_lines.specs.Meaning.Sheet.{lines, fields, field_of, entry_of, malformed, too_fine, out_of_range, line_of, line_count, branch_part, entry_bytes, line_bytes}
+use Rattle.sheet_lines.specs.Meaning.Sheet.{field_of, malformed, too_fine, out_of_range, entry_bytes}
 
 -- MALFORMED
 abbrev pub no_number : List ℕ → ℕ → Bool
@@ -47,15 +33,15 @@ pub record LineValid (zones : ℕ) (line : List ℕ) : Type 0 where
   pub in-range : out_of_range zones line ≡ false
 
 -- THE ANSWER FOR A LINE, and where the next one starts
-abbrev pub line_by : Flaws → TextCursor → Bool → LineAnswer
-line_by f next true = answer.Malformed
-line_by f next false = answer.Read f next
+abbrev pub line_by : Flaws → TextCursor → Bool → Option (Flaws × TextCursor)
+line_by f next true = None
+line_by f next false = Some (f, next)
 
 abbrev pub line_flaws : ℕ → List ℕ → Flaws
 line_flaws zones line = record { finer = too_fine zones line; outside = out_of_range zones line }
 
 -- the line at `start`, read into the table `old` at `base`
-pub record LineRead (zones : ℕ) (sheet : List ℕ) (start base : ℕ) (old new : List ℕ) (r : LineAnswer) : Type 0 where
+pub record LineRead (zones : ℕ) (sheet : List ℕ) (start base : ℕ) (old new : List ℕ) (r : Option (Flaws × TextCursor)) : Type 0 where
   pub answer-is : r ≡ line_by (line_flaws zones (line_at sheet start)) (piece_at 10 sheet start).next (malformed zones (line_at sheet start))
   pub bytes-are : LineValid zones (line_at sheet start) → new ≡ sets old base (entry_bytes (zones + 1) (line_at sheet start))
 
@@ -64,6 +50,6 @@ abbrev pub row_of : ℕ → ℕ
 row_of n = cond (ltb n 64) n 64
 
 -- the first place so far, with one place more
-abbrev pub first_with : Option ℕ → ℕ → Bool → Option ℕ
+abbrev pub first_with : math.Option ℕ → ℕ → Bool → math.Option ℕ
 first_with (some k) n b = some k
 first_with none n b = cond b (some n) none

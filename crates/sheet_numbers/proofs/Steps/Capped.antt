@@ -1,6 +1,6 @@
 -- A number's size cut at a cap that is above every limit, so that no count of digits overflows it; and digits as
 -- the walk takes them. Assumes nothing.
-use Rattle.std.specs.Prelude.{◌≡◌, Bool, cond, List, [], ◌∷◌, ◌++◌, ℕ, zero, suc, ◌+◌, ◌*◌, ◌-◌, ◌≤◌, ◌<◌, length, take}
+use Rattle.std.specs.Prelude.{◌≡◌, Bool, cond, List, [], ◌∷◌, ◌++◌, ℕ, zero, suc, ◌+◌, ◌*◌, ◌-◌, ◌≤◌, ◌<◌, min, length, take}
 use Rattle.std.proofs.Common.{sym, ap, ◌∙◌, arith, lt-ltb, le-ltb}
 use Rattle.std.proofs.Math.Decide.{dec_lt}
 use Rattle.text_rules.specs.Meaning.Text.{value_from, value_of}
@@ -18,6 +18,9 @@ capped-within n h = ap (λ (t : Bool). cond t cap n) (le-ltb cap n h)
 
 pub capped-reached : (n : ℕ) → cap ≤ n → capped n ≡ cap
 capped-reached n h = elim (dec_lt cap n) [ yes l ↦ capped-over n l | no g ↦ capped-within n (omega arith) ∙ omega arith ]
+
+pub capped-min : (n : ℕ) → capped n ≡ min n cap
+capped-min n = elim (dec_lt cap n) [ yes l ↦ capped-over n l ∙ omega arith | no g ↦ capped-within n (omega arith) ∙ omega arith ]
 
 pub capped_le : (n : ℕ) → capped n ≤ cap
 capped_le n = elim (dec_lt cap n) [ yes h ↦ omega (arith, capped-over n h) | no g ↦ omega (arith, capped-within n (omega arith)) ]

@@ -1,8 +1,9 @@
 -- A number whose parts the walk found: the sign at `at`, the digits before the point from `start` on, and those
 -- after it. Assumes nothing.
-use Rattle.std.specs.Prelude.{◌≡◌, Bool, true, false, ℕ, ◌+◌, ◌-◌, ◌≤◌, ◌<◌, take}
+use Rattle.std.specs.Prelude.{◌≡◌, refl, Bool, true, false, cond, ℕ, ◌+◌, ◌-◌, ◌≤◌, ◌<◌, take, None, Some}
+use Rattle.std.specs.Int.{from_bool}
 use Rattle.std.proofs.Math.Path.{sym, ap}
-use Rattle.std.proofs.Common.{◌∙◌, arith, length-drop}
+use Rattle.std.proofs.Common.{◌∙◌, arith, length-drop, length-append}
 use mathlib.Core.List.{List, []}
 use Rattle.std.proofs.Math.Decide.{dec_lt}
 use Rattle.std.proofs.Math.ListN.{length, drop}
@@ -11,11 +12,10 @@ use Rattle.text_rules.specs.Meaning.Text.{value_from, value_of}
 use Rattle.sheet_numbers.specs.declared.Whole.{Whole}
 use Rattle.sheet_numbers.specs.declared.Decimals.{Decimals}
 use Rattle.sheet_numbers.specs.declared.Piece.{Piece}
-use Rattle.sheet_numbers.specs.declared.NumberAnswer.TheVariants.{Read, NoNumber}
 use Rattle.sheet_numbers.specs.Meaning.Numeral.{starts, before, negative, unsigned, is_number, first_of, units, non_zero, finer}
 use Rattle.sheet_numbers.specs.Meaning.Scan.{Separator}
 use Rattle.sheet_numbers.specs.Steps.Scan.{stops, sign_length, leading}
-use Rattle.sheet_numbers.proofs.Steps.Scan.{clash, starts-end, sign-length, rest, sign-before, no-digits, no-mark, alone-whole, alone-decimals, alone-number, alone-length, point-whole, point-no-digits, point-no-mark, point-is-number, point-all, point-length}
+use Rattle.sheet_numbers.proofs.Steps.Scan.{clash, starts-end, sign-length, rest, lead-split, sign-before, no-digits, no-mark, alone-whole, alone-decimals, alone-number, alone-length, point-whole, point-no-digits, point-no-mark, point-is-number, point-all, point-length}
 use Rattle.sheet_numbers.specs.Steps.Capped.{cap, capped}
 use Rattle.sheet_numbers.proofs.Steps.Capped.{capped_le, held_whole, held-units}
 use Rattle.sheet_numbers.specs.Meaning.Pieces.{piece_to, piece_at, held_number, number_by, number_at}
@@ -23,6 +23,15 @@ use Rattle.sheet_numbers.specs.Steps.Pieces.{whole_at, decimals_at}
 
 pub start-in : (s : List ℕ) (at : ℕ) {start : ℕ} → at ≤ length s → start ≡ at + sign_length (drop at s) → start ≤ length s
 start-in s at h p = omega (arith, p, sign-length (drop at s), length-drop at s)
+
+-- the byte that a sign takes
+pub past-sign : (s : List ℕ) (at : ℕ) (b : Bool) {n : ℕ} → n ≡ from_bool b → b ≡ starts 45 (drop at s) → at + n ≡ at + sign_length (drop at s)
+unfolding negative
+past-sign s at b p q = ap (λ (m : ℕ). at + m) (p ∙ length-of b ∙ ap (λ (c : Bool). cond c 1 0) q)
+  where
+    length-of : (c : Bool) → from_bool c ≡ cond c 1 0
+    length-of true = refl
+    length-of false = refl
 
 -- past the sign, at `start`, stand the digits w
 pub record WholeRead (mark k : ℕ) (s : List ℕ) (at start : ℕ) (w : Whole) : Type 0 where
@@ -43,8 +52,8 @@ module _ {mark k : ℕ} {s : List ℕ} {at start : ℕ} {w : Whole} (r : WholeRe
 
   -- what was found is the number
   found : {b f : Bool} {n end : ℕ} {x : Piece} → is_number (before mark t) ≡ true → b ≡ negative t → n ≡ capped (units k (before mark t)) → f ≡ finer k (before mark t) → end ≡ at + length (before mark t) → x ≡ piece_to (length s) end
-      → Read (record { negative = b; units = n; finer = f }) x ≡ number_at k mark s at
-  found e p q f l g = (λ i. Read (record { negative = (p ∙ sym (sign-before mark sep t)) i; units = q i; finer = f i }) ((g ∙ ap (piece_to (length s)) l) i)) ∙ sym (answered e)
+      → Some (record { negative = b; units = n; finer = f }, x) ≡ number_at k mark s at
+  found e p q f l g = (λ i. Some (record { negative = (p ∙ sym (sign-before mark sep t)) i; units = q i; finer = f i }, (g ∙ ap (piece_to (length s)) l) i)) ∙ sym (answered e)
 
   abbrev u : List ℕ
   u = unsigned t
@@ -68,14 +77,17 @@ module _ {mark k : ℕ} {s : List ℕ} {at start : ℕ} {w : Whole} (r : WholeRe
   rest-is : rest u ≡ drop w.end s
   rest-is = ap (λ (l : List ℕ). drop (length (leading u)) l) u-is ∙ drop-drop (length (leading u)) start s ∙ ap (λ (n : ℕ). drop n s) (sym end_is)
 
+  pub end-in : w.end ≤ length s
+  end-in = omega (arith, end_is, start-in s at r.inside r.start_is, ap length u-is, length-drop start s, ap length (lead-split u), length-append (leading u) (rest u))
+
   -- no digit before a point; or digits, and then neither a point nor the mark
-  pub none_read : w.end ≤ start → NoNumber ≡ number_at k mark s at
+  pub none_read : w.end ≤ start → None ≡ number_at k mark s at
   none_read h = sym (answered (no-digits mark sep t (omega (arith, end_is))))
 
   some-digit : start < w.end → 0 < length (leading u)
   some-digit h = omega (arith, end_is)
 
-  pub other-read : start < w.end → starts 46 (drop w.end s) ≡ false → stops mark (drop w.end s) ≡ false → NoNumber ≡ number_at k mark s at
+  pub other-read : start < w.end → starts 46 (drop w.end s) ≡ false → stops mark (drop w.end s) ≡ false → None ≡ number_at k mark s at
   other-read h a b = sym (answered (no-mark mark sep t (some-digit h) (ap (stops mark) rest-is ∙ b) (ap (starts 46) rest-is ∙ a)))
 
   -- a point stands inside the text
@@ -85,7 +97,7 @@ module _ {mark k : ℕ} {s : List ℕ} {at start : ℕ} {w : Whole} (r : WholeRe
 
   -- digits alone
   pub whole-read : {b : Bool} {n : ℕ} {x : Piece} → start < w.end → stops mark (drop w.end s) ≡ true → b ≡ negative t → n ≡ capped (value_from w.value (first_of k [])) → x ≡ piece_to (length s) w.end
-      → Read (record { negative = b; units = n; finer = false }) x ≡ number_at k mark s at
+      → Some (record { negative = b; units = n; finer = false }, x) ≡ number_at k mark s at
   unfolding finer non_zero
   whole-read h e c d g =
       let a = ap (stops mark) rest-is ∙ e in
@@ -122,17 +134,20 @@ module _ {mark k : ℕ} {s : List ℕ} {at start : ℕ} {w : Whole} {next : ℕ}
   last_rest : rest v ≡ drop d.end s
   last_rest = ap (λ (l : List ℕ). drop (length (leading v)) l) v-is ∙ drop-drop (length (leading v)) next s ∙ ap (λ (x : ℕ). drop x s) (sym last-is)
 
+  pub last-in : next ≤ length s → d.end ≤ length s
+  last-in h = omega (arith, last-is, ap length v-is, length-drop next s, ap length (lead-split v), length-append (leading v) (rest v))
+
   pub held-le : d.value ≤ cap
   held-le = omega (arith, ap (λ (x : Decimals). x.value) z.digits_are, capped_le (value_from w.value (take k (leading (drop next s)))))
 
-  pub point-none : d.end ≤ next → NoNumber ≡ number_at k mark s at
+  pub point-none : d.end ≤ next → None ≡ number_at k mark s at
   point-none g = sym (answered z.whole (point-no-digits mark z.whole.separates (drop at s) (some-digit z.whole z.some) point (omega (arith, last-is))))
 
-  pub point-other : next < d.end → stops mark (drop d.end s) ≡ false → NoNumber ≡ number_at k mark s at
+  pub point-other : next < d.end → stops mark (drop d.end s) ≡ false → None ≡ number_at k mark s at
   point-other g e = sym (answered z.whole (point-no-mark mark z.whole.separates (drop at s) (some-digit z.whole z.some) point (omega (arith, last-is)) (ap (stops mark) last_rest ∙ e)))
 
   pub point-read : {b : Bool} {m : ℕ} {x : Piece} → next < d.end → stops mark (drop d.end s) ≡ true → b ≡ negative (drop at s) → m ≡ capped (value_from d.value (first_of d.missing [])) → x ≡ piece_to (length s) d.end
-      → Read (record { negative = b; units = m; finer = d.finer }) x ≡ number_at k mark s at
+      → Some (record { negative = b; units = m; finer = d.finer }, x) ≡ number_at k mark s at
   unfolding finer
   point-read g e c f y =
       let l : 0 < length (leading v) = omega (arith, last-is) in

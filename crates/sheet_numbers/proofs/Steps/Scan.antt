@@ -4,9 +4,15 @@ use Rattle.std.specs.Prelude.{◌≡◌, Bool, not, ◌&&◌, ◌||◌, ℕ, suc
 use Rattle.std.proofs.Math.Path.{refl, sym, ap}
 use Rattle.std.proofs.Common.{◌∙◌, subst, arith, length-append, drop_of_length-le, drop-cons}
 use Rattle.std.proofs.Math.Bool.{true, false, cond}
+use denote.Bor.{Bor}
+use Rattle.std.specs.Char.{is_ascii_digit}
+use Rattle.std.specs.Option.{is_some, IfSome, MatchOption, option_eq}
+use Rattle.std.specs.declared.option.Option as code
+use Rattle.std.specs.declared.option.Option.TheVariants.{None, Some}
 use mathlib.Core.List.{List, [], ◌∷◌, ◌++◌, append-nil}
-use borrow.Author.Tests.{eqb-true}
-use Rattle.std.proofs.Math.Dec.{eqb}
+use Rattle.std.proofs.lemmas.List.{get_or_default}
+use borrow.Author.Tests.{eqb-true, ltb-true, ltb-false}
+use Rattle.std.proofs.Math.Dec.{eqb, ltb}
 use Rattle.std.proofs.Math.ListN.{length, drop}
 use Rattle.std.proofs.Math.Seq.{drop-append_seam}
 use Rattle.sheet_numbers.specs.Meaning.Numeral.{is_digit, only_digits, digits, starts, has, before, after, negative, unsigned, whole, decimals, is_number}
@@ -33,6 +39,28 @@ module _ (mark : ℕ) (s : List ℕ) (i : ℕ) where
   pub stops_end : length s ≤ i → stops mark (drop i s) ≡ true
   unfolding stops
   stops_end h = ap (stops mark) (drop_of_length-le s h)
+
+-- a digit by the library's test
+pub as_digit : (b : ℕ) {r : Bool} → r ≡ is_ascii_digit b → is_digit b ≡ r
+unfolding is_digit
+as_digit b e = sym e
+
+-- the byte that a look-up gives at a place, if it gives one
+module _ (mark : ℕ) (s : List ℕ) (i : ℕ) where
+  looked-up : (x : ℕ) → x ≡ get_or s i x → i < length s → x ≡ get_or s i 0
+  looked-up x e h = e ∙ get_or_default s i x 0 h
+
+  pub starts-got : (o : code.Option (Bor ℕ)) → is_some o ≡ ltb i (length s) → IfSome o (λ x. x.now ≡ get_or s i x.now) → (m : Bor ℕ) → m.now ≡ mark → option_eq (λ (x y : Bor ℕ). eqb x.now y.now) o (Some m) ≡ starts mark (drop i s)
+  starts-got None e h m p = sym (starts-end mark s i (ltb-false i (length s) (sym e)))
+  starts-got (Some x) e h m p =
+      let l = ltb-true i (length s) (sym e) in
+      (λ j. eqb (looked-up x.now h l j) (p j)) ∙ sym (starts-here mark s i l)
+
+  pub stops-got : (o : code.Option (Bor ℕ)) → is_some o ≡ ltb i (length s) → IfSome o (λ x. x.now ≡ get_or s i x.now) → {r : Bool} → MatchOption o (r ≡ true) (λ x. r ≡ eqb x.now mark) → r ≡ stops mark (drop i s)
+  stops-got None e h t = t ∙ sym (stops_end mark s i (ltb-false i (length s) (sym e)))
+  stops-got (Some x) e h t =
+      let l = ltb-true i (length s) (sym e) in
+      t ∙ ap (λ (n : ℕ). eqb n mark) (looked-up x.now h l) ∙ sym (stops-here mark s i l)
 
 pub sign-length : (t : List ℕ) → length t ≡ sign_length t + length (unsigned t)
 unfolding unsigned negative starts

@@ -1,10 +1,7 @@
 -- `sheet_numbers::stops_at` meets its contract: inside the text and past its end. Assumes nothing.
-use Rattle.std.proofs.Common.{sym}
-use Rattle.sheet_numbers.proofs.Steps.Scan.{stops-here, stops_end}
+use Rattle.std.proofs.Common.{rules}
+use Rattle.sheet_numbers.proofs.Steps.Scan.{stops-got}
 use Rattle.sheet_numbers.proofs.stops_at.Goals as goal
 
-pub returns-then-i-s : goal.returns-then-i-s
-returns-then-i-s c = sym (stops-here c.args.mark c.args.s.now c.args.i c.if-i-s.true)
-
 pub returns : goal.returns
-returns c = sym (stops_end c.args.mark c.args.s.now c.args.i c.if-i-s.false)
+returns c = stops-got c.args.mark c.args.s.now c.args.i c.get.result c.get.ensures.lookup.0 c.get.ensures.lookup.1 (search rules)

@@ -1,9 +1,7 @@
 -- A piece of a text up to its mark, and its number.
-use Rattle.std.specs.Prelude.{Bool, true, false, cond, List, ℕ, ◌+◌, ltb, length, drop}
+use Rattle.std.specs.Prelude.{Bool, true, false, cond, List, ℕ, ◌+◌, ltb, length, drop, Option, None, Some}
 use Rattle.sheet_numbers.specs.declared.Piece.{Piece}
 use Rattle.sheet_numbers.specs.declared.Number.{Number}
-use Rattle.sheet_numbers.specs.declared.NumberAnswer.{NumberAnswer}
-use Rattle.sheet_numbers.specs.declared.NumberAnswer.TheVariants.{Read, NoNumber}
 use Rattle.sheet_numbers.specs.Meaning.Numeral.{before, negative, is_number, units, finer}
 use Rattle.sheet_numbers.specs.Steps.Capped.{capped}
 
@@ -18,9 +16,9 @@ piece_at mark s at = piece_to (length s) (at + length (before mark (drop at s)))
 abbrev pub held_number : ℕ → List ℕ → Number
 held_number k text = record { negative = negative text; units = capped (units k text); finer = finer k text }
 
-abbrev pub number_by : Bool → Number → Piece → NumberAnswer
-number_by true x p = Read x p
-number_by false x p = NoNumber
+abbrev pub number_by : Bool → Number → Piece → Option (Number × Piece)
+number_by true x p = Some (x, p)
+number_by false x p = None
 
-abbrev pub number_at : ℕ → ℕ → List ℕ → ℕ → NumberAnswer
+abbrev pub number_at : ℕ → ℕ → List ℕ → ℕ → Option (Number × Piece)
 number_at k mark s at = number_by (is_number (before mark (drop at s))) (held_number k (before mark (drop at s))) (piece_at mark s at)
