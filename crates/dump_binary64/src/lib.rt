@@ -9,13 +9,6 @@ ghost use Rattle.dump_binary64.specs.Meaning.Answer.{whole_below, whole_up_to};
 ghost use Rattle.dump_binary64.specs.Meaning.Machine.{zero64, one64, times};
 ghost use Rattle.dump_binary64.specs.Steps.Cutting.{Ranged};
 
-// A whole number of 32 bits, or none.
-#[derive(Clone, Copy)]
-pub enum WholeAnswer {
-    Held(u32),
-    Outside,
-}
-
 // The exponent field when all its bits are ones.
 const NOT_FINITE: u64 = 0x7ff0_0000_0000_0000;
 
@@ -28,8 +21,6 @@ const HALVES_END: f64 = 2251799813685248.0;
 const WHOLES: f64 = 4503599627370496.0;
 
 // The greatest number of 32 bits, and the value after it.
-const GREATEST: u32 = 4294967295;
-
 const WORD_MOST: f64 = 4294967295.0;
 
 const WORD_END: f64 = 4294967296.0;
@@ -73,18 +64,18 @@ pub fn part_of(share: f64, whole: u32) -> u32
     whole_part(p)
 }
 
-// A product that is not negative, cut to a whole number.
-pub fn cut_to_word(p: f64) -> WholeAnswer
+// A product that is not negative, cut to a whole number, if that has 32 bits.
+pub fn cut_to_word(p: f64) -> Option<u32>
     requires { T (Ieee.le zero64 p) }
     ensures { result ≡ whole_below p }
 {
     if p < WORD_MOST {
-        return WholeAnswer::Held(whole_part(p));
+        Some(whole_part(p))
+    } else if p < WORD_END {
+        Some(u32::MAX)
+    } else {
+        None
     }
-    if p < WORD_END {
-        return WholeAnswer::Held(GREATEST);
-    }
-    WholeAnswer::Outside
 }
 
 // The nearest whole number, a half up.
@@ -98,15 +89,15 @@ fn nearest_whole(p: f64) -> u64
 }
 
 // A product that is not negative, taken to the nearest whole number, if that is at most `most`.
-pub fn nearest_up_to(p: f64, most: u32) -> WholeAnswer
+pub fn nearest_up_to(p: f64, most: u32) -> Option<u32>
     requires { T (Ieee.le zero64 p) }
     ensures { result ≡ whole_up_to p most }
 {
     if p <= HALVES_END {
         let n = nearest_whole(p);
         if n <= (most as u64) {
-            return WholeAnswer::Held(n as u32);
+            return Some(n as u32);
         }
     }
-    WholeAnswer::Outside
+    None
 }

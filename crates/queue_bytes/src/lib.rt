@@ -1,6 +1,6 @@
 // The desk queue of request S-8 in 101 bytes that the caller lends: a post and a serve. specs/Meaning/Bytes.antt
-// has the layout; any bytes are a queue, and all zeros the empty one. The inner functions take and return the bytes
-// by value, since a proof knows the length only of an array by value.
+// has the layout; any bytes are a queue, and all zeros the empty one. The methods take and return the bytes by
+// value, since a proof knows the length only of an array by value.
 #![tactic(auto)]
 
 ghost use Rattle.std.specs.Prelude.{◌≡◌, List, [], ◌∷◌, ◌++◌, ℕ, ◌+◌, ◌*◌, ◌-◌, ◌<◌, drop};
@@ -13,13 +13,6 @@ ghost use Rattle.queue_bytes.specs.Meaning.Answer.{given};
 ghost use Rattle.queue_bytes.specs.Steps.Answers.{PostStep, ServeStep};
 ghost use Rattle.queue_bytes.specs.Steps.Walks.{area_of};
 
-// The hours that wait in one area: its cells, those with an hour first, and how many these are.
-#[derive(Clone, Copy)]
-pub struct Waiting {
-    pub cells: [u8; 25],
-    pub count: usize,
-}
-
 // The answer of a serve: number 0 with area and hour, or 64 with zeros. The index is 0.
 #[repr(C)]
 #[derive(Clone, Copy)]
@@ -30,18 +23,34 @@ pub struct Served {
     pub hour: u32,
 }
 
-// The bytes after a post, and its number.
+// Why a post is refused, by the number that the host gets.
 #[derive(Clone, Copy)]
-pub struct AfterPost {
-    pub number: u32,
-    pub bytes: [u8; 101],
+enum Refusal {
+    UnknownArea = 61,
+    UnknownHour = 62,
+    WaitsAlready = 63,
 }
 
-// The bytes after a serve, and its answer.
+// The hours that wait in one area: its cells, those with an hour first, and how many these are. An array with a
+// count, since the free cells are stored too.
 #[derive(Clone, Copy)]
-pub struct AfterServe {
-    pub answer: Served,
-    pub bytes: [u8; 101],
+struct Waiting {
+    cells: [u8; 25],
+    count: usize,
+}
+
+// The bytes of a queue.
+#[derive(Clone, Copy)]
+struct DeskQueue {
+    bytes: [u8; 101],
+}
+
+// The area and the hour that a serve takes, and the queue without them.
+#[derive(Clone, Copy)]
+struct Taken {
+    area: u32,
+    hour: u32,
+    left: DeskQueue,
 }
 
 // Whether a cell is among some cells. No early exit: keeps the loop free of data-dependent exits, so that it
@@ -50,26 +59,10 @@ fn is_among(cells: [u8; 25], c: u8) -> bool
     ensures { result ≡ among c cells }
 {
     let mut found = false;
-    let mut i = 0;
-    while i < 25 {
-        found = found | (cells[i] == c);
-        i += 1;
+    for cell in &cells {
+        found |= *cell == c;
     }
     found
-}
-
-// The hours with one more after them. There is always room: at most 25 hours differ.
-fn added(w: Waiting, c: u8) -> Waiting
-    requires { Addable w c }
-    ensures { (hours : List ℕ) → Hours hours → w ≡ waiting_of hours → result ≡ waiting_of (hours ++ ((c - 1) ∷ [])) }
-{
-    let mut cells = w.cells;
-    let n = w.count;
-    cells[n] = c;
-    Waiting {
-        cells,
-        count: n + 1,
-    }
 }
 
 // Whether a cell counts after some others: it holds an hour, and none of them holds the same.
@@ -77,132 +70,107 @@ fn added(w: Waiting, c: u8) -> Waiting
 fn counts(cells: [u8; 25], c: u8) -> bool
     ensures { result ≡ counts_behind cells c }
 {
-    if c == 0 {
-        return false;
-    }
-    if 25 < c {
-        return false;
-    }
-    !is_among(cells, c)
+    (1..=25).contains(&c) && !is_among(cells, c)
 }
 
-// The hours that wait in an area.
-fn waiting_in(bytes: [u8; 101], area: usize) -> Waiting
-    requires { area < 4 }
-    ensures { result ≡ waiting_of (hours_at bytes area) }
-{
-    let mut cells = [0u8; 25];
-    let mut count = 0;
-    let mut i = 0;
-    while i < 25 {
-        let c = bytes[25 * area + i];
-        i += 1;
-        if counts(cells, c) {
-            cells[count] = c;
-            count += 1;
+impl Waiting {
+    // The hours with one more after them. There is always room: at most 25 hours differ.
+    fn with(self, c: u8) -> Waiting
+        requires { Addable self c }
+        ensures { (hours : List ℕ) → Hours hours → self ≡ waiting_of hours → result ≡ waiting_of (hours ++ ((c - 1) ∷ [])) }
+    {
+        let mut cells = self.cells;
+        let n = self.count;
+        cells[n] = c;
+        Waiting {
+            cells,
+            count: n + 1,
         }
     }
-    Waiting { cells, count }
-}
 
-// The cells of an area replaced.
-fn store(bytes: [u8; 101], area: usize, cells: [u8; 25]) -> [u8; 101]
-    requires { area < 4 }
-    ensures { result ≡ paste bytes (25 * area) cells 25 }
-{
-    let mut next = bytes;
-    let mut i = 0;
-    while i < 25 {
-        next[25 * area + i] = cells[i];
-        i += 1;
-    }
-    next
-}
-
-// The cells without the first.
-fn moved_up(cells: [u8; 25]) -> [u8; 25]
-    ensures { result ≡ drop 1 cells ++ (0 ∷ []) }
-{
-    let mut next = [0u8; 25];
-    let mut i = 0;
-    while i < 24 {
-        next[i] = cells[i + 1];
-        i += 1;
-    }
-    next
-}
-
-// A post on the bytes by value.
-fn post_bytes(bytes: [u8; 101], area: u32, hour: u32) -> AfterPost
-    ensures { PostStep area hour bytes result }
-{
-    if 3 < area {
-        return AfterPost { number: 61, bytes };
-    }
-    if 24 < hour {
-        return AfterPost { number: 62, bytes };
-    }
-    let at = area as usize;
-    let c = (hour + 1) as u8;
-    let w = waiting_in(bytes, at);
-    let cells = w.cells;
-    if is_among(cells, c) {
-        return AfterPost { number: 63, bytes };
-    }
-    let longer = added(w, c);
-    let more = longer.cells;
-    AfterPost {
-        number: 0,
-        bytes: store(bytes, at, more),
+    // The cells without the first.
+    fn moved_up(self) -> [u8; 25]
+        ensures { result ≡ drop 1 self.cells ++ (0 ∷ []) }
+    {
+        let mut next = [0; 25];
+        next[..24].copy_from_slice(&self.cells[1..]);
+        next
     }
 }
 
-// The area that the next serve takes from, or 4 where none has an hour waiting.
-fn next_area(bytes: [u8; 101]) -> usize
-    ensures { result ≡ area_of (next (queue_of bytes)) }
-{
-    let turn = (bytes[100] % 4) as usize;
-    let mut k = 0;
-    while k < 4 {
-        let area = (turn + k) % 4;
-        let w = waiting_in(bytes, area);
-        if 0 < w.count {
-            return area;
+impl DeskQueue {
+    // The hours that wait in an area. A local array and count: a `Waiting` that is taken and returned by value for
+    // each cell took three times as long.
+    fn waiting_in(self, area: usize) -> Waiting
+        requires { area < 4 }
+        ensures { result ≡ waiting_of (hours_at self.bytes area) }
+    {
+        let mut cells = [0; 25];
+        let mut count = 0;
+        for c in &self.bytes[25 * area..25 * area + 25] {
+            if counts(cells, *c) {
+                cells[count] = *c;
+                count += 1;
+            }
         }
-        k += 1;
+        Waiting { cells, count }
     }
-    4
-}
 
-// A serve on the bytes by value.
-fn serve_bytes(bytes: [u8; 101]) -> AfterServe
-    ensures { ServeStep bytes result }
-{
-    let area = next_area(bytes);
-    if area > 3 {
-        return AfterServe {
-            answer: Served {
-                number: 64,
-                index: 0,
-                area: 0,
-                hour: 0,
-            },
-            bytes,
-        };
+    // The queue with the cells of an area replaced.
+    fn with_cells(self, area: usize, cells: [u8; 25]) -> DeskQueue
+        requires { area < 4 }
+        ensures { result.bytes ≡ paste self.bytes (25 * area) cells 25 }
+    {
+        let mut bytes = self.bytes;
+        bytes[25 * area..25 * area + 25].copy_from_slice(&cells);
+        DeskQueue { bytes }
     }
-    let w = waiting_in(bytes, area);
-    let cells = w.cells;
-    let hour = cells[0] - 1;
-    let mut next = store(bytes, area, moved_up(cells));
-    next[100] = ((area + 1) % 4) as u8;
-    AfterServe {
-        answer: Served {
-            number: 0,
-            index: 0,
+
+    // The area that the next serve takes from, if one has an hour waiting.
+    fn next_area(self) -> Option<usize>
+        ensures { result ≡ area_of (next (queue_of self.bytes)) }
+    {
+        let turn = (self.bytes[100] % 4) as usize;
+        for k in 0..4 {
+            let area = (turn + k) % 4;
+            if 0 < self.waiting_in(area).count {
+                return Some(area);
+            }
+        }
+        None
+    }
+
+    fn post(self, area: u32, hour: u32) -> Result<DeskQueue, Refusal>
+        ensures { PostStep area hour self.bytes result }
+    {
+        if 3 < area {
+            return Err(Refusal::UnknownArea);
+        }
+        if 24 < hour {
+            return Err(Refusal::UnknownHour);
+        }
+        let at = area as usize;
+        let c = (hour + 1) as u8;
+        let waiting = self.waiting_in(at);
+        if is_among(waiting.cells, c) {
+            return Err(Refusal::WaitsAlready);
+        }
+        Ok(self.with_cells(at, waiting.with(c).cells))
+    }
+
+    fn serve(self) -> Option<Taken>
+        ensures { ServeStep self.bytes result }
+    {
+        let area = self.next_area()?;
+        let waiting = self.waiting_in(area);
+        let hour = waiting.cells[0] - 1;
+        let mut left = self.with_cells(area, waiting.moved_up());
+        left.bytes[100] = ((area + 1) % 4) as u8;
+        Some(Taken {
             area: area as u32,
             hour: hour as u32,
-        },
-        bytes: next,
+            left,
+        })
     }
 }
 
@@ -213,14 +181,15 @@ pub fn post(queue: &mut [u8; 101], area: u32, hour: u32) -> u32
     ensures queue { queue_of queue.new ≡ after_post area hour (queue_of queue.old) }
     ensures bytes { queue.new ≡ bytes_after_post area hour queue.old }
 {
-    let p = post_bytes(*queue, area, hour);
-    let number = p.number;
-    if 0 < number {
-        return number;
+    let bytes = *queue;
+    match (DeskQueue { bytes }).post(area, hour) {
+        Ok(longer) => {
+            let bytes = longer.bytes;
+            *queue = bytes;
+            0
+        }
+        Err(refusal) => refusal as u32,
     }
-    let bytes = p.bytes;
-    *queue = bytes;
-    number
 }
 
 // A serve: the next area in turn that has an hour waiting, and its earliest posted; 64 when there is none, and
@@ -230,12 +199,21 @@ pub fn serve(queue: &mut [u8; 101]) -> Served
     ensures queue { queue_of queue.new ≡ after_serve (queue_of queue.old) }
     ensures bytes { queue.new ≡ bytes_after_serve queue.old }
 {
-    let t = serve_bytes(*queue);
-    let answer = t.answer;
-    if 0 < answer.number {
-        return answer;
-    }
-    let bytes = t.bytes;
+    let bytes = *queue;
+    let Some(taken) = (DeskQueue { bytes }).serve() else {
+        return Served {
+            number: 64,
+            index: 0,
+            area: 0,
+            hour: 0,
+        };
+    };
+    let bytes = taken.left.bytes;
     *queue = bytes;
-    answer
+    Served {
+        number: 0,
+        index: 0,
+        area: taken.area,
+        hour: taken.hour,
+    }
 }

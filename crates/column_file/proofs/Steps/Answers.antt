@@ -1,5 +1,5 @@
 -- The two causes that the entries ask, one after the other, and what an entry's answer must meet. Assumes nothing.
-use Rattle.std.specs.Prelude.{◌≡◌, refl, Bool, true, false, ℕ, ◌≤◌, ◌<◌, length, drop}
+use Rattle.std.specs.Prelude.{◌≡◌, refl, Bool, true, false, ℕ, ◌≤◌, ◌<◌, length, drop, Ok, Err}
 use Rattle.std.proofs.Common.{sym, ap, ◌∙◌, lt-ltb, le-ltb}
 use mathlib.Core.List.{List, [], ◌∷◌, ◌++◌}
 use Rattle.std.proofs.Math.Option.{Option, none, some}
@@ -9,7 +9,6 @@ use Rattle.base_causes.proofs.Promised.CauseLaws.{field-fails, field-passes}
 use Rattle.base_output.specs.declared.Written.{Written}
 use Rattle.base_output.specs.Meaning.Output.{output_after, written_by}
 use Rattle.base_output.specs.Steps.Met.{Met, met-refusal}
-use Rattle.column_file.specs.declared.RestoreAnswer.TheVariants as restore
 use Rattle.column_file.specs.Meaning.Columns.{short_output}
 use Rattle.column_file.specs.Meaning.Answer.{restore_by}
 
@@ -28,11 +27,11 @@ module _ {bad : Bool} (size room : ℕ) where
   unfolding refusal
   taken e h = field-passes 71 0 (short_output size room ∷ []) e ∙ field-passes 72 0 [] (le-ltb room size h)
 
-pub restore-refused : (bad : Bool) {r : Written} → restore_by bad ≡ restore.Refused r → (bad ≡ true) × (r ≡ record { number = 71; index = 0; length = 0 })
+pub restore-refused : (bad : Bool) {o : Outcome} → restore_by bad ≡ Err o → (bad ≡ true) × (o ≡ verdict 71 0)
 restore-refused true e = (refl, cc)
 restore-refused false e = (cc, cc)
 
-pub restore-made : (bad : Bool) → restore_by bad ≡ restore.Restored → bad ≡ false
+pub restore-made : (bad : Bool) → restore_by bad ≡ Ok tt → bad ≡ false
 restore-made true e = cc
 restore-made false e = refl
 

@@ -1,6 +1,6 @@
 -- What reading implies: where the orders of a readable case start, and when a columned file restores to a readable
 -- case. Assumes nothing.
-use Rattle.std.specs.Prelude.{◌≡◌, Bool, ◌||◌, List, ◌++◌, ℕ, ◌+◌, ◌*◌, ◌-◌, ◌≤◌, ◌<◌, T, drop}
+use Rattle.std.specs.Prelude.{◌≡◌, Bool, ◌||◌, List, ◌++◌, ℕ, ◌+◌, ◌*◌, ◌-◌, ◌≤◌, ◌<◌, T, drop, Err}
 use Rattle.std.proofs.Math.Path.{refl, ap}
 use Rattle.std.proofs.Common.{sym, subst, ◌∙◌, append-nil, mul-le-mul, arith, drop_of_length-le}
 use Rattle.std.proofs.Math.Bool.{true, false}
@@ -11,7 +11,6 @@ use Rattle.rules.specs.Meaning.Verdict.{not_mark, Readable}
 use Rattle.rules.proofs.Steps.Passed.{case-sound, case-length}
 use Rattle.base_causes.specs.declared.Outcome.{Outcome}
 use Rattle.case_header.specs.declared.Counts.{Counts}
-use Rattle.case_file.specs.declared.CaseAnswer.TheVariants as answer
 use Rattle.case_file.specs.Meaning.Answer.{case_answer}
 use Rattle.case_file.specs.Steps.Answer.{refused-of}
 use Rattle.case_header.specs.Meaning.CaseReadable.{CaseReadable}
@@ -22,7 +21,7 @@ use Rattle.column_file.proofs.Steps.Counts.{readable_of, unreadable-of, start-pa
 use Rattle.column_file.proofs.Promised.RoundTrip.{restored-length, restored-demands}
 
 -- A REFUSED CASE
-pub refused-case : (s : List ℕ) {r : Outcome} → case_answer s ≡ answer.Refused r → unreadable s ≡ true
+pub refused-case : (s : List ℕ) {r : Outcome} → case_answer s ≡ Err r → unreadable s ≡ true
 unfolding unreadable
 refused-case s e = ap refuses (refused-of s e)
 

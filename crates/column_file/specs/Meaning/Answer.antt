@@ -1,9 +1,8 @@
 -- What restoring a columned file answers. Assumes nothing.
-use Rattle.std.specs.Prelude.{Bool, true, false}
-use Rattle.column_file.specs.declared.RestoreAnswer.{RestoreAnswer}
-use Rattle.column_file.specs.declared.RestoreAnswer.TheVariants as restore
+use Rattle.std.specs.Prelude.{Bool, true, false, Result, Ok, Err}
+use Rattle.base_causes.specs.declared.Outcome.{Outcome}
 
--- THE WAY BACK, by whether 71 holds; and what an answer implies
-abbrev pub restore_by : Bool → RestoreAnswer
-restore_by true = restore.Refused (record { number = 71; index = 0; length = 0 })
-restore_by false = restore.Restored
+-- THE WAY BACK, by whether 71 holds
+abbrev pub restore_by : Bool → Result Unit Outcome
+restore_by true = Err (record { number = 71; index = 0 })
+restore_by false = Ok tt

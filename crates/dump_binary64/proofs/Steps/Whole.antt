@@ -1,6 +1,6 @@
 -- Products that are not negative, against the whole numbers that a field holds: the code's tests, and what they
 -- leave. Assumes nothing.
-use Rattle.std.specs.Prelude.{◌≡◌, ℕ, ◌+◌, ◌*◌, ◌/◌, ◌^◌, ◌<◌, ◌≤◌, Bool, true, false, ◌&&◌, ◌||◌, T, pos, ◌==◌, ◌≢◌, nat_le, nat_lt, refl, Float}
+use Rattle.std.specs.Prelude.{◌≡◌, ℕ, ◌+◌, ◌*◌, ◌/◌, ◌^◌, ◌<◌, ◌≤◌, Bool, true, false, ◌&&◌, ◌||◌, T, pos, ◌==◌, ◌≢◌, nat_le, nat_lt, refl, Float, Some, None}
 use Rattle.std.proofs.Common.{sym, ap, ◌∙◌, subst, le_trans, le_of_eq, lt_of_le_of_lt, lt_of_not-le, mul-one, mul_left_comm, mul-pos, le-div_iff_mul-le, div-lt_iff_lt-mul, arith, lt-ltb, le-ltb, le-leb, lt→ltb, lit<, pow_pos}
 use Rattle.std.proofs.Math.Decide.{dec_lt}
 use Rattle.std.proofs.lemmas.Bool.{lt-leb}
@@ -13,7 +13,6 @@ use Rattle.base_integers.specs.Steps.Ranges.{or_left}
 use Rattle.dump_binary64.specs.Meaning.Value.{cut, nearest}
 use Rattle.dump_binary64.specs.Meaning.Answer.{whole_by, whole_up_to}
 use Rattle.dump_binary64.specs.Meaning.Machine.{zero64, one64}
-use Rattle.dump_binary64.specs.declared.WholeAnswer.TheVariants.{Held, Outside}
 use Rattle.dump_binary64.specs.Steps.Cutting.{Ranged}
 use Rattle.dump_binary64.proofs.Steps.Cutting.{in-range, minus-zero}
 
@@ -87,10 +86,10 @@ ranged-finite (fin s m e) r = refl
 
 -- UP TO A NUMBER, by the nearest
 module _ (p : Float) (most : ℕ) where
-  pub held : finite p ≡ true → nearest p ≤ most → whole_up_to p most ≡ Held (nearest p)
+  pub held : finite p ≡ true → nearest p ≤ most → whole_up_to p most ≡ Some (nearest p)
   held f h = (λ i. whole_by (f i && le-leb (nearest p) most h i) (nearest p))
 
-  pub above : most < nearest p → whole_up_to p most ≡ Outside
+  pub above : most < nearest p → whole_up_to p most ≡ None
   above h = ap (λ (b : Bool). whole_by b (nearest p)) (ap (λ (b : Bool). finite p && b) (lt-leb (nearest p) most h) ∙ and_no (finite p))
     where
       and_no : (a : Bool) → (a && false) ≡ false
@@ -111,7 +110,7 @@ is-no : (b : Bool) → T b → b ≢ false
 is-no true t e = subst T e tt
 is-no false t e = t
 
-pub too_large : (p : Float) (most : ℕ) → most < 4294967296 → T (le zero64 p) → le p halves-end ≡ false → whole_up_to p most ≡ Outside
+pub too_large : (p : Float) (most : ℕ) → most < 4294967296 → T (le zero64 p) → le p halves-end ≡ false → whole_up_to p most ≡ None
 unfolding le nearest
 too_large nan most l g e = refl
 too_large (inf s) most l g e = refl

@@ -37,5 +37,5 @@ returns-then-p-2 c =
     let e = end_test p c.if-p-2.true in
     (λ i. whole_by (sym e i) (at-end p c.requires (most-test p c.if-p.false) e i))
 
-pub returns : goal.returns
-returns c = let p = c.args.p in ap (λ (b : Bool). whole_by b (cut p)) (sym (end_test p c.if-p-2.false))
+pub returns-else-p-2 : goal.returns-else-p-2
+returns-else-p-2 c = let p = c.args.p in ap (λ (b : Bool). whole_by b (cut p)) (sym (end_test p c.if-p-2.false))

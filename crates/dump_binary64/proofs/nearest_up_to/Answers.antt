@@ -1,11 +1,10 @@
 -- `dump_binary64::nearest_up_to` meets its contract: above 2 ^ 51 the nearest is above every number of 32 bits.
 use Rattle.std.proofs.Common.{◌≡◌, ℕ, ◌≤◌, Bool, sym, ap, ◌∙◌, subst, arith}
-use Rattle.std.specs.Prelude.{Float}
+use Rattle.std.specs.Prelude.{Float, Some}
 use Rattle.std.specs.Float.{binary64}
 use Rattle.std.specs.Float.Ieee.{le, of_bits}
 use Rattle.base_integers.specs.Steps.Ranges.{is_true}
 use Rattle.dump_binary64.proofs.Steps.Whole.{halves-end, halves-end-bits, held, too_large, halves-finite}
-use Rattle.dump_binary64.specs.declared.WholeAnswer.TheVariants.{Held}
 use Rattle.dump_binary64.proofs.nearest_up_to.Goals as goal
 
 -- the test, with its constant as a value
@@ -18,7 +17,7 @@ nearest_whole-n-requires-clause-t_2 c = is_true (test c.args.p c.if-p.true)
 pub returns-then-n-most : goal.returns-then-n-most
 returns-then-n-most c =
     let a = c.args in
-    ap Held c.nearest_whole-n.ensures
+    ap Some c.nearest_whole-n.ensures
     ∙ sym (held a.p a.most (halves-finite a.p c.requires (is_true (test a.p c.if-p.true))) (subst (λ (k : ℕ). k ≤ a.most) c.nearest_whole-n.ensures c.if-n-most.true))
 
 pub returns-else-p : goal.returns-else-p

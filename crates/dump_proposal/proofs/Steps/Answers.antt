@@ -5,6 +5,7 @@ use Rattle.std.proofs.Math.Path.{ap, subst}
 use Rattle.std.proofs.Math.Bool.{not}
 use mathlib.Core.List.{List, [], ◌++◌, append_assoc}
 use Rattle.std.proofs.Math.Option.{Option, none, some}
+use Rattle.std.specs.declared.option.Option.TheVariants.{None, Some}
 use Prim.Native.Nat.{ℕ, zero, suc, ◌+◌, ◌*◌, ◌≤◌, ◌<◌}
 use native.Mathlib.Omega.{arith}
 use Rattle.std.proofs.lemmas.Bool.{not-false}
@@ -26,12 +27,11 @@ use Rattle.base_output.specs.Steps.Met as output
 use Rattle.case_header.specs.declared.Counts.{Counts}
 use Rattle.case_header.specs.Meaning.CaseReadable.{CaseReadable}
 use Rattle.dump_binary64.specs.Meaning.Value.{bits_at, finite}
-use Rattle.dump_values.specs.declared.FieldAnswer.TheVariants as answer
+use Rattle.dump_values.specs.declared.OpeningFields.{OpeningFields}
 use Rattle.dump_values.specs.Meaning.Answer.{field_of}
 use Rattle.dump_values.specs.Meaning.Field.{kind_of, converted, fault}
 use Rattle.dump_values.proofs.Promised.PlainPlaces.{after-kind}
 use Rattle.dump_proposal.specs.Meaning.Dump.{value_count, dump_length, refuses, number_in, dump_causes, dump_refusal, dump_outcome, proposal_mark, fields_from, proposal_bytes, dump_written, dump_output, DumpAnswered}
-use Rattle.dump_proposal.specs.declared.OpeningNumbers.{OpeningNumbers}
 use Rattle.dump_proposal.specs.Steps.Walks.{rest_of, count_of, FiniteDump, OpeningHeld, TableHolds, fault_after, table_bytes}
 use Rattle.dump_proposal.proofs.Steps.Walks.{field-held, field-outside, field-number, fields-length, fields_split, table-fields}
 
@@ -166,44 +166,45 @@ met-answer s d out e h q b =
     record { outcome = m.0; written = m.1.0; output = m.1.1 }
 
 -- ROW BY ROW, for the counts of a readable case
-module _ (s d out : List ℕ) {k : Counts} where
+module _ (s d : List ℕ) (room : ℕ) {k : Counts} where
   length-due : CaseReadable s k → 8 * count_of k ≡ dump_length s
   unfolding dump_length
   length-due o = ap (λ (n : ℕ). 8 * n) (count-is o)
 
-  pub met-57 : {r : Written} → CaseReadable s k → (length d ≡ 8 * count_of k → ⊥) → r ≡ record { number = 57; index = 0; length = 0 } → DumpAnswered s d out r out
-  met-57 o h q = met-refusal s d out (refused-57 s d (length out) (past-56 s d (length out) o.readable.none-holds) (λ e. h (e ∙ sym (length-due o)))) q
+  from-2 : CaseReadable s k → length d ≡ 8 * count_of k → RowsFrom s d room 2
+  from-2 o h = past-57 s d room (past-56 s d room o.readable.none-holds) (h ∙ length-due o)
 
-  from-2 : CaseReadable s k → length d ≡ 8 * count_of k → RowsFrom s d (length out) 2
-  from-2 o h = past-57 s d (length out) (past-56 s d (length out) o.readable.none-holds) (h ∙ length-due o)
+  module _ (f : FiniteDump s k d) where
+    from-3 : RowsFrom s d room 3
+    from-3 = past-58 s d room (from-2 f.opened f.long) (first-none (value_count s) (not_finite_at d) (λ n h. is_false (ap not (f.is_finite n (subst (λ (m : ℕ). n < m) (sym (count-is f.opened)) h)))))
+
+    counted : {n : Option ℕ} → first_below (count_of k) (out_of_field_at s d) ≡ n → first_below (value_count s) (out_of_field_at s d) ≡ n
+    counted e = ap (λ (m : ℕ). first_below m (out_of_field_at s d)) (sym (count-is f.opened)) ∙ e
+
+    by-59 : {n : ℕ} → first_below (count_of k) (out_of_field_at s d) ≡ some n → RefusedBy s d room 59 n
+    by-59 e = refused-59 s d room from-3 (counted e)
+
+    -- the LTA share has no field; or it has one, and the system price has none
+    pub share-refused : field_of (kind_of s 0) (bits_at d 0) ≡ None → RefusedBy s d room 59 0
+    share-refused e = by-59 (share-first s d (rest_of k) (field-outside (kind_of s 0) (bits_at d 0) e))
+
+    pub system-refused : {x : Bits} → field_of (kind_of s 0) (bits_at d 0) ≡ Some x → field_of (kind_of s 1) (bits_at d 1) ≡ None → RefusedBy s d room 59 1
+    system-refused z e = by-59 (system-first s d (rest_of k) (field-held (kind_of s 0) (bits_at d 0) z) (field-outside (kind_of s 1) (bits_at d 1) e))
+
+module _ (s d out : List ℕ) {k : Counts} where
+  pub met-57 : {r : Written} → CaseReadable s k → (length d ≡ 8 * count_of k → ⊥) → r ≡ record { number = 57; index = 0; length = 0 } → DumpAnswered s d out r out
+  met-57 o h q = met-refusal s d out (refused-57 s d (length out) (past-56 s d (length out) o.readable.none-holds) (λ e. h (e ∙ sym (length-due s d (length out) o)))) q
 
   pub met-58 : {n : ℕ} {r : Written} → CaseReadable s k → length d ≡ 8 * count_of k → first_below (count_of k) (not_finite_at d) ≡ some n
       → r ≡ record { number = 58; index = n; length = 0 } → DumpAnswered s d out r out
-  met-58 o h e q = met-refusal s d out (refused-58 s d (length out) (from-2 o h) (ap (λ (n : ℕ). first_below n (not_finite_at d)) (sym (count-is o)) ∙ e)) q
+  met-58 o h e q = met-refusal s d out (refused-58 s d (length out) (from-2 s d (length out) o h) (ap (λ (n : ℕ). first_below n (not_finite_at d)) (sym (count-is o)) ∙ e)) q
 
   pub finite-dump : CaseReadable s k → length d ≡ 8 * count_of k → first_below (count_of k) (not_finite_at d) ≡ none → FiniteDump s k d
   finite-dump o h e = record { opened = o; long = h; is_finite = λ n l. not-false _ (not_is _ (not-below (count_of k) (not_finite_at d) e n l)) }
 
   module _ (f : FiniteDump s k d) where
-    from-3 : RowsFrom s d (length out) 3
-    from-3 = past-58 s d (length out) (from-2 f.opened f.long) (first-none (value_count s) (not_finite_at d) (λ n h. is_false (ap not (f.is_finite n (subst (λ (m : ℕ). n < m) (sym (count-is f.opened)) h)))))
-
-    counted : {n : Option ℕ} → first_below (count_of k) (out_of_field_at s d) ≡ n → first_below (value_count s) (out_of_field_at s d) ≡ n
-    counted e = ap (λ (m : ℕ). first_below m (out_of_field_at s d)) (sym (count-is f.opened)) ∙ e
-
-    met-59 : {n : ℕ} {r : Written} → first_below (count_of k) (out_of_field_at s d) ≡ some n → r ≡ record { number = 59; index = n; length = 0 } → DumpAnswered s d out r out
-    met-59 e q = met-refusal s d out (refused-59 s d (length out) from-3 (counted e)) q
-
-    -- the LTA share has no field; or it has one, and the system price has none
-    pub met-share : {r : Written} → field_of (kind_of s 0) (bits_at d 0) ≡ answer.Outside → r ≡ record { number = 59; index = 0; length = 0 } → DumpAnswered s d out r out
-    met-share e q = met-59 (share-first s d (rest_of k) (field-outside (kind_of s 0) (bits_at d 0) e)) q
-
-    pub met-system : {x : Bits} {r : Written} → field_of (kind_of s 0) (bits_at d 0) ≡ answer.Held x → field_of (kind_of s 1) (bits_at d 1) ≡ answer.Outside
-        → r ≡ record { number = 59; index = 1; length = 0 } → DumpAnswered s d out r out
-    met-system z e q = met-59 (system-first s d (rest_of k) (field-held (kind_of s 0) (bits_at d 0) z) (field-outside (kind_of s 1) (bits_at d 1) e)) q
-
     -- both have one, and another value has none
-    module _ {o : OpeningNumbers} (h : OpeningHeld s d o) where
+    module _ {o : OpeningFields Bits} (h : OpeningHeld s d o) where
       share-in : out_of_field_at s d 0 ≡ false
       share-in = field-held (kind_of s 0) (bits_at d 0) h.share-held
 
@@ -211,12 +212,12 @@ module _ (s d out : List ℕ) {k : Counts} where
       system-in = field-held (kind_of s 1) (bits_at d 1) h.system-held
 
       pub met-rest : {i : ℕ} {r : Written} → first_below (rest_of k) (fault_after s d) ≡ some i → r ≡ record { number = 59; index = 2 + i; length = 0 } → DumpAnswered s d out r out
-      met-rest e q = met-59 (rest-first s d (rest_of k) share-in system-in e) q
+      met-rest e q = met-refusal s d out (by-59 s d (length out) f (rest-first s d (rest_of k) share-in system-in e)) q
 
       -- every value has its field
       module _ (e : first_below (rest_of k) (fault_after s d) ≡ none) where
         from-4 : RowsFrom s d (length out) 4
-        from-4 = past-59 s d (length out) from-3 (counted (none_first s d (rest_of k) share-in system-in e))
+        from-4 = past-59 s d (length out) (from-3 s d (length out) f) (counted s d (length out) f (none_first s d (rest_of k) share-in system-in e))
 
         pub met-60 : {r : Written} → length out < 13 + 4 * rest_of k → r ≡ record { number = 60; index = 0; length = 0 } → DumpAnswered s d out r out
         met-60 l q = met-refusal s d out (refused-60 s d (length out) from-4 (subst (λ (n : ℕ). length out < n) (length-of f.opened) l)) q

@@ -3,6 +3,8 @@ use Rattle.std.specs.Prelude.{◌≡◌, refl, Bool, true, false, not, List, ◌
 use Rattle.std.proofs.Math.Path.{sym, ap}
 use Rattle.std.proofs.Common.{◌∙◌, subst, append_assoc, append-nil, add-zero, zero-add, add-suc, add-one, arith, length-append, of_z, get_or-set_same, get_or-set_other}
 use Rattle.std.proofs.Math.Option.{none}
+use Rattle.std.specs.declared.option.Option.{Option}
+use Rattle.std.specs.declared.option.Option.TheVariants.{None, Some}
 use Rattle.std.proofs.Math.Decide.{ℕ_discrete}
 use Rattle.std.specs.Int.{w64}
 use Rattle.std.proofs.Math.Seq.{sets}
@@ -14,7 +16,6 @@ use Rattle.base_integers.specs.Steps.Bytes.{bytes-length, sets-append}
 use Rattle.base_causes.specs.Meaning.Causes.{first_below}
 use Rattle.base_integers.specs.declared.Bits.{Bits}
 use Rattle.bytes_read.specs.declared.Cursor.{Cursor}
-use Rattle.bytes_read.specs.declared.LongField.TheVariants as long
 use Rattle.bytes_read.specs.Meaning.Field.{u64_at, long_field}
 use Rattle.bytes_read.specs.Steps.Part.{part_of, part_length, part-u32}
 use Rattle.bytes_read.specs.Steps.Walk.{long-took, long-short}
@@ -24,15 +25,12 @@ use Rattle.dump_binary64.specs.Meaning.Value.{bits_at}
 use Rattle.dump_binary64.proofs.Steps.Patterns.{finite-value}
 use Rattle.dump_values.specs.declared.DumpOpening.{DumpOpening}
 use Rattle.dump_values.specs.declared.OpeningFields.{OpeningFields}
-use Rattle.dump_values.specs.declared.FieldAnswer.TheVariants as answer
 use Rattle.dump_values.specs.Meaning.Field.{Kind, kind_of, converted, fault}
 use Rattle.dump_values.specs.Meaning.Answer.{field_by, field_of}
 use Rattle.dump_values.proofs.Steps.Agree.{share-agrees, system-agrees}
 use Rattle.dump_values.specs.Meaning.Fields.{share_field, system_field, opening_fields}
-use Rattle.dump_proposal.specs.declared.OpeningField.{OpeningField}
-use Rattle.dump_proposal.specs.declared.OpeningField.TheVariants as opened
 use Rattle.dump_proposal.specs.Meaning.Dump.{proposal_mark, field_bytes, fields_from}
-use Rattle.dump_proposal.specs.Steps.Walks.{FiniteDump, TableHolds, opening_taken, table_bytes}
+use Rattle.dump_proposal.specs.Steps.Walks.{FiniteDump, TableHolds, table_bytes}
 
 -- THE FIELDS, one after another: four bytes each
 pub fields-length : (s d : List ℕ) (a n : ℕ) → length (fields_from s d a n) ≡ 4 * n
@@ -42,28 +40,18 @@ fields-length s d a (suc n) =
     let z = converted (kind_of s (a + n)) (bits_at d (a + n)) in
     omega (arith, length-append (fields_from s d a n) (field_bytes z), fields-length s d a n, bytes-length 4 (of_z w64 z))
 
-pub opening-took : (d : List ℕ) {o : DumpOpening} {c : Cursor} → opening_taken d ≡ opened.Taken o c → (o.share ≡ of_bits binary64 (bits_at d 0)) × ((o.system ≡ of_bits binary64 (bits_at d 1)) × (c.at ≡ 16))
-opening-took d {o} {c} e = (cc, (cc, cc))
-
-pub opening-there : (d : List ℕ) → opening_taken d ≡ opened.Short → ⊥
-opening-there d e = subst (λ (x : OpeningField). T (taken x)) e tt
-  where
-    taken : OpeningField → Bool
-    taken (opened.Taken o c) = true
-    taken opened.Short = false
-
 -- A VALUE TAKEN BY THE CURSOR, which stands at value n: its bits, and the cursor past it
-pub value-took : (d : List ℕ) (at n : ℕ) → at ≡ 8 * n → {v : ℕ} {c : Cursor} → long_field d at ≡ long.Taken v c → (v ≡ bits_at d n) × (c.at ≡ 8 * (n + 1))
+pub value-took : (d : List ℕ) (at n : ℕ) → at ≡ 8 * n → {v : ℕ} {c : Cursor} → long_field d at ≡ Some (v, c) → (v ≡ bits_at d n) × (c.at ≡ 8 * (n + 1))
 unfolding bits_at
 value-took d at n e {v} {c} q =
     let w = long-took d at q in
     (w.is ∙ ap (u64_at d) e, ap (λ (x : Cursor). x.at) w.past ∙ omega (arith, e))
 
-pub value_there : (d : List ℕ) (at n : ℕ) → at ≡ 8 * n → 8 * n + 8 ≤ length d → long_field d at ≡ long.Short → ⊥
+pub value_there : (d : List ℕ) (at n : ℕ) → at ≡ 8 * n → 8 * n + 8 ≤ length d → long_field d at ≡ None → ⊥
 value_there d at n e h q = omega (arith, long-short d at q, e, h)
 
 -- the same over a slice of eight bytes, from a place in the dump on
-pub part-took : (d : List ℕ) (at size n : ℕ) → at ≡ 8 * n → size ≡ 8 → {v : ℕ} {c : Cursor} → long_field (part_of d at size) 0 ≡ long.Taken v c → (v ≡ bits_at d n) × (c.at ≡ 8)
+pub part-took : (d : List ℕ) (at size n : ℕ) → at ≡ 8 * n → size ≡ 8 → {v : ℕ} {c : Cursor} → long_field (part_of d at size) 0 ≡ Some (v, c) → (v ≡ bits_at d n) × (c.at ≡ 8)
 unfolding bits_at
 part-took d at size n e q {v} {c} t =
     let w = long-took (part_of d at size) 0 t in
@@ -73,45 +61,45 @@ part-took d at size n e q {v} {c} t =
     let high : u32_at (part_of d at size) 4 ≡ u32_at d (8 * n + 4) = part-u32 d at size 4 (omega arith) ∙ ap (u32_at d) second in
     (w.is ∙ (λ i. low i + 4294967296 * high i), ap (λ (x : Cursor). x.at) w.past)
 
-pub part-there : (d : List ℕ) (at size : ℕ) → size ≡ 8 → at + 8 ≤ length d → long_field (part_of d at size) 0 ≡ long.Short → ⊥
+pub part-there : (d : List ℕ) (at size : ℕ) → size ≡ 8 → at + 8 ≤ length d → long_field (part_of d at size) 0 ≡ None → ⊥
 part-there d at size q h t = omega (arith, long-short (part_of d at size) 0 t, part_length d at size (omega arith))
 
 -- THE OPENING of such a dump: finite values, and what each becomes
-module _ {s d : List ℕ} {k : Counts} (f : FiniteDump s k d) {o : DumpOpening} {c : Cursor} (e : opening_taken d ≡ opened.Taken o c) where
+module _ {s d : List ℕ} {k : Counts} (f : FiniteDump s k d) {o : DumpOpening} (share : o.share ≡ of_bits binary64 (bits_at d 0)) (system : o.system ≡ of_bits binary64 (bits_at d 1)) where
   pub share-finite : T (float.finite o.share)
-  share-finite = subst (λ (x : Float). T (float.finite x)) (sym (opening-took d e).0) (finite-value (bits_at d 0) (f.is_finite 0 (omega arith)))
+  share-finite = subst (λ (x : Float). T (float.finite x)) (sym share) (finite-value (bits_at d 0) (f.is_finite 0 (omega arith)))
 
   pub system-finite : T (float.finite o.system)
-  system-finite = subst (λ (x : Float). T (float.finite x)) (sym (opening-took d e).1.0) (finite-value (bits_at d 1) (f.is_finite 1 (omega arith)))
+  system-finite = subst (λ (x : Float). T (float.finite x)) (sym system) (finite-value (bits_at d 1) (f.is_finite 1 (omega arith)))
 
-  module _ {r : OpeningFields} (q : r ≡ opening_fields o) where
+  module _ {r : OpeningFields (Option Bits)} (q : r ≡ opening_fields o) where
     pub share-read : field_of (kind_of s 0) (bits_at d 0) ≡ r.share
     unfolding kind_of
-    share-read = sym (ap (λ (x : OpeningFields). x.share) q ∙ ap (λ (x : Float). share_field x 100000) (opening-took d e).0 ∙ share-agrees (bits_at d 0) (f.is_finite 0 (omega arith)) 100000 (omega arith))
+    share-read = sym (ap (λ (x : OpeningFields (Option Bits)). x.share) q ∙ ap (λ (x : Float). share_field x 100000) share ∙ share-agrees (bits_at d 0) (f.is_finite 0 (omega arith)) 100000 (omega arith))
 
     pub system-read : field_of (kind_of s 1) (bits_at d 1) ≡ r.system
     unfolding kind_of
-    system-read = sym (ap (λ (x : OpeningFields). x.system) q ∙ ap system_field (opening-took d e).1.0 ∙ system-agrees (bits_at d 1) (f.is_finite 1 (omega arith)))
+    system-read = sym (ap (λ (x : OpeningFields (Option Bits)). x.system) q ∙ ap system_field system ∙ system-agrees (bits_at d 1) (f.is_finite 1 (omega arith)))
 
 -- what a field's answer implies
-pub field-held : (k : Kind) (b : ℕ) {x : Bits} → field_of k b ≡ answer.Held x → fault k b ≡ false
+pub field-held : (k : Kind) (b : ℕ) {x : Bits} → field_of k b ≡ Some x → fault k b ≡ false
 field-held k b {x} e = by (fault k b) refl e
   where
-    by : (t : Bool) → fault k b ≡ t → field_by (not t) (converted k b) ≡ answer.Held x → fault k b ≡ false
+    by : (t : Bool) → fault k b ≡ t → field_by (not t) (converted k b) ≡ Some x → fault k b ≡ false
     by true q e = cc
     by false q e = q
 
-pub field-outside : (k : Kind) (b : ℕ) → field_of k b ≡ answer.Outside → fault k b ≡ true
+pub field-outside : (k : Kind) (b : ℕ) → field_of k b ≡ None → fault k b ≡ true
 field-outside k b e = by (fault k b) refl e
   where
-    by : (t : Bool) → fault k b ≡ t → field_by (not t) (converted k b) ≡ answer.Outside → fault k b ≡ true
+    by : (t : Bool) → fault k b ≡ t → field_by (not t) (converted k b) ≡ None → fault k b ≡ true
     by true q e = q
     by false q e = cc
 
-pub field-number : (k : Kind) (b : ℕ) {x : Bits} → field_of k b ≡ answer.Held x → x.0 ≡ of_z w64 (converted k b)
+pub field-number : (k : Kind) (b : ℕ) {x : Bits} → field_of k b ≡ Some x → x.0 ≡ of_z w64 (converted k b)
 field-number k b {x} e = by (not (fault k b)) e
   where
-    by : (t : Bool) → field_by t (converted k b) ≡ answer.Held x → x.0 ≡ of_z w64 (converted k b)
+    by : (t : Bool) → field_by t (converted k b) ≡ Some x → x.0 ≡ of_z w64 (converted k b)
     by true e = cc
     by false e = cc
 

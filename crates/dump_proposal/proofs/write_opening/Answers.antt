@@ -8,6 +8,6 @@ use Rattle.dump_proposal.proofs.write_opening.Goals as goal
 pub returns : goal.returns
 returns c =
     let a = c.args in
-    c.put_low32-2.ensures
-    ∙ (λ j. sets ((c.put_low32.ensures ∙ (λ i. sets (c.put_mark.ensures i) 5 (bytes_of 4 a.opening.share.0))) j) 9 (bytes_of 4 a.opening.system.0))
+    c.put-2.ensures
+    ∙ (λ j. sets ((c.put.ensures ∙ (λ i. sets (c.put_mark.ensures i) 5 (bytes_of 4 a.opening.share.0))) j) 9 (bytes_of 4 a.opening.system.0))
     ∙ opening-run a.out.now a.opening.share.0 a.opening.system.0

@@ -1,6 +1,6 @@
 -- A field by the machine's value is the field by the bits: the code's tests are those of the meaning.
 -- Assumes nothing.
-use Rattle.std.specs.Prelude.{◌≡◌, refl, Bool, true, false, cond, ◌&&◌, ◌||◌, ℕ, zero, suc, ◌≤◌, ◌<◌, T, leb, ltb, pos, neg_ℤ, Float}
+use Rattle.std.specs.Prelude.{◌≡◌, refl, Bool, true, false, cond, ◌&&◌, ◌||◌, ℕ, zero, suc, ◌≤◌, ◌<◌, T, leb, ltb, pos, neg_ℤ, Float, None}
 use Rattle.std.proofs.Math.Path.{sym, ap}
 use Rattle.std.proofs.Common.{◌∙◌, subst, le_trans, arith, lt-ltb, le-ltb, le-leb, lit≤}
 use Rattle.std.proofs.Math.Bool.{not}
@@ -19,7 +19,6 @@ use Rattle.dump_binary64.proofs.Steps.Half.{nearest_zero}
 use Rattle.dump_binary64.proofs.Steps.Patterns.{finite-value}
 use Rattle.dump_binary64.proofs.Steps.Products.{Signs, product_is, product-signs, not_negative, not-above-one, plus-from-zero}
 use Rattle.dump_binary64.proofs.Steps.Whole.{word_end, word_test}
-use Rattle.dump_values.specs.declared.FieldAnswer.TheVariants.{Outside}
 use Rattle.dump_values.specs.Meaning.Field as kind
 use Rattle.dump_values.specs.Meaning.Field.{Kind, product_of, converted, forbidden, field_range, fault}
 use Rattle.dump_values.proofs.Promised.PlainFaults.{share-held}
@@ -85,7 +84,7 @@ module _ (k : Kind) (b : ℕ) where
   unfolding fault
   allowed-fault e = ap (λ (t : Bool). not (t || (not (float.finite (product_of k b)) || outside (field_range k) (converted k b)))) e ∙ neither (float.finite (product_of k b)) (outside (field_range k) (converted k b))
 
-  refused : forbidden k b ≡ true → Outside ≡ field_of k b
+  refused : forbidden k b ≡ true → None ≡ field_of k b
   refused e = ap (λ (t : Bool). field_by (not t) (converted k b)) (sym (forbidden-fault e))
 
 module _ (b : ℕ) (f : finite b ≡ true) where

@@ -1,13 +1,11 @@
 -- A field, from the answers of the code's calls. Assumes nothing.
-use Rattle.std.specs.Prelude.{◌≡◌, refl, Bool, true, false, not, ◌&&◌, ℕ, zero, suc, ◌≤◌, ◌<◌, T, leb, ℤ, pos, neg_ℤ, ◌-ℤ◌, Float}
-use Rattle.std.proofs.Common.{sym, ap, ◌∙◌, arith, leb-false, leb→le, lit≤, SFits, to_z, of_z, to_z-of_z}
+use Rattle.std.specs.Prelude.{◌≡◌, refl, Bool, true, false, not, ◌&&◌, ℕ, ◌≤◌, ◌<◌, T, leb, ℤ, pos, neg_ℤ, ◌-ℤ◌, Float, Some, None}
+use Rattle.std.proofs.Common.{sym, ap, ◌∙◌, arith, leb-false, leb→le, lit≤, to_z, of_z, to_z-of_z}
 use Rattle.std.proofs.lemmas.Bool.{lt-leb}
 use Rattle.std.proofs.Math.IntN.{+ℤ_idl}
-use Rattle.std.specs.Int.{w32, w64}
-use Rattle.std.proofs.Math.Facts.{to_z_pos, sfits_lit}
+use Rattle.std.specs.Int.{w64}
 use Rattle.std.specs.Float.{nan, inf, fin}
 use Rattle.std.specs.Float.Ieee.{le, lt, neg}
-use Rattle.base_integers.specs.Steps.Machine.{sfits-by}
 use Rattle.base_integers.specs.Steps.Size.{near-pos, near-neg, near_fits}
 use Rattle.std.specs.Float.Ieee.Scale as float
 use Rattle.base_integers.specs.Meaning.Ranges.{outside}
@@ -15,68 +13,59 @@ use Rattle.base_integers.specs.Steps.Ranges.{is_true, and_right}
 use Rattle.base_limits.specs.Meaning.Limits as limits
 use Rattle.base_integers.specs.declared.Bits.{Bits}
 use Rattle.base_measures.specs.declared.Cents.{Cents}
-use Rattle.base_measures.specs.declared.CentsAnswer.TheVariants as cents
 use Rattle.base_measures.specs.Meaning.Held.{cents_by, cents_in}
 use Rattle.dump_binary64.specs.Meaning.Value.{cut, nearest}
-use Rattle.dump_binary64.specs.declared.WholeAnswer.TheVariants as whole
 use Rattle.dump_binary64.specs.Meaning.Answer.{whole_by, whole_below, whole_up_to}
 use Rattle.dump_binary64.specs.Meaning.Machine.{zero64, times}
 use Rattle.dump_binary64.proofs.Steps.Products.{Signs, times-signs}
 use Rattle.dump_binary64.proofs.Steps.Whole.{word_end}
-use Rattle.dump_values.specs.declared.FieldAnswer.TheVariants.{Held, Outside}
 use Rattle.dump_values.specs.Meaning.Answer.{field_by}
 use Rattle.dump_values.specs.Meaning.Fields.{sign_of, system_by}
 use Rattle.dump_values.specs.Steps.Fields.{flow_field, shadow_field}
 use Rattle.dump_values.proofs.Steps.Agree.{outside_above, system-up, system-down}
 
 -- a number as bits of its measure
-pub bits_are : {b : Bits} {n : ℕ} → b.0 ≡ n → Held b ≡ Held (record { 0 = n })
-bits_are e = λ i. Held (record { 0 = e i })
+pub bits_are : {b : Bits} {n : ℕ} → b.0 ≡ n → Some b ≡ Some (record { 0 = n })
+bits_are e = λ i. Some (record { 0 = e i })
 
 -- what an answer implies
-whole-held : (t : Bool) (n m : ℕ) → whole_by t n ≡ whole.Held m → (t ≡ true) × (n ≡ m)
+whole-held : (t : Bool) (n m : ℕ) → whole_by t n ≡ Some m → (t ≡ true) × (n ≡ m)
 whole-held true n m e = (refl, cc)
 whole-held false n m e = (cc, cc)
 
-whole-outside : (t : Bool) (n : ℕ) → whole_by t n ≡ whole.Outside → t ≡ false
+whole-outside : (t : Bool) (n : ℕ) → whole_by t n ≡ None → t ≡ false
 whole-outside true n e = cc
 whole-outside false n e = refl
 
-cents-held : (z : ℤ) (t : Bool) (c : Cents) → cents_by z t ≡ cents.Held c → t ≡ false
+cents-held : (z : ℤ) (t : Bool) (c : Cents) → cents_by z t ≡ Some c → t ≡ false
 cents-held z true c e = cc
 cents-held z false c e = refl
 
-cents-outside : (z : ℤ) (t : Bool) → cents_by z t ≡ cents.Outside → t ≡ true
+cents-outside : (z : ℤ) (t : Bool) → cents_by z t ≡ None → t ≡ true
 cents-outside z true e = refl
 cents-outside z false e = cc
 
 -- a field of the number
-held-field : (t : Bool) (m n : ℕ) (z : ℕ → ℤ) → whole_by t m ≡ whole.Held n → field_by true (z n) ≡ field_by t (z m)
+held-field : (t : Bool) (m n : ℕ) (z : ℕ → ℤ) → whole_by t m ≡ Some n → field_by true (z n) ≡ field_by t (z m)
 held-field t m n z e = let w = whole-held t m n e in (λ i. field_by (sym w.0 i) (z (sym w.1 i)))
 
-outside-field : (t : Bool) (m : ℕ) (z : ℤ) → whole_by t m ≡ whole.Outside → Outside ≡ field_by t z
+outside-field : (t : Bool) (m : ℕ) (z : ℤ) → whole_by t m ≡ None → None ≡ field_by t z
 outside-field t m z e = ap (λ (b : Bool). field_by b z) (sym (whole-outside t m e))
 
 -- FLOWS
 module _ (x : Float) where
-  pub flow-held : (n : ℕ) → le zero64 x ≡ true → whole_below (times x 10) ≡ whole.Held n → field_by true (pos n) ≡ flow_field x
+  pub flow-held : (n : ℕ) → le zero64 x ≡ true → whole_below (times x 10) ≡ Some n → field_by true (pos n) ≡ flow_field x
   flow-held n z e = held-field (lt (times x 10) word_end) (cut (times x 10)) n pos e ∙ ap (λ (b : Bool). field_by (b && lt (times x 10) word_end) (pos (cut (times x 10)))) (sym z)
 
-  pub flow-outside : le zero64 x ≡ true → whole_below (times x 10) ≡ whole.Outside → Outside ≡ flow_field x
+  pub flow-outside : le zero64 x ≡ true → whole_below (times x 10) ≡ None → None ≡ flow_field x
   flow-outside z e = outside-field (lt (times x 10) word_end) (cut (times x 10)) (pos (cut (times x 10))) e ∙ ap (λ (b : Bool). field_by (b && lt (times x 10) word_end) (pos (cut (times x 10)))) (sym z)
-
-  pub flow-negative : le zero64 x ≡ false → Outside ≡ flow_field x
-  flow-negative z = ap (λ (b : Bool). field_by (b && lt (times x 10) word_end) (pos (cut (times x 10)))) (sym z)
 
 -- SHADOW PRICES
 module _ (x : Float) where
   abbrev p : Float
   p = times x 100
 
-  abbrev taken : Bool → Bool → ℕ → Type 0
-  taken a f n = Outside ≡ field_by (a && (f && not (outside limits.shadow_price (pos n)))) (pos n)
-
-  pub shadow-held : (n : ℕ) (c : Cents) → le zero64 x ≡ true → whole_up_to p 4294967295 ≡ whole.Held n → cents_in limits.shadow_price (pos n) ≡ cents.Held c → field_by true (pos n) ≡ shadow_field x
+  pub shadow-held : (n : ℕ) (c : Cents) → le zero64 x ≡ true → whole_up_to p 4294967295 ≡ Some n → cents_in limits.shadow_price (pos n) ≡ Some c → field_by true (pos n) ≡ shadow_field x
   shadow-held n c z e o =
       let w = whole-held (float.finite p && leb (nearest p) 4294967295) (nearest p) n e in
       let f = both (float.finite p) (leb (nearest p) 4294967295) w.0 in
@@ -87,7 +76,7 @@ module _ (x : Float) where
       both true b e = refl
       both false b e = e
 
-  pub shadow-outside : (n : ℕ) → whole_up_to p 4294967295 ≡ whole.Held n → cents_in limits.shadow_price (pos n) ≡ cents.Outside → Outside ≡ shadow_field x
+  pub shadow-outside : (n : ℕ) → whole_up_to p 4294967295 ≡ Some n → cents_in limits.shadow_price (pos n) ≡ None → None ≡ shadow_field x
   shadow-outside n e o =
       let w = whole-held (float.finite p && leb (nearest p) 4294967295) (nearest p) n e in
       ap (λ (b : Bool). field_by b (pos (nearest p)))
@@ -98,7 +87,7 @@ module _ (x : Float) where
       none true false = refl
       none false b = refl
 
-  pub shadow-far : whole_up_to p 4294967295 ≡ whole.Outside → Outside ≡ shadow_field x
+  pub shadow-far : whole_up_to p 4294967295 ≡ None → None ≡ shadow_field x
   shadow-far e =
       ap (λ (b : Bool). field_by b (pos (nearest p)))
       (sym (ap (λ (b : Bool). le zero64 x && b) (far (float.finite p) (nearest p) (whole-outside (float.finite p && leb (nearest p) 4294967295) (nearest p) e)) ∙ none (le zero64 x)))
@@ -114,12 +103,9 @@ module _ (x : Float) where
           past : (n : ℕ) → 4294967295 < n → 1000000 < n
           past n h = omega arith
 
-  pub shadow-negative : le zero64 x ≡ false → Outside ≡ shadow_field x
-  shadow-negative z = ap (λ (b : Bool). field_by (b && (float.finite p && not (outside limits.shadow_price (pos (nearest p))))) (pos (nearest p))) (sym z)
-
 -- SYSTEM PRICES, by the product
 module _ (p : Float) where
-  most-of : (q : Float) (most n : ℕ) → whole_up_to q most ≡ whole.Held n → n ≤ most
+  most-of : (q : Float) (most n : ℕ) → whole_up_to q most ≡ Some n → n ≤ most
   most-of q most n e =
       let w = whole-held (float.finite q && leb (nearest q) most) (nearest q) n e in
       le-by w.1 (leb→le (nearest q) most (and_right (float.finite q) (leb (nearest q) most) (is_true w.0)))
@@ -127,23 +113,20 @@ module _ (p : Float) where
       le-by : {a b c : ℕ} → a ≡ b → a ≤ c → b ≤ c
       le-by e h = omega arith
 
-  pub up-held : (n : ℕ) → T (le zero64 p) → whole_up_to p 2147483647 ≡ whole.Held n → field_by true (pos n) ≡ system_by p
+  pub up-held : (n : ℕ) → T (le zero64 p) → whole_up_to p 2147483647 ≡ Some n → field_by true (pos n) ≡ system_by p
   up-held n g e = held-field (float.finite p && leb (nearest p) 2147483647) (nearest p) n pos e ∙ sym (system-up p g)
 
-  pub up-most : (n : ℕ) → whole_up_to p 2147483647 ≡ whole.Held n → n ≤ 2147483647
-  up-most n e = most-of p 2147483647 n e
-
-  pub up-outside : T (le zero64 p) → whole_up_to p 2147483647 ≡ whole.Outside → Outside ≡ system_by p
+  pub up-outside : T (le zero64 p) → whole_up_to p 2147483647 ≡ None → None ≡ system_by p
   up-outside g e = outside-field (float.finite p && leb (nearest p) 2147483647) (nearest p) (pos (nearest p)) e ∙ sym (system-up p g)
 
   module _ (s : Bool) (v : Signs s p) (g : le zero64 p ≡ false) where
-    pub down-held : (n : ℕ) → whole_up_to (neg p) 2147483648 ≡ whole.Held n → field_by true (neg_ℤ (pos n)) ≡ system_by p
+    pub down-held : (n : ℕ) → whole_up_to (neg p) 2147483648 ≡ Some n → field_by true (neg_ℤ (pos n)) ≡ system_by p
     down-held n e = held-field (float.finite (neg p) && leb (nearest (neg p)) 2147483648) (nearest (neg p)) n (λ k. neg_ℤ (pos k)) e ∙ sym (system-down p s v g)
 
-    pub down-outside : whole_up_to (neg p) 2147483648 ≡ whole.Outside → Outside ≡ system_by p
+    pub down-outside : whole_up_to (neg p) 2147483648 ≡ None → None ≡ system_by p
     down-outside e = outside-field (float.finite (neg p) && leb (nearest (neg p)) 2147483648) (nearest (neg p)) (neg_ℤ (pos (nearest (neg p)))) e ∙ sym (system-down p s v g)
 
-  pub down-most : (n : ℕ) → whole_up_to (neg p) 2147483648 ≡ whole.Held n → n ≤ 2147483648
+  pub down-most : (n : ℕ) → whole_up_to (neg p) 2147483648 ≡ Some n → n ≤ 2147483648
   down-most n e = most-of (neg p) 2147483648 n e
 
 -- the sign of a price's product
@@ -152,27 +135,10 @@ price-signs nan f = absurd f
 price-signs (inf s) f = absurd f
 price-signs (fin s m e) f = times-signs s m e 100 (lit≤ tt)
 
--- A SIZE AS A SIGNED NUMBER, on either side of zero
-pub plus-is : (n : ℕ) → n ≤ 2147483647 → to_z w32 n ≡ pos n
-plus-is n h = to_z_pos w32 {n = n} (omega arith)
-
-minus-32 : (n : ℕ) → n ≤ 2147483648 → SFits w32 (neg_ℤ (pos n))
-minus-32 zero h = sfits_lit tt
-minus-32 (suc n) h = record { sfits = omega arith }
-
-module _ (n : ℕ) (h : n ≤ 2147483648) where
-  pub minus_is : pos 0 -ℤ to_z w64 n ≡ neg_ℤ (pos n)
-  minus_is = ap (λ (z : ℤ). pos 0 -ℤ z) (to_z_pos w64 {n = n} (omega arith)) ∙ +ℤ_idl (neg_ℤ (pos n))
-
-  pub minus-fits : SFits w64 (pos 0 -ℤ to_z w64 n)
-  minus-fits = sfits-by w64 minus_is (near_fits w64 (omega arith) (near-neg (near-pos n)))
-
-  -- after the subtraction, and then after the cast
-  pub wide_is : to_z w64 (of_z w64 (pos 0 -ℤ to_z w64 n)) ≡ neg_ℤ (pos n)
-  wide_is = to_z-of_z minus-fits ∙ minus_is
-
-  pub narrow-fits : SFits w32 (to_z w64 (of_z w64 (pos 0 -ℤ to_z w64 n)))
-  narrow-fits = sfits-by w32 wide_is (minus-32 n h)
-
-  pub narrow-is : to_z w32 (of_z w32 (to_z w64 (of_z w64 (pos 0 -ℤ to_z w64 n)))) ≡ neg_ℤ (pos n)
-  narrow-is = to_z-of_z narrow-fits ∙ wide_is
+-- A SIZE BELOW ZERO, as the code takes it
+pub minus_is : (n : ℕ) (z : ℤ) → n ≤ 2147483648 → z ≡ pos n → to_z w64 (of_z w64 (pos 0 -ℤ to_z w64 (of_z w64 z))) ≡ neg_ℤ (pos n)
+minus_is n z h e =
+    ap (λ (y : ℤ). to_z w64 (of_z w64 (pos 0 -ℤ to_z w64 (of_z w64 y)))) e
+    ∙ ap (λ (y : ℤ). to_z w64 (of_z w64 (pos 0 -ℤ y))) (to_z-of_z (near_fits w64 (omega arith) (near-pos n)))
+    ∙ ap (λ (y : ℤ). to_z w64 (of_z w64 y)) (+ℤ_idl (neg_ℤ (pos n)))
+    ∙ to_z-of_z (near_fits w64 (omega arith) (near-neg (near-pos n)))

@@ -17,43 +17,43 @@ use Rattle.dump_values.proofs.field_of.Goals as goal
 -- the order's quantity, as bits of its measure, is at most 100,000
 pub overflow_cast-quantity : goal.overflow_cast-quantity
 overflow_cast-quantity c =
-    let is : c.bits-quantity.result.0 ≡ quantity_in c.args.case.now c.args.i = c.bits-quantity.ensures ∙ ap (λ (r : Order). of_z w64 r.quantity.0) c.order_at-order.ensures in
-    let small : quantity_in c.args.case.now c.args.i ≤ 100000 = quantity-most c.requires.case_readable c.args.i c.if-i-k.true in
+    let is : c.bits-quantity.result.0 ≡ quantity_in c.args.«case».bytes.now c.args.i = c.bits-quantity.ensures ∙ ap (λ (r : Order). of_z w64 r.quantity.0) c.order_at.ensures in
+    let small : quantity_in c.args.«case».bytes.now c.args.i ≤ 100000 = quantity-most c.args.«case».readable c.args.i c.if-i-orders.true in
     record { fits = omega arith }
 
 pub share_of-requires : goal.share_of-requires
 share_of-requires c =
-    let is : c.bits-quantity.result.0 ≡ quantity_in c.args.case.now c.args.i = c.bits-quantity.ensures ∙ ap (λ (r : Order). of_z w64 r.quantity.0) c.order_at-order.ensures in
-    let small : quantity_in c.args.case.now c.args.i ≤ 100000 = quantity-most c.requires.case_readable c.args.i c.if-i-k.true in
+    let is : c.bits-quantity.result.0 ≡ quantity_in c.args.«case».bytes.now c.args.i = c.bits-quantity.ensures ∙ ap (λ (r : Order). of_z w64 r.quantity.0) c.order_at.ensures in
+    let small : quantity_in c.args.«case».bytes.now c.args.i ≤ 100000 = quantity-most c.args.«case».readable c.args.i c.if-i-orders.true in
     omega arith
 
-pub returns-then-i-k : goal.returns-then-i-k
-returns-then-i-k c =
-    let is : c.bits-quantity.result.0 ≡ quantity_in c.args.case.now c.args.i = c.bits-quantity.ensures ∙ ap (λ (r : Order). of_z w64 r.quantity.0) c.order_at-order.ensures in
+pub returns-then-i-orders : goal.returns-then-i-orders
+returns-then-i-orders c =
+    let is : c.bits-quantity.result.0 ≡ quantity_in c.args.«case».bytes.now c.args.i = c.bits-quantity.ensures ∙ ap (λ (r : Order). of_z w64 r.quantity.0) c.order_at.ensures in
     c.share_of.ensures
     ∙ (λ j. share_field (c.value-x.ensures j) (is j))
-    ∙ share-agrees c.args.bits c.requires.bits_value (quantity_in c.args.case.now c.args.i) (quantity-most c.requires.case_readable c.args.i c.if-i-k.true)
-    ∙ ap (λ (n : Kind). field_of n c.args.bits) (order-place c.requires.case_readable c.args.i c.if-i-k.true)
+    ∙ share-agrees c.args.bits c.requires.bits_value (quantity_in c.args.«case».bytes.now c.args.i) (quantity-most c.args.«case».readable c.args.i c.if-i-orders.true)
+    ∙ ap (λ (n : Kind). field_of n c.args.bits) (order-place c.args.«case».readable c.args.i c.if-i-orders.true)
 
-pub overflow_add-k : goal.overflow_add-k
-overflow_add-k c = record { fits = omega (arith, limited (headed c.requires.case_readable)) }
+pub overflow_add-orders : goal.overflow_add-orders
+overflow_add-orders c = record { fits = omega (arith, limited (headed c.args.«case».readable)) }
 
 pub flow-requires : goal.flow-requires
 flow-requires c = subst (λ (x : Float). T (finite x)) (sym c.value-x.ensures) (finite-value c.args.bits c.requires.bits_value)
 
-pub returns-then-i-k-2 : goal.returns-then-i-k-2
-returns-then-i-k-2 c =
+pub returns-then-i-orders-2 : goal.returns-then-i-orders-2
+returns-then-i-orders-2 c =
     c.flow.ensures
     ∙ ap flow_field c.value-x.ensures
     ∙ flow-agrees c.args.bits c.requires.bits_value
-    ∙ ap (λ (n : Kind). field_of n c.args.bits) (flow-place c.requires.case_readable c.args.i c.if-i-k.false c.if-i-k-2.true)
+    ∙ ap (λ (n : Kind). field_of n c.args.bits) (flow-place c.args.«case».readable c.args.i c.if-i-orders.false c.if-i-orders-2.true)
 
 pub shadow_price-requires : goal.shadow_price-requires
 shadow_price-requires c = subst (λ (x : Float). T (finite x)) (sym c.value-x.ensures) (finite-value c.args.bits c.requires.bits_value)
 
-pub returns : goal.returns
-returns c =
+pub returns-else-i-orders-2 : goal.returns-else-i-orders-2
+returns-else-i-orders-2 c =
     c.shadow_price.ensures
     ∙ ap shadow_field c.value-x.ensures
     ∙ shadow-agrees c.args.bits c.requires.bits_value
-    ∙ ap (λ (n : Kind). field_of n c.args.bits) (shadow-place c.requires.case_readable c.args.i c.if-i-k.false c.if-i-k-2.false)
+    ∙ ap (λ (n : Kind). field_of n c.args.bits) (shadow-place c.args.«case».readable c.args.i c.if-i-orders.false c.if-i-orders-2.false)

@@ -1,6 +1,6 @@
 -- `dump_values::flow` meets its contract: the product of a flow that is not negative is not negative, and its cut is a
 -- word or none.
-use Rattle.std.proofs.Common.{◌≡◌, sym, ap, ◌∙◌, subst, T, lit≤, of_z, w64}
+use Rattle.std.proofs.Common.{◌≡◌, sym, ap, ◌∙◌, subst, T, lit≤}
 use Rattle.std.specs.Prelude.{Float}
 use Rattle.std.specs.Float.{binary64}
 use Rattle.std.specs.Float.Ieee.{le, mul, of_bits}
@@ -20,13 +20,14 @@ product_is x = ap (mul binary64 x) ten-bits
 pub cut_to_word-requires : goal.cut_to_word-requires
 cut_to_word-requires c = subst (λ (p : Float). T (le zero64 p)) (sym (product_is c.args.x)) (times-not-negative c.args.x 10 c.requires (lit≤ tt) (is_true (zero_test c.args.x c.if-x.true)))
 
-pub returns-in-Held : goal.returns-in-Held
-returns-in-Held c =
+pub returns-in_err-n : goal.returns-in_err-n
+returns-in_err-n c =
     let x = c.args.x in
-    bits_are (c.bits.ensures ∙ ap (of_z w64) c.unsigned.ensures)
-    ∙ flow-held x c.in-Held.n (zero_test x c.if-x.true) (ap whole_below (sym (product_is x)) ∙ sym c.cut_to_word.ensures ∙ c.in-Held.is)
+    c.from_residual.ensures
+    ∙ flow-outside x (zero_test x c.if-x.true) (ap whole_below (sym (product_is x)) ∙ sym c.cut_to_word.ensures ∙ c.in_err-n.was)
 
-pub returns-in_default : goal.returns-in_default
-returns-in_default c =
+pub returns-in_ok-n : goal.returns-in_ok-n
+returns-in_ok-n c =
     let x = c.args.x in
-    flow-outside x (zero_test x c.if-x.true) (ap whole_below (sym (product_is x)) ∙ sym c.cut_to_word.ensures ∙ c.in_default.is)
+    bits_are c.from.ensures
+    ∙ flow-held x c.in_ok-n.n (zero_test x c.if-x.true) (ap whole_below (sym (product_is x)) ∙ sym c.cut_to_word.ensures ∙ c.in_ok-n.was)

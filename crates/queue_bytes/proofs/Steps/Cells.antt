@@ -2,19 +2,17 @@
 -- the cells. Assumes nothing.
 use Rattle.std.specs.Prelude.{◌≡◌, refl, Bool, true, false, cond, ◌&&◌, ◌||◌, ℕ, zero, suc, ◌+◌, ◌-◌, ◌≤◌, ◌<◌, ltb, length, get_or, drop, set, replicate}
 use Rattle.std.proofs.Math.Path.{sym, ap}
-use Rattle.std.proofs.Common.{◌∙◌, subst, arith, eq-eqb, ne_eqb, lt-ltb, le-ltb, length-append, length-drop, drop_of_length-le, drop-cons, get_or-drop, take_all, add-one}
+use Rattle.std.proofs.Common.{◌∙◌, subst, arith, eq-eqb, ne_eqb, le-ltb, length-append, drop_of_length-le, drop-cons, add-one}
 use Rattle.std.proofs.Math.Bool.{not}
 use mathlib.Core.List.{List, [], ◌∷◌, ◌++◌, map, append_assoc}
 use Rattle.std.proofs.Math.Decide.{dec_lt, ℕ_discrete}
 use Rattle.std.proofs.Math.Dec.{eqb}
 use Rattle.std.proofs.lemmas.List.{set_at}
-use Rattle.std.proofs.Math.Seq.{paste, paste-zero, paste-suc}
 use Rattle.queue_bytes.specs.declared.Waiting.{Waiting}
 use Rattle.queue_turns.specs.Meaning.Queue.{among}
 use Rattle.queue_turns.specs.Steps.Invariant.{Hours}
 use Rattle.queue_turns.proofs.Steps.Invariant.{at-most-25, room}
 use Rattle.queue_bytes.specs.Meaning.Bytes.{is_new, cells_of, keep}
-use Rattle.queue_bytes.specs.Steps.ReadBack.{New}
 use Rattle.queue_bytes.proofs.Steps.ReadBack.{new-of, length-cells-map, length-cells}
 use Rattle.queue_bytes.specs.Steps.Cells.{waiting_of, Tidy, Addable, counts_behind}
 
@@ -98,11 +96,6 @@ module _ (cells : List ℕ) (c i : ℕ) where
   unfolding among
   among-end l = ap (λ (x : List ℕ). among c x) (drop_of_length-le cells l)
 
--- ---- cells that are copied, one by one
-
-pub copied : (d : List ℕ) (at : ℕ) (s : List ℕ) (j : ℕ) → at + j < length d → j < length s → set (paste d at s j) (at + j) (get_or s j 0) ≡ paste d at s (j + 1)
-copied d at s j p q = paste-suc d at s j 0 p q ∙ ap (λ (k : ℕ). paste d at s k) (sym (add-one j))
-
 -- ---- the hours after one cell more
 
 pub added_is : (w : Waiting) (c : ℕ) (hours : List ℕ) → Addable w c → w ≡ waiting_of hours
@@ -112,23 +105,6 @@ added_is w c hours p e =
     let longer : length hours + 1 ≡ length (hours ++ ((c - 1) ∷ [])) = omega (arith, length-append hours ((c - 1) ∷ [])) in
     ap (λ (v : Waiting). record { cells = set v.cells v.count c; count = v.count + 1 }) e
     ∙ (λ i. record { cells = cells-more hours c few p.new.above i; count = longer i })
-
-module _ (cells : List ℕ) (c : ℕ) where
-  pub counts-free : c ≡ 0 → false ≡ counts_behind cells c
-  unfolding counts_behind
-  counts-free e = sym (ap (λ (b : Bool). b && (ltb c 26 && not (among c cells))) (le-ltb 0 c (omega arith)))
-
-  pub counts-over : 0 < c → 25 < c → false ≡ counts_behind cells c
-  unfolding counts_behind
-  counts-over p l = sym
-      (ap (λ (b : Bool). b && (ltb c 26 && not (among c cells))) (lt-ltb 0 c p)
-      ∙ ap (λ (b : Bool). b && not (among c cells)) (le-ltb c 26 (omega arith)))
-
-  pub counts-else : 0 < c → c ≤ 25 → not (among c cells) ≡ counts_behind cells c
-  unfolding counts_behind
-  counts-else p l = sym
-      (ap (λ (b : Bool). b && (ltb c 26 && not (among c cells))) (lt-ltb 0 c p)
-      ∙ ap (λ (b : Bool). b && not (among c cells)) (lt-ltb c 26 (omega arith)))
 
 -- after the cells of some hours, a cell counts if and only if its hour is new
 pub counts-new : (hours : List ℕ) (c : ℕ) → counts_behind (cells_of hours) c ≡ is_new hours c
@@ -162,28 +138,3 @@ among_of w c hours p e = ap (λ (v : Waiting). among c v.cells) e ∙ among-cell
 
 pub addable : (w : Waiting) (c : ℕ) → Tidy w → 0 < c → c < 26 → among c w.cells ≡ false → Addable w c
 addable w c t p l new = record { tidy = t; new = record { above = p; below = l; new = sym (among_of w c t.hours p t.is) ∙ new } }
-
--- ---- cells moved up, one by one, into free cells
-
-module _ (cells : List ℕ) where
-  pub moved_none : replicate 25 0 ≡ paste (replicate 25 0) 0 (drop 1 cells) 0
-  moved_none = paste-zero (replicate 25 0) 0 (drop 1 cells)
-
-  pub moved_more : (next : List ℕ) (i : ℕ) → i < 24 → length cells ≡ 25 → next ≡ paste (replicate 25 0) 0 (drop 1 cells) i
-      → set next i (get_or cells (i + 1) 0) ≡ paste (replicate 25 0) 0 (drop 1 cells) (i + 1)
-  moved_more next i l len e =
-      ap (λ (x : List ℕ). set x i (get_or cells (i + 1) 0)) e
-      ∙ ap (λ (k : ℕ). set (paste (replicate 25 0) 0 (drop 1 cells) i) k (get_or cells (i + 1) 0)) from_zero
-      ∙ ap (λ (x : ℕ). set (paste (replicate 25 0) 0 (drop 1 cells) i) (0 + i) x) there
-      ∙ copied (replicate 25 0) 0 (drop 1 cells) i (omega arith) (omega (arith, length-drop 1 cells))
-    where
-      from_zero : i ≡ 0 + i
-      from_zero = omega arith
-
-      there : get_or cells (i + 1) 0 ≡ get_or (drop 1 cells) i 0
-      there = ap (λ (k : ℕ). get_or cells k 0) (omega arith) ∙ sym (get_or-drop 1 cells i 0)
-
-  pub moved_all : (i : ℕ) → i ≡ 24 → length cells ≡ 25 → paste (replicate 25 0) 0 (drop 1 cells) i ≡ drop 1 cells ++ (0 ∷ [])
-  moved_all i e len =
-      ap (λ (k : ℕ). paste (replicate 25 0) 0 (drop 1 cells) k) e
-      ∙ ap (λ (x : List ℕ). x ++ (0 ∷ [])) (take_all 24 (drop 1 cells) (omega (arith, length-drop 1 cells)))

@@ -1,10 +1,11 @@
 -- What a walk over an area's cells has read, and what a walk over the areas in turn has found. Assumes nothing.
-use Rattle.std.specs.Prelude.{◌≡◌, Bool, true, length, take, replicate}
+use Rattle.std.specs.Prelude.{◌≡◌, Bool, true, length, take, drop, replicate, slice_range}
 use Rattle.std.proofs.Math.Path.{refl, sym, ap}
 use Rattle.std.proofs.Common.{◌∙◌, subst, add-one, lt-ltb, take-suc, take_all}
 use Rattle.std.proofs.Math.Bool.{cond}
 use mathlib.Core.List.{List, [], ◌∷◌}
 use Rattle.std.proofs.Math.Option.{Option}
+use Rattle.std.specs.declared.option.Option.TheVariants.{None, Some}
 use Prim.Native.Nat.{ℕ, suc, ◌+◌, ◌*◌, ◌-◌, ◌%◌, ◌≤◌, ◌<◌}
 use native.Mathlib.Omega.{arith}
 use Rattle.std.proofs.Math.ListN.{get_or}
@@ -12,7 +13,7 @@ use Rattle.queue_bytes.specs.declared.Waiting.{Waiting}
 use Rattle.queue_turns.specs.Meaning.Queue.{Pair, in_turn, first_waiting, earliest_else, next}
 use Rattle.queue_turns.specs.Steps.Invariant.{Hours}
 use Rattle.queue_bytes.specs.Meaning.Bytes.{keep, keep_all, hours_in, cells_of, cells_at, hours_at, queue_of}
-use Rattle.queue_bytes.proofs.Steps.ReadBack.{hours-in, length-cells-at, getD-cells}
+use Rattle.queue_bytes.proofs.Steps.ReadBack.{hours-in, length-cells-at}
 use Rattle.queue_bytes.proofs.Steps.ReadBack.{keep-more}
 use Rattle.queue_bytes.specs.Steps.Cells.{waiting_of, counts_behind}
 use Rattle.queue_bytes.proofs.Steps.Cells.{addable-room, kept-addable}
@@ -35,10 +36,17 @@ module _ (bytes : List ℕ) (area : ℕ) where
   pub read-room : (w : Waiting) (c i : ℕ) → w ≡ waiting_of (hours_to i) → counts_behind w.cells c ≡ true → w.count < 25
   read-room w c i e f = (addable-room (kept-addable w c (hours_to i) (read-good i) e f)).0
 
-  pub read_more : (i : ℕ) → length bytes ≡ 101 → area < 4 → i < 25 → keep (hours_to i) (get_or bytes (25 * area + i) 0) ≡ hours_to (i + 1)
+  -- the cells that the code goes over
+  pub cells-of : slice_range bytes (25 * area) (25 * area + 25) ≡ cells_at bytes area
+  cells-of = ap (λ (n : ℕ). take n (drop (25 * area) bytes)) width
+    where
+      width : 25 * area + 25 - 25 * area ≡ 25
+      width = omega arith
+
+  pub read_more : (i : ℕ) → length bytes ≡ 101 → area < 4 → i < 25 → keep (hours_to i) (get_or (slice_range bytes (25 * area) (25 * area + 25)) i 0) ≡ hours_to (i + 1)
   unfolding hours_to hours_in
   read_more i len l m =
-      ap (λ (c : ℕ). keep (hours_to i) c) (sym (getD-cells bytes area i m))
+      ap (λ (cells : List ℕ). keep (hours_to i) (get_or cells i 0)) cells-of
       ∙ sym (keep-more (take i (cells_at bytes area)) [] (get_or (cells_at bytes area) i 0))
       ∙ ap (λ (cells : List ℕ). keep_all [] cells) (sym (take-suc (cells_at bytes area) i 0 (subst (λ (n : ℕ). i < n) (sym (length-cells-at bytes area len l)) m)))
       ∙ ap (λ (k : ℕ). keep_all [] (take k (cells_at bytes area))) (sym (add-one i))
@@ -78,11 +86,11 @@ module _ (bytes : List ℕ) where
       further : (t : ℕ) → t + k + 1 ≡ t + (k + 1)
       further t = omega arith
 
-  pub next_here : (k : ℕ) → k < 4 → 0 < length (hours_at bytes ((get_or bytes 100 0 % 4 + k) % 4)) → NextFrom k → (get_or bytes 100 0 % 4 + k) % 4 ≡ area_of (next (queue_of bytes))
+  pub next_here : (k : ℕ) → k < 4 → 0 < length (hours_at bytes ((get_or bytes 100 0 % 4 + k) % 4)) → NextFrom k → Some ((get_or bytes 100 0 % 4 + k) % 4) ≡ area_of (next (queue_of bytes))
   next_here k l some-wait e = sym (ap area_of (turn_by k l e) ∙ by (hours_at bytes ((get_or bytes 100 0 % 4 + k) % 4)) some-wait)
     where
       by : (hours : List ℕ) → 0 < length hours
-          → area_of (earliest_else ((get_or bytes 100 0 % 4 + k) % 4) hours (first_waiting (hours_at bytes) (in_turn (4 - (k + 1)) (get_or bytes 100 0 % 4 + (k + 1))))) ≡ (get_or bytes 100 0 % 4 + k) % 4
+          → area_of (earliest_else ((get_or bytes 100 0 % 4 + k) % 4) hours (first_waiting (hours_at bytes) (in_turn (4 - (k + 1)) (get_or bytes 100 0 % 4 + (k + 1))))) ≡ Some ((get_or bytes 100 0 % 4 + k) % 4)
       by [] p = absurd (no_less p)
         where
           no_less : 0 < 0 → ⊥
@@ -103,6 +111,6 @@ module _ (bytes : List ℕ) where
           some-there : (n : ℕ) → suc n ≤ 0 → ⊥
           some-there n x = omega arith
 
-  pub next-none : (k : ℕ) → k ≡ 4 → NextFrom k → 4 ≡ area_of (next (queue_of bytes))
+  pub next-none : (k : ℕ) → k ≡ 4 → NextFrom k → None ≡ area_of (next (queue_of bytes))
   unfolding NextFrom first_waiting in_turn
   next-none k f e = sym (ap area_of (e ∙ ap (λ (n : ℕ). first_waiting (hours_at bytes) (in_turn (4 - n) (get_or bytes 100 0 % 4 + n))) f))
