@@ -5,33 +5,58 @@
 ghost use Rattle.std.specs.Prelude.{◌≡◌, ◌+◌, ◌*◌, ◌≤◌, ◌<◌, length};
 ghost use Rattle.flow_pairs.specs.Meaning.Pairs.{second_zone};
 ghost use Rattle.flow_scratch.specs.Meaning.Places.{amount_at};
-ghost use Rattle.flow_augment.specs.Meaning.Path.{trail_of, SomeAugment, Augmented};
+ghost use Rattle.flow_augment.specs.Meaning.Path.{trail_of, labelled, SomeAugment, Augmented};
 ghost use Rattle.flow_augment.specs.Steps.Path.{Shifted, SomePath, Walked};
 
 use flow_pairs::zone_at;
-use flow_scratch::{EXPORT_USED, IMPORT_USED, amount, store};
+use flow_scratch::{AMOUNTS, EXPORT_USED, IMPORT_USED, amount, store};
+
+// What a search knows of a zone.
+#[derive(Clone, Copy)]
+pub struct Label {
+    // How much more can be brought to the zone; 0: it is not reached.
+    pub amount: u64,
+    // It falls along the path back, to 0 at a zone with export left.
+    pub depth: u8,
+    // The pair by which the zone was reached.
+    pub via: u8,
+}
 
 // What a search knows of the sixteen zones, and the order in which it reached them.
 #[derive(Clone, Copy)]
 pub struct Labels {
-    // How much more can be brought to the zone; 0: it is not reached.
-    pub label: [u64; 16],
-    // It falls along the path back, to 0 at a zone with export left.
-    pub depth: [u8; 16],
-    // The pair by which the zone was reached.
-    pub via: [u8; 16],
-    // The zones reached, first come first, and how many they are.
+    pub zones: [Label; 16],
+    // The zones reached, first come first, and how many they are: fixed memory, so no Vec.
     pub queue: [u8; 16],
     pub count: usize,
-    // A zone that is reached and has import left; 16: none yet.
-    pub sink: usize,
+    // A zone that is reached and has import left.
+    pub sink: Option<usize>,
+}
+
+impl Label {
+    pub const UNREACHED: Label = Label {
+        amount: 0,
+        depth: 0,
+        via: 0,
+    };
+}
+
+impl Labels {
+    // Reaches a zone, the next in the order.
+    pub fn reach(&mut self, zone: usize, label: Label)
+        requires { (zone < 16) × (self.old.count < 16) }
+        ensures { self.new ≡ labelled self.old zone label }
+    {
+        self.zones[zone] = label;
+        self.queue[self.count] = zone as u8;
+        self.count += 1;
+    }
 }
 
 // Zone z lacks d: pair k supplies it, and its other zone lacks d instead. Flow back along a used pair reduces its
 // flow.
-fn shift(pairs: &[u8], s: &mut [i64], k: usize, z: usize, d: u64) -> usize
+fn shift(pairs: &[u8], s: &mut [i64; AMOUNTS], k: usize, z: usize, d: u64) -> usize
     requires k_in_bounds { (2 * k + 1 < length pairs.now) × (k < 64) }
-    requires in_bounds { 96 ≤ length s.old }
     requires d_bound { amount_at s.old k + d < 9223372036854775808 }
     requires d_bound_2 { (second_zone pairs.now k ≡ z → ⊥) → d ≤ amount_at s.old k }
     ensures { Shifted pairs.now s.old s.new k z d result }
@@ -49,20 +74,20 @@ fn shift(pairs: &[u8], s: &mut [i64], k: usize, z: usize, d: u64) -> usize
 }
 
 // From a zone that lacks d back along its path, to a zone with export left.
-fn walk_back(pairs: &[u8], s: &mut [i64], labels: Labels, t: usize, d: u64) -> usize
+fn walk_back(pairs: &[u8], s: &mut [i64; AMOUNTS], labels: Labels, t: usize, d: u64) -> usize
     requires { SomePath pairs.now s.old (trail_of labels) d t }
     ensures { Walked pairs.now s.old s.new (trail_of labels) d t result }
 {
     let mut z = t;
-    while 0 < labels.depth[z] {
-        let k = labels.via[z] as usize;
+    while 0 < labels.zones[z].depth {
+        let k = labels.zones[z].via as usize;
         z = shift(pairs, s, k, z, d);
     }
     z
 }
 
 // Brings d more to zone t, from a zone with export left.
-pub fn augment(pairs: &[u8], s: &mut [i64], labels: Labels, t: usize, d: u64)
+pub fn augment(pairs: &[u8], s: &mut [i64; AMOUNTS], labels: Labels, t: usize, d: u64)
     requires { SomeAugment pairs.now s.old (trail_of labels) d t }
     ensures { Augmented pairs.now s.old s.new (trail_of labels) d t }
 {

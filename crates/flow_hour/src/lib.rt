@@ -7,25 +7,19 @@ ghost use Rattle.std.specs.Int.{w64};
 ghost use Rattle.std.proofs.Common.{to_z};
 ghost use Rattle.base_measures.specs.Meaning.TenthsHold.{tenths_at};
 ghost use Rattle.report_file.specs.Meaning.Prices.{grains_at};
-ghost use Rattle.flow_intuitive.specs.Meaning.Intuitive.{scratch_room};
-ghost use Rattle.flow_intuitive.specs.Meaning.SmallScratch.{small_room};
 ghost use Rattle.flow_hour.specs.Meaning.Hour.{HourAnswer};
-ghost use Rattle.flow_hour.specs.Steps.Lent.{FitsTo, Lists, refused_as};
+ghost use Rattle.flow_hour.specs.Steps.Lent.{FitsTo, Lists};
 
-use base_causes::Outcome;
 use base_integers::Bits;
-use base_measures::{Grains, Tenths};
-use flow_intuitive::{Carried, SCRATCH, SMALL_SCRATCH, intuitive_of};
+use base_measures::{Grains, Measure, Tenths};
+use flow_intuitive::{Carried, intuitive_of};
 use judge_stages::find;
 
 // The number of 64 bits in two's complement, for a lent list of numbers.
 fn lent(x: Bits) -> i64
     ensures { result ≡ to_z w64 x.0 }
 {
-    if x.0 < 9223372036854775808 {
-        return x.0 as i64;
-    }
-    -((18446744073709551615 - x.0) as i64) - 1
+    x.0.cast_signed()
 }
 
 // The zones' net positions with export positive; ours are import positive.
@@ -42,7 +36,8 @@ fn turned(nets: [Tenths; layout::ZONES], zones: usize) -> [i64; layout::ZONES]
     exports
 }
 
-// The zones' prices as a list of numbers.
+// The zones' prices as a list of numbers. Not one function with `turned`: they differ in the number that they list,
+// not in a type alone.
 fn listed(prices: [Grains; layout::ZONES], zones: usize) -> [i64; layout::ZONES]
     requires zones_bound { zones ≤ 16 }
     requires fits_to { FitsTo (λ z. grains_at prices z) zones }
@@ -56,59 +51,26 @@ fn listed(prices: [Grains; layout::ZONES], zones: usize) -> [i64; layout::ZONES]
     list
 }
 
-fn refused(verdict: Outcome) -> Carried
-    ensures { result ≡ refused_as verdict }
-{
-    Carried {
-        number: verdict.number,
-        index: verdict.index,
-        intuitive: 0,
-        total: Tenths::ZERO,
-    }
-}
-
-// With n numbers of scratch: the judgement's refusal, or the answer for the accepted hour's exports, its prices and
-// these pairs.
-fn hour_intuitive_in(
-    case: &[u8],
-    proposal: &[u8],
-    pairs: &[u8],
-    scratch: &mut [i64],
-    n: usize,
-) -> Carried
-    requires { 96 ≤ n }
-    ensures { HourAnswer «case».now proposal.now pairs.now n scratch.old result scratch.new }
-{
-    let found = find(case, proposal);
-    let judged = found.verdict;
-    if judged.number != 0 {
-        return refused(judged);
-    }
-    let zones = found.hour.counts.zones;
-    let nets = found.cleared.nets;
-    let prices = found.prices;
-    let exports = turned(nets, zones);
-    let list = listed(prices, zones);
-    intuitive_of(&exports[..zones], &list[..zones], pairs, scratch, n)
-}
-
 // The judgement's number and index where the hour is not accepted; else the answer for its exports, its prices and
-// these pairs.
-pub fn hour_intuitive(case: &[u8], proposal: &[u8], pairs: &[u8], scratch: &mut [i64]) -> Carried
-    ensures { HourAnswer «case».now proposal.now pairs.now scratch_room scratch.old result
-        scratch.new }
-{
-    hour_intuitive_in(case, proposal, pairs, scratch, SCRATCH)
-}
-
-// The same with 96 numbers of scratch (S-13).
-pub fn hour_intuitive_small(
+// these pairs. With N numbers of scratch, `SCRATCH` or `SMALL_SCRATCH`.
+pub fn hour_intuitive_in<const N: usize>(
     case: &[u8],
     proposal: &[u8],
     pairs: &[u8],
     scratch: &mut [i64],
 ) -> Carried
-    ensures { HourAnswer «case».now proposal.now pairs.now small_room scratch.old result scratch.new }
+    requires { 96 ≤ N }
+    ensures { HourAnswer «case».now proposal.now pairs.now N scratch.old result scratch.new }
 {
-    hour_intuitive_in(case, proposal, pairs, scratch, SMALL_SCRATCH)
+    let valued = match find(case, proposal) {
+        Ok(valued) => valued,
+        Err(refusal) => return Carried::from(refusal),
+    };
+    if valued.verdict.number != 0 {
+        return Carried::from(valued.verdict);
+    }
+    let zones = valued.hour.case.counts.zones;
+    let exports = turned(valued.cleared.nets, zones);
+    let list = listed(valued.prices, zones);
+    intuitive_of::<N>(&exports[..zones], &list[..zones], pairs, scratch)
 }

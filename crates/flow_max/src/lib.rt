@@ -6,7 +6,6 @@ ghost use Rattle.base_integers.specs.Meaning.Difference.{up};
 ghost use Rattle.base_integers.specs.Meaning.NaturalSums.{sum_nat};
 ghost use Rattle.flow_pairs.specs.Meaning.Pairs.{network_of};
 ghost use Rattle.flow_scratch.specs.Meaning.Places.{flow_of};
-ghost use Rattle.flow_scratch.specs.Steps.Scratch.{Rest};
 ghost use Rattle.flow_scratch.specs.Meaning.Cleared.{Cleared};
 ghost use Rattle.flow_augment.specs.Steps.Lacking.{State};
 ghost use Rattle.flow_augment.specs.Meaning.Path.{InputsInRange};
@@ -15,8 +14,8 @@ ghost use Rattle.flow_max.specs.Steps.Filled.{Filled};
 
 use flow_augment::augment;
 use flow_pairs::pair_table;
-use flow_scratch::{AMOUNTS, amount, clear, import_left};
-use flow_search::{min, search};
+use flow_scratch::{AMOUNTS, amount, import_left};
+use flow_search::Exchanges;
 
 // Whether every export is carried to imports, and the largest total that is carried, in tenths.
 #[derive(Clone, Copy)]
@@ -26,23 +25,20 @@ pub struct MaxFlow {
 }
 
 // Augments as long as the search reaches a zone with import left. The flow is empty at first.
-fn fill(net_exports: &[i64], prices: &[i64], pairs: &[u8], s: &mut [i64]) -> u64
-    requires inputs_in_range { InputsInRange net_exports.now prices.now pairs.now }
-    requires in_bounds { 96 ≤ length s.old }
-    requires state { State (network_of net_exports.now prices.now pairs.now) (flow_of s.old) 0 }
-    ensures filled { Filled (network_of net_exports.now prices.now pairs.now) (flow_of s.new) result }
-    ensures rest { Rest s.old s.new }
+fn fill(exchanges: &Exchanges, s: &mut [i64; AMOUNTS]) -> u64
+    requires { State (network_of exchanges.now.net_exports.now exchanges.now.prices.now exchanges.now.pairs.now) (flow_of s.old) 0 }
+    ensures filled { Filled (network_of exchanges.now.net_exports.now exchanges.now.prices.now exchanges.now.pairs.now) (flow_of s.new) result }
+    ensures len { length s.new ≡ 96 }
 {
-    let table = pair_table(pairs);
     let mut total = 0;
     loop {
-        let labels = search(net_exports, prices, pairs, &table, s);
-        let t = labels.sink;
-        if net_exports.len() <= t {
+        let labels = exchanges.search(s);
+        let Some(t) = labels.sink else {
             return total;
-        }
-        let d = min(labels.label[t], import_left(net_exports, s, t));
-        augment(pairs, s, labels, t, d);
+        };
+        let left = import_left(exchanges.net_exports, s, t);
+        let d = left.min(labels.zones[t].amount);
+        augment(exchanges.pairs, s, labels, t, d);
         total += d;
     }
 }
@@ -52,31 +48,38 @@ fn all_exports(net_exports: &[i64]) -> u64
     ensures { result ≡ sum_nat (length net_exports.now) (λ z. up (get_or net_exports.now z (pos 0))) }
 {
     let mut sum = 0;
-    let mut z = 0;
-    while z < net_exports.len() {
+    for z in 0..net_exports.len() {
         sum += amount(net_exports, z);
-        z += 1;
     }
     sum
 }
 
-// With a scratch of at least n numbers, the first n of which are zero afterwards. A flow takes 96.
-pub fn max_flow(
+// With a scratch of at least N numbers, the first N of which are zero afterwards. A flow takes 96.
+pub fn max_flow<const N: usize>(
     net_exports: &[i64],
     prices: &[i64],
     pairs: &[u8],
-    s: &mut [i64],
-    n: usize,
+    scratch: &mut [i64],
 ) -> MaxFlow
     requires inputs_in_range { InputsInRange net_exports.now prices.now pairs.now }
-    requires le_n { (96 ≤ n) × (n ≤ length s.old) }
+    requires le_n { (96 ≤ N) × (N ≤ length scratch.old) }
     ensures answer { MaxFlowAnswer (network_of net_exports.now prices.now pairs.now) result.all result.total }
     ensures total { result.total ≤ 819200000 }
-    ensures scratch { Cleared n s.old s.new }
+    ensures scratch { Cleared N scratch.old scratch.new }
 {
-    clear(s, AMOUNTS);
-    let carried = fill(net_exports, prices, pairs, s);
-    clear(s, n);
+    let table = pair_table(pairs);
+    let exchanges = Exchanges {
+        net_exports,
+        prices,
+        pairs,
+        table: &table,
+    };
+    let Some(s) = scratch.first_chunk_mut::<AMOUNTS>() else {
+        unreachable!();
+    };
+    s.fill(0);
+    let carried = fill(&exchanges, s);
+    scratch[..N].fill(0);
     let exports = all_exports(net_exports);
     MaxFlow {
         all: carried == exports,

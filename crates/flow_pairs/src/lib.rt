@@ -2,7 +2,7 @@
 // that row 84 refuses.
 #![tactic(auto)]
 
-ghost use Rattle.std.specs.Prelude.{◌≡◌, ◌+◌, ◌*◌, ◌≤◌, ◌<◌, length, get_or};
+ghost use Rattle.std.specs.Prelude.{◌≡◌, ◌+◌, ◌*◌, ◌≤◌, ◌<◌, length, get_or, SomeIff};
 ghost use Rattle.base_causes.specs.Meaning.Causes.{first_below};
 ghost use Rattle.base_causes.specs.Meaning.Place.{place_of};
 ghost use Rattle.base_zone_set.specs.Steps.Pairs.{Seen};
@@ -10,9 +10,10 @@ ghost use Rattle.flow_pairs.specs.Meaning.Table.{Distinct, pair_in, PairsTabled}
 ghost use Rattle.flow_pairs.specs.Steps.Tests.{PairValid};
 ghost use Rattle.flow_pairs.specs.Meaning.Pairs.{pair_count, first_zone, second_zone, bad_pair};
 
-use base_causes::Place;
+use base_zone_set::ZoneSet;
 
-// No zone's number: the second zone of a last byte alone.
+// No zone's number: the second zone of a last byte alone. Not an Option: the one test that a zone is known refuses
+// both.
 const NO_ZONE: usize = layout::ZONES;
 
 // The most pairs that are taken.
@@ -29,35 +30,31 @@ pub fn zone_at(pairs: &[u8], i: usize) -> usize
     requires { i < length pairs.now }
     ensures { result ≡ get_or pairs.now i 16 }
 {
-    pairs[i] as usize
+    usize::from(pairs[i])
 }
 
 fn zone_or_none(pairs: &[u8], i: usize) -> usize
     ensures { result ≡ get_or pairs.now i 16 }
 {
     if i < pairs.len() {
-        return zone_at(pairs, i);
+        zone_at(pairs, i)
+    } else {
+        NO_ZONE
     }
-    NO_ZONE
 }
 
-fn first_zone(pairs: &[u8], k: usize) -> usize
+// The first zone and the second of pair k.
+fn zones_of(pairs: &[u8], k: usize) -> (usize, usize)
     requires { 2 * k + 1 < 18446744073709551616 }
-    ensures { result ≡ first_zone pairs.now k }
+    ensures first { result.0 ≡ first_zone pairs.now k }
+    ensures second { result.1 ≡ second_zone pairs.now k }
 {
-    zone_or_none(pairs, 2 * k)
-}
-
-fn second_zone(pairs: &[u8], k: usize) -> usize
-    requires { 2 * k + 1 < 18446744073709551616 }
-    ensures { result ≡ second_zone pairs.now k }
-{
-    zone_or_none(pairs, 2 * k + 1)
+    (zone_or_none(pairs, 2 * k), zone_or_none(pairs, 2 * k + 1))
 }
 
 // Whether row 84 refuses pair k. `seen` has for each zone the second zones of the earlier pairs that begin there.
 #[tactic(auto, unfolding(crate::specs::Meaning::Pairs::bad_pair))]
-fn bad_pair(pairs: &[u8], zones: usize, seen: &[u16; layout::ZONES], k: usize) -> bool
+fn bad_pair(pairs: &[u8], zones: usize, seen: &[ZoneSet; layout::ZONES], k: usize) -> bool
     requires zones_bound { zones ≤ 16 }
     requires seen { Seen (first_zone pairs.now) (second_zone pairs.now) k seen.now }
     ensures { result ≡ bad_pair zones pairs.now k }
@@ -65,79 +62,66 @@ fn bad_pair(pairs: &[u8], zones: usize, seen: &[u16; layout::ZONES], k: usize) -
     if PAIRS_GREATEST <= k {
         return true;
     }
-    let first = first_zone(pairs, k);
-    if zones <= first {
+    let (first, second) = zones_of(pairs, k);
+    if zones <= first || zones <= second || first == second {
         return true;
     }
-    let second = second_zone(pairs, k);
-    if zones <= second {
-        return true;
-    }
-    if first == second {
-        return true;
-    }
-    base_zone_set::has(seen[first], second)
+    seen[first].has(second)
 }
 
 // Adds pair k to `seen`.
-fn see_pair(pairs: &[u8], seen: &mut [u16; layout::ZONES], k: usize)
+fn see_pair(pairs: &[u8], seen: &mut [ZoneSet; layout::ZONES], k: usize)
     requires pair_valid { PairValid 16 pairs.now k }
     requires seen { Seen (first_zone pairs.now) (second_zone pairs.now) k seen.old }
     ensures { Seen (first_zone pairs.now) (second_zone pairs.now) (k + 1) seen.new }
 {
-    let first = first_zone(pairs, k);
-    let second = second_zone(pairs, k);
-    seen[first] = base_zone_set::with(seen[first], second);
+    let (first, second) = zones_of(pairs, k);
+    seen[first] = seen[first].with(second);
 }
 
 // The first pair that row 84 refuses.
-pub fn first_bad_pair(pairs: &[u8], zones: usize) -> Place
+pub fn first_bad_pair(pairs: &[u8], zones: usize) -> Option<usize>
     requires { zones ≤ 16 }
     ensures { place_of result ≡ first_below (pair_count pairs.now) (bad_pair zones pairs.now) }
 {
-    let mut seen = [0u16; layout::ZONES];
-    let count = pair_count(pairs);
-    let mut k = 0;
-    while k < count {
+    let mut seen = [ZoneSet::EMPTY; layout::ZONES];
+    for k in 0..pair_count(pairs) {
         if bad_pair(pairs, zones, &seen, k) {
-            return Place::At(k);
+            return Some(k);
         }
         see_pair(pairs, &mut seen, k);
-        k += 1;
     }
-    Place::Nowhere
+    None
 }
 
-// For two zones, at 16 times the first plus the second, the pair that leads from the first to the second; 64 where
-// there is none.
+// In a table, that there is no pair. Not an Option there: two bytes in place of one, in a table that is searched.
+const NO_PAIR: u8 = 64;
+
+// For two zones, at 16 times the first plus the second, the pair that leads from the first to the second.
 pub const TABLE: usize = layout::ZONES * layout::ZONES;
 
 pub fn pair_table(pairs: &[u8]) -> [u8; TABLE]
     requires { Distinct pairs.now }
     ensures { PairsTabled pairs.now (pair_count pairs.now) result }
 {
-    let mut table = [64u8; TABLE];
-    let count = pair_count(pairs);
-    let mut k = 0;
-    while k < count {
+    let mut table = [NO_PAIR; TABLE];
+    for k in 0..pair_count(pairs) {
         let first = zone_at(pairs, 2 * k);
         let second = zone_at(pairs, 2 * k + 1);
         table[layout::ZONES * first + second] = k as u8;
-        k += 1;
     }
     table
 }
 
-fn wide(x: u8) -> usize
-    ensures { result ≡ x }
-{
-    x as usize
-}
-
 // The pair that a table has for two zones.
-pub fn pair_at(table: &[u8; TABLE], a: usize, b: usize) -> usize
+pub fn pair_at(table: &[u8; TABLE], a: usize, b: usize) -> Option<usize>
     requires { (a < 16) × (b < 16) }
-    ensures { result ≡ pair_in table.now a b }
+    ensures { SomeIff result (pair_in table.now a b < 64) (pair_in table.now a b) }
 {
-    wide(table[layout::ZONES * a + b])
+    let pair = table[layout::ZONES * a + b];
+    if pair < NO_PAIR {
+        Some(usize::from(pair))
+    } else {
+        None
+    }
 }

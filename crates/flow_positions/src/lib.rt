@@ -9,39 +9,33 @@ ghost use Rattle.base_causes.specs.Meaning.Causes.{first_below};
 ghost use Rattle.base_causes.specs.Meaning.Place.{place_of};
 ghost use Rattle.flow_positions.specs.Meaning.Positions.{position_at, position_outside, unbalanced};
 
-use base_causes::Place;
-use base_measures::{Raw, Tenths, TenthsAnswer};
+use base_measures::{Measure, Raw, Tenths};
 
 // The position of a zone, within its limits.
-fn position(net_exports: &[i64], zone: usize) -> TenthsAnswer
+fn position(net_exports: &[i64], zone: usize) -> Option<Tenths>
     requires { zone < length net_exports.now }
     ensures { result ≡ tenths_in limits.net_position (position_at net_exports.now zone) }
 {
-    Tenths::lent_position(Raw::lent(net_exports[zone]))
+    Tenths::lent_position(Raw::from(net_exports[zone]))
 }
 
 fn position_outside(net_exports: &[i64], zone: usize) -> bool
     requires { zone < length net_exports.now }
     ensures { result ≡ position_outside net_exports.now zone }
 {
-    let TenthsAnswer::Held(_position) = position(net_exports, zone) else {
-        return true;
-    };
-    false
+    position(net_exports, zone).is_none()
 }
 
 // The first zone whose position is out of range.
-pub fn first_position_outside(net_exports: &[i64]) -> Place
+pub fn first_position_outside(net_exports: &[i64]) -> Option<usize>
     ensures { place_of result ≡ first_below (length net_exports.now) (position_outside net_exports.now) }
 {
-    let mut zone = 0;
-    while zone < net_exports.len() {
+    for zone in 0..net_exports.len() {
         if position_outside(net_exports, zone) {
-            return Place::At(zone);
+            return Some(zone);
         }
-        zone += 1;
     }
-    Place::Nowhere
+    None
 }
 
 // A position within its limits.
@@ -50,10 +44,7 @@ fn position_held(net_exports: &[i64], zone: usize) -> Tenths
     requires zone_value { position_outside net_exports.now zone ≡ false }
     ensures { result.0 ≡ position_at net_exports.now zone }
 {
-    let TenthsAnswer::Held(tenths) = position(net_exports, zone) else {
-        return Tenths::ZERO;
-    };
-    tenths
+    position(net_exports, zone).unwrap()
 }
 
 // The sum of up to 16 positions within their limits.
@@ -62,10 +53,8 @@ fn position_sum(net_exports: &[i64]) -> Tenths
     ensures { result.0 ≡ sum_to (length net_exports.now) (position_at net_exports.now) }
 {
     let mut sum = Tenths::ZERO;
-    let mut zone = 0;
-    while zone < net_exports.len() {
+    for zone in 0..net_exports.len() {
         sum = sum.plus(position_held(net_exports, zone));
-        zone += 1;
     }
     sum
 }
@@ -75,6 +64,5 @@ pub fn is_unbalanced(net_exports: &[i64]) -> bool
     requires { (length net_exports.now ≤ 16) × ((z : ℕ) → z < length net_exports.now → position_outside net_exports.now z ≡ false) }
     ensures { result ≡ unbalanced net_exports.now }
 {
-    let sum = position_sum(net_exports);
-    !sum.is_zero()
+    !position_sum(net_exports).is_zero()
 }

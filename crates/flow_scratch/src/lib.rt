@@ -6,7 +6,6 @@ ghost use Rattle.std.specs.Prelude.{◌≡◌, ◌+◌, ◌-◌, ◌≤◌, ◌<
 ghost use Rattle.std.specs.Int.Signed.{le_z};
 ghost use Rattle.base_integers.specs.Meaning.Difference.{up, dn};
 ghost use Rattle.flow_scratch.specs.Meaning.Places.{amount_at};
-ghost use Rattle.flow_scratch.specs.Meaning.Cleared.{Cleared};
 
 // The number of amounts, and where those of the zones begin.
 pub const AMOUNTS: usize = 96;
@@ -15,38 +14,24 @@ pub const EXPORT_USED: usize = 64;
 
 pub const IMPORT_USED: usize = 80;
 
-// The positive part of a number.
-fn positive(x: i64) -> u64
-    ensures { result ≡ up x }
-{
-    if x < 0 { 0 } else { x as u64 }
-}
-
-// The negative part of a number, without its sign.
-fn negative(x: i64) -> u64
-    requires { dn x ≤ 51200000 }
-    ensures { result ≡ dn x }
-{
-    if x < 0 { (-x) as u64 } else { 0 }
-}
-
+// The amount at a place: the number there, or 0 where that is negative.
 pub fn amount(s: &[i64], k: usize) -> u64
     requires { k < length s.now }
     ensures { result ≡ amount_at s.now k }
 {
-    positive(s[k])
+    s[k].max(0) as u64
 }
 
+// The import of a zone: its net export without the sign, where that is negative.
 pub fn import_of(net_exports: &[i64], z: usize) -> u64
-    requires z_in_bounds { z < length net_exports.now }
-    requires pos_bound { dn (get_or net_exports.now z (pos 0)) ≤ 51200000 }
+    requires { z < length net_exports.now }
     ensures { result ≡ dn (get_or net_exports.now z (pos 0)) }
 {
-    negative(net_exports[z])
+    net_exports[z].min(0).unsigned_abs()
 }
 
-pub fn store(s: &mut [i64], k: usize, v: u64)
-    requires k_in_bounds { k < length s.old }
+pub fn store(s: &mut [i64; AMOUNTS], k: usize, v: u64)
+    requires k_in_bounds { k < 96 }
     requires v_bound { v < 9223372036854775808 }
     ensures { s.new ≡ set s.old k (pos v) }
 {
@@ -63,38 +48,23 @@ pub fn counts(prices: &[i64], a: usize, b: usize) -> bool
 }
 
 // The export that a zone has left.
-pub fn export_left(net_exports: &[i64], s: &[i64], z: usize) -> u64
+pub fn export_left(net_exports: &[i64], s: &[i64; AMOUNTS], z: usize) -> u64
     requires z_in_bounds { z < length net_exports.now }
     requires net_exports_len_bound { length net_exports.now ≤ 16 }
-    requires in_bounds { 96 ≤ length s.now }
     ensures { result ≡ up (get_or net_exports.now z (pos 0)) - amount_at s.now (64 + z) }
 {
     let all = amount(net_exports, z);
     let used = amount(s, EXPORT_USED + z);
-    if used < all { all - used } else { 0 }
+    all.saturating_sub(used)
 }
 
 // The import that a zone has left.
-pub fn import_left(net_exports: &[i64], s: &[i64], z: usize) -> u64
+pub fn import_left(net_exports: &[i64], s: &[i64; AMOUNTS], z: usize) -> u64
     requires z_in_bounds { z < length net_exports.now }
     requires net_exports_len_bound { length net_exports.now ≤ 16 }
-    requires in_bounds { 96 ≤ length s.now }
-    requires pos_bound { dn (get_or net_exports.now z (pos 0)) ≤ 51200000 }
     ensures { result ≡ dn (get_or net_exports.now z (pos 0)) - amount_at s.now (80 + z) }
 {
     let all = import_of(net_exports, z);
     let used = amount(s, IMPORT_USED + z);
-    if used < all { all - used } else { 0 }
-}
-
-// Sets the first n numbers to zero.
-pub fn clear(s: &mut [i64], n: usize)
-    requires { n ≤ length s.old }
-    ensures { Cleared n s.old s.new }
-{
-    let mut i = 0;
-    while i < n {
-        store(s, i, 0);
-        i += 1;
-    }
+    all.saturating_sub(used)
 }

@@ -1,17 +1,29 @@
 -- A path of the search, read from its labels, and the flow after the path was used.
-use Rattle.std.specs.Prelude.{◌≡◌, List, ℕ, ◌+◌, ◌*◌, ◌-◌, ◌≤◌, ◌<◌, length, get_or, ℤ, pos}
+use Rattle.std.specs.Prelude.{◌≡◌, List, ℕ, ◌+◌, ◌*◌, ◌≤◌, ◌<◌, length, get_or, set, ℤ, pos}
 use Rattle.base_integers.specs.Meaning.Difference.{up, dn}
 use Rattle.flow_network.specs.Meaning.Network.{Placed}
 use Rattle.flow_pairs.specs.Meaning.Pairs.{pair_count, first_zone, second_zone, network_of}
 use Rattle.flow_scratch.specs.Meaning.Places.{amount_at, flow_of}
-use Rattle.flow_scratch.specs.Steps.Scratch.{Rest}
+use Rattle.flow_augment.specs.declared.Label.{Label}
 use Rattle.flow_augment.specs.declared.Labels.{Labels}
 use Rattle.flow_augment.specs.Steps.Lacking.{State}
 use Rattle.flow_augment.specs.Steps.Links.{Trail, Links}
 
+-- a zone that is not reached
+abbrev pub unreached : Label
+unreached = record { amount = 0; depth = 0; via = 0 }
+
 -- the labels of a search
 abbrev pub trail_of : Labels → Trail
-trail_of m = record { lab = λ z. get_or m.label z 0; dep = λ z. get_or m.depth z 0; by = λ z. get_or m.via z 0 }
+trail_of m = record {
+  lab = λ z. (get_or m.zones z unreached).amount;
+  dep = λ z. (get_or m.zones z unreached).depth;
+  by = λ z. (get_or m.zones z unreached).via;
+}
+
+-- a zone reached, the next in the order
+abbrev pub labelled : Labels → ℕ → Label → Labels
+labelled m z l = record { zones = set m.zones z l; queue = set m.queue m.count z; count = m.count + 1; sink = m.sink }
 
 -- the sizes of an hour that no row refuses
 pub record InputsInRange (net_exports prices : List ℤ) (bytes : List ℕ) : Type 0 where
@@ -44,4 +56,3 @@ pub record SomeAugment (bytes : List ℕ) (s : List ℤ) (m : Trail) (d t : ℕ)
 
 pub record Augmented (bytes : List ℕ) (s s' : List ℤ) (m : Trail) (d t : ℕ) : Type 0 where
   pub state : (net_exports prices : List ℤ) (total : ℕ) → Augment net_exports prices total bytes s m d t → State (network_of net_exports prices bytes) (flow_of s') (total + d)
-  pub rest : Rest s s'

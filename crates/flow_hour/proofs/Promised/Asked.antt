@@ -1,7 +1,7 @@
 -- An hour that is not accepted gets the judgement's answer with room for a report. For an accepted hour 81, 82 and
 -- 83 cannot occur, since its zones, its balance and its prices passed the judgement: only its pairs and the scratch
 -- are asked. Assumes nothing.
-use Rattle.std.specs.Prelude.{◌≡◌, Bool, true, false, ◌||◌, List, [], ◌∷◌, ◌++◌, ℕ, zero, suc, ◌+◌, ◌≤◌, ◌<◌, length, ℤ, ◌-ℤ◌}
+use Rattle.std.specs.Prelude.{◌≡◌, Bool, false, ◌||◌, List, [], ◌∷◌, ◌++◌, ℕ, zero, suc, ◌+◌, ◌<◌, length, ℤ, ◌-ℤ◌}
 use Rattle.std.proofs.Math.Path.{refl, sym, ap}
 use Rattle.std.proofs.Common.{subst, ◌∙◌, arith, eq-eqb, length-append}
 use Rattle.std.proofs.Math.Bool.{not}
@@ -24,7 +24,7 @@ use Rattle.base_causes.proofs.Promised.CauseLaws.{lacks, not-refused, else-refus
 use Rattle.rules.specs.Meaning.Layout.{report_room, zone_counts}
 use Rattle.rules.specs.Meaning.Hour.{case_of, plan_of, prices_of, net, net_sum, zone_price}
 use Rattle.rules.specs.Meaning.Report.{reports}
-use Rattle.rules.specs.Meaning.Verdict.{room_causes, case_causes, proposal_causes, clearing_causes, table, outcome, differ, ◌under◌}
+use Rattle.rules.specs.Meaning.Verdict.{room_causes, case_causes, proposal_causes, clearing_causes, table, outcome, ◌under◌}
 use Rattle.rules.proofs.Steps.Passed.{Sound, sound, case-sound}
 use Rattle.rules.proofs.Promised.Fits.{net-near, volumes-in}
 use Rattle.flow_positions.specs.Meaning.Positions.{position_outside, unbalanced}

@@ -1,39 +1,47 @@
 -- `flow_hour::hour_intuitive_in` meets its contract: the judgement's refusal, or the answer for the accepted hour's
 -- own lists. Assumes nothing.
 use Rattle.std.proofs.Common.{◌≡◌, arith}
-use Rattle.flow_hour.proofs.Steps.Kept.{hour-refused, exports-fit, prices-fit, exports-are, prices-are, pass, hour-answer}
+use Rattle.flow_hour.proofs.Steps.Kept.{hour-refused, refused-number, exports-fit, prices-fit, exports-are, prices-are, pass, hour-answer}
 use Rattle.flow_hour.proofs.hour_intuitive_in.Goals as goal
 
-pub returns-then-judged-ne0 : goal.returns-then-judged-ne0
-returns-then-judged-ne0 c =
+pub returns-in-Err : goal.returns-in-Err
+returns-in-Err g c =
     let a = c.args in
-    hour-refused a.case.now a.proposal.now a.pairs.now a.n a.scratch.now c.find-found.result c.find-found.ensures (omega (arith, c.if-judged-ne0.true)) c.refused.ensures
+    let h = c.in-Err.ensures in
+    rw c.from.ensures (hour-refused a.case.now a.proposal.now a.pairs.now g.row.N a.scratch.now c.in-Err.refusal h.verdict-is (refused-number a.case.now a.proposal.now a.pairs.now g.row.N a.scratch.now h))
+
+pub returns-then-valued-ne0 : goal.returns-then-valued-ne0
+returns-then-valued-ne0 g c =
+    let a = c.args in
+    rw c.from-then-valued-ne0.ensures (hour-refused a.case.now a.proposal.now a.pairs.now g.row.N a.scratch.now c.in-Ok.valued.verdict c.in-Ok.ensures.verdict-is (omega arith))
 
 pub turned-exports-requires-clause-fits_to : goal.turned-exports-requires-clause-fits_to
-turned-exports-requires-clause-fits_to c =
+turned-exports-requires-clause-fits_to g c =
     let a = c.args in
-    exports-fit a.case.now a.proposal.now a.pairs.now a.n a.scratch.now c.find-found.result c.find-found.ensures c.if-judged-ne0.false
+    exports-fit a.case.now a.proposal.now a.pairs.now g.row.N a.scratch.now c.in-Ok.valued c.in-Ok.ensures c.if-valued-ne0.false
 
 pub listed-list-requires-clause-fits_to : goal.listed-list-requires-clause-fits_to
-listed-list-requires-clause-fits_to c =
+listed-list-requires-clause-fits_to g c =
     let a = c.args in
-    prices-fit a.case.now a.proposal.now a.pairs.now a.n a.scratch.now c.find-found.result c.find-found.ensures c.if-judged-ne0.false
+    prices-fit a.case.now a.proposal.now a.pairs.now g.row.N a.scratch.now c.in-Ok.valued c.in-Ok.ensures c.if-valued-ne0.false
 
 pub intuitive_of-requires-clause-lists_pass : goal.intuitive_of-requires-clause-lists_pass
-intuitive_of-requires-clause-lists_pass c =
+intuitive_of-requires-clause-lists_pass g c =
     let a = c.args in
-    let f = c.find-found in
-    let e : f.result.verdict.number ≡ 0 = c.if-judged-ne0.false in
-    pass a.case.now a.proposal.now a.pairs.now a.n a.scratch.now f.result f.ensures e _ _
-    (exports-are a.case.now a.proposal.now a.pairs.now a.n a.scratch.now f.result f.ensures e _ c.turned-exports.ensures)
-    (prices-are a.case.now a.proposal.now a.pairs.now a.n a.scratch.now f.result f.ensures e _ c.listed-list.ensures)
+    let f = c.in-Ok.valued in
+    let h = c.in-Ok.ensures in
+    let e : f.verdict.number ≡ 0 = c.if-valued-ne0.false in
+    pass a.case.now a.proposal.now a.pairs.now g.row.N a.scratch.now f h e _ _
+    (exports-are a.case.now a.proposal.now a.pairs.now g.row.N a.scratch.now f h e _ c.turned-exports.ensures)
+    (prices-are a.case.now a.proposal.now a.pairs.now g.row.N a.scratch.now f h e _ c.listed-list.ensures)
 
 pub returns : goal.returns
-returns c =
+returns g c =
     let a = c.args in
-    let f = c.find-found in
-    let e : f.result.verdict.number ≡ 0 = c.if-judged-ne0.false in
-    hour-answer a.case.now a.proposal.now a.pairs.now a.n a.scratch.now f.result f.ensures e _ _
-    (exports-are a.case.now a.proposal.now a.pairs.now a.n a.scratch.now f.result f.ensures e _ c.turned-exports.ensures)
-    (prices-are a.case.now a.proposal.now a.pairs.now a.n a.scratch.now f.result f.ensures e _ c.listed-list.ensures)
+    let f = c.in-Ok.valued in
+    let h = c.in-Ok.ensures in
+    let e : f.verdict.number ≡ 0 = c.if-valued-ne0.false in
+    hour-answer a.case.now a.proposal.now a.pairs.now g.row.N a.scratch.now f h e _ _
+    (exports-are a.case.now a.proposal.now a.pairs.now g.row.N a.scratch.now f h e _ c.turned-exports.ensures)
+    (prices-are a.case.now a.proposal.now a.pairs.now g.row.N a.scratch.now f h e _ c.listed-list.ensures)
     c.intuitive_of.ensures

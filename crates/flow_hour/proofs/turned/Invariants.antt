@@ -1,9 +1,8 @@
 -- The loop's invariant: after z turns the first z numbers of the list are those of the zones.
-use Rattle.std.proofs.Common.{◌≤◌}
 use Rattle.std.specs.Prelude.{pos, ◌-ℤ◌}
 use Rattle.base_measures.specs.Meaning.TenthsHold.{tenths_at}
 use Rattle.flow_hour.specs.Steps.Lent.{Lists}
 use Rattle.flow_hour.proofs.turned.Given as goal
 
 abbrev pub invariant-loop-z : goal.invariant-loop-z
-invariant-loop-z l = (l.z ≤ l.zones) × Lists (λ k. pos 0 -ℤ tenths_at l.nets k) l.z l.exports
+invariant-loop-z l = Lists (λ k. pos 0 -ℤ tenths_at l.nets k) l.z l.exports

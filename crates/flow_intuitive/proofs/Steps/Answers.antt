@@ -1,20 +1,20 @@
 -- The table's rows as the entry asks them, and what it then answers: the number, the answer and every number of the
 -- scratch. Assumes nothing.
-use Rattle.std.specs.Prelude.{◌≡◌, refl, Bool, true, false, ◌||◌, List, [], ◌∷◌, ◌++◌, ℕ, ◌+◌, ◌-◌, ◌≤◌, ◌<◌, eqb, length, get_or, drop, replicate, ℤ, pos}
+use Rattle.std.specs.Prelude.{◌≡◌, refl, Bool, true, false, ◌||◌, List, ◌++◌, ℕ, ◌+◌, ◌-◌, ◌≤◌, ◌<◌, eqb, length, get_or, drop, replicate, ℤ, pos, Result, Err}
 use Rattle.std.proofs.Math.Path.{sym}
 use Rattle.std.proofs.Common.{ap, ◌∙◌, arith, eq-eqb, ne_eqb, T_not, length-append, length-drop, ext_get_or, get_or-append-add, get_or-drop}
 use Rattle.std.proofs.Math.Bool.{not}
 use Rattle.std.proofs.Math.Option.{Option, none, some}
 use Rattle.std.proofs.Math.Decide.{dec_lt}
+use mir.Val.{bool_byte}
 use Rattle.std.proofs.lemmas.List.{length-replicate, get_or-replicate}
 use Rattle.std.proofs.Math.ListN.{get_or-append}
 use Rattle.base_integers.specs.Meaning.Ranges.{outside}
 use Rattle.base_integers.specs.Steps.Ranges.{is_true, is_false, nat-within}
 use Rattle.base_causes.specs.declared.Outcome.{Outcome}
-use Rattle.base_causes.specs.Meaning.Causes.{Cause, verdict, first_below, refusal, answer, once, each}
-use Rattle.base_causes.proofs.Promised.CauseLaws.{row-found, row-clear, field-fails, field-passes, first-is}
+use Rattle.base_causes.specs.Meaning.Causes.{verdict, first_below, refusal, answer, each}
+use Rattle.base_causes.proofs.Promised.CauseLaws.{row-found, row-clear, field-fails, field-passes, first-is, lacks, not-refused}
 use Rattle.rules.specs.Meaning.Layout.{zone_counts}
-use Rattle.rules.specs.Meaning.Verdict.{◌under◌}
 use Rattle.flow_positions.specs.Meaning.Positions.{position_outside, unbalanced}
 use Rattle.flow_pairs.specs.Meaning.Pairs.{pair_count, bad_pair, network_of}
 use Rattle.flow_pairs.proofs.Steps.Tests.{pair-past}
@@ -22,10 +22,9 @@ use Rattle.flow_network.specs.Meaning.Network.{Network, FeasibleAll, DeficientSe
 use Rattle.flow_scratch.specs.Meaning.Cleared.{Cleared}
 use Rattle.flow_max.specs.Meaning.MaxFlow.{MaxFlowAnswer}
 use Rattle.flow_intuitive.specs.declared.Carried.{Carried}
-use Rattle.flow_intuitive.specs.Meaning.Intuitive.{price_outside, intuitive_causes, intuitive_refusal, intuitive_outcome, LargestTotal, EntryAnswer, IntuitiveAnswer}
-use Rattle.flow_intuitive.proofs.Promised.Causes.{intuitive-none, scratch-refused, scratch-answered}
-use Rattle.flow_intuitive.specs.Meaning.Answers.{ListsPass}
-use Rattle.flow_intuitive.specs.Steps.Answers.{flag_of, rest_causes}
+use Rattle.flow_intuitive.specs.Meaning.Intuitive.{price_outside, intuitive_causes, intuitive_refusal, intuitive_outcome, intuitive_scratch, scratch_by, LargestTotal, EntryAnswer, IntuitiveAnswer}
+use Rattle.flow_intuitive.specs.Meaning.Answers.{ListsPass, refused_as}
+use Rattle.flow_intuitive.specs.Steps.Answers.{flag_of, rest_causes, Examined}
 
 module _ (net_exports prices : List ℤ) (pairs : List ℕ) (n room : ℕ) where
   abbrev pub From : ℕ → Type 0
@@ -78,9 +77,9 @@ module _ (net_exports prices : List ℤ) (pairs : List ℕ) (n room : ℕ) where
   outcome-by e = sym (ap answer e)
 
   -- the rest, after 83
-  pub by-rest : From 4 → answer (refusal (rest_causes (length net_exports) pairs n room)) ≡ intuitive_outcome net_exports prices pairs n room
-  unfolding intuitive_outcome intuitive_causes
-  by-rest p = sym (ap answer p)
+  pub by-rest : From 4 → intuitive_refusal net_exports prices pairs n room ≡ refusal (rest_causes (length net_exports) pairs n room)
+  unfolding intuitive_causes
+  by-rest p = p
 
   pub lists-past : ListsPass net_exports prices → From 4
   lists-past l = past-83 (past-sum (past-82 (past-81 l.count-in l.lengths) l.positions-in) l.balanced) l.prices-in
@@ -99,6 +98,10 @@ pair-named zones pairs k e = by (dec_lt 64 k)
     by (yes h) = absurd (T_not (bad_pair zones pairs 64) ((first-is (pair_count pairs) (bad_pair zones pairs) k e).none_before 64 h) (is_true past))
     by (no h) = omega arith
 
+-- an examination ends at the refusal of a row
+pub examined-refused : {x : Option Outcome} {r : Result (Unit {0}) Outcome} {m k : ℕ} → r ≡ Err (verdict m k) → x ≡ some (verdict m k) → Examined x r
+examined-refused e h = rw e h
+
 -- A CLEARED SCRATCH as one list
 pub cleared-is : (n : ℕ) (s s' : List ℤ) → n ≤ length s → Cleared n s s' → s' ≡ replicate n (pos 0) ++ drop n s
 cleared-is n s s' h w = ext_get_or (pos 0) s' (replicate n (pos 0) ++ drop n s) (w.len ∙ sym lengths) (λ i l. by i (dec_lt i n))
@@ -114,6 +117,10 @@ cleared-is n s s' h w = ext_get_or (pos 0) s' (replicate n (pos 0) ++ drop n s) 
         ∙ sym (ap (λ (k : ℕ). get_or (replicate n (pos 0) ++ drop n s) k (pos 0)) (e ∙ ap (λ (k : ℕ). k + (i - n)) (sym (length-replicate n (pos 0))))
         ∙ get_or-append-add (replicate n (pos 0)) (drop n s) (i - n) (pos 0)
         ∙ get_or-drop n s (i - n) (pos 0) ∙ ap (λ (k : ℕ). get_or s k (pos 0)) (sym e))
+
+pub flag_is : (b : Bool) → bool_byte b ≡ flag_of b
+flag_is true = refl
+flag_is false = refl
 
 flag-yes : (b : Bool) → flag_of b ≡ 1 → b ≡ true
 flag-yes true e = refl
@@ -138,37 +145,31 @@ pub clauses : {o : Outcome} {c : Network} {b' : List ℤ} {r : Carried} {b : Lis
     × ((0 < r.number → (r.intuitive ≡ 0) × (r.total.0 ≡ pos 0)) × H))))))
 clauses m h = (m.outcome, (m.a-yes, (m.a-no, (m.yes_or_no, (m.largest, (m.scratch, (m.refused, h)))))))
 
-module _ (net_exports prices : List ℤ) (pairs : List ℕ) (n : ℕ) (s : List ℤ) (o : Outcome) (said : o ≡ intuitive_outcome net_exports prices pairs n (length s)) where
-  number_is : o.number ≡ (intuitive_outcome net_exports prices pairs n (length s)).number
-  number_is = ap (λ (x : Outcome). x.number) said
-
-  pub answer-refused : (o.number ≡ 0 → ⊥) → (r : Carried) → r ≡ record { number = o.number; index = o.index; intuitive = 0; total = record { 0 = pos 0 } } → IntuitiveAnswer net_exports prices pairs n s r s
-  answer-refused h r e = rw e (record {
-    outcome = said;
-    a-yes = λ z. absurd (h z);
-    a-no = λ z. absurd (h z);
+module _ (net_exports prices : List ℤ) (pairs : List ℕ) (n : ℕ) (s : List ℤ) where
+  pub answer-refused : (o : Outcome) → intuitive_refusal net_exports prices pairs n (length s) ≡ some o → IntuitiveAnswer net_exports prices pairs n s (refused_as o) s
+  unfolding intuitive_scratch intuitive_refusal intuitive_causes lacks
+  answer-refused o e = record {
+    outcome = outcome-by net_exports prices pairs n (length s) e;
+    a-yes = λ z. absurd (named z);
+    a-no = λ z. absurd (named z);
     yes_or_no = omega arith;
-    largest = λ z. absurd (h z);
-    scratch = sym (scratch-refused net_exports prices pairs n s (positive (dec_lt 0 (intuitive_outcome net_exports prices pairs n (length s)).number)));
+    largest = λ z. absurd (named z);
+    scratch = sym (ap (λ (x : Option Outcome). scratch_by x n s) e);
     refused = λ l. (refl, refl);
-  })
+  }
     where
-      positive : Dec (0 < (intuitive_outcome net_exports prices pairs n (length s)).number) → 0 < (intuitive_outcome net_exports prices pairs n (length s)).number
-      positive (yes l) = l
-      positive (no l) = absurd (h (omega (arith, number_is)))
+      named : o.number ≡ 0 → ⊥
+      named = not-refused 0 (intuitive_causes net_exports prices pairs n (length s)) tt o e
 
-  -- no row refuses
-  pub passed : o.number ≡ 0 → intuitive_refusal net_exports prices pairs n (length s) ≡ none
-  passed z = intuitive-none net_exports prices pairs n (length s) (sym number_is ∙ z)
-
-  pub answer-given : o.number ≡ 0 → (s' : List ℤ) (all : Bool) (volume flag : ℕ) (total : ℤ) → MaxFlowAnswer (network_of net_exports prices pairs) all volume → n ≤ length s → Cleared n s s' → flag ≡ flag_of all → total ≡ pos volume
+  pub answer-given : intuitive_refusal net_exports prices pairs n (length s) ≡ none → (s' : List ℤ) (all : Bool) (volume flag : ℕ) (total : ℤ) → MaxFlowAnswer (network_of net_exports prices pairs) all volume → n ≤ length s → Cleared n s s' → flag ≡ flag_of all → total ≡ pos volume
       → IntuitiveAnswer net_exports prices pairs n s (record { number = 0; index = 0; intuitive = flag; total = record { 0 = total } }) s'
+  unfolding intuitive_scratch
   answer-given z s' all volume flag total a h w f t = record {
-    outcome = outcome-by net_exports prices pairs n (length s) (passed z);
+    outcome = outcome-by net_exports prices pairs n (length s) z;
     a-yes = λ e x. a.feasible-all (flag-yes all (sym f ∙ x));
     a-no = λ e x. a.deficient (flag-no all (sym f ∙ x));
     yes_or_no = rw f (flag-low all);
     largest = λ e. record { volume = volume; is = t; largest = a.largest };
-    scratch = cleared-is n s s' h w ∙ sym (scratch-answered net_exports prices pairs n s (sym number_is ∙ z));
+    scratch = cleared-is n s s' h w ∙ sym (ap (λ (x : Option Outcome). scratch_by x n s) z);
     refused = λ l. absurd (omega arith);
   }

@@ -1,6 +1,6 @@
 -- AN INPUT THAT NO ROW REFUSES has the sizes that the search takes. Assumes nothing.
-use Rattle.std.specs.Prelude.{◌≡◌, true, false, not, List, ℕ, ◌+◌, ◌*◌, ◌/◌, ◌%◌, ◌≤◌, ◌<◌, T, eqb, length, get_or, ℤ, pos, negsuc}
-use Rattle.std.proofs.Common.{sym, ap, ◌∙◌, arith, eqb-true}
+use Rattle.std.specs.Prelude.{◌≡◌, not, List, ℕ, ◌+◌, ◌*◌, ◌/◌, ◌≤◌, ◌<◌, T, length, get_or, ℤ, pos, negsuc}
+use Rattle.std.proofs.Common.{arith, eqb-true}
 use Rattle.std.proofs.Math.Option.{none}
 use Rattle.std.proofs.Math.Decide.{dec_lt}
 use Rattle.std.proofs.lemmas.Bool.{not-false}
@@ -14,8 +14,8 @@ use Rattle.base_integers.specs.Meaning.Sums.{sum_to}
 use Rattle.base_limits.specs.Meaning.Limits as limits
 use Rattle.base_causes.specs.Meaning.Causes.{Pass}
 use Rattle.base_causes.proofs.Promised.CauseLaws.{empty, all_pass}
-use Rattle.flow_positions.specs.Meaning.Positions.{position_at, position_outside, unbalanced}
-use Rattle.flow_pairs.specs.Meaning.Pairs.{pair_count, first_zone, second_zone, bad_pair, network_of}
+use Rattle.flow_positions.specs.Meaning.Positions.{position_at, unbalanced}
+use Rattle.flow_pairs.specs.Meaning.Pairs.{pair_count, network_of}
 use Rattle.flow_pairs.specs.Steps.Tests.{PairValid}
 use Rattle.flow_pairs.proofs.Steps.Tests.{good}
 use Rattle.flow_network.specs.Meaning.Network.{Placed}

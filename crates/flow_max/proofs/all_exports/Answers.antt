@@ -8,7 +8,7 @@ use Rattle.flow_max.proofs.all_exports.Goals as goal
 
 pub loop-z-init : goal.loop-z-init
 unfolding sum_nat
-loop-z-init c = (omega arith, refl)
+loop-z-init c = refl
 
 pub overflow_add-sum : goal.overflow_add-sum
 overflow_add-sum c =
@@ -21,4 +21,4 @@ overflow_add-sum c =
 
 pub loop-z-preserved : goal.loop-z-preserved
 loop-z-preserved c =
-    (omega arith, (λ i. c.loop-z.invariant.1 i + c.amount-sum.ensures i) ∙ sym (sum_more c.loop-z.z (λ (y : ℕ). up (get_or c.args.net_exports.now y (pos 0)))))
+    (λ i. c.loop-z.invariant i + c.amount-sum.ensures i) ∙ sym (sum_more c.loop-z.z (λ (y : ℕ). up (get_or c.args.net_exports.now y (pos 0))))

@@ -1,5 +1,5 @@
 -- What the search for the largest flow answers.
-use Rattle.std.specs.Prelude.{◌≡◌, Bool, true, false, ℕ, ◌-◌}
+use Rattle.std.specs.Prelude.{◌≡◌, Bool, true, false, ℕ}
 use Rattle.flow_network.specs.Meaning.Network.{Network, Largest, DeficientSet, FeasibleAll}
 
 -- THE ANSWER: the largest total, a flow of every export for a yes, and a deficient set for a no

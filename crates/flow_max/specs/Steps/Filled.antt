@@ -1,6 +1,6 @@
 -- A flow is augmented until no augmenting path is left. Its total is then the largest, and decides the yes or no.
 -- Assumes nothing.
-use Rattle.std.specs.Prelude.{◌≡◌, Bool, List, ℕ, ◌+◌, ◌-◌, ◌≤◌, ◌<◌, eqb, length, get_or, ℤ}
+use Rattle.std.specs.Prelude.{◌≡◌, Bool, List, ℕ, ◌+◌, ◌-◌, ◌≤◌, ◌<◌, eqb, length, get_or, ℤ, pos, None, Some}
 use Rattle.std.proofs.Common.{ap, ◌∙◌, arith, mul-le-mul_right, eqb-true}
 use Rattle.std.proofs.Math.Decide.{dec_lt}
 use Rattle.std.proofs.lemmas.Bool.{eqb-false}
@@ -14,7 +14,6 @@ use Rattle.flow_positions.specs.Meaning.Positions.{position_at}
 use Rattle.flow_pairs.specs.Meaning.Pairs.{network_of}
 use Rattle.flow_pairs.specs.Meaning.Table.{Distinct}
 use Rattle.flow_scratch.specs.Meaning.Places.{amount_at, flow_of}
-use Rattle.flow_scratch.specs.Meaning.Cleared.{Cleared}
 use Rattle.flow_augment.specs.declared.Labels.{Labels}
 use Rattle.flow_augment.specs.Steps.Lacking.{State}
 use Rattle.flow_augment.specs.Meaning.Path.{trail_of, InputsInRange, Augment}
@@ -49,21 +48,23 @@ module _ (net_exports prices : List ℤ) (bytes : List ℕ) (z : InputsInRange n
 
   module _ (s : List ℤ) (total : ℕ) (room : 96 ≤ length s) (st : State c (flow_of s) total) (m : Labels) (r : SearchAnswer net_exports prices bytes s m) where
     -- a zone was found to which d more can be brought
-    pub augment-of : (d : ℕ) → m.sink < length net_exports → 0 < d → d ≤ get_or m.label m.sink 0 → d ≤ dn (position_at net_exports m.sink) - amount_at s (80 + m.sink) → Augment net_exports prices total bytes s (trail_of m) d m.sink
-    augment-of d h some l i = record {
-      sized = z;
-      room = room;
-      state = st;
-      links = (r.found h).links total st.flows;
-      inside = h;
-      some = some;
-      lab = l;
-      left = omega (arith, some, i);
-      few = omega (arith, total-le c (flow_of s) total st, exports-few, i, z.imports-le m.sink h);
-    }
+    pub augment-of : (t : ℕ) → m.sink ≡ Some t → (d : ℕ) → 0 < d → d ≤ (trail_of m).lab t → d ≤ dn (position_at net_exports t) - amount_at s (80 + t) → Augment net_exports prices total bytes s (trail_of m) d t
+    augment-of t e d some l i =
+        let f = r.found t e in
+        record {
+          sized = z;
+          room = room;
+          state = st;
+          links = f.links total st.flows;
+          inside = f.inside;
+          some = some;
+          lab = l;
+          left = omega (arith, some, i);
+          few = omega (arith, total-le c (flow_of s) total st, exports-few, i, z.imports-le t f.inside);
+        }
 
-    pub filled : length net_exports ≤ m.sink → Filled c (flow_of s) total
-    filled h = record { state = st; set = _; saturated = r.none h st.feasible }
+    pub filled : m.sink ≡ None → Filled c (flow_of s) total
+    filled e = record { state = st; set = _; saturated = r.none e st.feasible }
 
 -- AN EMPTY FLOW
 none-sum : (n : ℕ) (q : ℕ → Bool) (f : ℕ → ℕ) → ((k : ℕ) → k < n → f k ≡ 0) → sum_nat n (λ k. only (q k) (f k)) ≡ 0
@@ -81,10 +82,10 @@ empty-state c b f e i = record {
   flows = λ k l. omega (arith, f k l);
 }
 
-pub cleared-state : (net_exports prices : List ℤ) (bytes : List ℕ) (n : ℕ) (s s' : List ℤ) → InputsInRange net_exports prices bytes → 96 ≤ n → Cleared n s s' → State (network_of net_exports prices bytes) (flow_of s') 0
-cleared-state net_exports prices bytes n s s' z h w =
-    empty-state (network_of net_exports prices bytes) (flow_of s') (λ k l. ap up (w.zeros k (omega (arith, z.pairs)))) (λ y l. ap up (w.zeros (64 + y) (omega (arith, z.zones))))
-    (λ y l. ap up (w.zeros (80 + y) (omega (arith, z.zones))))
+pub blank-state : (net_exports prices : List ℤ) (bytes : List ℕ) (s : List ℤ) → InputsInRange net_exports prices bytes → ((i : ℕ) → i < 96 → get_or s i (pos 0) ≡ pos 0) → State (network_of net_exports prices bytes) (flow_of s) 0
+blank-state net_exports prices bytes s z w =
+    empty-state (network_of net_exports prices bytes) (flow_of s) (λ k l. ap up (w k (omega (arith, z.pairs)))) (λ y l. ap up (w (64 + y) (omega (arith, z.zones))))
+    (λ y l. ap up (w (80 + y) (omega (arith, z.zones))))
 
 pub answer-of : (c : Network) (b : Flow) (total : ℕ) → Placed c → Filled c b total → MaxFlowAnswer c (eqb total (all_exports c)) total
 answer-of c b total ok d = record {

@@ -25,20 +25,8 @@ module _ (zones : ℕ) (bytes : List ℕ) (k a b : ℕ) (ea : a ≡ first_zone b
   pub pair-past : 64 ≤ k → bad_pair zones bytes k ≡ true
   pair-past h = test-is ∙ simp (le-leb 64 k h)
 
-  module _ (few : k < 64) where
-    pub first-unknown : zones ≤ a → bad_pair zones bytes k ≡ true
-    first-unknown l = test-is ∙ simp (lt-leb 64 k few, le-leb zones a l)
-
-    module _ (first : a < zones) where
-      pub second-unknown : zones ≤ b → bad_pair zones bytes k ≡ true
-      second-unknown m = test-is ∙ simp (lt-leb 64 k few, lt-leb zones a first, le-leb zones b m)
-
-      module _ (second : b < zones) where
-        pub zones-equal : a ≡ b → bad_pair zones bytes k ≡ true
-        zones-equal e = test-is ∙ simp (lt-leb 64 k few, lt-leb zones a first, lt-leb zones b second, eq-eqb a b e)
-
-        pub left-repeated : (a ≡ b → ⊥) → bad_pair zones bytes k ≡ repeated bytes k
-        left-repeated e = test-is ∙ simp (lt-leb 64 k few, lt-leb zones a first, lt-leb zones b second, ne_eqb a b e)
+  pub left-repeated : k < 64 → a < zones → b < zones → (a ≡ b → ⊥) → bad_pair zones bytes k ≡ repeated bytes k
+  left-repeated few first second e = test-is ∙ simp (lt-leb 64 k few, lt-leb zones a first, lt-leb zones b second, ne_eqb a b e)
 
 -- and by the pairs seen
 pub seen-repeated : (bytes : List ℕ) (k a b : ℕ) {seen : List ℕ} → Seen (first_zone bytes) (second_zone bytes) k seen → a ≡ first_zone bytes k → b ≡ second_zone bytes k → holds seen a b ≡ repeated bytes k

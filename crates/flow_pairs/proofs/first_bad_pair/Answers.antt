@@ -10,10 +10,10 @@ use Rattle.flow_pairs.proofs.first_bad_pair.Goals as goal
 
 pub loop-k-init : goal.loop-k-init
 unfolding first_below
-loop-k-init c = (omega arith, (refl, seen_none (first_zone c.args.pairs.now) (second_zone c.args.pairs.now)))
+loop-k-init c = (refl, seen_none (first_zone c.args.pairs.now) (second_zone c.args.pairs.now))
 
 pub returns-then-bad_pair : goal.returns-then-bad_pair
-returns-then-bad_pair c = sym (first-here _ c.loop-k.k (omega arith) c.loop-k.invariant.1.0 (sym c.if-bad_pair.ensures))
+returns-then-bad_pair c = sym (first-here _ c.loop-k.k (omega arith) c.loop-k.invariant.0 (sym c.if-bad_pair.ensures))
 
 pub see_pair-requires-clause-pair_valid : goal.see_pair-requires-clause-pair_valid
 see_pair-requires-clause-pair_valid c =
@@ -21,4 +21,4 @@ see_pair-requires-clause-pair_valid c =
     record { few = g.few; first-in = omega (arith, g.first-in, c.requires); second-in = omega (arith, g.second-in, c.requires); new = g.new }
 
 pub loop-k-preserved : goal.loop-k-preserved
-loop-k-preserved c = (omega arith, (first-later _ c.loop-k.k c.loop-k.invariant.1.0 (sym c.if-bad_pair.ensures), c.see_pair.ensures))
+loop-k-preserved c = (first-later _ c.loop-k.k c.loop-k.invariant.0 (sym c.if-bad_pair.ensures), c.see_pair.ensures)

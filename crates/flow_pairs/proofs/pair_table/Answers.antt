@@ -1,7 +1,6 @@
 -- `flow_pairs::pair_table` meets its contract: an empty table has no pair. Assumes nothing.
-use Rattle.std.proofs.Common.{arith}
 use Rattle.flow_pairs.proofs.Steps.Table.{tabled-none}
 use Rattle.flow_pairs.proofs.pair_table.Goals as goal
 
 pub loop-k-init : goal.loop-k-init
-loop-k-init c = (omega arith, tabled-none c.args.pairs.now)
+loop-k-init c = tabled-none c.args.pairs.now

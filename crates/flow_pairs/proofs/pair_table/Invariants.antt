@@ -1,10 +1,6 @@
 -- The loop's invariant: the pairs before k stand in the table.
-use Rattle.std.proofs.Common.{◌-◌, ◌≤◌}
 use Rattle.flow_pairs.specs.Meaning.Table.{PairsTabled}
 use Rattle.flow_pairs.proofs.pair_table.Given as goal
 
 abbrev pub invariant-loop-k : goal.invariant-loop-k
-invariant-loop-k l = (l.k ≤ l.count) × PairsTabled l.pairs l.k l.table
-
-abbrev pub decreases-loop-k : goal.decreases-loop-k
-decreases-loop-k l = l.count - l.k
+invariant-loop-k l = PairsTabled l.pairs l.k l.table

@@ -18,11 +18,11 @@ fit c = small-sums (position_at c.args.net_exports.now) 51200000 (length c.args.
 
 pub loop-zone-init : goal.loop-zone-init
 unfolding sum_to
-loop-zone-init c = (omega arith, refl)
+loop-zone-init c = refl
 
 pub plus-sum-requires : goal.plus-sum-requires
-plus-sum-requires c = step_fits (fit (goal.at.plus-sum-requires c).Start) c.loop-zone.zone c.loop-zone-test.true c.loop-zone.invariant.1 c.position_held.ensures
+plus-sum-requires c = step_fits (fit (goal.at.plus-sum-requires c).Start) c.loop-zone.zone c.loop-zone-test.true c.loop-zone.invariant c.position_held.ensures
 
 pub loop-zone-preserved : goal.loop-zone-preserved
 loop-zone-preserved c =
-    (omega arith, step (fit (goal.at.loop-zone-preserved c).Start) c.loop-zone.zone c.loop-zone.invariant.1 c.position_held.ensures c.plus-sum.ensures)
+    step (fit (goal.at.loop-zone-preserved c).Start) c.loop-zone.zone c.loop-zone.invariant c.position_held.ensures c.plus-sum.ensures

@@ -1,29 +1,35 @@
 -- THE SCRATCH AFTERWARDS: its first n numbers are zero, the others unchanged. Assumes nothing.
-use Rattle.std.specs.Prelude.{◌≡◌, refl, List, ℕ, ◌+◌, ◌≤◌, ◌<◌, length, get_or, set, ℤ, pos}
-use Rattle.std.proofs.Common.{◌∙◌, arith, length-set, get_or-set_same, get_or-set_other}
-use Rattle.std.proofs.Math.Decide.{ℕ_discrete}
-use Rattle.flow_scratch.specs.Steps.Scratch.{Rest}
+use Rattle.std.specs.Prelude.{◌≡◌, List, ℕ, ◌+◌, ◌-◌, ◌≤◌, ◌<◌, ◌++◌, length, get_or, replicate, take, drop, ℤ, pos}
+use Rattle.std.proofs.Common.{ap, ◌∙◌, arith, length-append, length-drop}
+use Rattle.std.proofs.Math.ListN.{get_or-append}
+use Rattle.std.proofs.lemmas.List.{length-take-le, get_or-append_right, get_or-drop, get_or-replicate, length-replicate}
 use Rattle.flow_scratch.specs.Meaning.Cleared.{Cleared}
 
-pub cleared-none : (s : List ℤ) → Cleared 0 s s
-cleared-none s = record { len = refl; zeros = λ i h. absurd (omega arith); past = λ i h. refl }
+-- the first 96 numbers, blanked
+pub blank_zeros : (s z : List ℤ) → 96 ≤ length s → z ≡ replicate (length (take 96 s)) (pos 0) → (i : ℕ) → i < 96 → get_or z i (pos 0) ≡ pos 0
+blank_zeros s z h e i p = rw e (get_or-replicate (length (take 96 s)) i (pos 0) (pos 0) (omega (arith, length-take-le 96 s h)))
 
-pub cleared_more : (n : ℕ) (s s' t : List ℤ) → n < length s → Cleared n s s' → t ≡ set s' n (pos 0) → Cleared (n + 1) s t
-cleared_more n s s' t h c e =
-    rw e (record {
-      len = simp length-set c.len;
-      zeros = λ i l. by i l (ℕ_discrete i n);
-      past = λ i l. get_or-set_other s' n i (pos 0) (pos 0) (λ q. omega arith) ∙ c.past i (omega arith);
-    })
-  where
-    by : (i : ℕ) → i < n + 1 → Dec (i ≡ n) → get_or (set s' n (pos 0)) i (pos 0) ≡ pos 0
-    by i l (yes q) = rw q (get_or-set_same s' n (pos 0) (pos 0) (omega (arith, c.len)))
-    by i l (no q) = get_or-set_other s' n i (pos 0) (pos 0) q ∙ c.zeros i (omega arith)
-
--- cleared in its first m numbers, used in its first 96, then cleared in its first n
-pub cleared-again : (m n : ℕ) (s s' t t' : List ℤ) → 96 ≤ n → m ≤ n → Cleared m s s' → Rest s' t → Cleared n t t' → Cleared n s t'
-cleared-again m n s s' t t' h k a b c = record {
-  len = c.len ∙ b.len ∙ a.len;
-  zeros = c.zeros;
-  past = λ i l. c.past i l ∙ b.past i (omega arith) ∙ a.past i (omega arith);
+-- a flow was in the first 96 numbers, and then the first n were blanked
+pub cleared_blank : (n : ℕ) (s t z : List ℤ) → 96 ≤ n → n ≤ length s → length t ≡ 96 → z ≡ replicate (length (take n (t ++ drop 96 s))) (pos 0) → Cleared n s (z ++ drop n (t ++ drop 96 s))
+cleared_blank n s t z a h l e = record {
+  len = simp (length-append, length-drop) (omega (arith, l, h, wide));
+  zeros = λ i p. get_or-append z (drop n (t ++ drop 96 s)) (pos 0) i (omega (arith, wide)) ∙ blank i p;
+  past = λ i p.
+      get_or-append_right z (drop n (t ++ drop 96 s)) n i (pos 0) wide p ∙ get_or-drop n (t ++ drop 96 s) (i - n) (pos 0)
+      ∙ at-i (t ++ drop 96 s) n i p
+      ∙ get_or-append_right t (drop 96 s) 96 i (pos 0) l (omega arith)
+      ∙ get_or-drop 96 s (i - 96) (pos 0)
+      ∙ at-i s 96 i (omega arith);
 }
+  where
+    room : length (take n (t ++ drop 96 s)) ≡ n
+    room = length-take-le n (t ++ drop 96 s) (simp (length-append, length-drop) (omega (arith, l, h)))
+
+    wide : length z ≡ n
+    wide = ap length e ∙ length-replicate (length (take n (t ++ drop 96 s))) (pos 0) ∙ room
+
+    blank : (i : ℕ) → i < n → get_or z i (pos 0) ≡ pos 0
+    blank i p = rw e (get_or-replicate (length (take n (t ++ drop 96 s))) i (pos 0) (pos 0) (omega (arith, room)))
+
+    at-i : (xs : List ℤ) (m i : ℕ) → m ≤ i → get_or xs (m + (i - m)) (pos 0) ≡ get_or xs i (pos 0)
+    at-i xs m i p = ap (λ (k : ℕ). get_or xs k (pos 0)) (omega arith)
