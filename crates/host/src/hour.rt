@@ -8,12 +8,13 @@ ghost use Rattle.rules.specs.Meaning.AnnexPromise.{AnnexDemand3};
 ghost use Rattle.rules.specs.Promised.PlainReport.{ReportOf};
 ghost use Rattle.judge_hour.specs.Meaning.Packed.{packed};
 
+use base_causes::Outcome;
 use judge_hour::{judge, judge_families};
 
-fn packed(number: u32, index: u32) -> u64
-    ensures { result ≡ number + 256 * index }
+fn packed(v: Outcome) -> u64
+    ensures { result ≡ v.number + 256 * v.index }
 {
-    number as u64 + 256 * index as u64
+    u64::from(v.number) + 256 * u64::from(v.index)
 }
 
 // THE ENTRY: number + 256 * index of the verdict table, and every byte of the buffer afterwards, in plain numbers
@@ -37,7 +38,7 @@ pub extern "C" fn lta_judge(case: &[u8], proposal: &[u8], report: &mut [u8]) -> 
     ensures annex { result ≡ 0 → AnnexDemand3 «case».now proposal.now report.new }
 {
     let v = judge(case, proposal, report);
-    packed(v.number, v.index)
+    packed(v)
 }
 
 // THE ENTRY WITH A FAMILY LIST (S-11): the same with rows 16 to 18 and 28; an empty list is 16. An accepted hour
@@ -71,5 +72,5 @@ pub extern "C" fn lta_judge_families(
     ensures annex { result ≡ 0 → AnnexDemand3 «case».now proposal.now report.new }
 {
     let v = judge_families(case, proposal, families, report);
-    packed(v.number, v.index)
+    packed(v)
 }

@@ -7,8 +7,8 @@ ghost use Rattle.flow_intuitive.specs.Meaning.Intuitive.{scratch_room, intuitive
 ghost use Rattle.flow_intuitive.specs.Meaning.SmallScratch.{small_room};
 ghost use Rattle.flow_hour.specs.Meaning.Hour.{hour_outcome, hour_network, hour_rent, hour_scratch};
 
-use flow_hour::{hour_intuitive, hour_intuitive_small};
-use flow_intuitive::{Carried, intuitive, intuitive_small};
+use flow_hour::hour_intuitive_in;
+use flow_intuitive::{Carried, SCRATCH, SMALL_SCRATCH, intuitive_in};
 
 // Net positions with export positive, zone prices in grains, and ordered pairs of zones, two bytes to a pair. A
 // pair counts if its first price is at most its second. A yes (1) has flows along counted pairs that carry every
@@ -37,7 +37,7 @@ pub extern "C" fn lta_intuitive(
     ensures refused { 0 < result.number → (result.intuitive ≡ 0) × (result.total.0 ≡ pos 0) }
     ensures yes_rent { result.number ≡ 0 → result.intuitive ≡ 1 → pos 0 ≤ℤ imports_worth net_exports.now zone_prices.now }
 {
-    intuitive(net_exports, zone_prices, pairs, scratch)
+    intuitive_in::<SCRATCH>(net_exports, zone_prices, pairs, scratch)
 }
 
 // The same question for an hour. The hour is judged first; if it is not accepted, the answer is the judgement's
@@ -62,7 +62,7 @@ pub extern "C" fn lta_hour_intuitive(
     ensures refused { 0 < result.number → (result.intuitive ≡ 0) × (result.total.0 ≡ pos 0) }
     ensures yes_rent { result.number ≡ 0 → result.intuitive ≡ 1 → pos 0 ≤ℤ hour_rent «case».now proposal.now }
 {
-    hour_intuitive(case, proposal, pairs, scratch)
+    hour_intuitive_in::<SCRATCH>(case, proposal, pairs, scratch)
 }
 
 // The same with a smaller scratch of 96 numbers (S-13): one per pair, one per zone for export used, one per zone
@@ -89,7 +89,7 @@ pub extern "C" fn lta_intuitive_small(
     ensures refused { 0 < result.number → (result.intuitive ≡ 0) × (result.total.0 ≡ pos 0) }
     ensures yes_rent { result.number ≡ 0 → result.intuitive ≡ 1 → pos 0 ≤ℤ imports_worth net_exports.now zone_prices.now }
 {
-    intuitive_small(net_exports, zone_prices, pairs, scratch)
+    intuitive_in::<SMALL_SCRATCH>(net_exports, zone_prices, pairs, scratch)
 }
 
 // The same question for an hour, with 96 numbers.
@@ -111,5 +111,5 @@ pub extern "C" fn lta_hour_intuitive_small(
     ensures refused { 0 < result.number → (result.intuitive ≡ 0) × (result.total.0 ≡ pos 0) }
     ensures yes_rent { result.number ≡ 0 → result.intuitive ≡ 1 → pos 0 ≤ℤ hour_rent «case».now proposal.now }
 {
-    hour_intuitive_small(case, proposal, pairs, scratch)
+    hour_intuitive_in::<SMALL_SCRATCH>(case, proposal, pairs, scratch)
 }

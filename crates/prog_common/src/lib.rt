@@ -1,15 +1,19 @@
 // What the program over stored inputs reads and prints: its input, the numbers of a record, the start of a buffer
-// that is lent or was written, and its lines. A read or write that fails is an error, with which the program ends.
+// that is lent or was written, and an entry's answer. A read or write that fails is an error, with which the program
+// ends.
 #![tactic(auto)]
 
 ghost use Rattle.std.specs.Prelude.{◌≡◌, ◌+◌, ◌≤◌, ◌<◌, length, take};
 ghost use Rattle.std.specs.Io.{ReadsAtMost};
 ghost use Rattle.rules.specs.Meaning.Layout.{u32_at};
 
+use base_output::Written;
+use bytes_read::Cursor;
 use std::io;
 use std::io::Read;
 
-// Reads until the buffer is full or the input ends, and answers how many bytes stand at its start.
+// Reads until the buffer is full or the input ends, and answers how many bytes stand at its start. No `for`: a read
+// says how far it came. `read_exact` does not say how many bytes there were before the end.
 pub fn read_full(input: &mut impl Read, buffer: &mut [u8]) -> io::Result<usize>
     ensures { ReadsAtMost result buffer.new }
 {
@@ -30,104 +34,49 @@ pub fn number_at(input: &[u8], at: usize) -> usize
     ensures value { at + 4 ≤ length input.now → result ≡ u32_at input.now at }
     ensures value_2 { length input.now < at + 4 → result ≡ 0 }
 {
-    if input.len() < 4 {
+    let Some((number, _)) = Cursor::new(at).take::<u32>(input) else {
         return 0;
-    }
-    if input.len() - 4 < at {
-        return 0;
-    }
-    bytes_read::u32_at(input, at) as usize
+    };
+    number as usize
 }
 
-// How many of the first n bytes there are.
-fn there(bytes: &[u8], n: usize) -> usize
-    ensures prefix_len { (result ≤ length bytes.now) × (result ≡ length (take result bytes.now)) }
-    ensures bytes_value { take result bytes.now ≡ take n bytes.now }
+// How many of the first n items there are.
+fn there<T>(items: &[T], n: usize) -> usize
+    ensures prefix_len { (result ≤ length items.now) × (result ≡ length (take result items.now)) }
+    ensures value { take result items.now ≡ take n items.now }
 {
-    if n <= bytes.len() {
-        return n;
-    }
-    bytes.len()
+    n.min(items.len())
 }
 
-// The first n bytes, or all where there are fewer.
-pub fn first(bytes: &[u8], n: usize) -> &[u8]
-    ensures { result.now ≡ take n bytes.now }
+// The first n items, or all where there are fewer.
+pub fn first<T>(items: &[T], n: usize) -> &[T]
+    ensures { result.now ≡ take n items.now }
 {
-    let k = there(bytes, n);
-    &bytes[..k]
+    &items[..there(items, n)]
 }
 
 // The room that a run lends, or all where there is less.
-pub fn lent(buffer: &mut [u8], room: usize) -> &mut [u8]
-    ensures { result.now ≡ take room buffer.old }
+pub fn lent<T>(items: &mut [T], room: usize) -> &mut [T]
+    ensures { result.now ≡ take room items.old }
 {
-    let k = there(buffer, room);
-    &mut buffer[..k]
-}
-
-// THE SAME FOR NUMBERS.
-fn numbers_there(numbers: &[i64], count: usize) -> usize
-    ensures upper_bound { (result ≤ length numbers.now) × (result ≡ length (take result numbers.now)) }
-    ensures numbers_value { take result numbers.now ≡ take count numbers.now }
-{
-    if count <= numbers.len() {
-        return count;
-    }
-    numbers.len()
-}
-
-pub fn first_numbers(numbers: &[i64], count: usize) -> &[i64]
-    ensures { result.now ≡ take count numbers.now }
-{
-    let k = numbers_there(numbers, count);
-    &numbers[..k]
-}
-
-pub fn lent_numbers(numbers: &mut [i64], room: usize) -> &mut [i64]
-    ensures { result.now ≡ take room numbers.old }
-{
-    let k = numbers_there(numbers, room);
-    &mut numbers[..k]
-}
-
-pub fn print(rt: &impl Print, text: &[u8]) -> io::Result<()> {
-    rt.write_all(text)
-}
-
-pub fn end_line(rt: &impl Print) -> io::Result<()> {
-    print(rt, b"\n")
-}
-
-pub fn print_space(rt: &impl Print) -> io::Result<()> {
-    print(rt, b" ")
-}
-
-pub fn print_count(rt: &impl Print, n: u64) -> io::Result<()> {
-    rt.print(n)
-}
-
-// A count after another.
-pub fn print_next(rt: &impl Print, n: u64) -> io::Result<()> {
-    print_space(rt)?;
-    print_count(rt, n)
+    let k = there(items, room);
+    &mut items[..k]
 }
 
 // The answer of an entry that writes into a lent output.
-pub fn print_written(rt: &impl Print, number: u32, index: usize, length: usize) -> io::Result<()> {
-    print_count(rt, number as u64)?;
-    print_next(rt, index as u64)?;
-    print_next(rt, length as u64)
-}
-
-fn print_byte(rt: &impl Print, b: u8) -> io::Result<()> {
-    print!(rt; "{b:02x}")
+pub fn print_written(rt: &impl Print, v: Written) -> io::Result<()> {
+    let Written {
+        number,
+        index,
+        length,
+    } = v;
+    print!(rt; "{number} {index} {length}")
 }
 
 // Two digits for each byte.
 pub fn print_hex(rt: &impl Print, bytes: &[u8]) -> io::Result<()> {
-    for k in 0..bytes.len() {
-        print_byte(rt, bytes[k])?;
+    for b in bytes {
+        print!(rt; "{b:02x}")?;
     }
     Ok(())
 }

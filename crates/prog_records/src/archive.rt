@@ -1,31 +1,28 @@
 // A file through both entries of the archive (S-10). A record has the lent room and the file. Prints two lines, one
 // for columning it and one for restoring it: number, index and length, and what was written, in hex.
+use crate::Record;
 use base_output::Written;
-use prog_common::print;
 use std::io;
 
-fn print_answer(rt: &impl Print, v: Written, out: &[u8]) -> io::Result<()> {
-    prog_common::print_written(rt, v.number, v.index, v.length)?;
-    prog_common::print_space(rt)?;
+fn print_answer<F: FnOnce(&[u8], &mut [u8]) -> Written>(
+    rt: &impl Print,
+    name: &str,
+    entry: F,
+    record: Record,
+) -> io::Result<()>
+    requires { F.IsAlwaysCallable entry }
+{
+    let mut room = column_file::blank();
+    let out = prog_common::lent(&mut room, record.room);
+    let v = entry(record.first, out);
+    print!(rt; "{name} ")?;
+    prog_common::print_written(rt, v)?;
+    print!(rt; " ")?;
     prog_common::print_hex(rt, prog_common::first(out, v.length))?;
-    prog_common::end_line(rt)
+    println!(rt)
 }
 
-fn column(rt: &impl Print, file: &[u8], out: &mut [u8]) -> io::Result<()> {
-    let v = column_file::columned(file, out);
-    print(rt, b"columned ")?;
-    print_answer(rt, v, out)
-}
-
-fn restore(rt: &impl Print, file: &[u8], out: &mut [u8]) -> io::Result<()> {
-    let v = column_file::restored(file, out);
-    print(rt, b"restored ")?;
-    print_answer(rt, v, out)
-}
-
-pub fn run(rt: &impl Print, room: usize, file: &[u8]) -> io::Result<()> {
-    let mut columned = column_file::blank();
-    column(rt, file, prog_common::lent(&mut columned, room))?;
-    let mut restored = column_file::blank();
-    restore(rt, file, prog_common::lent(&mut restored, room))
+pub fn run(rt: &impl Print, record: Record) -> io::Result<()> {
+    print_answer(rt, "columned", column_file::columned, record)?;
+    print_answer(rt, "restored", column_file::restored, record)
 }

@@ -3,9 +3,12 @@
 // the highest is the sign; and the pairs. Prints one line, first for the wide scratch and then for the smaller.
 // Each part has number, index, 1 for a yes or 0, the total in tenths, and how many numbers at the start of the
 // scratch are zero; before the call all are 7.
-use bytes_read::{Cursor, LongField};
-use flow_intuitive::Carried;
-use prog_common::{print, print_next};
+ghost use Rattle.std.specs.Prelude.{◌≤◌};
+
+use crate::Record;
+use base_measures::Measure;
+use flow_intuitive::{Carried, SCRATCH, SMALL_SCRATCH};
+use prog_common::{first, lent};
 use std::io;
 
 const ROOM: usize = 330;
@@ -15,111 +18,64 @@ const SMALL_ROOM: usize = 102;
 // One more than there may be.
 const ZONES: usize = 17;
 
+// The highest of 64 bits.
+const SIGN: u64 = 9223372036854775808;
+
+// Sign and magnitude, which no conversion of the library reads.
 fn signed(x: u64) -> i64 {
-    let size = (x % 9223372036854775808) as i64;
-    if x < 9223372036854775808 {
-        return size;
-    }
-    -size
+    let size = (x % SIGN) as i64;
+    if x < SIGN { size } else { -size }
 }
 
 fn numbers(bytes: &[u8]) -> [i64; ZONES] {
     let mut list = [0i64; ZONES];
-    for z in 0..ZONES {
-        let LongField::Taken(x, _) = Cursor::new(8 * z).long(bytes) else {
-            return list;
-        };
-        list[z] = signed(x);
+    let (words, _) = bytes.as_chunks::<8>();
+    for (place, word) in list.iter_mut().zip(words) {
+        *place = signed(u64::from_le_bytes(*word));
     }
     list
 }
 
-// The numbers at the start that are zero.
-fn zeros(s: &[i64]) -> u64 {
-    let mut i = 0;
-    while i < s.len() {
-        if s[i] != 0 {
-            return i as u64;
-        }
-        i += 1;
-    }
-    i as u64
+// What both entries are asked.
+#[derive(Clone, Copy)]
+struct Exchange<'a> {
+    net: &'a [i64],
+    prices: &'a [i64],
+    pairs: &'a [u8],
 }
 
-fn told(rt: &impl Print, r: Carried, zeros: u64) -> io::Result<()> {
-    prog_common::print_count(rt, r.number as u64)?;
-    print_next(rt, r.index as u64)?;
-    print_next(rt, r.intuitive as u64)?;
-    print_next(rt, r.total.bits().0)?;
-    print_next(rt, zeros)
-}
-
-fn wide(
+// The entry that wants N numbers of scratch.
+fn print_answer<const N: usize>(
     rt: &impl Print,
-    net: &[i64],
-    prices: &[i64],
-    pairs: &[u8],
+    exchange: Exchange,
     scratch: &mut [i64],
-) -> io::Result<()> {
-    let r = flow_intuitive::intuitive(net, prices, pairs, scratch);
-    told(rt, r, zeros(scratch))
+) -> io::Result<()>
+    requires { 96 ≤ N }
+{
+    let Exchange { net, prices, pairs } = exchange;
+    let Carried {
+        number,
+        index,
+        intuitive,
+        total,
+    } = flow_intuitive::intuitive_in::<N>(net, prices, pairs, scratch);
+    let tenths = total.bits().0;
+    let zeros = scratch.iter().take_while(|x| **x == 0).count();
+    print!(rt; "{number} {index} {intuitive} {tenths} {zeros}")
 }
 
-fn small(
-    rt: &impl Print,
-    net: &[i64],
-    prices: &[i64],
-    pairs: &[u8],
-    scratch: &mut [i64],
-) -> io::Result<()> {
-    let r = flow_intuitive::intuitive_small(net, prices, pairs, scratch);
-    told(rt, r, zeros(scratch))
-}
-
-fn ask(
-    rt: &impl Print,
-    room: usize,
-    small_room: usize,
-    net: &[i64],
-    prices: &[i64],
-    pairs: &[u8],
-) -> io::Result<()> {
+pub fn run(rt: &impl Print, record: Record) -> io::Result<()> {
+    let net = numbers(record.first);
+    let prices = numbers(record.second);
+    let exchange = Exchange {
+        net: first(&net, record.first.len() / 8),
+        prices: first(&prices, record.second.len() / 8),
+        pairs: record.third,
+    };
     let mut scratch = [7i64; ROOM];
-    wide(
-        rt,
-        net,
-        prices,
-        pairs,
-        prog_common::lent_numbers(&mut scratch, room),
-    )?;
-    print(rt, b"; ")?;
+    print_answer::<SCRATCH>(rt, exchange, lent(&mut scratch, record.number))?;
+    print!(rt; "; ")?;
     let mut small_scratch = [7i64; SMALL_ROOM];
-    small(
-        rt,
-        net,
-        prices,
-        pairs,
-        prog_common::lent_numbers(&mut small_scratch, small_room),
-    )?;
-    prog_common::end_line(rt)
-}
-
-pub fn run(
-    rt: &impl Print,
-    room: usize,
-    small_room: usize,
-    net: &[u8],
-    prices: &[u8],
-    pairs: &[u8],
-) -> io::Result<()> {
-    let net_list = numbers(net);
-    let price_list = numbers(prices);
-    ask(
-        rt,
-        room,
-        small_room,
-        prog_common::first_numbers(&net_list, net.len() / 8),
-        prog_common::first_numbers(&price_list, prices.len() / 8),
-        pairs,
-    )
+    print_answer::<SMALL_SCRATCH>(rt, exchange, lent(&mut small_scratch, record.room))?;
+    println!(rt)
 }

@@ -1,5 +1,5 @@
 // Stored inputs through the entries, one record after another from standard input. A record is a letter, two numbers
-// and the lengths of three parts, each 32 bits little-endian, and then the parts. `run` says which entry a letter is
+// and the lengths of three parts, each 32 bits little-endian, and then the parts. `Entry` says which entry a letter is
 // for, and each module which numbers and parts its entry takes and what is printed.
 #![tactic(auto)]
 
@@ -35,65 +35,83 @@ const PARTS: usize = 65536;
 // A proved loop must end, but an input need not: this is more records than any input has.
 const RECORDS: usize = 4294967296;
 
-// A text is printed as it is: a name, or the heading of what follows.
-fn run(
-    rt: &impl Print,
-    letter: u8,
-    number: usize,
-    room: usize,
-    first: &[u8],
-    second: &[u8],
-    third: &[u8],
-) -> io::Result<()> {
-    match letter {
-        b't' => prog_common::print(rt, first),
-        b'c' => archive::run(rt, room, first),
-        b'd' => dumps::run(rt, first, second),
-        b'f' => families::run(rt, first, second, third),
-        b's' => shortages::run(rt, room, first, second),
-        b'h' => hours::run(rt, first),
-        b'q' => queues::run(rt, first),
-        b'm' => sheets::run(rt, number, room, first),
-        b'i' => exchanges::run(rt, number, room, first, second, third),
-        _ => prog_common::print(rt, b"no entry\n"),
+// The entry that a record is for.
+#[derive(Clone, Copy)]
+pub enum Entry {
+    Text,
+    Archive,
+    Dump,
+    Families,
+    Shortfalls,
+    Hour,
+    Queue,
+    Sheet,
+    Exchange,
+}
+
+impl Entry {
+    fn of_letter(letter: u8) -> Option<Entry> {
+        match letter {
+            b't' => Some(Entry::Text),
+            b'c' => Some(Entry::Archive),
+            b'd' => Some(Entry::Dump),
+            b'f' => Some(Entry::Families),
+            b's' => Some(Entry::Shortfalls),
+            b'h' => Some(Entry::Hour),
+            b'q' => Some(Entry::Queue),
+            b'm' => Some(Entry::Sheet),
+            b'i' => Some(Entry::Exchange),
+            _ => None,
+        }
     }
 }
 
-// The parts are cut by their lengths. Where the input ends before they do, nothing runs.
-fn run_parts(rt: &impl Print, letter: u8, opening: &[u8], parts: &[u8]) -> io::Result<()> {
-    let second_at = number_at(opening, FIRST);
-    let third_at = second_at + number_at(opening, SECOND);
-    let end = third_at + number_at(opening, THIRD);
-    if end <= parts.len() {
-        run(
-            rt,
-            letter,
-            number_at(opening, NUMBER),
-            number_at(opening, ROOM),
-            prog_common::first(parts, second_at),
-            &parts[second_at..third_at],
-            &parts[third_at..end],
-        )?;
-    }
-    Ok(())
+// A record; `None` for a letter that no entry has.
+#[derive(Clone, Copy)]
+pub struct Record<'a> {
+    pub entry: Option<Entry>,
+    pub number: usize,
+    pub room: usize,
+    pub first: &'a [u8],
+    pub second: &'a [u8],
+    pub third: &'a [u8],
 }
 
-fn parts_length(opening: &[u8]) -> usize {
+impl<'a> Record<'a> {
+    // The parts are cut by their lengths. No record where the input ends before they do.
+    fn cut(opening: &[u8; OPENING], parts: &'a [u8]) -> Option<Record<'a>> {
+        let (first, rest) = parts.split_at_checked(number_at(opening, FIRST))?;
+        let (second, rest) = rest.split_at_checked(number_at(opening, SECOND))?;
+        let (third, _) = rest.split_at_checked(number_at(opening, THIRD))?;
+        Some(Record {
+            entry: Entry::of_letter(opening[0]),
+            number: number_at(opening, NUMBER),
+            room: number_at(opening, ROOM),
+            first,
+            second,
+            third,
+        })
+    }
+
+    // A text is printed as it is: a name, or the heading of what follows.
+    fn run(self, rt: &impl Print) -> io::Result<()> {
+        match self.entry {
+            Some(Entry::Text) => rt.write_all(self.first),
+            Some(Entry::Archive) => archive::run(rt, self),
+            Some(Entry::Dump) => dumps::run(rt, self),
+            Some(Entry::Families) => families::run(rt, self),
+            Some(Entry::Shortfalls) => shortages::run(rt, self),
+            Some(Entry::Hour) => hours::run(rt, self),
+            Some(Entry::Queue) => queues::run(rt, self),
+            Some(Entry::Sheet) => sheets::run(rt, self),
+            Some(Entry::Exchange) => exchanges::run(rt, self),
+            None => println!(rt; "no entry"),
+        }
+    }
+}
+
+fn parts_length(opening: &[u8; OPENING]) -> usize {
     number_at(opening, FIRST) + number_at(opening, SECOND) + number_at(opening, THIRD)
-}
-
-fn read_parts(
-    rt: &impl Print,
-    input: &mut impl Read,
-    letter: u8,
-    opening: &[u8],
-) -> io::Result<()> {
-    let mut buffer = [0u8; PARTS];
-    let kept = prog_common::read_full(
-        input,
-        prog_common::lent(&mut buffer, parts_length(opening)),
-    )?;
-    run_parts(rt, letter, opening, prog_common::first(&buffer, kept))
 }
 
 // Reads a record and runs it, or answers that the input has ended.
@@ -102,13 +120,18 @@ fn run_record(rt: &impl Print, input: &mut impl Read) -> io::Result<bool> {
     if prog_common::read_full(input, &mut opening)? < OPENING {
         return Ok(false);
     }
-    read_parts(rt, input, opening[0], &opening)?;
+    let mut buffer = [0u8; PARTS];
+    let parts = prog_common::lent(&mut buffer, parts_length(&opening));
+    let kept = prog_common::read_full(input, parts)?;
+    if let Some(record) = Record::cut(&opening, prog_common::first(&buffer, kept)) {
+        record.run(rt)?;
+    }
     Ok(true)
 }
 
 fn main(rt: HostRuntime) -> io::Result<()> {
     let mut input = rt.stdin();
-    for turn in 0..RECORDS {
+    for _ in 0..RECORDS {
         if !run_record(&rt, &mut input)? {
             break;
         }

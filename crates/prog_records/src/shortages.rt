@@ -1,40 +1,34 @@
 // An hour through the entry of request S-14. A record has how many numbers are lent, a case and a proposal. Prints
 // a line: number, index and length and, for an answer, its numbers.
-use prog_common::print;
+use crate::Record;
 use std::io;
 
 // Room for every hour.
 const ROOM: usize = 1280;
 
-// A number of an answer; none is negative.
-fn print_number(rt: &impl Print, x: i64) -> io::Result<()> {
-    if x < 0 {
-        print(rt, b" negative")
-    } else {
-        prog_common::print_next(rt, x as u64)
-    }
-}
-
+// The numbers of an answer; none is negative.
 fn print_numbers(rt: &impl Print, numbers: &[i64]) -> io::Result<()> {
-    for j in 0..numbers.len() {
-        print_number(rt, numbers[j])?;
+    for x in numbers {
+        if *x < 0 {
+            print!(rt; " negative")?;
+        } else {
+            print!(rt; " {x}")?;
+        }
     }
     Ok(())
 }
 
-fn ask(rt: &impl Print, case: &[u8], proposal: &[u8], out: &mut [i64]) -> io::Result<()> {
+pub fn run(rt: &impl Print, record: Record) -> io::Result<()> {
+    let Record {
+        room,
+        first: case,
+        second: proposal,
+        ..
+    } = record;
+    let mut buffer = [0i64; ROOM];
+    let out = prog_common::lent(&mut buffer, room);
     let v = short_hour::hour_shortfalls(case, proposal, out);
-    prog_common::print_written(rt, v.number, v.index, v.length)?;
-    print_numbers(rt, prog_common::first_numbers(out, v.length))?;
-    prog_common::end_line(rt)
-}
-
-pub fn run(rt: &impl Print, room: usize, case: &[u8], proposal: &[u8]) -> io::Result<()> {
-    let mut out = [0i64; ROOM];
-    ask(
-        rt,
-        case,
-        proposal,
-        prog_common::lent_numbers(&mut out, room),
-    )
+    prog_common::print_written(rt, v)?;
+    print_numbers(rt, prog_common::first(out, v.length))?;
+    println!(rt)
 }

@@ -2,35 +2,20 @@
 use Rattle.judge_hour.specs.Steps.Promises.{clauses}
 use Rattle.host.proofs.hour.lta_judge.Goals as goal
 
-pub returns-clause-number : goal.returns-clause-number
-returns-clause-number c = (clauses c.args.«case».now c.args.proposal.now c.args.report.now _ _ c.judge-v.ensures _ c.packed.ensures).1.0
-
-pub returns-clause-index : goal.returns-clause-index
-returns-clause-index c = (clauses c.args.«case».now c.args.proposal.now c.args.report.now _ _ c.judge-v.ensures _ c.packed.ensures).1.1.0
-
-pub returns-clause-bytes : goal.returns-clause-bytes
-returns-clause-bytes c = (clauses c.args.«case».now c.args.proposal.now c.args.report.now _ _ c.judge-v.ensures _ c.packed.ensures).1.1.1.1.0
-
-pub returns-clause-totals : goal.returns-clause-totals
-returns-clause-totals c = (clauses c.args.«case».now c.args.proposal.now c.args.report.now _ _ c.judge-v.ensures _ c.packed.ensures).1.1.1.1.1.0
-
-pub returns-clause-allowed : goal.returns-clause-allowed
-returns-clause-allowed c = (clauses c.args.«case».now c.args.proposal.now c.args.report.now _ _ c.judge-v.ensures _ c.packed.ensures).1.1.1.1.1.1.0
-
-pub returns-clause-accuracy : goal.returns-clause-accuracy
-returns-clause-accuracy c = (clauses c.args.«case».now c.args.proposal.now c.args.report.now _ _ c.judge-v.ensures _ c.packed.ensures).1.1.1.1.1.1.1.0
-
-pub returns-clause-gap : goal.returns-clause-gap
-returns-clause-gap c = (clauses c.args.«case».now c.args.proposal.now c.args.report.now _ _ c.judge-v.ensures _ c.packed.ensures).1.1.1.1.1.1.1.1.0
-
-pub returns-clause-coverage : goal.returns-clause-coverage
-returns-clause-coverage c = (clauses c.args.«case».now c.args.proposal.now c.args.report.now _ _ c.judge-v.ensures _ c.packed.ensures).1.1.1.1.1.1.1.1.1.0
-
-pub returns-clause-best : goal.returns-clause-best
-returns-clause-best c = (clauses c.args.«case».now c.args.proposal.now c.args.report.now _ _ c.judge-v.ensures _ c.packed.ensures).1.1.1.1.1.1.1.1.1.1.0
-
-pub returns-clause-covered_in_full : goal.returns-clause-covered_in_full
-returns-clause-covered_in_full c = (clauses c.args.«case».now c.args.proposal.now c.args.report.now _ _ c.judge-v.ensures _ c.packed.ensures).1.1.1.1.1.1.1.1.1.1.1.0
-
-pub returns-clause-annex : goal.returns-clause-annex
-returns-clause-annex c = (clauses c.args.«case».now c.args.proposal.now c.args.report.now _ _ c.judge-v.ensures _ c.packed.ensures).1.1.1.1.1.1.1.1.1.1.1.1
+pub returns : goal.returns
+returns c =
+    let h = clauses c.args.«case».now c.args.proposal.now c.args.report.now _ _ c.judge-v.ensures _ c.packed.ensures in record {
+      outcome = h.0;
+      number = h.1.0;
+      index = h.1.1.0;
+      report = h.1.1.1.0;
+      bytes = h.1.1.1.1.0;
+      totals = h.1.1.1.1.1.0;
+      allowed = h.1.1.1.1.1.1.0;
+      accuracy = h.1.1.1.1.1.1.1.0;
+      gap = h.1.1.1.1.1.1.1.1.0;
+      coverage = h.1.1.1.1.1.1.1.1.1.0;
+      best = h.1.1.1.1.1.1.1.1.1.1.0;
+      covered_in_full = h.1.1.1.1.1.1.1.1.1.1.1.0;
+      annex = h.1.1.1.1.1.1.1.1.1.1.1.1;
+    }

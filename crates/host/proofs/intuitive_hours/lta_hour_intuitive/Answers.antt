@@ -4,4 +4,4 @@ use Rattle.flow_hour.proofs.Promised.Rent.{yes-rent}
 use Rattle.host.proofs.intuitive_hours.lta_hour_intuitive.Goals as goal
 
 pub returns-clause-yes_rent : goal.returns-clause-yes_rent
-returns-clause-yes_rent c = yes-rent _ _ _ _ _ _ _ c.hour_intuitive.ensures
+returns-clause-yes_rent c = yes-rent _ _ _ _ _ _ _ c.hour_intuitive_in.ensures
