@@ -7,23 +7,24 @@ ghost use Rattle.rules.specs.Meaning.Families.{parent_of};
 ghost use Rattle.rules.specs.Meaning.Verdict.{exceeds_parent, excess_fraction};
 ghost use Rattle.base_causes.specs.Meaning.Causes.{failing};
 ghost use Rattle.base_causes.specs.Meaning.Place.{place_of};
-ghost use Rattle.proposal_file.specs.Meaning.InRange.{VolumesInRange};
+
+mod listed;
 
 use case_orders::order_at;
-use family_list::ReadableFamilies;
-use proposal_file::{HourRead, volume_at};
+pub use listed::ListedHour;
+use proposal_file::volume_at;
 
 // Whether the fraction of order i exceeds its parent's.
-fn exceeds_parent(hour: HourRead<'_>, families: ReadableFamilies<'_>, i: usize) -> bool
-    requires volumes_in_range { VolumesInRange (case_of hour.case.bytes.now) (plan_of hour.case.bytes.now hour.proposal.now) }
-    requires orders_value { families.orders ≡ hour.case.counts.orders }
-    requires i_lt_orders { i < families.orders }
-    ensures { result ≡ exceeds_parent (case_of hour.entry.case.bytes.now)
-        (plan_of hour.entry.case.bytes.now hour.entry.proposal.now) i (parent_of families.entry.list.now i) }
+fn exceeds_parent(listed: ListedHour<'_>, i: usize) -> bool
+    requires i_lt_orders { i < listed.families.orders }
+    ensures { result ≡ exceeds_parent (case_of listed.entry.filled.hour.case.bytes.now)
+        (plan_of listed.entry.filled.hour.case.bytes.now listed.entry.filled.hour.proposal.now) i
+        (parent_of listed.entry.families.list.now i) }
 {
-    let Some(parent) = families.parent(i) else {
+    let Some(parent) = listed.families.parent(i) else {
         return false;
     };
+    let hour = listed.filled.hour;
     let child = order_at(hour.case, i);
     let above = order_at(hour.case, parent);
     let quantity = child.quantity;
@@ -33,16 +34,14 @@ fn exceeds_parent(hour: HourRead<'_>, families: ReadableFamilies<'_>, i: usize) 
     volume.greater_part(quantity, parent_volume, parent_quantity)
 }
 
-// The first child whose fraction exceeds its parent's, for a proposal that passes row 21 and a family list that
-// passes rows 16 and 17.
-pub fn first_over_parent(hour: HourRead<'_>, families: ReadableFamilies<'_>) -> Option<usize>
-    requires volumes_in_range { VolumesInRange (case_of hour.case.bytes.now) (plan_of hour.case.bytes.now hour.proposal.now) }
-    requires orders_value { families.orders ≡ hour.case.counts.orders }
-    ensures { place_of result ≡ failing (excess_fraction families.entry.list.now (case_of hour.entry.case.bytes.now)
-        (plan_of hour.entry.case.bytes.now hour.entry.proposal.now)) }
+// The first child whose fraction exceeds its parent's.
+pub fn first_over_parent(listed: ListedHour<'_>) -> Option<usize>
+    ensures { place_of result ≡ failing (excess_fraction listed.entry.families.list.now
+        (case_of listed.entry.filled.hour.case.bytes.now)
+        (plan_of listed.entry.filled.hour.case.bytes.now listed.entry.filled.hour.proposal.now)) }
 {
-    for i in 0..families.orders {
-        if exceeds_parent(hour, families, i) {
+    for i in 0..listed.families.orders {
+        if exceeds_parent(listed, i) {
             return Some(i);
         }
     }

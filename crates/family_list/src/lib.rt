@@ -14,7 +14,7 @@ ghost use Rattle.family_list.specs.Steps.Parents.{ParentsTaken, Search};
 ghost use Rattle.family_list.specs.Meaning.Answer.{header_by, parent_cause, list_causes, circle_answer, family_answer, wrong_list};
 ghost use Rattle.family_list.specs.Meaning.Answer.{ListLengthValid, FamiliesReadable};
 
-use base_causes::Outcome;
+use base_causes::{Outcome, refused};
 use bytes_read::{Cursor, Field, Mark};
 
 const MARK: Mark = Mark(
@@ -113,7 +113,6 @@ fn walk_parents(
 ) -> Result<Cursor, Outcome>
     requires list_length_valid { ListLengthValid families.now orders }
     requires at_value { start.at ≡ family_header }
-    requires up_len { length up.old ≡ 512 }
     ensures walk { result ≡ walked (parent_cause families.now orders) (cursor (family_length orders)) }
     ensures taken { result ≡ past_at (family_length orders) → ParentsTaken families.now orders up.new }
 {
@@ -126,10 +125,7 @@ fn walk_parents(
             return Err(WRONG_LIST);
         };
         if is_absent(count, parent) {
-            return Err(Outcome {
-                number: 17,
-                index: i as u32,
-            });
+            return refused(17, i as u32);
         }
         up[i] = parent;
         cursor = past.in_file(at);
@@ -144,7 +140,6 @@ fn walk_list(
     up: &mut [u16; layout::ORDERS],
 ) -> Result<Cursor, Outcome>
     requires orders_bound { orders ≤ 512 }
-    requires up_len { length up.old ≡ 512 }
     ensures walk { result ≡ rows_walked (list_causes families.now orders) (cursor (family_length orders)) }
     ensures taken { result ≡ past_at (family_length orders) → ParentsTaken families.now orders up.new }
 {
@@ -153,18 +148,19 @@ fn walk_list(
 }
 
 // ROW 18. `up[i]` is the parent of order i until walk w visits i, then 512 + w, which is above every order.
+// An enum (none, parent, walk) was tried: a chain of 512 orders takes 1.19 times as long, a circle of them 1.32 times.
 const WALKS: usize = layout::ORDERS;
 
 // Walk i: up from order i, over orders that no walk has visited, to the first visited one or one without a parent.
 fn walk_up(up: &mut [u16; layout::ORDERS], orders: usize, i: usize) -> usize
     requires orders_bound { orders ≤ 512 }
     requires i_lt_orders { i < orders }
-    requires up_len { length up.old ≡ 512 }
     ensures up_len_2 { length up.new ≡ 512 }
     ensures trail { Trail orders i (held up.old) result (held up.new) }
 {
     let count = orders as u16;
     let mut tip = i;
+    // No `for`: no index is counted, the walk follows the parents.
     while up[tip] < count {
         let next = usize::from(up[tip]);
         up[tip] = (WALKS + i) as u16;
@@ -185,7 +181,7 @@ fn least_on_circle(families: ReadableFamilies<'_>, i: usize, tip: usize) -> usiz
     }
     let mut least = tip;
     let mut at = families.parent(tip).unwrap();
-    // For the proof: the way around ends.
+    // No `for`: it follows the parents. `steps` is for the proof alone: the way around ends.
     let mut steps: usize = 1;
     while at != tip {
         least = least.min(at);
@@ -224,6 +220,7 @@ fn first_on_circle(families: ReadableFamilies<'_>, up: &mut [u16; layout::ORDERS
     ensures { place_of result ≡ first_below families.entry.orders
         (leads_back families.entry.orders (parent_of families.entry.list.now)) }
 {
+    // The number of orders stands for none found: it bounds the loop, so an Option would be opened at each turn.
     let mut first = families.orders;
     let mut i = 0;
     // No range: `first` falls as the walks find circles.
@@ -246,10 +243,7 @@ fn hold_circles(
     ensures { result ≡ circle_answer families.entry.list.now families.entry.orders }
 {
     if let Some(i) = first_on_circle(families, up) {
-        return Err(Outcome {
-            number: 18,
-            index: i as u32,
-        });
+        return refused(18, i as u32);
     }
     Ok(())
 }
@@ -260,6 +254,7 @@ pub fn read_families(list: &[u8], orders: usize) -> Result<ReadableFamilies<'_>,
     ensures sound { IfOk result (λ f. f.list.now ≡ list.now × (f.orders ≡ orders × family_answer list.now orders ≡ Ok tt)) }
     ensures refused { IfErr result (λ o. family_answer list.now orders ≡ Err o) }
 {
+    // For the most orders there may be, and no Vec: the library allocates nothing (tests/object_code).
     let mut up = [0u16; layout::ORDERS];
     walk_list(list, orders, &mut up)?;
     let families = ReadableFamilies { list, orders };

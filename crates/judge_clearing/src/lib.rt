@@ -13,12 +13,11 @@ ghost use Rattle.rules.specs.Meaning.Hour as rules;
 ghost use Rattle.base_causes.specs.Meaning.Causes.{failing};
 ghost use Rattle.rules.specs.Meaning.Verdict.{excess_volume, overused_link};
 ghost use Rattle.base_measures.specs.Meaning.TenthsHold.{tenths_at, TenthsHold};
-ghost use Rattle.proposal_file.specs.Meaning.InRange.{VolumesInRange};
 
 use base_measures::{Measure, Microcents, Tenths};
 use case_links::link_at;
 use case_orders::order_at;
-use proposal_file::{HourRead, flow_at, volume_at};
+use proposal_file::{FilledHour, HourRead, flow_at, volume_at};
 
 // What an order adds to its zone's net position: a buy its volume, a sell minus its volume.
 fn signed_volume(buys: bool, volume: Tenths) -> Tenths
@@ -67,7 +66,8 @@ pub fn order_sums(hour: HourRead<'_>) -> Result<OrderSums, usize>
     Ok(OrderSums { nets, welfare })
 }
 
-// Rule 3: the sum of the net positions.
+// Rule 3: the sum of the net positions. `zones` is a bare count: a type for a bounded one would be opened at each
+// range, slice and clause. That the sums fit is a fact about all entries at once.
 pub fn net_sum(nets: [Tenths; layout::ZONES], zones: usize) -> Tenths
     requires zones_bound { zones ≤ 16 }
     requires sums_fit { SumsFit (λ z. tenths_at nets z) zones }
@@ -83,18 +83,19 @@ pub fn net_sum(nets: [Tenths; layout::ZONES], zones: usize) -> Tenths
 // Rules 2 and 4, and verdict 23, in one pass over the links: the flow-based part of each zone, its net position less
 // its LTA part, or the first link whose flow, times 100,000, is above the LTA share times its capacity.
 pub fn link_sums(
-    hour: HourRead<'_>,
+    filled: FilledHour<'_>,
     nets: [Tenths; layout::ZONES],
 ) -> Result<[Tenths; layout::ZONES], usize>
-    requires volumes_in_range { VolumesInRange (case_of hour.case.bytes.now) (plan_of hour.case.bytes.now hour.proposal.now) }
-    requires tenths_hold { TenthsHold (net (case_of hour.case.bytes.now) (plan_of hour.case.bytes.now hour.proposal.now)) nets }
-    ensures overused { IfErr result (λ l. failing (overused_link (case_of hour.entry.case.bytes.now)
-        (plan_of hour.entry.case.bytes.now hour.entry.proposal.now)) ≡ some l) }
-    ensures within { IfOk result (λ _. failing (overused_link (case_of hour.entry.case.bytes.now)
-        (plan_of hour.entry.case.bytes.now hour.entry.proposal.now)) ≡ none) }
-    ensures parts { IfOk result (λ parts. TenthsHold (fb_part (case_of hour.entry.case.bytes.now)
-        (plan_of hour.entry.case.bytes.now hour.entry.proposal.now)) parts) }
+    requires tenths_hold { TenthsHold (net (case_of filled.hour.case.bytes.now)
+        (plan_of filled.hour.case.bytes.now filled.hour.proposal.now)) nets }
+    ensures overused { IfErr result (λ l. failing (overused_link (case_of filled.entry.hour.case.bytes.now)
+        (plan_of filled.entry.hour.case.bytes.now filled.entry.hour.proposal.now)) ≡ some l) }
+    ensures within { IfOk result (λ _. failing (overused_link (case_of filled.entry.hour.case.bytes.now)
+        (plan_of filled.entry.hour.case.bytes.now filled.entry.hour.proposal.now)) ≡ none) }
+    ensures parts { IfOk result (λ parts. TenthsHold (fb_part (case_of filled.entry.hour.case.bytes.now)
+        (plan_of filled.entry.hour.case.bytes.now filled.entry.hour.proposal.now)) parts) }
 {
+    let hour = filled.hour;
     let case = hour.case;
     let share = hour.opening.share;
     let mut parts = nets;

@@ -8,13 +8,13 @@ ghost use Rattle.rules.specs.Meaning.Hour as rules;
 ghost use Rattle.base_causes.specs.Meaning.Causes.{failing};
 ghost use Rattle.rules.specs.Meaning.Verdict.{overloaded_branch};
 ghost use Rattle.case_branches.specs.Meaning.Table.{table_of};
-ghost use Rattle.proposal_file.specs.Meaning.InRange.{VolumesInRange, FlowsInRange};
+ghost use Rattle.proposal_file.specs.Meaning.InRange.{FlowsInRange};
 ghost use Rattle.base_measures.specs.Meaning.TenthsHold.{TenthsHold};
 ghost use Rattle.report_file.specs.Meaning.Prices.{PricesHold};
 
 use base_measures::{Grains, Load, Measure, Microcents, Ptdf, Tenths};
 use case_branches::margin_at;
-use proposal_file::{HourRead, shadow_at};
+use proposal_file::{FilledHour, shadow_at};
 
 // The price of each zone, and the branch total.
 #[derive(Clone, Copy)]
@@ -26,23 +26,25 @@ pub struct Network {
 // Rules 5, 6 and 9, and verdict 24, in one pass over the branches: the sums, or the first branch loaded above its
 // margin times the flow-based share.
 pub fn branch_sums(
-    hour: HourRead<'_>,
+    filled: FilledHour<'_>,
     table: [[i32; 16]; 64],
     parts: [Tenths; layout::ZONES],
 ) -> Result<Network, usize>
-    requires volumes_in_range { VolumesInRange (case_of hour.case.bytes.now) (plan_of hour.case.bytes.now hour.proposal.now) }
-    requires flows_in_range { FlowsInRange (case_of hour.case.bytes.now) (plan_of hour.case.bytes.now hour.proposal.now) }
-    requires table_value { table ≡ table_of hour.case.bytes.now }
-    requires tenths_hold { TenthsHold (fb_part (case_of hour.case.bytes.now) (plan_of hour.case.bytes.now hour.proposal.now)) parts }
-    ensures overloaded { IfErr result (λ m. failing (overloaded_branch (case_of hour.entry.case.bytes.now)
-        (plan_of hour.entry.case.bytes.now hour.entry.proposal.now)) ≡ some m) }
-    ensures within { IfOk result (λ _. failing (overloaded_branch (case_of hour.entry.case.bytes.now)
-        (plan_of hour.entry.case.bytes.now hour.entry.proposal.now)) ≡ none) }
-    ensures prices { IfOk result (λ sums. PricesHold (case_of hour.entry.case.bytes.now)
-        (prices_of hour.entry.case.bytes.now hour.entry.proposal.now) sums.prices) }
-    ensures total { IfOk result (λ sums. sums.total.0 ≡ rules.branch_total (case_of hour.entry.case.bytes.now)
-        (prices_of hour.entry.case.bytes.now hour.entry.proposal.now)) }
+    requires flows_in_range { FlowsInRange (case_of filled.hour.case.bytes.now)
+        (plan_of filled.hour.case.bytes.now filled.hour.proposal.now) }
+    requires table_value { table ≡ table_of filled.hour.case.bytes.now }
+    requires tenths_hold { TenthsHold (fb_part (case_of filled.hour.case.bytes.now)
+        (plan_of filled.hour.case.bytes.now filled.hour.proposal.now)) parts }
+    ensures overloaded { IfErr result (λ m. failing (overloaded_branch (case_of filled.entry.hour.case.bytes.now)
+        (plan_of filled.entry.hour.case.bytes.now filled.entry.hour.proposal.now)) ≡ some m) }
+    ensures within { IfOk result (λ _. failing (overloaded_branch (case_of filled.entry.hour.case.bytes.now)
+        (plan_of filled.entry.hour.case.bytes.now filled.entry.hour.proposal.now)) ≡ none) }
+    ensures prices { IfOk result (λ sums. PricesHold (case_of filled.entry.hour.case.bytes.now)
+        (prices_of filled.entry.hour.case.bytes.now filled.entry.hour.proposal.now) sums.prices) }
+    ensures total { IfOk result (λ sums. sums.total.0 ≡ rules.branch_total (case_of filled.entry.hour.case.bytes.now)
+        (prices_of filled.entry.hour.case.bytes.now filled.entry.hour.proposal.now)) }
 {
+    let hour = filled.hour;
     let case = hour.case;
     let flow_based = hour.opening.share.flow_based();
     let mut prices = [hour.opening.system.in_grains(); layout::ZONES];

@@ -17,7 +17,6 @@ ghost use Rattle.base_causes.specs.Meaning.Causes.{verdict, refusal};
 ghost use Rattle.case_file.specs.declared.Files.TheVariants.{Joined};
 ghost use Rattle.case_file.specs.Steps.Files.{proposal_start};
 ghost use Rattle.base_measures.specs.Meaning.TenthsHold.{tenths_at};
-ghost use Rattle.proposal_file.specs.Meaning.InRange.{VolumesInRange};
 ghost use Rattle.judge_stages.specs.Meaning.Found.{Finds, FindsIn, HourCleared, hour_causes, list_of};
 ghost use Rattle.judge_stages.specs.Steps.Found.{admitted_causes, read_causes, clear_causes, value_causes, balance_answer};
 ghost use Rattle.judge_stages.specs.Steps.Listed.{list_read};
@@ -29,12 +28,12 @@ use base_measures::{Grains, Microcents, Share, Tenths};
 use case_branches::ptdf_table;
 use case_file::{Files, read_case};
 use case_header::ReadableCase;
-use family_fractions::first_over_parent;
+use family_fractions::{ListedHour, first_over_parent};
 use family_list::{ReadableFamilies, read_families};
 use judge_clearing::{link_sums, net_sum, order_sums};
 use judge_network::branch_sums;
 use judge_totals::{PricedHour, totals, zone_sums};
-use proposal_file::{HourRead, read_proposal};
+use proposal_file::{FilledHour, HourRead, read_proposal};
 use reading::Reading;
 use report_file::Totals;
 
@@ -47,7 +46,7 @@ pub struct Cleared {
 }
 
 // A valued hour: its verdict, 0 or 26, what was read, its clearing, prices and totals. What `clear` leaves is kept
-// whole, so its arrays are copied once.
+// whole, so its arrays are copied once. The verdict stays a row's number: the report's byte has it, and C.
 #[derive(Clone, Copy)]
 pub struct ValuedHour<'a> {
     pub verdict: Outcome,
@@ -111,20 +110,20 @@ fn read<'a>(
 }
 
 // Row 28, where there is a family list, for a proposal that passes row 21.
-fn hold_families(reading: Reading<'_>) -> Result<(), Outcome>
-    requires { VolumesInRange (case_of reading.hour.case.bytes.now)
-        (plan_of reading.hour.case.bytes.now reading.hour.proposal.now) }
-    ensures refused { IfErr result (λ o. refusal (fraction_causes (list_read reading.entry.families)
-        (case_of reading.entry.hour.case.bytes.now)
-        (plan_of reading.entry.hour.case.bytes.now reading.entry.hour.proposal.now)) ≡ some o) }
-    ensures passed { IfOk result (λ _. refusal (fraction_causes (list_read reading.entry.families)
-        (case_of reading.entry.hour.case.bytes.now)
-        (plan_of reading.entry.hour.case.bytes.now reading.entry.hour.proposal.now)) ≡ none) }
+fn hold_families(filled: FilledHour<'_>, list: Option<ReadableFamilies<'_>>) -> Result<(), Outcome>
+    requires { ForSome list (λ f. f.orders ≡ filled.hour.case.counts.orders) }
+    ensures refused { IfErr result (λ o. refusal (fraction_causes (list_read list.entry)
+        (case_of filled.entry.hour.case.bytes.now)
+        (plan_of filled.entry.hour.case.bytes.now filled.entry.hour.proposal.now)) ≡ some o) }
+    ensures passed { IfOk result (λ _. refusal (fraction_causes (list_read list.entry)
+        (case_of filled.entry.hour.case.bytes.now)
+        (plan_of filled.entry.hour.case.bytes.now filled.entry.hour.proposal.now)) ≡ none) }
 {
-    let Some(families) = reading.families else {
+    let Some(families) = list else {
         return Ok(());
     };
-    if let Some(i) = first_over_parent(reading.hour, families) {
+    let listed = ListedHour { filled, families };
+    if let Some(i) = first_over_parent(listed) {
         return refused_at(28, i);
     }
     Ok(())
@@ -176,16 +175,18 @@ fn clear(reading: Reading<'_>) -> Result<Cleared, Outcome>
         (plan_of reading.entry.hour.case.bytes.now reading.entry.hour.proposal.now) cleared) }
 {
     let hour = reading.hour;
-    // 21, the volumes; 28, the families.
+    // 21, the volumes; 28, the families. Here and below a match and no `or_else`: that a place fits 32 bits is known
+    // at the match, and a closure would have to be told it.
     let sums = match order_sums(hour) {
         Ok(sums) => sums,
         Err(i) => return refused_at(21, i),
     };
-    hold_families(reading)?;
+    let filled = FilledHour { hour };
+    hold_families(filled, reading.families)?;
     // 22, the balance; 27, the share without links; 23, the links.
     let nets = sums.nets;
     hold_balance(hour, nets)?;
-    let parts = match link_sums(hour, nets) {
+    let parts = match link_sums(filled, nets) {
         Ok(parts) => parts,
         Err(l) => return refused_at(23, l),
     };
@@ -211,8 +212,9 @@ fn value(hour: HourRead<'_>, cleared: Cleared) -> Result<ValuedHour<'_>, Outcome
         (prices_of hour.entry.case.bytes.now hour.entry.proposal.now)) hour.entry.case.bytes.now
         hour.entry.proposal.now result }
 {
+    let filled = FilledHour { hour };
     let table = ptdf_table(hour.case);
-    let network = match branch_sums(hour, table, cleared.parts) {
+    let network = match branch_sums(filled, table, cleared.parts) {
         Ok(network) => network,
         Err(m) => return refused_at(24, m),
     };

@@ -106,6 +106,7 @@ fn network_bound(links: usize, on_branches: Microcents, on_links: Microcents) ->
 }
 
 // Rules 7 to 11: the five totals of a cleared hour with its prices within their limits.
+// Row 21 is a clause here, and no part of `PricedHour`: the surpluses and the link totals hold without it.
 pub fn totals(
     priced: PricedHour<'_>,
     total_welfare: Microcents,

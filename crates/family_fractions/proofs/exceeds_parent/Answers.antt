@@ -25,29 +25,29 @@ module _ {s t : List ℕ} {k : Counts} (p : ProposalValid s k t) where
       product-fits (case_of s) (plan_of s t) (case-sound s p.opened.readable) v i j (all_in i h) (all_in j l) e (ap (λ (o : Order). o.quantity.0) q)
 
 pub returns-in_default : goal.returns-in_default
-returns-in_default c = sym (ap (exceeds_parent (case_of c.args.hour.case.bytes.now) (plan_of c.args.hour.case.bytes.now c.args.hour.proposal.now) c.args.i) (sym c.in_default.ensures))
+returns-in_default c = sym (ap (exceeds_parent (case_of c.args.listed.filled.hour.case.bytes.now) (plan_of c.args.listed.filled.hour.case.bytes.now c.args.listed.filled.hour.proposal.now) c.args.i) (sym c.in_default.ensures))
 
 pub order_at-above-requires : goal.order_at-above-requires
-order_at-above-requires c = omega (arith, c.args.families.readable.exist.exists c.args.i c.in-Some.parent c.requires.i_lt_orders (sym c.in-Some.ensures))
+order_at-above-requires c = omega (arith, c.args.listed.families.readable.exist.exists c.args.i c.in-Some.parent c.requires.i_lt_orders (sym c.in-Some.ensures))
 
 pub volume_at-parent_volume-requires : goal.volume_at-parent_volume-requires
-volume_at-parent_volume-requires c = omega (arith, c.args.families.readable.exist.exists c.args.i c.in-Some.parent c.requires.i_lt_orders (sym c.in-Some.ensures))
+volume_at-parent_volume-requires c = omega (arith, c.args.listed.families.readable.exist.exists c.args.i c.in-Some.parent c.requires.i_lt_orders (sym c.in-Some.ensures))
 
 pub greater_part-requires-clause-sfits : goal.greater_part-requires-clause-sfits
 greater_part-requires-clause-sfits c =
-    let parent-in = c.args.families.readable.exist.exists c.args.i c.in-Some.parent c.requires.i_lt_orders (sym c.in-Some.ensures) in
-    fits c.args.hour.read.proposed c.requires.volumes_in_range c.in-Some.parent c.args.i (omega arith) (omega arith) c.volume_at-parent_volume.ensures c.order_at-child.ensures
+    let parent-in = c.args.listed.families.readable.exist.exists c.args.i c.in-Some.parent c.requires.i_lt_orders (sym c.in-Some.ensures) in
+    fits c.args.listed.filled.hour.read.proposed c.args.listed.filled.within c.in-Some.parent c.args.i (omega arith) (omega arith) c.volume_at-parent_volume.ensures c.order_at-child.ensures
 
 pub greater_part-requires-clause-sfits_2 : goal.greater_part-requires-clause-sfits_2
 greater_part-requires-clause-sfits_2 c =
-    let parent-in = c.args.families.readable.exist.exists c.args.i c.in-Some.parent c.requires.i_lt_orders (sym c.in-Some.ensures) in
-    fits c.args.hour.read.proposed c.requires.volumes_in_range c.args.i c.in-Some.parent (omega arith) (omega arith) c.volume_at-volume.ensures c.order_at-above.ensures
+    let parent-in = c.args.listed.families.readable.exist.exists c.args.i c.in-Some.parent c.requires.i_lt_orders (sym c.in-Some.ensures) in
+    fits c.args.listed.filled.hour.read.proposed c.args.listed.filled.within c.args.i c.in-Some.parent (omega arith) (omega arith) c.volume_at-volume.ensures c.order_at-above.ensures
 
 pub returns : goal.returns
 unfolding case_of plan_of
 returns c =
-    let cs = case_of c.args.hour.case.bytes.now in
-    let p = plan_of c.args.hour.case.bytes.now c.args.hour.proposal.now in
+    let cs = case_of c.args.listed.filled.hour.case.bytes.now in
+    let p = plan_of c.args.listed.filled.hour.case.bytes.now c.args.listed.filled.hour.proposal.now in
     c.greater_part.ensures
     ∙ fraction-test cs p c.args.i c.in-Some.parent c.volume_at-parent_volume.ensures (ap (λ (o : Order). o.quantity.0) c.order_at-child.ensures) c.volume_at-volume.ensures (ap (λ (o : Order). o.quantity.0) c.order_at-above.ensures)
     ∙ ap (exceeds_parent cs p c.args.i) c.in-Some.ensures

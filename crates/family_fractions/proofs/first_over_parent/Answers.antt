@@ -22,14 +22,14 @@ loop-i-init c = refl
 
 pub returns-then-exceeds_parent : goal.returns-then-exceeds_parent
 returns-then-exceeds_parent c =
-    sym (first-here (above c.args.hour.case.bytes.now c.args.hour.proposal.now c.args.families.list.now) c.loop-i.i c.loop-i-test.true c.loop-i.invariant (sym c.exceeds_parent.ensures ∙ c.if-exceeds_parent.true))
-    ∙ orders-are c.args.hour.read.proposed c.requires.orders_value _
+    sym (first-here (above c.args.listed.filled.hour.case.bytes.now c.args.listed.filled.hour.proposal.now c.args.listed.families.list.now) c.loop-i.i c.loop-i-test.true c.loop-i.invariant (sym c.exceeds_parent.ensures ∙ c.if-exceeds_parent.true))
+    ∙ orders-are c.args.listed.filled.hour.read.proposed c.args.listed.orders _
 
 pub loop-i-preserved : goal.loop-i-preserved
 loop-i-preserved c =
-    first-later (above c.args.hour.case.bytes.now c.args.hour.proposal.now c.args.families.list.now) c.loop-i.i c.loop-i.invariant (sym c.exceeds_parent.ensures ∙ c.if-exceeds_parent.false)
+    first-later (above c.args.listed.filled.hour.case.bytes.now c.args.listed.filled.hour.proposal.now c.args.listed.families.list.now) c.loop-i.i c.loop-i.invariant (sym c.exceeds_parent.ensures ∙ c.if-exceeds_parent.false)
 
 pub returns : goal.returns
 returns c =
-    sym (first-nowhere (above c.args.hour.case.bytes.now c.args.hour.proposal.now c.args.families.list.now) c.loop-i.i (omega arith) (omega arith) c.loop-i.invariant)
-    ∙ orders-are c.args.hour.read.proposed c.requires.orders_value _
+    sym (first-nowhere (above c.args.listed.filled.hour.case.bytes.now c.args.listed.filled.hour.proposal.now c.args.listed.families.list.now) c.loop-i.i (omega arith) (omega arith) c.loop-i.invariant)
+    ∙ orders-are c.args.listed.filled.hour.read.proposed c.args.listed.orders _

@@ -8,4 +8,4 @@ use Rattle.base_causes.specs.Meaning.Causes.{first_below}
 use Rattle.family_fractions.proofs.first_over_parent.Given as goal
 
 abbrev pub invariant-loop-i : goal.invariant-loop-i
-invariant-loop-i l = first_below l.i (λ i. exceeds_parent (case_of l.hour.case.bytes.now) (plan_of l.hour.case.bytes.now l.hour.proposal.now) i (parent_of l.families.list.now i)) ≡ none
+invariant-loop-i l = first_below l.i (λ i. exceeds_parent (case_of l.listed.filled.hour.case.bytes.now) (plan_of l.listed.filled.hour.case.bytes.now l.listed.filled.hour.proposal.now) i (parent_of l.listed.families.list.now i)) ≡ none

@@ -33,7 +33,7 @@ module _ {f : List ℕ} {orders : ℕ} (k : ListLengthValid f orders) where
 
 pub loop-i-init : goal.loop-i-init
 unfolding first_below
-loop-i-init c = record { place = c.requires.at_value; exist = refl; taken = take_none _ _ c.requires.up_len }
+loop-i-init c = record { place = c.requires.at_value; exist = refl; taken = take_none _ _ c.told-up }
 
 pub slice_bounds-field-end : goal.slice_bounds-field-end
 slice_bounds-field-end c = omega (arith, c.loop-i.invariant.place, long-is c.requires.list_length_valid)
@@ -47,7 +47,7 @@ returns-then-is_absent-clause-walk c =
     let l = c.loop-i-test.true in
     let p = c.loop-i.invariant.place in
     let read = half-read (within k i at l p) 0 (ap (λ (d : Cursor). d.at) c.new.ensures) (omega arith) c.take.ensures c.in-Some.is in
-    walk-stops (parent_cause f c.args.orders) (cursor (family_length c.args.orders)) i c.loop-i.invariant.exist l (tested k i at l p (number_is k i at l p read.is) c.is_absent.ensures ∙ c.if-is_absent.true)
+    c.refused.ensures ∙ walk-stops (parent_cause f c.args.orders) (cursor (family_length c.args.orders)) i c.loop-i.invariant.exist l (tested k i at l p (number_is k i at l p read.is) c.is_absent.ensures ∙ c.if-is_absent.true)
 
 pub loop-i-preserved : goal.loop-i-preserved
 loop-i-preserved c =

@@ -96,81 +96,81 @@ scaled_by_one-requires c =
     (near_fits w64 (omega arith) (near_mul (near-unsigned _ 4294967295 (omega (arith, c.flow_at-flow.ensures.upper_bound))) (near-pos parts_in_one)))
 
 pub of_volume-requires : goal.of_volume-requires
-of_volume-requires c = room-fits c.args.hour.read c.loop-l.l c.loop-l-test.true c.link_at-link.ensures
+of_volume-requires c = room-fits c.args.filled.hour.read c.loop-l.l c.loop-l-test.true c.link_at-link.ensures
 
 pub returns-then-lt-clause-overused : goal.returns-then-lt-clause-overused
 returns-then-lt-clause-overused c =
-    let h = c.args.hour.read in
+    let h = c.args.filled.hour.read in
     let l = c.loop-l.l in
     let i = c.loop-l-test.true in
     first-here _ l (inside h l i) c.loop-l.invariant.within
     (sym (answered h l i c.link_at-link.ensures c.flow_at-flow.ensures.value c.scaled_by_one.ensures c.of_volume.ensures c.lt.ensures) ∙ c.if-lt.true)
 
 pub offset_bounds-parts-to : goal.offset_bounds-parts-to
-offset_bounds-parts-to c = omega (arith, to-in c.args.hour.read c.loop-l.l c.loop-l-test.true c.link_at-link.ensures)
+offset_bounds-parts-to c = omega (arith, to-in c.args.filled.hour.read c.loop-l.l c.loop-l-test.true c.link_at-link.ensures)
 
 pub bounds-parts-to : goal.bounds-parts-to
-bounds-parts-to c = to-in c.args.hour.read c.loop-l.l c.loop-l-test.true c.link_at-link.ensures
+bounds-parts-to c = to-in c.args.filled.hour.read c.loop-l.l c.loop-l-test.true c.link_at-link.ensures
 
 pub minus-requires : goal.minus-requires
 unfolding plan_of
 minus-requires c =
-    let h = c.args.hour.read in
+    let h = c.args.filled.hour.read in
     let l = c.loop-l.l in
     let i = c.loop-l-test.true in
     let e = c.link_at-link.ensures in
     let to = c.link_at-link.result.to in
     let passed = first-later _ l c.loop-l.invariant.within (sym (answered h l i e c.flow_at-flow.ensures.value c.scaled_by_one.ensures c.of_volume.ensures c.lt.ensures) ∙ c.if-lt.false) in
     sfits-by w64 (λ j. c.loop-l.invariant.parts.each to (to-in h l i e) j -ℤ c.flow_at-flow.ensures.value j)
-    (near_fits w64 (omega arith) (near_sub (near h l i passed c.requires.volumes_in_range l (omega arith) to) (near-unsigned _ 100000 (flows-small h l i passed l (omega arith)))))
+    (near_fits w64 (omega arith) (near_sub (near h l i passed c.args.filled.within l (omega arith) to) (near-unsigned _ 100000 (flows-small h l i passed l (omega arith)))))
 
 pub offset_bounds-parts-to-in-loop-l : goal.offset_bounds-parts-to-in-loop-l
-offset_bounds-parts-to-in-loop-l c = omega (arith, to-in c.args.hour.read c.loop-l.l c.loop-l-test.true c.link_at-link.ensures)
+offset_bounds-parts-to-in-loop-l c = omega (arith, to-in c.args.filled.hour.read c.loop-l.l c.loop-l-test.true c.link_at-link.ensures)
 
 pub bounds-parts-to-in-loop-l : goal.bounds-parts-to-in-loop-l
-bounds-parts-to-in-loop-l c = to-in c.args.hour.read c.loop-l.l c.loop-l-test.true c.link_at-link.ensures
+bounds-parts-to-in-loop-l c = to-in c.args.filled.hour.read c.loop-l.l c.loop-l-test.true c.link_at-link.ensures
 
 pub offset_bounds-parts-from : goal.offset_bounds-parts-from
-offset_bounds-parts-from c = omega (arith, from-in c.args.hour.read c.loop-l.l c.loop-l-test.true c.link_at-link.ensures)
+offset_bounds-parts-from c = omega (arith, from-in c.args.filled.hour.read c.loop-l.l c.loop-l-test.true c.link_at-link.ensures)
 
 pub bounds-parts-from : goal.bounds-parts-from
-bounds-parts-from c = from-in c.args.hour.read c.loop-l.l c.loop-l-test.true c.link_at-link.ensures
+bounds-parts-from c = from-in c.args.filled.hour.read c.loop-l.l c.loop-l-test.true c.link_at-link.ensures
 
 pub plus-requires : goal.plus-requires
 unfolding plan_of
 plus-requires c =
-    let h = c.args.hour.read in
+    let h = c.args.filled.hour.read in
     let l = c.loop-l.l in
     let i = c.loop-l-test.true in
     let e = c.link_at-link.ensures in
     let to = c.link_at-link.result.to in
     let from = c.link_at-link.result.from in
     let xs = c.loop-l.parts in
-    let cs = case_of c.args.hour.case.bytes.now in
-    let p = plan_of c.args.hour.case.bytes.now c.args.hour.proposal.now in
+    let cs = case_of c.args.filled.hour.case.bytes.now in
+    let p = plan_of c.args.filled.hour.case.bytes.now c.args.filled.hour.proposal.now in
     let passed = first-later _ l c.loop-l.invariant.within (sym (answered h l i e c.flow_at-flow.ensures.value c.scaled_by_one.ensures c.of_volume.ensures c.lt.ensures) ∙ c.if-lt.false) in
     let entered = in-set cs p l xs to c.minus.result (to-is h l i e) (to-small h l i) c.loop-l.invariant.parts (c.minus.ensures ∙ ap (λ (y : ℤ). tenths_at xs to -ℤ y) c.flow_at-flow.ensures.value) in
     sfits-by w64 (ap (λ (x : ℤ). tenths_at (set xs to c.minus.result) from +ℤ x) c.flow_at-flow.ensures.value ∙ out-next cs p l _ from c.minus.result (from-is h l i e) (from-small h l i) entered)
-    (near_fits w64 (omega arith) (near h l i passed c.requires.volumes_in_range (l + 1) (omega arith) from))
+    (near_fits w64 (omega arith) (near h l i passed c.args.filled.within (l + 1) (omega arith) from))
 
 pub offset_bounds-parts-from-in-loop-l : goal.offset_bounds-parts-from-in-loop-l
-offset_bounds-parts-from-in-loop-l c = omega (arith, from-in c.args.hour.read c.loop-l.l c.loop-l-test.true c.link_at-link.ensures)
+offset_bounds-parts-from-in-loop-l c = omega (arith, from-in c.args.filled.hour.read c.loop-l.l c.loop-l-test.true c.link_at-link.ensures)
 
 pub bounds-parts-from-in-loop-l : goal.bounds-parts-from-in-loop-l
-bounds-parts-from-in-loop-l c = from-in c.args.hour.read c.loop-l.l c.loop-l-test.true c.link_at-link.ensures
+bounds-parts-from-in-loop-l c = from-in c.args.filled.hour.read c.loop-l.l c.loop-l-test.true c.link_at-link.ensures
 
 pub loop-l-preserved : goal.loop-l-preserved
 unfolding plan_of
 loop-l-preserved c =
-    let h = c.args.hour.read in
+    let h = c.args.filled.hour.read in
     let l = c.loop-l.l in
     let i = c.loop-l-test.true in
     let e = c.link_at-link.ensures in
     let to = c.link_at-link.result.to in
     let from = c.link_at-link.result.from in
     let xs = c.loop-l.parts in
-    let cs = case_of c.args.hour.case.bytes.now in
-    let p = plan_of c.args.hour.case.bytes.now c.args.hour.proposal.now in
+    let cs = case_of c.args.filled.hour.case.bytes.now in
+    let p = plan_of c.args.filled.hour.case.bytes.now c.args.filled.hour.proposal.now in
     let entered = in-set cs p l xs to c.minus.result (to-is h l i e) (to-small h l i) c.loop-l.invariant.parts (c.minus.ensures ∙ ap (λ (y : ℤ). tenths_at xs to -ℤ y) c.flow_at-flow.ensures.value) in
     record {
       within = first-later _ l c.loop-l.invariant.within (sym (answered h l i e c.flow_at-flow.ensures.value c.scaled_by_one.ensures c.of_volume.ensures c.lt.ensures) ∙ c.if-lt.false);
@@ -179,12 +179,12 @@ loop-l-preserved c =
     }
 
 pub returns-clause-within : goal.returns-clause-within
-returns-clause-within c = first-nowhere _ c.loop-l.l (omega (arith, links-is c.args.hour.read)) (omega (arith, links-is c.args.hour.read)) c.loop-l.invariant.within
+returns-clause-within c = first-nowhere _ c.loop-l.l (omega (arith, links-is c.args.filled.hour.read)) (omega (arith, links-is c.args.filled.hour.read)) c.loop-l.invariant.within
 
 pub returns-clause-parts : goal.returns-clause-parts
 unfolding fb_part lta_part inflow outflow
 returns-clause-parts c =
-    let cs = case_of c.args.hour.case.bytes.now in
-    let p = plan_of c.args.hour.case.bytes.now c.args.hour.proposal.now in
-    let e : c.loop-l.l ≡ cs.links = omega (arith, links-is c.args.hour.read) in
+    let cs = case_of c.args.filled.hour.case.bytes.now in
+    let p = plan_of c.args.filled.hour.case.bytes.now c.args.filled.hour.proposal.now in
+    let e : c.loop-l.l ≡ cs.links = omega (arith, links-is c.args.filled.hour.read) in
     subst (λ (k : ℕ). TenthsHold (partly cs p k k) c.loop-l.parts) e c.loop-l.invariant.parts

@@ -11,6 +11,6 @@ use Rattle.judge_clearing.proofs.link_sums.Given as goal
 
 abbrev pub invariant-loop-l : goal.invariant-loop-l
 invariant-loop-l l = record {
-  within : first_below l.l (λ j. link_use (case_of l.hour.case.bytes.now) (plan_of l.hour.case.bytes.now l.hour.proposal.now) j over link_room (case_of l.hour.case.bytes.now) (plan_of l.hour.case.bytes.now l.hour.proposal.now) j) ≡ none;
-  parts : TenthsHold (partly (case_of l.hour.case.bytes.now) (plan_of l.hour.case.bytes.now l.hour.proposal.now) l.l l.l) l.parts;
+  within : first_below l.l (λ j. link_use (case_of l.filled.hour.case.bytes.now) (plan_of l.filled.hour.case.bytes.now l.filled.hour.proposal.now) j over link_room (case_of l.filled.hour.case.bytes.now) (plan_of l.filled.hour.case.bytes.now l.filled.hour.proposal.now) j) ≡ none;
+  parts : TenthsHold (partly (case_of l.filled.hour.case.bytes.now) (plan_of l.filled.hour.case.bytes.now l.filled.hour.proposal.now) l.l l.l) l.parts;
 }

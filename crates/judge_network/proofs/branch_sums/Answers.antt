@@ -152,12 +152,12 @@ module _ {s t : List ℕ} {counts : Counts} {opening : ProposalOpening} (h : Hou
         price-sum-fits = sfits-by w64 price-sum-is (near_fits w64 (omega arith) (price-near _ (sound h) _ (system-near s t) (shadow-in h) (m + 1) (omega (arith, inside)) z known))
 
 pub in_grains-prices-requires : goal.in_grains-prices-requires
-in_grains-prices-requires c = base-fits c.args.hour.read
+in_grains-prices-requires c = base-fits c.args.filled.hour.read
 
 pub loop-m-init : goal.loop-m-init
 unfolding sum_to first_below
 loop-m-init c =
-    let h = c.args.hour.read in
+    let h = c.args.filled.hour.read in
     record {
       within = refl;
       prices = record {
@@ -173,58 +173,58 @@ unfolding sum_to
 loop-z-init c = record { load = refl; prices = record { long = c.loop-m.invariant.prices.long; done = below_none _; left = λ z l m. refl } }
 
 pub offset_bounds-table-m : goal.offset_bounds-table-m
-offset_bounds-table-m c = omega (arith, row-in c.args.hour.read c.loop-m.m c.loop-m-test.true)
+offset_bounds-table-m c = omega (arith, row-in c.args.filled.hour.read c.loop-m.m c.loop-m-test.true)
 
 pub offset_bounds-table-z : goal.offset_bounds-table-z
-offset_bounds-table-z c = omega (arith, few-zones c.args.hour.read)
+offset_bounds-table-z c = omega (arith, few-zones c.args.filled.hour.read)
 
 pub bounds-table-m : goal.bounds-table-m
-bounds-table-m c = row-in c.args.hour.read c.loop-m.m c.loop-m-test.true
+bounds-table-m c = row-in c.args.filled.hour.read c.loop-m.m c.loop-m-test.true
 
 pub bounds-table-z : goal.bounds-table-z
-bounds-table-z c = omega (arith, few-zones c.args.hour.read)
+bounds-table-z c = omega (arith, few-zones c.args.filled.hour.read)
 
 pub of_entry-ptdf-requires : goal.of_entry-ptdf-requires
-of_entry-ptdf-requires c = read-in c.args.hour.read c.loop-m.m c.loop-m-test.true c.loop-z.z c.loop-z-test.true c.requires.table_value
+of_entry-ptdf-requires c = read-in c.args.filled.hour.read c.loop-m.m c.loop-m-test.true c.loop-z.z c.loop-z-test.true c.requires.table_value
 
 pub offset_bounds-parts-z : goal.offset_bounds-parts-z
-offset_bounds-parts-z c = omega (arith, few-zones c.args.hour.read)
+offset_bounds-parts-z c = omega (arith, few-zones c.args.filled.hour.read)
 
 pub bounds-parts-z : goal.bounds-parts-z
-bounds-parts-z c = omega (arith, few-zones c.args.hour.read)
+bounds-parts-z c = omega (arith, few-zones c.args.filled.hour.read)
 
 pub load-requires : goal.load-requires
 load-requires c =
-    let h = c.args.hour.read in
+    let h = c.args.filled.hour.read in
     let m = c.loop-m.m in
     let i = c.loop-m-test.true in
     let z = c.loop-z.z in
     let l = c.loop-z-test.true in
     sfits-by w64 (load-is h m i z l c.requires.table_value c.of_entry-ptdf.ensures c.requires.tenths_hold refl)
-    ((loads-fit h m i c.requires.volumes_in_range c.requires.flows_in_range).term z (known h m i z l))
+    ((loads-fit h m i c.args.filled.within c.requires.flows_in_range).term z (known h m i z l))
 
 pub plus-load-requires : goal.plus-load-requires
 plus-load-requires c =
-    let h = c.args.hour.read in
+    let h = c.args.filled.hour.read in
     let m = c.loop-m.m in
     let i = c.loop-m-test.true in
     let z = c.loop-z.z in
     let l = c.loop-z-test.true in
-    step_fits (loads-fit h m i c.requires.volumes_in_range c.requires.flows_in_range) z (known h m i z l)
+    step_fits (loads-fit h m i c.args.filled.within c.requires.flows_in_range) z (known h m i z l)
     c.loop-z.invariant.load (load-is h m i z l c.requires.table_value c.of_entry-ptdf.ensures c.requires.tenths_hold c.load.ensures)
 
 pub offset_bounds-prices-z : goal.offset_bounds-prices-z
-offset_bounds-prices-z c = omega (arith, few-zones c.args.hour.read)
+offset_bounds-prices-z c = omega (arith, few-zones c.args.filled.hour.read)
 
 pub bounds-prices-z : goal.bounds-prices-z
-bounds-prices-z c = omega (arith, few-zones c.args.hour.read)
+bounds-prices-z c = omega (arith, few-zones c.args.filled.hour.read)
 
 pub price-requires : goal.price-requires
-price-requires c = price-fits c.args.hour.read c.loop-m.m c.loop-m-test.true c.loop-z.z c.loop-z-test.true c.requires.table_value c.of_entry-ptdf.ensures c.shadow_at-shadow.ensures
+price-requires c = price-fits c.args.filled.hour.read c.loop-m.m c.loop-m-test.true c.loop-z.z c.loop-z-test.true c.requires.table_value c.of_entry-ptdf.ensures c.shadow_at-shadow.ensures
 
 pub plus-requires : goal.plus-requires
 plus-requires c =
-    let h = c.args.hour.read in
+    let h = c.args.filled.hour.read in
     let m = c.loop-m.m in
     let i = c.loop-m-test.true in
     let z = c.loop-z.z in
@@ -232,81 +232,81 @@ plus-requires c =
     price-sum-fits h m i z l c.loop-m.invariant.prices c.loop-z.invariant.prices (price-is h m i z l c.requires.table_value c.of_entry-ptdf.ensures c.shadow_at-shadow.ensures c.price.ensures)
 
 pub offset_bounds-prices-z-in-loop-z : goal.offset_bounds-prices-z-in-loop-z
-offset_bounds-prices-z-in-loop-z c = omega (arith, few-zones c.args.hour.read)
+offset_bounds-prices-z-in-loop-z c = omega (arith, few-zones c.args.filled.hour.read)
 
 pub bounds-prices-z-in-loop-z : goal.bounds-prices-z-in-loop-z
-bounds-prices-z-in-loop-z c = omega (arith, few-zones c.args.hour.read)
+bounds-prices-z-in-loop-z c = omega (arith, few-zones c.args.filled.hour.read)
 
 pub loop-z-preserved : goal.loop-z-preserved
 loop-z-preserved c =
-    let h = c.args.hour.read in
+    let h = c.args.filled.hour.read in
     let m = c.loop-m.m in
     let i = c.loop-m-test.true in
     let z = c.loop-z.z in
     let l = c.loop-z-test.true in
     let shadow = c.shadow_at-shadow.result.0 in
     record {
-      load = step (loads-fit h m i c.requires.volumes_in_range c.requires.flows_in_range) z c.loop-z.invariant.load
+      load = step (loads-fit h m i c.args.filled.within c.requires.flows_in_range) z c.loop-z.invariant.load
           (load-is h m i z l c.requires.table_value c.of_entry-ptdf.ensures c.requires.tenths_hold c.load.ensures) c.plus-load.ensures;
-      prices = add_step c.loop-m.prices c.loop-z.prices (get_or c.args.table m []) shadow z c.args.hour.case.counts.zones c.plus.result l (few-zones h) c.loop-z.invariant.prices
+      prices = add_step c.loop-m.prices c.loop-z.prices (get_or c.args.table m []) shadow z c.args.filled.hour.case.counts.zones c.plus.result l (few-zones h) c.loop-z.invariant.prices
           (c.plus.ensures ∙ ap (λ (x : ℤ). grains_at c.loop-z.prices z +ℤ x) (c.price.ensures ∙ ap (λ (x : ℤ). x *ℤ shadow) (c.of_entry-ptdf.ensures ∙ read-is h m i z l c.requires.table_value)));
     }
 
 pub of_volume-requires : goal.of_volume-requires
-of_volume-requires c = room-fits c.args.hour.read c.loop-m.m c.loop-m-test.true c.flow_based-flow_based.ensures c.margin_at-margin.ensures
+of_volume-requires c = room-fits c.args.filled.hour.read c.loop-m.m c.loop-m-test.true c.flow_based-flow_based.ensures c.margin_at-margin.ensures
 
 pub returns-then-lt-clause-overloaded : goal.returns-then-lt-clause-overloaded
 returns-then-lt-clause-overloaded c =
-    let h = c.args.hour.read in
+    let h = c.args.filled.hour.read in
     let m = c.loop-m.m in
     let i = c.loop-m-test.true in
     first-here _ m (inside h m i) c.loop-m.invariant.within
     (sym (answered h m i (used h m i (omega arith) c.loop-z.invariant.load) c.flow_based-flow_based.ensures c.margin_at-margin.ensures c.of_volume.ensures c.lt.ensures) ∙ c.if-lt.true)
 
 pub in_grains-requires : goal.in_grains-requires
-in_grains-requires c = shadow-fits c.args.hour.read c.loop-m.m c.loop-m-test.true c.shadow_at-shadow.ensures c.margin_at-margin.ensures
+in_grains-requires c = shadow-fits c.args.filled.hour.read c.loop-m.m c.loop-m-test.true c.shadow_at-shadow.ensures c.margin_at-margin.ensures
 
 pub cost-requires : goal.cost-requires
-cost-requires c = cost-fits c.args.hour.read c.loop-m.m c.loop-m-test.true c.shadow_at-shadow.ensures c.margin_at-margin.ensures c.in_grains.ensures
+cost-requires c = cost-fits c.args.filled.hour.read c.loop-m.m c.loop-m-test.true c.shadow_at-shadow.ensures c.margin_at-margin.ensures c.in_grains.ensures
 
 pub plus-total-requires : goal.plus-total-requires
 plus-total-requires c =
-    let h = c.args.hour.read in
+    let h = c.args.filled.hour.read in
     let m = c.loop-m.m in
     let i = c.loop-m-test.true in
     step_fits (total-fits h) m (inside h m i) c.loop-m.invariant.total (value-is h m i c.shadow_at-shadow.ensures c.margin_at-margin.ensures c.in_grains.ensures c.cost.ensures)
 
 pub loop-m-preserved : goal.loop-m-preserved
 loop-m-preserved c =
-    let h = c.args.hour.read in
+    let h = c.args.filled.hour.read in
     let m = c.loop-m.m in
     let i = c.loop-m-test.true in
     let row = get_or c.args.table m [] in
     let shadow = c.shadow_at-shadow.result.0 in
-    let e : c.loop-z.z ≡ c.args.hour.case.counts.zones = omega arith in
+    let e : c.loop-z.z ≡ c.args.filled.hour.case.counts.zones = omega arith in
     record {
       within = first-later _ m c.loop-m.invariant.within (sym (answered h m i (used h m i e c.loop-z.invariant.load) c.flow_based-flow_based.ensures c.margin_at-margin.ensures c.of_volume.ensures c.lt.ensures) ∙ c.if-lt.false);
       prices = branch-step _ _ m c.loop-m.prices c.loop-z.prices row shadow
           (λ z k. term-is h m i z (omega (arith, zones-is h)) c.requires.table_value c.shadow_at-shadow.ensures) c.loop-m.invariant.prices
-          (subst (λ (n : ℕ). AddedTo c.loop-m.prices c.loop-z.prices row shadow n n) (zones-is h) (subst (λ (n : ℕ). AddedTo c.loop-m.prices c.loop-z.prices row shadow n c.args.hour.case.counts.zones) e c.loop-z.invariant.prices));
+          (subst (λ (n : ℕ). AddedTo c.loop-m.prices c.loop-z.prices row shadow n n) (zones-is h) (subst (λ (n : ℕ). AddedTo c.loop-m.prices c.loop-z.prices row shadow n c.args.filled.hour.case.counts.zones) e c.loop-z.invariant.prices));
       total = step (total-fits h) m c.loop-m.invariant.total (value-is h m i c.shadow_at-shadow.ensures c.margin_at-margin.ensures c.in_grains.ensures c.cost.ensures) c.plus-total.ensures;
     }
 
 pub returns-clause-within : goal.returns-clause-within
-returns-clause-within c = first-nowhere _ c.loop-m.m (omega (arith, branches-is c.args.hour.read)) (omega (arith, branches-is c.args.hour.read)) c.loop-m.invariant.within
+returns-clause-within c = first-nowhere _ c.loop-m.m (omega (arith, branches-is c.args.filled.hour.read)) (omega (arith, branches-is c.args.filled.hour.read)) c.loop-m.invariant.within
 
 pub returns-clause-prices : goal.returns-clause-prices
 unfolding zone_price
 returns-clause-prices c =
-    let cs = case_of c.args.hour.case.bytes.now in
-    let d = prices_of c.args.hour.case.bytes.now c.args.hour.proposal.now in
-    let e : c.loop-m.m ≡ cs.branches = omega (arith, branches-is c.args.hour.read) in
+    let cs = case_of c.args.filled.hour.case.bytes.now in
+    let d = prices_of c.args.filled.hour.case.bytes.now c.args.filled.hour.proposal.now in
+    let e : c.loop-m.m ≡ cs.branches = omega (arith, branches-is c.args.filled.hour.read) in
     record { each = λ z h. c.loop-m.invariant.prices.each z h ∙ ap (λ (k : ℕ). grains_of d.system +ℤ sum_to k (λ j. branch_price cs d z j)) e }
 
 pub returns-clause-total : goal.returns-clause-total
 unfolding branch_total
 returns-clause-total c =
-    let cs = case_of c.args.hour.case.bytes.now in
-    let d = prices_of c.args.hour.case.bytes.now c.args.hour.proposal.now in
-    let e : c.loop-m.m ≡ cs.branches = omega (arith, branches-is c.args.hour.read) in
+    let cs = case_of c.args.filled.hour.case.bytes.now in
+    let d = prices_of c.args.filled.hour.case.bytes.now c.args.filled.hour.proposal.now in
+    let e : c.loop-m.m ≡ cs.branches = omega (arith, branches-is c.args.filled.hour.read) in
     c.loop-m.invariant.total ∙ ap (λ (k : ℕ). sum_to k (λ j. pos parts_in_one *ℤ branch_value cs d j)) e ∙ sum-scale-l cs.branches (λ j. branch_value cs d j) (pos parts_in_one)

@@ -13,13 +13,13 @@ use Rattle.judge_network.proofs.branch_sums.Given as goal
 
 abbrev pub invariant-loop-z : goal.invariant-loop-z
 invariant-loop-z l = record {
-  load : l.load.0 ≡ sum_to l.z (λ j. (case_of l.hour.case.bytes.now).ptdf l.m j *ℤ fb_part (case_of l.hour.case.bytes.now) (plan_of l.hour.case.bytes.now l.hour.proposal.now) j);
-  prices : AddedTo l.initial.prices l.prices (get_or l.table l.m []) l.shadow.0 l.z l.hour.case.counts.zones;
+  load : l.load.0 ≡ sum_to l.z (λ j. (case_of l.filled.hour.case.bytes.now).ptdf l.m j *ℤ fb_part (case_of l.filled.hour.case.bytes.now) (plan_of l.filled.hour.case.bytes.now l.filled.hour.proposal.now) j);
+  prices : AddedTo l.initial.prices l.prices (get_or l.table l.m []) l.shadow.0 l.z l.filled.hour.case.counts.zones;
 }
 
 abbrev pub invariant-loop-m : goal.invariant-loop-m
 invariant-loop-m l = record {
-  within : first_below l.m (λ j. branch_use (case_of l.hour.case.bytes.now) (plan_of l.hour.case.bytes.now l.hour.proposal.now) j over_z branch_room (case_of l.hour.case.bytes.now) (plan_of l.hour.case.bytes.now l.hour.proposal.now) j) ≡ none;
-  prices : Partly (case_of l.hour.case.bytes.now) (prices_of l.hour.case.bytes.now l.hour.proposal.now) l.m l.prices;
-  total : l.total.0 ≡ sum_to l.m (λ j. pos parts_in_one *ℤ branch_value (case_of l.hour.case.bytes.now) (prices_of l.hour.case.bytes.now l.hour.proposal.now) j);
+  within : first_below l.m (λ j. branch_use (case_of l.filled.hour.case.bytes.now) (plan_of l.filled.hour.case.bytes.now l.filled.hour.proposal.now) j over_z branch_room (case_of l.filled.hour.case.bytes.now) (plan_of l.filled.hour.case.bytes.now l.filled.hour.proposal.now) j) ≡ none;
+  prices : Partly (case_of l.filled.hour.case.bytes.now) (prices_of l.filled.hour.case.bytes.now l.filled.hour.proposal.now) l.m l.prices;
+  total : l.total.0 ≡ sum_to l.m (λ j. pos parts_in_one *ℤ branch_value (case_of l.filled.hour.case.bytes.now) (prices_of l.filled.hour.case.bytes.now l.filled.hour.proposal.now) j);
 }

@@ -48,8 +48,8 @@ returns-in-Err-clause-refused c =
     rw c.refused_at.ensures (refused-21 (list_read c.args.reading.families) h p c.in-Err.ensures.excess)
 
 -- 28
-pub hold_families-requires : goal.hold_families-requires
-hold_families-requires c = volumes-in c.in-Ok.ensures.within
+pub invariant_of-filled : goal.invariant_of-filled
+invariant_of-filled c = record { within = volumes-in c.in-Ok.ensures.within }
 
 pub returns-in_err-hold_families-clause-refused : goal.returns-in_err-hold_families-clause-refused
 returns-in_err-hold_families-clause-refused c =
@@ -74,9 +74,6 @@ returns-in_err-hold_balance-clause-refused c =
     rw (q.1, q.2) (refused-balance (list_read c.args.reading.families) h p c.in-Ok.ensures.within c.in_ok-hold_families.ensures.passed (balance-refuses h p answer))
 
 -- 23
-pub link_sums-requires-clause-volumes_in_range : goal.link_sums-requires-clause-volumes_in_range
-link_sums-requires-clause-volumes_in_range c = volumes-in c.in-Ok.ensures.within
-
 pub refused_at-requires-in-Err-link_sums : goal.refused_at-requires-in-Err-link_sums
 refused_at-requires-in-Err-link_sums c = place-below _ _ _ 4294967296 c.in-Err-link_sums.ensures.overused (omega (arith, (sound c.args.reading.hour.read).links-in))
 
