@@ -18,6 +18,7 @@ fn read_all(input: &mut impl Read, buffer: &mut [u8]) -> io::Result<usize>
     ensures { IfOk result (λ kept. kept ≤ length buffer.new) }
 {
     let mut kept = 0;
+    // No `for`: a read says how far it came. `read_exact` does not say how many bytes there were before the end.
     while kept < buffer.len() {
         let got = input.read(&mut buffer[kept..])?;
         if got == 0 {
@@ -38,6 +39,7 @@ fn print(rt: &(impl Print + Eprint), input: &[u8]) {
 }
 
 fn main(rt: HostRuntime) {
+    // Of a fixed length: an input may be longer than any memory, and the program reads it to its end.
     let mut buffer = [0u8; 65536];
     match read_all(&mut rt.stdin(), &mut buffer) {
         Ok(kept) => print(&rt, &buffer[..kept]),

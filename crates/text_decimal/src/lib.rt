@@ -12,13 +12,8 @@ ghost use Rattle.text_rules.specs.Meaning.Put.{Put};
 
 use base_integers::Bits;
 
-// Decimals of an amount of money in euros, and of a price in euros per MWh.
-const MONEY_DECIMALS: usize = 8;
-
-const PRICE_DECIMALS: usize = 7;
-
 // Every power of ten that 64 bits hold, 10 ^ k at k. Read it at constant indices only: such a read is folded, and
-// any other makes the compiler build the whole table first.
+// any other makes the compiler build the whole table first. A table, not `pow`: request S-7 asks for it (DECISIONS 96).
 const POWERS: [u64; 20] = [
     1,
     10,
@@ -42,20 +37,19 @@ const POWERS: [u64; 20] = [
     10000000000000000000,
 ];
 
-// An amount of money, from microcents.
-pub fn put_money(out: &mut [u8], at: usize, x: Bits) -> usize
-    requires { at + length (amount_text 8 (to_z w64 x.0)) ≤ length out.old }
-    ensures { Put out.old at (amount_text 8 (to_z w64 x.0)) out.new result }
+// An amount, from units of its last decimal: microcents of a euro have 8, grains 7. A minus sign before a negative
+// amount only. The least number has no opposite of its own width, so its size is unsigned.
+pub fn put_amount<const DECIMALS: usize>(out: &mut [u8], at: usize, x: Bits) -> usize
+    requires decimals_bound { DECIMALS < 20 }
+    requires x_in_bounds { at + length (amount_text DECIMALS (to_z w64 x.0)) ≤ length out.old }
+    ensures { Put out.old at (amount_text DECIMALS (to_z w64 x.0)) out.new result }
 {
-    put_amount(out, at, x, whole(x, MONEY_DECIMALS), MONEY_DECIMALS)
-}
-
-// A price, from grains.
-pub fn put_price(out: &mut [u8], at: usize, x: Bits) -> usize
-    requires { at + length (amount_text 7 (to_z w64 x.0)) ≤ length out.old }
-    ensures { Put out.old at (amount_text 7 (to_z w64 x.0)) out.new result }
-{
-    put_amount(out, at, x, whole(x, PRICE_DECIMALS), PRICE_DECIMALS)
+    let n = size(x);
+    if negative(x) {
+        out[at] = b'-';
+        return put_size::<DECIMALS>(out, at + 1, n);
+    }
+    put_size::<DECIMALS>(out, at, n)
 }
 
 pub fn put_count(out: &mut [u8], at: usize, n: u64) -> usize
@@ -65,30 +59,16 @@ pub fn put_count(out: &mut [u8], at: usize, n: u64) -> usize
     put_last(out, at, n, count_places(n))
 }
 
-// A minus sign before a negative amount only. The least number has no opposite of its own width, so its size is
-// unsigned. The caller gives the whole part, because it knows the decimals: there the compiler turns the division
-// into a product.
-fn put_amount(out: &mut [u8], at: usize, x: Bits, whole: u64, decimals: usize) -> usize
-    requires whole_value { whole ≡ nat_abs (to_z w64 x.0) / 10 ^ decimals }
-    requires x_in_bounds { at + length (amount_text decimals (to_z w64 x.0)) ≤ length out.old }
-    ensures { Put out.old at (amount_text decimals (to_z w64 x.0)) out.new result }
+// The decimals are known to the compiler: it turns the division into a product.
+fn put_size<const DECIMALS: usize>(out: &mut [u8], at: usize, n: u64) -> usize
+    requires decimals_bound { DECIMALS < 20 }
+    requires n_in_bounds { at + length (size_text DECIMALS n) ≤ length out.old }
+    ensures { Put out.old at (size_text DECIMALS n) out.new result }
 {
-    let n = size(x);
-    if negative(x) {
-        out[at] = b'-';
-        return put_size(out, at + 1, n, whole, decimals);
-    }
-    put_size(out, at, n, whole, decimals)
-}
-
-fn put_size(out: &mut [u8], at: usize, n: u64, whole: u64, decimals: usize) -> usize
-    requires whole_value { whole ≡ n / 10 ^ decimals }
-    requires n_in_bounds { at + length (size_text decimals n) ≤ length out.old }
-    ensures { Put out.old at (size_text decimals n) out.new result }
-{
+    let whole = whole(n, DECIMALS);
     let point = put_count(out, at, whole);
     out[point] = b'.';
-    put_last(out, point + 1, n, decimals)
+    put_last(out, point + 1, n, DECIMALS)
 }
 
 // The last k digits of n, written from the right, two at a time.
@@ -125,12 +105,12 @@ fn count_places(n: u64) -> usize
     n.max(1).ilog10() as usize + 1
 }
 
-// The whole part of an amount.
-fn whole(x: Bits, decimals: usize) -> u64
+// The whole part of an amount of size n.
+fn whole(n: u64, decimals: usize) -> u64
     requires { decimals < 20 }
-    ensures { result ≡ nat_abs (to_z w64 x.0) / 10 ^ decimals }
+    ensures { result ≡ n / 10 ^ decimals }
 {
-    size(x) / power(decimals)
+    n / power(decimals)
 }
 
 fn power(k: usize) -> u64

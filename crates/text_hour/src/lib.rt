@@ -13,7 +13,12 @@ ghost use Rattle.report_file.specs.Meaning.Prices.{grains_at};
 use base_causes::Outcome;
 use base_measures::{Grains, Measure, Microcents};
 use report_file::Totals;
-use text_decimal::{put_count, put_money, put_price};
+use text_decimal::{put_amount, put_count};
+
+// Decimals of an amount of money in euros, held in microcents, and of a price in euros per MWh, held in grains.
+const MONEY_DECIMALS: usize = 8;
+
+const PRICE_DECIMALS: usize = 7;
 
 fn put_text(out: &mut [u8], at: usize, text: &[u8]) -> usize
     requires { at + length text.now ≤ length out.old }
@@ -39,8 +44,8 @@ pub fn put_verdict(out: &mut [u8], at: usize, v: Outcome) -> usize
     requires { at + length (verdict_line v) ≤ length out.old }
     ensures { Put out.old at (verdict_line v) out.new result }
 {
-    let index = put_named(out, at, b"verdict ", v.number as u64);
-    let end = put_count(out, index, v.index as u64);
+    let index = put_named(out, at, b"verdict ", u64::from(v.number));
+    let end = put_count(out, index, u64::from(v.index));
     put_text(out, end, b"\n")
 }
 
@@ -50,7 +55,7 @@ fn put_total(out: &mut [u8], at: usize, name: &[u8], total: Microcents) -> usize
     ensures { Put out.old at (total_line name.now total.0) out.new result }
 {
     let amount = put_text(out, at, name);
-    let end = put_money(out, amount, total.bits());
+    let end = put_amount::<MONEY_DECIMALS>(out, amount, total.bits());
     put_text(out, end, b"\n")
 }
 
@@ -60,7 +65,7 @@ fn put_zone(out: &mut [u8], at: usize, zone: usize, price: Grains) -> usize
     ensures { Put out.old at (price_line zone price.0) out.new result }
 {
     let amount = put_named(out, at, b"price ", zone as u64);
-    let end = put_price(out, amount, price.bits());
+    let end = put_amount::<PRICE_DECIMALS>(out, amount, price.bits());
     put_text(out, end, b"\n")
 }
 

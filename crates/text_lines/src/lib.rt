@@ -37,7 +37,7 @@ fn put_lines(input: &[u8], out: &mut [u8]) -> usize
 // The room that the lines of every input have.
 pub const ROOM: usize = layout::DESK_ROOM;
 
-// Whether an output is too short for them.
+// Whether an output is too short for them. The one refusal here: a Result inside would be longer.
 fn too_short(room: usize) -> bool
     ensures { result ≡ room under desk_room }
 {

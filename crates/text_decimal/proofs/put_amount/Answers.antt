@@ -7,32 +7,33 @@ use Rattle.text_rules.proofs.Promised.Value.{amount-negative, amount-positive}
 use Rattle.text_rules.proofs.Steps.Put.{put_as, put_then, put_byte}
 use Rattle.text_decimal.proofs.put_amount.Goals as goal
 use Rattle.text_decimal.proofs.put_amount.Goals.{After-negative}
+use Rattle.text_decimal.proofs.put_amount.Given.{Over}
 
 -- the amount's text, by the size and the test's answer
-signed : (c : After-negative) → c.negative.result ≡ true → amount_text c.args.decimals (to_z w64 c.args.x.0) ≡ 45 ∷ size_text c.args.decimals c.size-n.result
-signed c e =
-    amount-negative c.args.decimals (to_z w64 c.args.x.0) (sym c.negative.ensures ∙ e)
-    ∙ ap (λ (n : ℕ). 45 ∷ size_text c.args.decimals n) (sym c.size-n.ensures)
+signed : (g : Over) (c : After-negative g) → c.negative.result ≡ true → amount_text g.row.DECIMALS (to_z w64 c.args.x.0) ≡ 45 ∷ size_text g.row.DECIMALS c.size-n.result
+signed g c e =
+    amount-negative g.row.DECIMALS (to_z w64 c.args.x.0) (sym c.negative.ensures ∙ e)
+    ∙ ap (λ (n : ℕ). 45 ∷ size_text g.row.DECIMALS n) (sym c.size-n.ensures)
 
-unsigned : (c : After-negative) → c.negative.result ≡ false → amount_text c.args.decimals (to_z w64 c.args.x.0) ≡ size_text c.args.decimals c.size-n.result
-unsigned c e =
-    amount-positive c.args.decimals (to_z w64 c.args.x.0) (sym c.negative.ensures ∙ e)
-    ∙ ap (λ (n : ℕ). size_text c.args.decimals n) (sym c.size-n.ensures)
+unsigned : (g : Over) (c : After-negative g) → c.negative.result ≡ false → amount_text g.row.DECIMALS (to_z w64 c.args.x.0) ≡ size_text g.row.DECIMALS c.size-n.result
+unsigned g c e =
+    amount-positive g.row.DECIMALS (to_z w64 c.args.x.0) (sym c.negative.ensures ∙ e)
+    ∙ ap (λ (n : ℕ). size_text g.row.DECIMALS n) (sym c.size-n.ensures)
 
 pub bounds-out-at : goal.bounds-out-at
-bounds-out-at c = omega (arith, ap length (signed (goal.at.bounds-out-at c).After-negative c.if-negative.true), c.requires.x_in_bounds)
+bounds-out-at g c = omega (arith, ap length (signed g (goal.at.bounds-out-at g c).After-negative c.if-negative.true), c.requires.x_in_bounds)
 
 pub put_size-requires-clause-n_in_bounds : goal.put_size-requires-clause-n_in_bounds
-put_size-requires-clause-n_in_bounds c =
-    simp length-set (omega (arith, ap length (signed (goal.at.put_size-requires-clause-n_in_bounds c).After-negative c.if-negative.true), c.requires.x_in_bounds))
+put_size-requires-clause-n_in_bounds g c =
+    simp length-set (omega (arith, ap length (signed g (goal.at.put_size-requires-clause-n_in_bounds g c).After-negative c.if-negative.true), c.requires.x_in_bounds))
 
 pub returns-then-negative : goal.returns-then-negative
-returns-then-negative c =
-    put_as (sym (signed (goal.at.returns-then-negative c).After-negative c.if-negative.true)) (put_then (put_byte c.args.out.now c.args.at 45) c.put_size.ensures)
+returns-then-negative g c =
+    put_as (sym (signed g (goal.at.returns-then-negative g c).After-negative c.if-negative.true)) (put_then (put_byte c.args.out.now c.args.at 45) c.put_size.ensures)
 
 pub put_size-requires-2-clause-n_in_bounds : goal.put_size-requires-2-clause-n_in_bounds
-put_size-requires-2-clause-n_in_bounds c =
-    omega (arith, ap length (unsigned (goal.at.put_size-requires-2-clause-n_in_bounds c).After-negative c.if-negative.false), c.requires.x_in_bounds)
+put_size-requires-2-clause-n_in_bounds g c =
+    omega (arith, ap length (unsigned g (goal.at.put_size-requires-2-clause-n_in_bounds g c).After-negative c.if-negative.false), c.requires.x_in_bounds)
 
 pub returns : goal.returns
-returns c = put_as (sym (unsigned (goal.at.returns c).After-negative c.if-negative.false)) c.put_size-2.ensures
+returns g c = put_as (sym (unsigned g (goal.at.returns g c).After-negative c.if-negative.false)) c.put_size-2.ensures
