@@ -42,10 +42,11 @@ struct Arrangement {
     start: usize,
     rows: usize,
     columns: usize,
+    ghost within: { start + rows < 2 ^ 64 },
 }
 
-// `count` bytes from a place on, at the same places. No `copy_from_slice`: where a length is not known it asks for
-// memmove, and the library may ask for memcpy and memset alone (tests/object_code).
+// `count` bytes from a place on, at the same places. No `copy_from_slice`: between two lent slices whose length is not
+// known it asks for memmove, and the library may ask for memcpy and memset alone (tests/object_code).
 fn copy(source: &[u8], at: usize, count: usize, out: &mut [u8])
     requires source_in_bounds { at + count ≤ length source.now }
     requires out_in_bounds { at + count ≤ length out.old }
@@ -62,9 +63,9 @@ impl Arrangement {
         requires row { i < self.rows }
         requires source_in_bounds { self.start + self.rows * self.columns ≤ length source.now }
         requires out_in_bounds { self.start + self.rows * self.columns ≤ length out.old }
-        requires rows_bound { self.start + self.rows < 2 ^ 64 }
         ensures { out.new ≡ sets out.old (self.start + i * self.columns) (every (self.start + i) self.rows self.columns source.now) }
     {
+        // Two buffers are indexed, each by a step of its own.
         for j in 0..self.columns {
             out[self.start + i * self.columns + j] = source[self.start + i + j * self.rows];
         }
@@ -73,7 +74,6 @@ impl Arrangement {
     fn put_orders(self, source: &[u8], out: &mut [u8])
         requires source_in_bounds { self.start + self.rows * self.columns ≤ length source.now }
         requires out_in_bounds { self.start + self.rows * self.columns ≤ length out.old }
-        requires rows_bound { self.start + self.rows < 2 ^ 64 }
         ensures { out.new ≡ sets out.old self.start (orders self.start self.rows self.columns (self.rows * self.columns) source.now) }
     {
         for i in 0..self.rows {
@@ -86,7 +86,6 @@ impl Arrangement {
         requires le_start { 3 ≤ self.start }
         requires columns_value { self.start + self.rows * self.columns ≡ length source.now }
         requires source_in_bounds { length source.now ≤ length out.old }
-        requires rows_bound { self.start + self.rows < 2 ^ 64 }
         ensures { out.new ≡ arranged self.letter self.start self.rows self.columns source.now ++ drop (length source.now) out.old }
     {
         out[0] = MARK_FIRST;

@@ -95,7 +95,7 @@ pub fn nearest_up_to(p: f64, most: u32) -> Option<u32>
 {
     if p <= HALVES_END {
         let n = nearest_whole(p);
-        if n <= (most as u64) {
+        if n <= u64::from(most) {
             return Some(n as u32);
         }
     }

@@ -15,7 +15,7 @@ ghost use Rattle.dump_proposal.specs.Steps.Walks.{rest_of, table_bytes, OpeningH
 
 mod finite;
 
-use base_causes::Outcome;
+use base_causes::{Outcome, refused};
 use base_integers::Bits;
 use base_output::Written;
 use bytes_read::Cursor;
@@ -77,7 +77,7 @@ fn rest_of(k: Counts) -> usize
     k.orders + k.links + k.branches
 }
 
-// Row 58. The length is right, so no value is missing.
+// Row 58. The length is right, so no value is missing. A cursor walks beside the index, as document 01 asks.
 fn first_not_finite(dump: &[u8], count: usize) -> Option<usize>
     requires { 8 * count ≤ length dump.now }
     ensures { place_of result ≡ first_below count (λ n. not (finite (bits_at dump.now n))) }
@@ -129,8 +129,8 @@ fn write_rest(table: &[u32], rest: usize, out: &mut [u8])
     requires rest_in_bounds_2 { 13 + 4 * rest ≤ length out.old }
     ensures { out.new ≡ sets out.old 13 (table_bytes rest table.now) }
 {
-    for i in 0..rest {
-        put::<4>(out, REST_AT + 4 * i, Bits(u64::from(table[i])));
+    for (i, field) in table[..rest].iter().enumerate() {
+        put::<4>(out, REST_AT + 4 * i, Bits(u64::from(*field)));
     }
 }
 
@@ -160,7 +160,7 @@ impl Dump<'_, '_> {
 
     // Row 59, after the opening: each value's field into the table, up to the first without one. Each value is taken
     // over a slice of eight bytes: the length is known, so the compiler drops the test for a missing field from the
-    // loop.
+    // loop. A cursor walks beside the index, as document 01 asks.
     fn convert_rest(self, start: Cursor, table: &mut [u32]) -> Option<usize>
         requires at_value { start.at ≡ 16 }
         requires table_in_bounds { rest_of self.case.counts ≤ length table.old }
@@ -198,10 +198,7 @@ impl Dump<'_, '_> {
     {
         let mut table = [0u32; N];
         if let Some(i) = self.convert_rest(start, &mut table) {
-            return Err(Outcome {
-                number: 59,
-                index: (OPENING + i) as u32,
-            });
+            return refused(59, (OPENING + i) as u32);
         }
         let rest = rest_of(self.case.counts);
         let length = REST_AT + 4 * rest;
@@ -233,10 +230,7 @@ fn convert(case: &[u8], dump: &[u8], out: &mut [u8]) -> Result<usize, Outcome>
     let counts = match read_case(Files::Apart, case) {
         Ok(counts) => counts,
         Err(refusal) => {
-            return Err(Outcome {
-                number: 56,
-                index: refusal.number,
-            });
+            return refused(56, refusal.number);
         }
     };
     let case = ReadableCase {
@@ -248,10 +242,7 @@ fn convert(case: &[u8], dump: &[u8], out: &mut [u8]) -> Result<usize, Outcome>
         return Err(WRONG_LENGTH);
     }
     if let Some(n) = first_not_finite(dump, count) {
-        return Err(Outcome {
-            number: 58,
-            index: n as u32,
-        });
+        return refused(58, n as u32);
     }
     Dump { case, bytes: dump }.convert(out)
 }

@@ -16,7 +16,7 @@ use case_header::ReadableCase;
 use case_orders::order_at;
 use dump_binary64::{cut_to_word, nearest_up_to, part_of, value};
 
-// The dump's opening: the LTA share and the system price.
+// The dump's opening: the LTA share and the system price. Two f64 and no type parameter, as document 01 names it.
 #[derive(Clone, Copy)]
 pub struct DumpOpening {
     pub share: f64,

@@ -14,7 +14,8 @@ use flow_scratch::{AMOUNTS, EXPORT_USED, IMPORT_USED, amount, store};
 // What a search knows of a zone.
 #[derive(Clone, Copy)]
 pub struct Label {
-    // How much more can be brought to the zone; 0: it is not reached.
+    // How much more can be brought to the zone; 0: it is not reached. No Option: it is an amount, and nothing can be
+    // brought there.
     pub amount: u64,
     // It falls along the path back, to 0 at a zone with export left.
     pub depth: u8,
@@ -73,14 +74,15 @@ fn shift(pairs: &[u8], s: &mut [i64; AMOUNTS], k: usize, z: usize, d: u64) -> us
     }
 }
 
-// From a zone that lacks d back along its path, to a zone with export left.
+// From a zone that lacks d back along its path, to a zone with export left. No `for`: it follows a path, not places in
+// order.
 fn walk_back(pairs: &[u8], s: &mut [i64; AMOUNTS], labels: Labels, t: usize, d: u64) -> usize
     requires { SomePath pairs.now s.old (trail_of labels) d t }
     ensures { Walked pairs.now s.old s.new (trail_of labels) d t result }
 {
     let mut z = t;
     while 0 < labels.zones[z].depth {
-        let k = labels.zones[z].via as usize;
+        let k = usize::from(labels.zones[z].via);
         z = shift(pairs, s, k, z, d);
     }
     z

@@ -29,9 +29,8 @@ fn turned(nets: [Tenths; layout::ZONES], zones: usize) -> [i64; layout::ZONES]
     ensures { Lists (λ z. pos 0 -ℤ tenths_at nets z) zones result }
 {
     let mut exports = [0i64; layout::ZONES];
-    for z in 0..zones {
-        let net = nets[z];
-        exports[z] = lent(Tenths::ZERO.minus(net).bits());
+    for (z, net) in nets[..zones].iter().enumerate() {
+        exports[z] = lent(Tenths::ZERO.minus(*net).bits());
     }
     exports
 }
@@ -44,8 +43,7 @@ fn listed(prices: [Grains; layout::ZONES], zones: usize) -> [i64; layout::ZONES]
     ensures { Lists (λ z. grains_at prices z) zones result }
 {
     let mut list = [0i64; layout::ZONES];
-    for z in 0..zones {
-        let price = prices[z];
+    for (z, price) in prices[..zones].iter().enumerate() {
         list[z] = lent(price.bits());
     }
     list
@@ -66,6 +64,7 @@ pub fn hour_intuitive_in<const N: usize>(
         Ok(valued) => valued,
         Err(refusal) => return Carried::from(refusal),
     };
+    // A valued hour's verdict is 0 or 26.
     if valued.verdict.number != 0 {
         return Carried::from(valued.verdict);
     }

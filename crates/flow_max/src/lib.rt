@@ -17,14 +17,16 @@ use flow_pairs::pair_table;
 use flow_scratch::{AMOUNTS, amount, import_left};
 use flow_search::Exchanges;
 
-// Whether every export is carried to imports, and the largest total that is carried, in tenths.
+// Whether every export is carried to imports, and the largest total that is carried, in tenths. No Option: for a no,
+// too, the total is the largest (`MaxFlowAnswer`).
 #[derive(Clone, Copy)]
 pub struct MaxFlow {
     pub all: bool,
     pub total: u64,
 }
 
-// Augments as long as the search reaches a zone with import left. The flow is empty at first.
+// Augments as long as the search reaches a zone with import left. The flow is empty at first. No `for`: how many paths
+// there are shows as the last is left.
 fn fill(exchanges: &Exchanges, s: &mut [i64; AMOUNTS]) -> u64
     requires { State (network_of exchanges.now.net_exports.now exchanges.now.prices.now exchanges.now.pairs.now) (flow_of s.old) 0 }
     ensures filled { Filled (network_of exchanges.now.net_exports.now exchanges.now.prices.now exchanges.now.pairs.now) (flow_of s.new) result }

@@ -94,7 +94,8 @@ pub fn first_bad_pair(pairs: &[u8], zones: usize) -> Option<usize>
     None
 }
 
-// In a table, that there is no pair. Not an Option there: two bytes in place of one, in a table that is searched.
+// In a table, that there is no pair. No Option there: `pair_in` and `PairsTabled` speak of a number below 64, and
+// `pair_at` answers an Option.
 const NO_PAIR: u8 = 64;
 
 // For two zones, at 16 times the first plus the second, the pair that leads from the first to the second.

@@ -19,7 +19,7 @@ pub fn amount(s: &[i64], k: usize) -> u64
     requires { k < length s.now }
     ensures { result ≡ amount_at s.now k }
 {
-    s[k].max(0) as u64
+    s[k].max(0).cast_unsigned()
 }
 
 // The import of a zone: its net export without the sign, where that is negative.
@@ -35,7 +35,7 @@ pub fn store(s: &mut [i64; AMOUNTS], k: usize, v: u64)
     requires v_bound { v < 9223372036854775808 }
     ensures { s.new ≡ set s.old k (pos v) }
 {
-    s[k] = v as i64;
+    s[k] = v.cast_signed();
 }
 
 // Whether a pair counts: its first price is at most its second.
@@ -47,24 +47,29 @@ pub fn counts(prices: &[i64], a: usize, b: usize) -> bool
     prices[a] <= prices[b]
 }
 
+// What is left of `all`, where the amount at a place is used.
+fn left(all: u64, s: &[i64; AMOUNTS], k: usize) -> u64
+    requires { k < 96 }
+    ensures { result ≡ all - amount_at s.now k }
+{
+    all.saturating_sub(amount(s, k))
+}
+
 // The export that a zone has left.
 pub fn export_left(net_exports: &[i64], s: &[i64; AMOUNTS], z: usize) -> u64
     requires z_in_bounds { z < length net_exports.now }
     requires net_exports_len_bound { length net_exports.now ≤ 16 }
     ensures { result ≡ up (get_or net_exports.now z (pos 0)) - amount_at s.now (64 + z) }
 {
-    let all = amount(net_exports, z);
-    let used = amount(s, EXPORT_USED + z);
-    all.saturating_sub(used)
+    left(amount(net_exports, z), s, EXPORT_USED + z)
 }
 
-// The import that a zone has left.
+// The import that a zone has left. Not one function with `export_left`: two definitions say what a zone has, `up` for
+// an export and `dn` for an import.
 pub fn import_left(net_exports: &[i64], s: &[i64; AMOUNTS], z: usize) -> u64
     requires z_in_bounds { z < length net_exports.now }
     requires net_exports_len_bound { length net_exports.now ≤ 16 }
     ensures { result ≡ dn (get_or net_exports.now z (pos 0)) - amount_at s.now (80 + z) }
 {
-    let all = import_of(net_exports, z);
-    let used = amount(s, IMPORT_USED + z);
-    all.saturating_sub(used)
+    left(import_of(net_exports, z), s, IMPORT_USED + z)
 }

@@ -43,7 +43,7 @@ pub extern "C" fn lta_judge(case: &[u8], proposal: &[u8], report: &mut [u8]) -> 
 
 // THE ENTRY WITH A FAMILY LIST (S-11): the same with rows 16 to 18 and 28; an empty list is 16. An accepted hour
 // keeps what an hour without a list keeps; its accuracy rule compares with clearings free of families. Also, each
-// child is accepted in at most the fraction of its parent.
+// child is accepted in at most the fraction of its parent. An entry of its own: C calls it by its name.
 #[unsafe(no_mangle)]
 pub extern "C" fn lta_judge_families(
     case: &[u8],

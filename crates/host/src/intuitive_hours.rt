@@ -67,7 +67,7 @@ pub extern "C" fn lta_hour_intuitive(
 
 // The same with a smaller scratch of 96 numbers (S-13): one per pair, one per zone for export used, one per zone
 // for import used. Fewer are refused by 85; after an answer the first 96 are zero. The yes or no and the total are
-// those of `lta_intuitive` on each input that both take.
+// those of `lta_intuitive` on each input that both take. An entry of its own: C calls it by its name.
 #[unsafe(no_mangle)]
 pub extern "C" fn lta_intuitive_small(
     net_exports: &[i64],
@@ -92,7 +92,7 @@ pub extern "C" fn lta_intuitive_small(
     intuitive_in::<SMALL_SCRATCH>(net_exports, zone_prices, pairs, scratch)
 }
 
-// The same question for an hour, with 96 numbers.
+// The same question for an hour, with 96 numbers. An entry of its own too.
 #[unsafe(no_mangle)]
 pub extern "C" fn lta_hour_intuitive_small(
     case: &[u8],

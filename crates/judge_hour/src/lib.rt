@@ -14,6 +14,7 @@ use case_file::Files;
 use judge_stages::{ValuedHour, find_in};
 use report_file::write_report;
 
+// The zone count as a byte of the report. `as`, here and below: the `Err` of a `try_from` could not come.
 fn byte_of(zones: usize) -> u8
     requires { zones ≤ 16 }
     ensures { result ≡ zones }
@@ -29,7 +30,8 @@ fn number_of(verdict: Outcome) -> u8
     verdict.number as u8
 }
 
-// The verdict; it writes the report of an hour that is valued.
+// The verdict; it writes the report of an hour that is valued. From here on it is no `Result`: C gets number and index,
+// those of an hour that is accepted too.
 fn conclude(found: Result<ValuedHour<'_>, Outcome>, report: &mut [u8]) -> Outcome
     requires reportable { Reportable found }
     requires report_room_in_bounds { report_room ≤ length report.old }

@@ -28,7 +28,7 @@ pub fn read_full(input: &mut impl Read, buffer: &mut [u8]) -> io::Result<usize>
     Ok(done)
 }
 
-// A number of a record, 32 bits, little-endian; 0 where the input ends before it.
+// A number of a record, 32 bits, little-endian; 0, and no `Option`, where the input ends before it: `value_2` says so.
 pub fn number_at(input: &[u8], at: usize) -> usize
     ensures upper_bound { result < 4294967296 }
     ensures value { at + 4 ≤ length input.now → result ≡ u32_at input.now at }
@@ -37,6 +37,7 @@ pub fn number_at(input: &[u8], at: usize) -> usize
     let Some((number, _)) = Cursor::new(at).take::<u32>(input) else {
         return 0;
     };
+    // `as`: std has no `From<u32>` for `usize`, and the `Err` of a `try_from` could not come.
     number as usize
 }
 
@@ -55,7 +56,8 @@ pub fn first<T>(items: &[T], n: usize) -> &[T]
     &items[..there(items, n)]
 }
 
-// The room that a run lends, or all where there is less.
+// The room that a run lends, or all where there is less. A run has an array of a fixed size and lends its start, since
+// a record asks for the room and what an entry does with too little is tested too.
 pub fn lent<T>(items: &mut [T], room: usize) -> &mut [T]
     ensures { result.now ≡ take room items.old }
 {
@@ -63,7 +65,8 @@ pub fn lent<T>(items: &mut [T], room: usize) -> &mut [T]
     &mut items[..k]
 }
 
-// The answer of an entry that writes into a lent output.
+// The answer of an entry that writes into a lent output. No `Display`: `Written` is the C interface's, of a crate
+// below, and this form is the records' own.
 pub fn print_written(rt: &impl Print, v: Written) -> io::Result<()> {
     let Written {
         number,
@@ -73,7 +76,7 @@ pub fn print_written(rt: &impl Print, v: Written) -> io::Result<()> {
     print!(rt; "{number} {index} {length}")
 }
 
-// Two digits for each byte.
+// Two digits for each byte. No `Display`: a crate can give none to a slice of bytes.
 pub fn print_hex(rt: &impl Print, bytes: &[u8]) -> io::Result<()> {
     for b in bytes {
         print!(rt; "{b:02x}")?;

@@ -23,7 +23,7 @@ const SIGN: u64 = 9223372036854775808;
 
 // Sign and magnitude, which no conversion of the library reads.
 fn signed(x: u64) -> i64 {
-    let size = (x % SIGN) as i64;
+    let size = (x % SIGN).cast_signed();
     if x < SIGN { size } else { -size }
 }
 

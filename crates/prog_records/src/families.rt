@@ -5,6 +5,7 @@ use base_causes::Outcome;
 use layout::REPORT_ROOM;
 use std::io;
 
+// No `Display`: `Outcome` is of a crate below, and this form is the records' own.
 fn print_verdict(rt: &impl Print, v: Outcome) -> io::Result<()> {
     let Outcome { number, index } = v;
     print!(rt; "{number} {index}")

@@ -1,6 +1,7 @@
 // Stored inputs through the entries, one record after another from standard input. A record is a letter, two numbers
 // and the lengths of three parts, each 32 bits little-endian, and then the parts. `Entry` says which entry a letter is
-// for, and each module which numbers and parts its entry takes and what is printed.
+// for, and each module which numbers and parts its entry takes and what is printed. Each entry is called as C calls it,
+// so its answer has a number and is no `Result`.
 #![tactic(auto)]
 
 pub mod archive;
@@ -114,7 +115,7 @@ fn parts_length(opening: &[u8; OPENING]) -> usize {
     number_at(opening, FIRST) + number_at(opening, SECOND) + number_at(opening, THIRD)
 }
 
-// Reads a record and runs it, or answers that the input has ended.
+// Reads a record and runs it; whether its opening was there.
 fn run_record(rt: &impl Print, input: &mut impl Read) -> io::Result<bool> {
     let mut opening = [0u8; OPENING];
     if prog_common::read_full(input, &mut opening)? < OPENING {

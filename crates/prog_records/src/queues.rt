@@ -51,6 +51,7 @@ impl Event {
                 println!(rt; "serve: {number} {index} {area} {hour}")
             }
             Event::Change { place, byte } => {
+                // `as`: std has no `From<u32>` for `usize`, and the `Err` of a `try_from` could not come.
                 queue[(place % 101) as usize] = (byte % 256) as u8;
                 println!(rt; "byte {place} {byte}")
             }

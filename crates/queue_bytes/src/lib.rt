@@ -13,7 +13,8 @@ ghost use Rattle.queue_bytes.specs.Meaning.Answer.{given};
 ghost use Rattle.queue_bytes.specs.Steps.Answers.{PostStep, ServeStep};
 ghost use Rattle.queue_bytes.specs.Steps.Walks.{area_of};
 
-// The answer of a serve: number 0 with area and hour, or 64 with zeros. The index is 0.
+// The answer of a serve: number 0 with area and hour, or 64 with zeros. The index is 0. C reads all four fields, so it
+// is no `Result`.
 #[repr(C)]
 #[derive(Clone, Copy)]
 pub struct Served {
@@ -130,7 +131,7 @@ impl DeskQueue {
     fn next_area(self) -> Option<usize>
         ensures { result ≡ area_of (next (queue_of self.bytes)) }
     {
-        let turn = (self.bytes[100] % 4) as usize;
+        let turn = usize::from(self.bytes[100] % 4);
         for k in 0..4 {
             let area = (turn + k) % 4;
             if 0 < self.waiting_in(area).count {
@@ -168,14 +169,14 @@ impl DeskQueue {
         left.bytes[100] = ((area + 1) % 4) as u8;
         Some(Taken {
             area: area as u32,
-            hour: hour as u32,
+            hour: u32::from(hour),
             left,
         })
     }
 }
 
 // A post: 61 when the area is over 3, 62 when the hour is over 24, 63 when that area has it waiting already; else
-// 0, and the hour waits. A refused post stores nothing.
+// 0, and the hour waits. A refused post stores nothing. A number and no `Result`: C gets it.
 pub fn post(queue: &mut [u8; 101], area: u32, hour: u32) -> u32
     ensures number { result ≡ post_number area hour (queue_of queue.old) }
     ensures queue { queue_of queue.new ≡ after_post area hour (queue_of queue.old) }

@@ -17,8 +17,8 @@ const TABLE: usize = (layout::BRANCHES + 1) * (layout::MARGIN + layout::PTDF * l
 // into a table. A refusal must leave the output unchanged, so the output is written only after every row of the
 // table of causes has passed.
 //
-// The numbers are the rows of that table, as the C interface answers them: a Result inside would only be turned back
-// into a `Written` here.
+// The numbers are the rows of that table, as C gets them. No Result with an `Outcome` inside: a line's index has 64
+// bits.
 #[tactic(auto, using(crate::proofs::Steps::Rows::row_54, crate::proofs::Steps::Rows::row_55), unfolding(sheet_lines::specs::Meaning::Sheet::sheet_outcome, sheet_lines::specs::Meaning::Sheet::sheet_written, sheet_lines::specs::Meaning::Sheet::sheet_output))]
 pub fn sheet_branches(sheet: &[u8], zones: usize, out: &mut [u8]) -> Written
     ensures { SheetAnswered zones sheet.now out.old out.new result }
@@ -45,9 +45,5 @@ pub fn sheet_branches(sheet: &[u8], zones: usize, out: &mut [u8]) -> Written
         return refused(55, 0);
     }
     out[..length].copy_from_slice(&table[..length]);
-    Written {
-        number: 0,
-        index: 0,
-        length,
-    }
+    Written::from(Ok(length))
 }

@@ -17,7 +17,8 @@ use base_measures::{Ptdf, Raw, Tenths};
 use bytes_write::put;
 use sheet_numbers::{Number, TextCursor};
 
-// The faults of a number: a decimal after ours is not zero; it is out of range.
+// The faults of a number: a decimal after ours is not zero; it is out of range. Both may hold at once, so it is no
+// Option of one.
 #[derive(Clone, Copy)]
 struct Flaws {
     finer: bool,

@@ -26,7 +26,8 @@ pub struct Piece {
     pub next: TextCursor,
 }
 
-// A number: its size in units of a decimal, cut at the cap, and whether a later decimal is not zero.
+// A number: its size in units of a decimal, cut at the cap, and whether a later decimal is not zero. The size holds
+// with either answer, so it is no Option.
 #[derive(Clone, Copy)]
 pub struct Number {
     pub negative: bool,
@@ -42,7 +43,7 @@ struct Whole {
 }
 
 // The digits after it: the size with those that count, cut at the cap; how many of these are missing; whether a
-// later one is not zero; where they end.
+// later one is not zero; where they end. The size holds with either answer, so it is no Option.
 #[derive(Clone, Copy)]
 struct Decimals {
     value: u64,

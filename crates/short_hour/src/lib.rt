@@ -25,8 +25,8 @@ fn put(out: &mut [i64], n: usize, x: ExactMicrocents)
     requires writable { Writable x }
     ensures { out.new ≡ sets out.old (2 * n) (numbers_in x) }
 {
-    out[2 * n] = x.whole().0 as i64;
-    out[2 * n + 1] = x.parts().0 as i64;
+    out[2 * n] = x.whole().0.cast_signed();
+    out[2 * n + 1] = x.parts().0.cast_signed();
 }
 
 // Three loops, and not one that takes a closure: that was tried, and what each call asks of the closure did not prove
@@ -79,6 +79,7 @@ fn shortfalls(case: &[u8], proposal: &[u8], out: &mut [i64]) -> Result<usize, Ou
     ensures { HourShortfalls «case».now proposal.now out.old (written_of result) out.new }
 {
     let found = find(case, proposal)?;
+    // A valued hour's verdict is 0 or 26.
     if found.verdict.number != 0 {
         return refused(found.verdict.number, found.verdict.index);
     }

@@ -36,7 +36,7 @@ fn short(room: Load, used: Load, price: Grains) -> ExactMicrocents
 }
 
 // Rule 5's sum over the zones, for a branch with these PTDFs. Both arrays are passed whole and by value, as document 01
-// has the table; no slice of them is plainer, since their type says that they have a number for every zone.
+// has the table; a slice lent is no plainer, since their type says that they have a number for every zone.
 fn load_of(row: [i32; 16], parts: [Tenths; layout::ZONES], zones: usize) -> Load
     requires zones_bound { zones ≤ 16 }
     requires sums_fit { SumsFit (load_on row parts) zones }
@@ -44,10 +44,9 @@ fn load_of(row: [i32; 16], parts: [Tenths; layout::ZONES], zones: usize) -> Load
     ensures { result.0 ≡ sum_to zones (load_on row parts) }
 {
     let mut load = Load::ZERO;
-    for z in 0..zones {
+    for (z, part) in parts[..zones].iter().enumerate() {
         let ptdf = Ptdf::of_entry(row[z]);
-        let part = parts[z];
-        load = load.plus(ptdf.load(part));
+        load = load.plus(ptdf.load(*part));
     }
     load
 }

@@ -14,11 +14,11 @@ test p e = ap (le p) (sym halves-end-bits) ∙ e
 pub nearest_whole-n-requires-clause-t_2 : goal.nearest_whole-n-requires-clause-t_2
 nearest_whole-n-requires-clause-t_2 c = is_true (test c.args.p c.if-p.true)
 
-pub returns-then-n-most : goal.returns-then-n-most
-returns-then-n-most c =
+pub returns-then-n-from : goal.returns-then-n-from
+returns-then-n-from c =
     let a = c.args in
     ap Some c.nearest_whole-n.ensures
-    ∙ sym (held a.p a.most (halves-finite a.p c.requires (is_true (test a.p c.if-p.true))) (subst (λ (k : ℕ). k ≤ a.most) c.nearest_whole-n.ensures c.if-n-most.true))
+    ∙ sym (held a.p a.most (halves-finite a.p c.requires (is_true (test a.p c.if-p.true))) (subst (λ (k : ℕ). k ≤ a.most) c.nearest_whole-n.ensures (subst (λ (m : ℕ). c.nearest_whole-n.result ≤ m) c.from.ensures c.if-n-from.true)))
 
 pub returns-else-p : goal.returns-else-p
 returns-else-p c = let a = c.args in sym (too_large a.p a.most (omega arith) c.requires (test a.p c.if-p.false))

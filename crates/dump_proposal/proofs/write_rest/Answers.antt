@@ -1,5 +1,5 @@
 -- `dump_proposal::write_rest` meets its contract: each turn writes an entry more.
-use Rattle.std.proofs.Common.{refl, ◌∙◌, ◌+◌, ◌*◌}
+use Rattle.std.proofs.Common.{refl, ◌∙◌, ◌+◌, ◌*◌, arith, get_or-take, length-take}
 use Rattle.std.proofs.Math.Seq.{sets}
 use Rattle.base_integers.specs.Meaning.Bytes.{bytes_of}
 use Rattle.dump_proposal.specs.Steps.Walks.{table_bytes}
@@ -12,6 +12,7 @@ loop-i-init c = refl
 
 pub loop-i-preserved : goal.loop-i-preserved
 loop-i-preserved c =
+    let e = c.from.ensures ∙ get_or-take c.args.rest c.args.table.now c.loop-i.i 0 (omega (arith, length-take c.args.rest c.args.table.now)) in
     c.put.ensures
-    ∙ (λ j. sets (c.loop-i.invariant j) (13 + 4 * c.loop-i.i) (bytes_of 4 (c.from.ensures j)))
+    ∙ (λ j. sets (c.loop-i.invariant j) (13 + 4 * c.loop-i.i) (bytes_of 4 (e j)))
     ∙ table-run c.args.out.now c.args.table.now c.loop-i.i

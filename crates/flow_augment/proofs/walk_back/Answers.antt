@@ -1,8 +1,8 @@
 -- `flow_augment::walk_back` meets its contract: each step takes the path to the pair's other zone. Assumes nothing.
-use Rattle.std.proofs.Common.{List, ℕ, ◌<◌, arith}
+use Rattle.std.proofs.Common.{List, ℕ, ◌<◌, arith, subst}
 use Rattle.std.specs.Prelude.{ℤ}
 use Rattle.flow_augment.specs.Meaning.Path.{trail_of}
-use Rattle.flow_augment.specs.Steps.Path.{PathBack, step-safe, path-step}
+use Rattle.flow_augment.specs.Steps.Path.{Shifted, PathBack, step-safe, path-step}
 use Rattle.flow_augment.proofs.walk_back.Goals as goal
 use Rattle.flow_augment.proofs.walk_back.Goals.{At-loop-z, After-shift-z}
 
@@ -17,21 +17,23 @@ pub shift-z-requires-clause-k_in_bounds : goal.shift-z-requires-clause-k_in_boun
 shift-z-requires-clause-k_in_bounds c =
     let p = at (goal.at.shift-z-requires-clause-k_in_bounds c).At-loop-z in
     let w = step-safe _ _ _ _ _ _ _ _ p c.loop-z-test.true in
-    (omega (arith, w.0, p.sized.even), omega (arith, w.0, p.sized.pairs))
+    (omega (arith, c.from-k.ensures, w.0, p.sized.even), omega (arith, c.from-k.ensures, w.0, p.sized.pairs))
 
 pub shift-z-requires-clause-d_bound : goal.shift-z-requires-clause-d_bound
 shift-z-requires-clause-d_bound c =
-    (step-safe _ _ _ _ _ _ _ _ (at (goal.at.shift-z-requires-clause-d_bound c).At-loop-z) c.loop-z-test.true).1.0
+    rw c.from-k.ensures (step-safe _ _ _ _ _ _ _ _ (at (goal.at.shift-z-requires-clause-d_bound c).At-loop-z) c.loop-z-test.true).1.0
 
 pub shift-z-requires-clause-d_bound_2 : goal.shift-z-requires-clause-d_bound_2
 shift-z-requires-clause-d_bound_2 c =
-    (step-safe _ _ _ _ _ _ _ _ (at (goal.at.shift-z-requires-clause-d_bound_2 c).At-loop-z) c.loop-z-test.true).1.1
+    rw c.from-k.ensures (step-safe _ _ _ _ _ _ _ _ (at (goal.at.shift-z-requires-clause-d_bound_2 c).At-loop-z) c.loop-z-test.true).1.1
 
 -- the step taken
 stepped : (c : After-shift-z) (net_exports prices : List ℤ) (total : ℕ) → PathBack net_exports prices total c.args.pairs.now c.loop-z.s (trail_of c.args.labels) c.args.d c.loop-z.z
     → PathBack net_exports prices total c.args.pairs.now c.shift-z.new.s (trail_of c.args.labels) c.args.d c.shift-z.result
     × ((trail_of c.args.labels).dep c.shift-z.result < (trail_of c.args.labels).dep c.loop-z.z)
-stepped c net_exports prices total p = path-step net_exports prices total _ _ _ _ _ p c.loop-z-test.true c.shift-z.new.s c.shift-z.result c.shift-z.ensures
+stepped c net_exports prices total p =
+    let taken = subst (λ (k : ℕ). Shifted c.args.pairs.now c.loop-z.s c.shift-z.new.s k c.loop-z.z c.args.d c.shift-z.result) c.from-k.ensures c.shift-z.ensures in
+    path-step net_exports prices total _ _ _ _ _ p c.loop-z-test.true c.shift-z.new.s c.shift-z.result taken
 
 pub loop-z-smaller : goal.loop-z-smaller
 loop-z-smaller c =

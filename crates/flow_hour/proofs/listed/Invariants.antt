@@ -4,4 +4,4 @@ use Rattle.flow_hour.specs.Steps.Lent.{Lists}
 use Rattle.flow_hour.proofs.listed.Given as goal
 
 abbrev pub invariant-loop-z : goal.invariant-loop-z
-invariant-loop-z l = Lists (λ k. grains_at l.prices k) l.z l.list
+invariant-loop-z l = Lists (λ k. grains_at l.fn.prices k) l.z l.list

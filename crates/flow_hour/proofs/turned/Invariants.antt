@@ -5,4 +5,4 @@ use Rattle.flow_hour.specs.Steps.Lent.{Lists}
 use Rattle.flow_hour.proofs.turned.Given as goal
 
 abbrev pub invariant-loop-z : goal.invariant-loop-z
-invariant-loop-z l = Lists (λ k. pos 0 -ℤ tenths_at l.nets k) l.z l.exports
+invariant-loop-z l = Lists (λ k. pos 0 -ℤ tenths_at l.fn.nets k) l.z l.exports

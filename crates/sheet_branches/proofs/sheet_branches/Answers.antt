@@ -50,6 +50,6 @@ returns c =
     let h : c.read_lines-found.result.lines ≤ 64 = omega arith in
     let room : part ≤ length c.args.out.now = omega arith in
     let inside = part_in (goal.at.returns c).After-branch_part-length h in
-    answer-0 _ _ _ (sym c.if-count_outside.ensures) c.read_lines-found.ensures c.in_default.is c.in_default-finer.is c.in_default-outside.is
+    rw c.from.ensures (answer-0 _ _ _ (sym c.if-count_outside.ensures) c.read_lines-found.ensures c.in_default.is c.in_default-finer.is c.in_default-outside.is
     h c.branch_part-length.ensures room inside
-    (ap (λ (l : List ℕ). l ++ drop part c.args.out.now) c.copy_from_slice.ensures.after ∙ copied (take part c.read_lines-found.new.table) c.args.out.now part (length-take-le _ _ inside) room)
+    (ap (λ (l : List ℕ). l ++ drop part c.args.out.now) c.copy_from_slice.ensures.after ∙ copied (take part c.read_lines-found.new.table) c.args.out.now part (length-take-le _ _ inside) room))

@@ -1,5 +1,5 @@
 -- `DeskQueue::serve`: nothing is found, or the first hour of the found area is taken out. Assumes nothing.
-use Rattle.std.specs.Prelude.{◌≡◌, length, get_or}
+use Rattle.std.specs.Prelude.{◌≡◌, Some, ℕ, ◌+◌, ◌%◌, length, get_or, set}
 use Rattle.std.proofs.Common.{◌∙◌, sym, subst, arith, rules}
 use Rattle.queue_bytes.specs.Steps.Answers.{ServeStep}
 use Rattle.queue_bytes.proofs.Steps.Answers.{Taking, taking, serve-64, first_cell, cells_left, serve-taken}
@@ -35,7 +35,8 @@ returns c =
     let n : length b ≡ 101 = search rules in
     let t = found (goal.at.returns c).In_ok-area in
     let w = c.waiting_in-waiting.result in
-    serve-taken b n a t (get_or w.cells 0 0) c.moved_up.result c.with_cells-left.result.bytes
+    let taken = serve-taken b n a t (get_or w.cells 0 0) c.moved_up.result c.with_cells-left.result.bytes
     (first_cell b a t w c.waiting_in-waiting.ensures)
     (c.moved_up.ensures ∙ cells_left b a t w c.waiting_in-waiting.ensures)
-    c.with_cells-left.ensures
+    c.with_cells-left.ensures in
+    subst (λ (h : ℕ). ServeStep b (Some (record { area = a; hour = h; left = record { bytes = set c.with_cells-left.result.bytes 100 ((a + 1) % 4) } }))) (sym c.from.ensures) taken

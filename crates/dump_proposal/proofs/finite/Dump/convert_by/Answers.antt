@@ -2,6 +2,7 @@
 -- table.
 use Rattle.std.proofs.Common.{◌<◌, refl, sym, ap, ◌∙◌, arith}
 use Rattle.base_causes.specs.Meaning.Place.{place_of}
+use Rattle.base_output.specs.Meaning.Output.{written_of}
 use Rattle.base_causes.proofs.Promised.CauseLaws.{place-below}
 use Rattle.case_header.specs.Steps.CaseReadable.{headed, limited}
 use Rattle.dump_proposal.specs.Steps.Walks.{rest_of, fault_after}
@@ -16,15 +17,15 @@ place_in g c =
     let found = sym c.convert_rest.ensures.first ∙ ap place_of c.in-Some.is in
     place-below (rest_of c.args.self.«case».counts) (fault_after c.args.self.«case».bytes.now c.args.self.bytes.now) c.in-Some.i (rest_of c.args.self.«case».counts) found (omega arith)
 
-pub overflow_add-result : goal.overflow_add-result
-overflow_add-result g c = record { fits = omega (arith, place_in g (goal.at.overflow_add-result g c).In-Some, limited (headed c.args.self.passed.opened)) }
+pub overflow_add-i : goal.overflow_add-i
+overflow_add-i g c = record { fits = omega (arith, place_in g (goal.at.overflow_add-i g c).In-Some, limited (headed c.args.self.passed.opened)) }
 
-pub overflow_cast-result : goal.overflow_cast-result
-overflow_cast-result g c = record { fits = omega (arith, place_in g (goal.at.overflow_cast-result g c).In-Some, limited (headed c.args.self.passed.opened)) }
+pub overflow_cast-i : goal.overflow_cast-i
+overflow_cast-i g c = record { fits = omega (arith, place_in g (goal.at.overflow_cast-i g c).In-Some, limited (headed c.args.self.passed.opened)) }
 
 pub returns-in-Some : goal.returns-in-Some
 returns-in-Some g c =
-    met-rest c.args.self.«case».bytes.now c.args.self.bytes.now c.args.out.now c.args.self.passed c.requires.opening_held (sym c.convert_rest.ensures.first ∙ ap place_of c.in-Some.is) refl
+    met-rest c.args.self.«case».bytes.now c.args.self.bytes.now c.args.out.now c.args.self.passed c.requires.opening_held (sym c.convert_rest.ensures.first ∙ ap place_of c.in-Some.is) (ap written_of c.refused.ensures)
 
 pub rest_of-rest-requires : goal.rest_of-rest-requires
 rest_of-rest-requires g c = limited (headed c.args.self.passed.opened)
