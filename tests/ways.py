@@ -34,6 +34,7 @@ WAYS = (INTERPRETER, CHECKED, *BACKENDS.values())
 SECONDS = 60
 # How rt try says that both of its runs ended well and wrote what is due.
 WELL = "run=ended status=0 runners=2 output=expected proved=no"
+ONE_ALONE = WELL.replace("runners=2", "runners=1")
 STEPS_OVER = re.compile(r"^interpreter: no-answer: the run did not finish within \d+ steps", re.M)
 DIFFERS_AT = re.compile(r"^the output differs from `\w+\.stdout`: at byte (\d+)", re.M)
 
@@ -82,7 +83,7 @@ class Tried:
         why = f"rt try said {line or said.strip()[-200:] or 'nothing'}"
         # One runner that ended well leaves the other.
         lacks = [INTERPRETER, CHECKED]
-        if line == WELL.replace("runners=2", "runners=1"):
+        if line == ONE_ALONE:
             lacks = [INTERPRETER] if re.search(r"^checked: ended status=0$", said, re.M) else [CHECKED]
         self.faults.update({way: f"{way}: {why}" for way in lacks})
 
@@ -147,6 +148,13 @@ def run_built(program: pathlib.Path, pieces: Sequence[Piece]) -> tuple[int | str
     return run.returncode, run.stdout
 
 
+def said_alone(program: str, pieces: Sequence[Piece]) -> str:
+    """What rt try says of pieces by themselves. With --cases it does not say why one of its two runs has no answer."""
+    given = joined(pieces)["stdin"]
+    run = subprocess.run(["rt", "try"], cwd=CRATES / program, input=given, stdout=subprocess.DEVNULL, stderr=subprocess.PIPE)
+    return run.stderr.decode(errors="replace")
+
+
 def tried_cases(program: str, cases: Sequence[Sequence[Piece]]) -> list[Tried]:
     """Runs cases of pieces by rt try, which builds once for all of them, and as both compilers build the program."""
     found = [Tried(tuple(pieces)) for pieces in cases]
@@ -173,7 +181,10 @@ def tried_cases(program: str, cases: Sequence[Sequence[Piece]]) -> list[Tried]:
         else:
             said += f"{line}\n"
     for n, one in enumerate(found):
-        one.take_case(*lines.get(n, ("", said)))
+        line, words = lines.get(n, ("", said))
+        if line == ONE_ALONE and not words:
+            words = said_alone(program, one.pieces)
+        one.take_case(line, words)
     return found
 
 
