@@ -64,25 +64,31 @@ pub struct ExactMicrocents {
     parts: u64,
 }
 
-// A MEASURE is a number with a name and limits of its own. This module is private, so that no other crate makes a
-// measure of a number or takes the number out.
+// A MEASURE is a number with a name and limits of its own. No other crate makes a measure of a number or takes the
+// number out. This module is private, so none names its trait; and both functions ask for a key, which none can make,
+// so none calls them through `Measure` either.
 mod sealed {
+    #[derive(Clone, Copy)]
+    pub struct Key(pub(crate) ());
+
     pub trait Number: Copy {
         ghost number: { Self → ℤ };
 
         ghost of_number: { ℤ → Self };
 
-        fn of_number(x: i64) -> Self
+        fn of_number(x: i64, key: Key) -> Self
             ensures { result ≡ of_number x };
 
-        fn number(self) -> i64
+        fn number(self, key: Key) -> i64
             ensures { result ≡ number self };
 
         ghost number_of: { (x : ℤ) → number (of_number x) ≡ x };
     }
 }
 
-use sealed::Number;
+use sealed::{Key, Number};
+
+const KEY: Key = Key(());
 
 // Sums of one measure, and its number on the way out.
 pub trait Measure: Number {
@@ -90,21 +96,21 @@ pub trait Measure: Number {
         requires { SFits w64 (Self.number self +ℤ Self.number other) }
         ensures { Self.number result ≡ Self.number self +ℤ Self.number other }
     {
-        Self::of_number(self.number() + other.number())
+        Self::of_number(self.number(KEY) + other.number(KEY), KEY)
     }
 
     fn minus(self, other: Self) -> Self
         requires { SFits w64 (Self.number self -ℤ Self.number other) }
         ensures { Self.number result ≡ Self.number self -ℤ Self.number other }
     {
-        Self::of_number(self.number() - other.number())
+        Self::of_number(self.number(KEY) - other.number(KEY), KEY)
     }
 
     // Two's complement.
     fn bits(self) -> Bits
         ensures { result.0 ≡ of_z w64 (Self.number self) }
     {
-        Bits(self.number().cast_unsigned())
+        Bits(self.number(KEY).cast_unsigned())
     }
 }
 
@@ -116,11 +122,11 @@ impl Number for Raw {
 
     ghost number_of = { λ x. refl };
 
-    fn of_number(x: i64) -> Raw {
+    fn of_number(x: i64, _key: Key) -> Raw {
         Raw(x)
     }
 
-    fn number(self) -> i64 {
+    fn number(self, _key: Key) -> i64 {
         self.0
     }
 }
@@ -132,11 +138,11 @@ impl Number for Tenths {
 
     ghost number_of = { λ x. refl };
 
-    fn of_number(x: i64) -> Tenths {
+    fn of_number(x: i64, _key: Key) -> Tenths {
         Tenths(x)
     }
 
-    fn number(self) -> i64 {
+    fn number(self, _key: Key) -> i64 {
         self.0
     }
 }
@@ -148,11 +154,11 @@ impl Number for Cents {
 
     ghost number_of = { λ x. refl };
 
-    fn of_number(x: i64) -> Cents {
+    fn of_number(x: i64, _key: Key) -> Cents {
         Cents(x)
     }
 
-    fn number(self) -> i64 {
+    fn number(self, _key: Key) -> i64 {
         self.0
     }
 }
@@ -164,11 +170,11 @@ impl Number for Grains {
 
     ghost number_of = { λ x. refl };
 
-    fn of_number(x: i64) -> Grains {
+    fn of_number(x: i64, _key: Key) -> Grains {
         Grains(x)
     }
 
-    fn number(self) -> i64 {
+    fn number(self, _key: Key) -> i64 {
         self.0
     }
 }
@@ -180,11 +186,11 @@ impl Number for Microcents {
 
     ghost number_of = { λ x. refl };
 
-    fn of_number(x: i64) -> Microcents {
+    fn of_number(x: i64, _key: Key) -> Microcents {
         Microcents(x)
     }
 
-    fn number(self) -> i64 {
+    fn number(self, _key: Key) -> i64 {
         self.0
     }
 }
@@ -196,11 +202,11 @@ impl Number for Ptdf {
 
     ghost number_of = { λ x. refl };
 
-    fn of_number(x: i64) -> Ptdf {
+    fn of_number(x: i64, _key: Key) -> Ptdf {
         Ptdf(x)
     }
 
-    fn number(self) -> i64 {
+    fn number(self, _key: Key) -> i64 {
         self.0
     }
 }
@@ -212,11 +218,11 @@ impl Number for Share {
 
     ghost number_of = { λ x. refl };
 
-    fn of_number(x: i64) -> Share {
+    fn of_number(x: i64, _key: Key) -> Share {
         Share(x)
     }
 
-    fn number(self) -> i64 {
+    fn number(self, _key: Key) -> i64 {
         self.0
     }
 }
@@ -228,11 +234,11 @@ impl Number for Load {
 
     ghost number_of = { λ x. refl };
 
-    fn of_number(x: i64) -> Load {
+    fn of_number(x: i64, _key: Key) -> Load {
         Load(x)
     }
 
-    fn number(self) -> i64 {
+    fn number(self, _key: Key) -> i64 {
         self.0
     }
 }
@@ -257,10 +263,10 @@ fn outside(least: i64, greatest: i64, x: i64) -> bool
 fn held<M: Number>(least: M, greatest: M, x: Raw) -> Option<M>
     ensures { result ≡ held_by (M.of_number x.0) (ranges.outside (range (M.number least) (M.number greatest)) x.0) }
 {
-    if outside(least.number(), greatest.number(), x.0) {
+    if outside(least.number(KEY), greatest.number(KEY), x.0) {
         return None;
     }
-    Some(M::of_number(x.0))
+    Some(M::of_number(x.0, KEY))
 }
 
 impl Raw {
@@ -342,21 +348,21 @@ impl Tenths {
         requires { Within limits.margin x.0 }
         ensures { result ≡ record { 0 = x.0 } }
     {
-        Self::of_number(x.0)
+        Self::of_number(x.0, KEY)
     }
 
     pub fn of_quantity(x: Raw) -> Tenths
         requires { Within limits.quantity x.0 }
         ensures { result ≡ record { 0 = x.0 } }
     {
-        Self::of_number(x.0)
+        Self::of_number(x.0, KEY)
     }
 
     pub fn of_capacity(x: Raw) -> Tenths
         requires { Within limits.capacity x.0 }
         ensures { result ≡ record { 0 = x.0 } }
     {
-        Self::of_number(x.0)
+        Self::of_number(x.0, KEY)
     }
 
     // A volume that document 01 limits only by its 32 bits: an accepted volume, a flow, a contracted volume. Its
@@ -364,7 +370,7 @@ impl Tenths {
     pub fn volume(x: u32) -> Tenths
         ensures { result.0 ≡ pos x }
     {
-        Self::of_number(i64::from(x))
+        Self::of_number(i64::from(x), KEY)
     }
 
     // A net position that the host lends (S-3).
@@ -443,14 +449,14 @@ impl Cents {
         requires { Within limits.order_price x.0 }
         ensures { result ≡ record { 0 = x.0 } }
     {
-        Self::of_number(x.0)
+        Self::of_number(x.0, KEY)
     }
 
     pub fn of_shadow_price(x: Raw) -> Cents
         requires { Within limits.shadow_price x.0 }
         ensures { result ≡ record { 0 = x.0 } }
     {
-        Self::of_number(x.0)
+        Self::of_number(x.0, KEY)
     }
 
     // A price per MWh in grains.
