@@ -115,18 +115,29 @@ fn parts_length(opening: &[u8; OPENING]) -> usize {
     number_at(opening, FIRST) + number_at(opening, SECOND) + number_at(opening, THIRD)
 }
 
+// Reads the parts of a record and runs it. The buffer is the first thing that this does: in `run_record`, after a way
+// out, it would be made zero twice, which takes as long as a short record.
+fn run_parts(
+    rt: &impl Print,
+    input: &mut impl Read,
+    opening: &[u8; OPENING],
+) -> io::Result<()> {
+    let mut buffer = [0u8; PARTS];
+    let parts = prog_common::lent(&mut buffer, parts_length(opening));
+    let kept = prog_common::read_full(input, parts)?;
+    match Record::cut(opening, prog_common::first(&buffer, kept)) {
+        Some(record) => record.run(rt),
+        None => Ok(()),
+    }
+}
+
 // Reads a record and runs it; whether its opening was there.
 fn run_record(rt: &impl Print, input: &mut impl Read) -> io::Result<bool> {
     let mut opening = [0u8; OPENING];
     if prog_common::read_full(input, &mut opening)? < OPENING {
         return Ok(false);
     }
-    let mut buffer = [0u8; PARTS];
-    let parts = prog_common::lent(&mut buffer, parts_length(&opening));
-    let kept = prog_common::read_full(input, parts)?;
-    if let Some(record) = Record::cut(&opening, prog_common::first(&buffer, kept)) {
-        record.run(rt)?;
-    }
+    run_parts(rt, input, &opening)?;
     Ok(true)
 }
 

@@ -16,11 +16,10 @@ fn print_numbers(rt: &impl Print, out: &[u8], n: usize) -> io::Result<()>
     let (numbers, _) = out.as_chunks::<4>();
     for (j, bytes) in numbers.iter().enumerate() {
         let x = i32::from_le_bytes(*bytes);
-        print!(rt; "{x}")?;
         if j % n == n - 1 {
-            println!(rt)?;
+            println!(rt; "{x}")?;
         } else {
-            print!(rt; " ")?;
+            print!(rt; "{x} ")?;
         }
     }
     Ok(())
