@@ -11,9 +11,12 @@ pub fn book_surplus(orders: &[OrderRow], zone_prices: &[i64]) -> Surplus
     ensures { result ≡ lent_answer orders.now zone_prices.now }
 {
     let mut state = open_book(orders.len(), zone_prices);
-    for row in orders {
-        let Ok(open) = state else { break };
-        state = add_row(open, *row, zone_prices);
+    for i in 0..orders.len() {
+        // No row is read past a refusal.
+        if !state.asks_row(i, orders.len()) {
+            break;
+        }
+        state = add_row(state, orders[i], zone_prices);
     }
     close_book(state)
 }

@@ -2,7 +2,7 @@
 // at the end gives the sum of rule 8 or a refusal.
 #![tactic(auto)]
 
-ghost use Rattle.std.specs.Prelude.{◌≡◌, Err, ◌+◌, ◌^◌, ◌<◌, length, ◌+ℤ◌};
+ghost use Rattle.std.specs.Prelude.{◌≡◌, ◌+◌, ◌^◌, ◌<◌, length, ◌+ℤ◌};
 ghost use Rattle.std.specs.Int.{w64};
 ghost use Rattle.std.proofs.Common.{SFits};
 ghost use Rattle.base_integers.specs.Meaning.Ranges as ranges;
@@ -10,7 +10,7 @@ ghost use Rattle.base_limits.specs.Meaning.Limits as limits;
 ghost use Rattle.base_measures.specs.Meaning.Held.{grains_in};
 ghost use Rattle.book_order.specs.Meaning.Answer.{admitted};
 ghost use Rattle.base_causes.specs.Meaning.Place.{place_of};
-ghost use Rattle.book_surplus.specs.Meaning.BookState.{new_state, refused_row, with_row, total_of, first_price_outside, priced, open_of, add_of, answer_of, close_of, counted, Ready};
+ghost use Rattle.book_surplus.specs.Meaning.BookState.{new_state, is_open, asks_row, refused_row, with_row, total_of, first_price_outside, priced, open_of, add_of, answer_of, close_of, counted, Ready};
 ghost use Rattle.book_surplus.specs.Steps.BookState.{OrderIn};
 
 use base_causes::{Outcome, count_outside, refused};
@@ -38,31 +38,54 @@ pub struct Surplus {
     pub sum: Microcents,
 }
 
-// The state after some rows, none of which is refused: what the prices are refused by once every row is taken, if they
-// are; how many rows were taken; and their sum.
+// The state after some rows: the refusal so far, if there is one; how many rows were taken; and their sum. The number
+// 25 stands until a row is refused.
 #[derive(Clone, Copy)]
 pub struct BookState {
-    prices: Result<(), Outcome>,
+    refusal: Result<(), Outcome>,
     taken: u32,
     sum: Microcents,
 }
 
 impl BookState {
-    fn new(prices: Result<(), Outcome>) -> BookState
-        ensures { result ≡ new_state prices }
+    fn new(refusal: Result<(), Outcome>) -> BookState
+        ensures { result ≡ new_state refusal }
     {
         BookState {
-            prices,
+            refusal,
             taken: 0,
             sum: Microcents::ZERO,
         }
     }
 
-    // Refused at the row after those taken.
-    fn refuse_row(self) -> Result<BookState, Outcome>
-        ensures { result ≡ Err (refused_row self) }
+    // A row may still change it: it is refused by neither 4 nor 8.
+    fn is_open(self) -> bool
+        ensures { result ≡ is_open self }
     {
-        refused(8, self.taken)
+        let Err(refusal) = self.refusal else {
+            return true;
+        };
+        refusal.number == 25
+    }
+
+    // Whether to read row `i` of `count`.
+    pub fn asks_row(self, i: usize, count: usize) -> bool
+        ensures { result ≡ asks_row self i count }
+    {
+        if self.is_open() {
+            return i < count;
+        }
+        false
+    }
+
+    // Refused at the row after those taken.
+    fn refuse_row(self) -> BookState
+        ensures { result ≡ refused_row self }
+    {
+        BookState {
+            refusal: refused(8, self.taken),
+            ..self
+        }
     }
 
     fn take_row(self, surplus: Microcents) -> BookState
@@ -77,11 +100,11 @@ impl BookState {
         }
     }
 
-    // Rule 8's sum after the last row, if the prices are in range.
+    // Rule 8's sum after the last row, if nothing is refused.
     fn total(self) -> Result<Microcents, Outcome>
         ensures { result ≡ total_of self }
     {
-        self.prices?;
+        self.refusal?;
         Ok(self.sum)
     }
 }
@@ -127,16 +150,16 @@ fn judge_prices(prices: &[i64]) -> Result<(), Outcome>
 }
 
 // The state of the book before the first row of `count`.
-pub fn open_book(count: usize, prices: &[i64]) -> Result<BookState, Outcome>
+pub fn open_book(count: usize, prices: &[i64]) -> BookState
     ensures { result ≡ open_of count prices.now }
 {
     if count_outside(PRICES_LEAST, PRICES_GREATEST, prices.len()) {
-        return refused(4, 5);
+        return BookState::new(refused(4, 5));
     }
     if count_outside(ROWS_LEAST, ROWS_GREATEST, count) {
-        return refused(4, 8);
+        return BookState::new(refused(4, 8));
     }
-    Ok(BookState::new(judge_prices(prices)))
+    BookState::new(judge_prices(prices))
 }
 
 fn admit_row(zones: usize, row: OrderRow) -> Option<Order>
@@ -163,14 +186,14 @@ fn order_surplus(order: Order, prices: &[i64]) -> Microcents
 }
 
 // The state with one row more.
-pub fn add_row(state: BookState, row: OrderRow, prices: &[i64]) -> Result<BookState, Outcome>
+pub fn add_row(state: BookState, row: OrderRow, prices: &[i64]) -> BookState
     requires { Ready state }
     ensures { result ≡ add_of state row prices.now }
 {
     let Some(order) = admit_row(prices.len(), row) else {
         return state.refuse_row();
     };
-    Ok(state.take_row(order_surplus(order, prices)))
+    state.take_row(order_surplus(order, prices))
 }
 
 // A refusal's sum is 0.
@@ -193,9 +216,9 @@ impl From<Result<Microcents, Outcome>> for Surplus {
     }
 }
 
-// The answer after the last row, or after the refusal of the counts or of a row.
-pub fn close_book(state: Result<BookState, Outcome>) -> Surplus
+// The answer after the last row.
+pub fn close_book(state: BookState) -> Surplus
     ensures { result ≡ close_of state }
 {
-    Surplus::from(state.and_then(BookState::total))
+    Surplus::from(state.total())
 }

@@ -3,7 +3,7 @@ use Rattle.std.proofs.Common.{◌≡◌}
 use Rattle.book_surplus.proofs.Steps.BookState.{state_at}
 use Rattle.book_lent.proofs.book_surplus.Given as goal
 
-abbrev pub invariant-loop-row : goal.invariant-loop-row
-invariant-loop-row l = record {
-  state_is : l.state ≡ state_at l.orders l.zone_prices l.row-index;
+abbrev pub invariant-loop-i : goal.invariant-loop-i
+invariant-loop-i l = record {
+  state_is : l.state ≡ state_at l.orders l.zone_prices l.i;
 }

@@ -1,6 +1,6 @@
 -- What each step on the state gives, by the tests passed before it; what a row in range leaves; its surplus keeps
 -- the sum small. Assumes nothing.
-use Rattle.std.specs.Prelude.{◌≡◌, refl, Bool, not, ◌&&◌, List, ℕ, ◌<◌, ◌≤◌, T, leb, ltb, eqb, length, ℤ, pos, ◌+ℤ◌, Result, Ok, Err}
+use Rattle.std.specs.Prelude.{◌≡◌, refl, Bool, not, cond, ◌&&◌, List, ℕ, ◌<◌, ◌≤◌, T, leb, ltb, eqb, length, ℤ, pos, ◌+ℤ◌, Result}
 use Rattle.std.proofs.Common.{ap, sym, arith, ltb→lt, le-ltb, SFits}
 use Rattle.std.proofs.Math.Bool.{true, false}
 use Rattle.std.proofs.Math.Option.{Option}
@@ -15,17 +15,17 @@ use Rattle.book_order.specs.Meaning.Admitted.{surplus_at}
 use Rattle.book_order.specs.declared.Order.{Order}
 use Rattle.rules.specs.Meaning.Layout.{zone_counts, order_counts}
 use Rattle.rules.specs.Meaning.Hour.{surplus_of}
+use Rattle.base_causes.specs.declared.Outcome.{Outcome}
 use Rattle.base_causes.specs.Meaning.Causes.{any_below}
 use Rattle.rules.specs.Meaning.Verdict.{row_fault, bad_row}
 use Rattle.rules.proofs.Steps.Passed.{nor-4}
 use Rattle.rules.proofs.Promised.Fits.{surplus-near}
 use Rattle.rules.specs.Meaning.Book.{price_at}
-use Rattle.base_causes.specs.declared.Outcome.{Outcome}
 use Rattle.book_surplus.specs.declared.BookState.{BookState}
 use Rattle.book_surplus.specs.declared.OrderRow.{OrderRow}
-use Rattle.book_surplus.specs.Meaning.BookState.{open_by, open_of, first_price_outside, counted, bad_in, row_order, add_by, add_of, Ready}
+use Rattle.book_surplus.specs.Meaning.BookState.{open_by, open_of, first_price_outside, counted, bad_in, row_order, is_open, asks_row, add_by, add_of, answer_of, total_by, close_of, Ready}
 use Rattle.book_surplus.specs.Steps.BookState.{OrderIn}
-use Rattle.book_surplus.proofs.Steps.BookState.{is_open, asks_row}
+use Rattle.book_surplus.proofs.Steps.BookState.{next_of}
 
 pub opened-by : (count : ℕ) (prices : List ℤ) {a b : Bool} {z : Option ℕ} → outside zone_counts (pos (length prices)) ≡ a → outside order_counts (pos count) ≡ b → first_price_outside prices ≡ z
     → open_by a b z ≡ open_of count prices
@@ -34,21 +34,27 @@ opened-by count prices ha hb hz = sym (λ j. open_by (ha j) (hb j) (hz j))
 pub added-by : (a : BookState) (o : OrderRow) (prices : List ℤ) {b : Bool} → bad_in prices o ≡ b → add_by a b (counted (row_order o) prices) ≡ add_of a o prices
 added-by a o prices hb = sym (ap (λ (b : Bool). add_by a b (counted (row_order o) prices)) hb)
 
+pub next-by : (a : BookState) (o : OrderRow) (prices : List ℤ) {s : Bool} → is_open a ≡ s → next_of a o prices ≡ cond s (add_of a o prices) a
+next-by a o prices hs = ap (λ (s : Bool). cond s (add_of a o prices) a) hs
+
 -- a row that is asked for exists, and no earlier refusal by 4 or 8 stands
 asked_by : (s : Bool) (i count : ℕ) → T (s && ltb i count) → (s ≡ true) × (i < count)
 asked_by true i count t = (refl, ltb→lt i count t)
 asked_by false i count t = absurd t
 
-pub asked : (a : Result BookState Outcome) (i count : ℕ) → asks_row a i count ≡ true → (is_open a ≡ true) × (i < count)
+pub asked : (a : BookState) (i count : ℕ) → asks_row a i count ≡ true → (is_open a ≡ true) × (i < count)
 asked a i count e = asked_by (is_open a) i count (is_true e)
 
--- no row is asked for past a refusal, nor past the last
-pub refused-asks : {a : Result BookState Outcome} {r : Outcome} (i count : ℕ) → a ≡ Err r → asks_row a i count ≡ false
-refused-asks i count e = ap (λ (a : Result BookState Outcome). asks_row a i count) e
+-- past the last row none is asked for
+past_by : (s : Bool) (i count : ℕ) → count ≤ i → (s && ltb i count) ≡ false
+past_by true i count h = le-ltb i count h
+past_by false i count h = refl
 
-pub past-last : (a : Result BookState Outcome) (i count : ℕ) → count ≤ i → asks_row a i count ≡ false
-past-last (Ok a) i count h = le-ltb i count h
-past-last (Err r) i count h = refl
+pub past-last : (a : BookState) (i count : ℕ) → count ≤ i → asks_row a i count ≡ false
+past-last a i count h = past_by (is_open a) i count h
+
+pub closed-by : (a : BookState) {r : Result (Unit {0}) Outcome} → a.refusal ≡ r → answer_of (total_by r a.sum) ≡ close_of a
+closed-by a h = sym (ap (λ (r : Result (Unit {0}) Outcome). answer_of (total_by r a.sum)) h)
 
 pub counted-by : (o : Order) (prices : List ℤ) {b : Bool} → outside limits.zone_price (price_at prices o.zone) ≡ b → only (not b) (surplus_at o (price_at prices o.zone)) ≡ counted o prices
 counted-by o prices h = sym (ap (λ (b : Bool). only (not b) (surplus_at o (price_at prices o.zone))) h)

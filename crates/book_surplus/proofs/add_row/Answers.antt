@@ -1,6 +1,6 @@
 -- `book_surplus::add_row` meets its contract: a row that is admitted is in range, and its surplus keeps the sum small.
 use Rattle.std.proofs.Common.{◌≡◌, ap, sym, subst, ◌∙◌, length}
-use Rattle.std.specs.Prelude.{false, ℤ, Ok}
+use Rattle.std.specs.Prelude.{false, ℤ}
 use Rattle.base_integers.specs.Steps.Ranges.{is_false}
 use Rattle.base_integers.specs.Steps.Size.{Near}
 use Rattle.book_order.specs.declared.Order.{Order}
@@ -30,4 +30,4 @@ pub returns : goal.returns
 returns c =
     let h = held (goal.at.returns c).In-Some in
     let e = c.order_surplus.ensures ∙ ap (λ (o : Order). counted o c.args.prices.now) h.1 in
-    ap Ok (c.take_row.ensures ∙ ap (with_row c.args.state) e) ∙ added-by c.args.state c.args.row c.args.prices.now h.0
+    c.take_row.ensures ∙ ap (with_row c.args.state) e ∙ added-by c.args.state c.args.row c.args.prices.now h.0

@@ -1,5 +1,5 @@
--- The lent book row by row: the state after each row, or the refusal by 4 or 8; and the answer at the end.
-use Rattle.std.specs.Prelude.{Bool, true, false, not, List, ℕ, ◌+◌, ◌*◌, ◌<◌, length, ℤ, pos, ◌+ℤ◌, Result, Ok, Err}
+-- The lent book row by row: the state after each row, and the answer at the end.
+use Rattle.std.specs.Prelude.{Bool, true, false, not, ◌&&◌, List, ℕ, ◌+◌, ◌*◌, ◌<◌, length, eqb, ltb, ℤ, pos, ◌+ℤ◌, Result, Ok, Err}
 use Rattle.std.proofs.Math.Option.{Option, none, some}
 use Rattle.base_integers.specs.Meaning.Ranges.{outside}
 use Rattle.base_integers.specs.Steps.Size.{Near}
@@ -20,14 +20,25 @@ use Rattle.book_surplus.specs.declared.Surplus.{Surplus}
 
 -- no row taken yet
 abbrev pub new_state : Result (Unit {0}) Outcome → BookState
-new_state prices = record { prices = prices; taken = 0; sum = record { 0 = pos 0 } }
+new_state refusal = record { refusal = refusal; taken = 0; sum = record { 0 = pos 0 } }
+
+-- refused by neither 4 nor 8: a row may still change it, and the next row is read
+abbrev pub may_change : Result (Unit {0}) Outcome → Bool
+may_change (Ok u) = true
+may_change (Err o) = eqb o.number 25
+
+abbrev pub is_open : BookState → Bool
+is_open a = may_change a.refusal
+
+abbrev pub asks_row : BookState → ℕ → ℕ → Bool
+asks_row a i count = is_open a && ltb i count
 
 -- refused at the row after those taken
-abbrev pub refused_row : BookState → Outcome
-refused_row a = verdict 8 a.taken
+abbrev pub refused_row : BookState → BookState
+refused_row a = record { refusal = Err (verdict 8 a.taken); taken = a.taken; sum = a.sum }
 
 abbrev pub with_row : BookState → ℤ → BookState
-with_row a x = record { prices = a.prices; taken = a.taken + 1; sum = record { 0 = a.sum.0 +ℤ x } }
+with_row a x = record { refusal = a.refusal; taken = a.taken + 1; sum = record { 0 = a.sum.0 +ℤ x } }
 
 -- OPENED: by the number of prices, the number of rows, and the first price out of range
 unfoldable pub first_price_outside : List ℤ → Option ℕ
@@ -38,12 +49,12 @@ abbrev pub priced : Option ℕ → Result (Unit {0}) Outcome
 priced (some z) = Err (verdict 25 z)
 priced none = Ok tt
 
-abbrev pub open_by : Bool → Bool → Option ℕ → Result BookState Outcome
-open_by true b z = Err (verdict 4 5)
-open_by false true z = Err (verdict 4 8)
-open_by false false z = Ok (new_state (priced z))
+abbrev pub open_by : Bool → Bool → Option ℕ → BookState
+open_by true b z = new_state (Err (verdict 4 5))
+open_by false true z = new_state (Err (verdict 4 8))
+open_by false false z = new_state (priced z)
 
-abbrev pub open_of : ℕ → List ℤ → Result BookState Outcome
+abbrev pub open_of : ℕ → List ℤ → BookState
 open_of count prices = open_by (outside zone_counts (pos (length prices))) (outside order_counts (pos count)) (first_price_outside prices)
 
 -- ONE ROW MORE: its surplus counts where the zone's price is in range
@@ -56,11 +67,11 @@ bad_in prices o = bad_row (length prices) o.zone o.side o.quantity o.price
 abbrev pub row_order : OrderRow → Order
 row_order o = order_of o.zone o.side (pos o.quantity) o.price
 
-abbrev pub add_by : BookState → Bool → ℤ → Result BookState Outcome
-add_by a true x = Err (refused_row a)
-add_by a false x = Ok (with_row a x)
+abbrev pub add_by : BookState → Bool → ℤ → BookState
+add_by a true x = refused_row a
+add_by a false x = with_row a x
 
-abbrev pub add_of : BookState → OrderRow → List ℤ → Result BookState Outcome
+abbrev pub add_of : BookState → OrderRow → List ℤ → BookState
 add_of a o prices = add_by a (bad_in prices o) (counted (row_order o) prices)
 
 -- CLOSED: a refusal's sum is 0
@@ -76,11 +87,10 @@ total_by (Ok u) sum = Ok sum
 total_by (Err o) sum = Err o
 
 abbrev pub total_of : BookState → Result Microcents Outcome
-total_of a = total_by a.prices a.sum
+total_of a = total_by a.refusal a.sum
 
-abbrev pub close_of : Result BookState Outcome → Surplus
-close_of (Ok a) = answer_of (total_of a)
-close_of (Err o) = answer_of (Err o)
+abbrev pub close_of : BookState → Surplus
+close_of a = answer_of (total_of a)
 
 -- room for one row more: a surplus is at most 4.5e15, and 512 of them are far below 2 ^ 63
 pub record Ready (a : BookState) : Type 0 where
