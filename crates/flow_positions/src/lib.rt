@@ -44,7 +44,7 @@ fn position_held(net_exports: &[i64], zone: usize) -> Tenths
     requires zone_value { position_outside net_exports.now zone ≡ false }
     ensures { result.0 ≡ position_at net_exports.now zone }
 {
-    position(net_exports, zone).unwrap()
+    position(net_exports, zone).unwrap_or(Tenths::ZERO)
 }
 
 // The sum of up to 16 positions within their limits.
