@@ -95,7 +95,7 @@ pub fn first_bad_pair(pairs: &[u8], zones: usize) -> Option<usize>
 }
 
 // In a table, that there is no pair. No Option there: `pair_in` and `PairsTabled` speak of a number below 64, and
-// `pair_at` answers an Option.
+// `pair_of` answers an Option.
 const NO_PAIR: u8 = 64;
 
 // For two zones, at 16 times the first plus the second, the pair that leads from the first to the second.
@@ -114,14 +114,22 @@ pub fn pair_table(pairs: &[u8]) -> [u8; TABLE]
     table
 }
 
+// The number that a table has for two zones.
+pub fn pair_at(table: &[u8; TABLE], a: usize, b: usize) -> usize
+    requires { (a < 16) × (b < 16) }
+    ensures { result ≡ pair_in table.now a b }
+{
+    usize::from(table[layout::ZONES * a + b])
+}
+
 // The pair that a table has for two zones.
-pub fn pair_at(table: &[u8; TABLE], a: usize, b: usize) -> Option<usize>
+pub fn pair_of(table: &[u8; TABLE], a: usize, b: usize) -> Option<usize>
     requires { (a < 16) × (b < 16) }
     ensures { SomeIff result (pair_in table.now a b < 64) (pair_in table.now a b) }
 {
-    let pair = table[layout::ZONES * a + b];
-    if pair < NO_PAIR {
-        Some(usize::from(pair))
+    let pair = pair_at(table, a, b);
+    if pair < usize::from(NO_PAIR) {
+        Some(pair)
     } else {
         None
     }

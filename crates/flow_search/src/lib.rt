@@ -11,7 +11,7 @@ ghost use Rattle.flow_search.specs.Steps.Arcs.{PairFrom, PairOn, Tried};
 ghost use Rattle.flow_search.specs.Meaning.SearchAnswer.{SearchAnswer};
 
 use flow_augment::{Label, Labels};
-use flow_pairs::{TABLE, pair_at};
+use flow_pairs::{TABLE, pair_of};
 use flow_scratch::{AMOUNTS, amount, counts, export_left, import_left};
 
 // What is exchanged in an hour that no row refuses, and its pairs as a table.
@@ -61,7 +61,7 @@ impl<'a> Exchanges<'a> {
         requires { (u < length self.now.prices.now) × (w < length self.now.prices.now) }
         ensures { PairFrom self.now.pairs.now u w result }
     {
-        pair_at(self.table, u, w)
+        pair_of(self.table, u, w)
     }
 
     // The same, if it counts.
