@@ -9,7 +9,7 @@ ghost use Rattle.flow_augment.specs.Meaning.Path.{trail_of, labelled, SomeAugmen
 ghost use Rattle.flow_augment.specs.Steps.Path.{Shifted, SomePath, Walked};
 
 use flow_pairs::zone_at;
-use flow_scratch::{AMOUNTS, EXPORT_USED, IMPORT_USED, amount, store};
+use flow_scratch::{EXPORT_USED, IMPORT_USED, amount, store};
 
 // What a search knows of a zone.
 #[derive(Clone, Copy)]
@@ -56,8 +56,9 @@ impl Labels {
 
 // Zone z lacks d: pair k supplies it, and its other zone lacks d instead. Flow back along a used pair reduces its
 // flow.
-fn shift(pairs: &[u8], s: &mut [i64; AMOUNTS], k: usize, z: usize, d: u64) -> usize
+fn shift(pairs: &[u8], s: &mut [i64], k: usize, z: usize, d: u64) -> usize
     requires k_in_bounds { (2 * k + 1 < length pairs.now) × (k < 64) }
+    requires in_bounds { 96 ≤ length s.old }
     requires d_bound { amount_at s.old k + d < 9223372036854775808 }
     requires d_bound_2 { (second_zone pairs.now k ≡ z → ⊥) → d ≤ amount_at s.old k }
     ensures { Shifted pairs.now s.old s.new k z d result }
@@ -76,7 +77,7 @@ fn shift(pairs: &[u8], s: &mut [i64; AMOUNTS], k: usize, z: usize, d: u64) -> us
 
 // From a zone that lacks d back along its path, to a zone with export left. No `for`: it follows a path, not places in
 // order.
-fn walk_back(pairs: &[u8], s: &mut [i64; AMOUNTS], labels: Labels, t: usize, d: u64) -> usize
+fn walk_back(pairs: &[u8], s: &mut [i64], labels: Labels, t: usize, d: u64) -> usize
     requires { SomePath pairs.now s.old (trail_of labels) d t }
     ensures { Walked pairs.now s.old s.new (trail_of labels) d t result }
 {
@@ -89,7 +90,7 @@ fn walk_back(pairs: &[u8], s: &mut [i64; AMOUNTS], labels: Labels, t: usize, d: 
 }
 
 // Brings d more to zone t, from a zone with export left.
-pub fn augment(pairs: &[u8], s: &mut [i64; AMOUNTS], labels: Labels, t: usize, d: u64)
+pub fn augment(pairs: &[u8], s: &mut [i64], labels: Labels, t: usize, d: u64)
     requires { SomeAugment pairs.now s.old (trail_of labels) d t }
     ensures { Augmented pairs.now s.old s.new (trail_of labels) d t }
 {

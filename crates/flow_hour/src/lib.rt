@@ -50,15 +50,16 @@ fn listed(prices: [Grains; layout::ZONES], zones: usize) -> [i64; layout::ZONES]
 }
 
 // The judgement's number and index where the hour is not accepted; else the answer for its exports, its prices and
-// these pairs. With N numbers of scratch, `SCRATCH` or `SMALL_SCRATCH`.
-pub fn hour_intuitive_in<const N: usize>(
+// these pairs. With n numbers of scratch, `SCRATCH` or `SMALL_SCRATCH`.
+pub fn hour_intuitive_in(
     case: &[u8],
     proposal: &[u8],
     pairs: &[u8],
     scratch: &mut [i64],
+    n: usize,
 ) -> Carried
-    requires { 96 ≤ N }
-    ensures { HourAnswer «case».now proposal.now pairs.now N scratch.old result scratch.new }
+    requires { 96 ≤ n }
+    ensures { HourAnswer «case».now proposal.now pairs.now n scratch.old result scratch.new }
 {
     let valued = match find(case, proposal) {
         Ok(valued) => valued,
@@ -71,5 +72,5 @@ pub fn hour_intuitive_in<const N: usize>(
     let zones = valued.hour.case.counts.zones;
     let exports = turned(valued.cleared.nets, zones);
     let list = listed(valued.prices, zones);
-    intuitive_of::<N>(&exports[..zones], &list[..zones], pairs, scratch)
+    intuitive_of(&exports[..zones], &list[..zones], pairs, scratch, n)
 }

@@ -87,18 +87,19 @@ fn examine(
     examine_rest(pairs, net_exports.len(), n, room)
 }
 
-// The answer where no row refuses. A flow takes 96 of the N numbers of scratch.
-fn answered<const N: usize>(
+// The answer where no row refuses. A flow takes 96 of the n numbers of scratch.
+fn answered(
     net_exports: &[i64],
     prices: &[i64],
     pairs: &[u8],
     scratch: &mut [i64],
+    n: usize,
 ) -> Carried
-    requires le_n { 96 ≤ N }
-    requires taken { intuitive_refusal net_exports.now prices.now pairs.now N (length scratch.old) ≡ none }
-    ensures { IntuitiveAnswer net_exports.now prices.now pairs.now N scratch.old result scratch.new }
+    requires le_n { 96 ≤ n }
+    requires taken { intuitive_refusal net_exports.now prices.now pairs.now n (length scratch.old) ≡ none }
+    ensures { IntuitiveAnswer net_exports.now prices.now pairs.now n scratch.old result scratch.new }
 {
-    let flow = max_flow::<N>(net_exports, prices, pairs, scratch);
+    let flow = max_flow(net_exports, prices, pairs, scratch, n);
     Carried {
         number: 0,
         index: 0,
@@ -107,36 +108,38 @@ fn answered<const N: usize>(
     }
 }
 
-// Net positions with export positive, zone prices in grains and pairs of zones, two bytes to a pair; with N numbers
+// Net positions with export positive, zone prices in grains and pairs of zones, two bytes to a pair; with n numbers
 // of scratch, `SCRATCH` or `SMALL_SCRATCH`.
-pub fn intuitive_in<const N: usize>(
+pub fn intuitive_in(
     net_exports: &[i64],
     prices: &[i64],
     pairs: &[u8],
     scratch: &mut [i64],
+    n: usize,
 ) -> Carried
-    requires { 96 ≤ N }
-    ensures { IntuitiveAnswer net_exports.now prices.now pairs.now N scratch.old result scratch.new }
+    requires { 96 ≤ n }
+    ensures { IntuitiveAnswer net_exports.now prices.now pairs.now n scratch.old result scratch.new }
 {
-    match examine(net_exports, prices, pairs, N, scratch.len()) {
-        Ok(()) => answered::<N>(net_exports, prices, pairs, scratch),
+    match examine(net_exports, prices, pairs, n, scratch.len()) {
+        Ok(()) => answered(net_exports, prices, pairs, scratch, n),
         Err(refusal) => Carried::from(refusal),
     }
 }
 
 // The same for lists that pass 81 to 83, as those of an accepted hour do.
-pub fn intuitive_of<const N: usize>(
+pub fn intuitive_of(
     net_exports: &[i64],
     prices: &[i64],
     pairs: &[u8],
     scratch: &mut [i64],
+    n: usize,
 ) -> Carried
-    requires le_n { 96 ≤ N }
+    requires le_n { 96 ≤ n }
     requires lists_pass { ListsPass net_exports.now prices.now }
-    ensures { IntuitiveAnswer net_exports.now prices.now pairs.now N scratch.old result scratch.new }
+    ensures { IntuitiveAnswer net_exports.now prices.now pairs.now n scratch.old result scratch.new }
 {
-    match examine_rest(pairs, net_exports.len(), N, scratch.len()) {
-        Ok(()) => answered::<N>(net_exports, prices, pairs, scratch),
+    match examine_rest(pairs, net_exports.len(), n, scratch.len()) {
+        Ok(()) => answered(net_exports, prices, pairs, scratch, n),
         Err(refusal) => Carried::from(refusal),
     }
 }

@@ -6,6 +6,7 @@ ghost use Rattle.base_integers.specs.Meaning.Difference.{up};
 ghost use Rattle.base_integers.specs.Meaning.NaturalSums.{sum_nat};
 ghost use Rattle.flow_pairs.specs.Meaning.Pairs.{network_of};
 ghost use Rattle.flow_scratch.specs.Meaning.Places.{flow_of};
+ghost use Rattle.flow_scratch.specs.Steps.Scratch.{Rest};
 ghost use Rattle.flow_scratch.specs.Meaning.Cleared.{Cleared};
 ghost use Rattle.flow_augment.specs.Steps.Lacking.{State};
 ghost use Rattle.flow_augment.specs.Meaning.Path.{InputsInRange};
@@ -14,7 +15,7 @@ ghost use Rattle.flow_max.specs.Steps.Filled.{Filled};
 
 use flow_augment::augment;
 use flow_pairs::pair_table;
-use flow_scratch::{AMOUNTS, amount, import_left};
+use flow_scratch::{AMOUNTS, amount, clear, import_left};
 use flow_search::Exchanges;
 
 // Whether every export is carried to imports, and the largest total that is carried, in tenths. No Option: for a no,
@@ -27,10 +28,11 @@ pub struct MaxFlow {
 
 // Augments as long as the search reaches a zone with import left. The flow is empty at first. No `for`: how many paths
 // there are shows as the last is left.
-fn fill(exchanges: &Exchanges, s: &mut [i64; AMOUNTS]) -> u64
-    requires { State (network_of exchanges.now.net_exports.now exchanges.now.prices.now exchanges.now.pairs.now) (flow_of s.old) 0 }
+fn fill(exchanges: &Exchanges, s: &mut [i64]) -> u64
+    requires in_bounds { 96 ≤ length s.old }
+    requires state { State (network_of exchanges.now.net_exports.now exchanges.now.prices.now exchanges.now.pairs.now) (flow_of s.old) 0 }
     ensures filled { Filled (network_of exchanges.now.net_exports.now exchanges.now.prices.now exchanges.now.pairs.now) (flow_of s.new) result }
-    ensures len { length s.new ≡ 96 }
+    ensures rest { Rest s.old s.new }
 {
     let mut total = 0;
     loop {
@@ -56,18 +58,19 @@ fn all_exports(net_exports: &[i64]) -> u64
     sum
 }
 
-// With a scratch of at least N numbers, the first N of which are zero afterwards. A flow takes 96.
-pub fn max_flow<const N: usize>(
+// With a scratch of at least n numbers, the first n of which are zero afterwards. A flow takes 96.
+pub fn max_flow(
     net_exports: &[i64],
     prices: &[i64],
     pairs: &[u8],
-    scratch: &mut [i64],
+    s: &mut [i64],
+    n: usize,
 ) -> MaxFlow
     requires inputs_in_range { InputsInRange net_exports.now prices.now pairs.now }
-    requires le_n { (96 ≤ N) × (N ≤ length scratch.old) }
+    requires le_n { (96 ≤ n) × (n ≤ length s.old) }
     ensures answer { MaxFlowAnswer (network_of net_exports.now prices.now pairs.now) result.all result.total }
     ensures total { result.total ≤ 819200000 }
-    ensures scratch { Cleared N scratch.old scratch.new }
+    ensures scratch { Cleared n s.old s.new }
 {
     let table = pair_table(pairs);
     let exchanges = Exchanges {
@@ -76,12 +79,9 @@ pub fn max_flow<const N: usize>(
         pairs,
         table: &table,
     };
-    let Some(s) = scratch.first_chunk_mut::<AMOUNTS>() else {
-        unreachable!();
-    };
-    s.fill(0);
+    clear(s, AMOUNTS);
     let carried = fill(&exchanges, s);
-    scratch[..N].fill(0);
+    clear(s, n);
     let exports = all_exports(net_exports);
     MaxFlow {
         all: carried == exports,

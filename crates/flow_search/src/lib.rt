@@ -12,7 +12,7 @@ ghost use Rattle.flow_search.specs.Meaning.SearchAnswer.{SearchAnswer};
 
 use flow_augment::{Label, Labels};
 use flow_pairs::{TABLE, pair_of};
-use flow_scratch::{AMOUNTS, amount, counts, export_left, import_left};
+use flow_scratch::{amount, counts, export_left, import_left};
 
 // What is exchanged in an hour that no row refuses, and its pairs as a table.
 #[derive(Clone, Copy)]
@@ -34,7 +34,8 @@ pub struct Arc {
 
 impl<'a> Exchanges<'a> {
     // Reaches the zones with export left.
-    fn seed_zones(&self, s: &[i64; AMOUNTS]) -> Labels
+    fn seed_zones(&self, s: &[i64]) -> Labels
+        requires { 96 ≤ length s.now }
         ensures { Seeded self.now.net_exports.now s.now result (length self.now.net_exports.now) }
     {
         let mut labels = Labels {
@@ -77,14 +78,9 @@ impl<'a> Exchanges<'a> {
 
     // The arc from zone u to zone w, where w is not reached yet: along a pair that counts, or back along one that
     // carries something.
-    fn try_arc(
-        &self,
-        s: &[i64; AMOUNTS],
-        zones: &[Label; layout::ZONES],
-        u: usize,
-        w: usize,
-    ) -> Option<Arc>
+    fn try_arc(&self, s: &[i64], zones: &[Label; layout::ZONES], u: usize, w: usize) -> Option<Arc>
         requires u_in_bounds { (u < length self.now.prices.now) × (w < length self.now.prices.now) }
+        requires in_bounds { 96 ≤ length s.now }
         requires reached { 0 < (get_or zones.now u unreached).amount }
         ensures { Tried self.now.prices.now self.now.pairs.now s.now zones.now u w result }
     {
@@ -108,7 +104,8 @@ impl<'a> Exchanges<'a> {
 
     // Reaches zone after zone, going on from each in the order of the queue, until one has import left: the sink.
     // The labels are stored in place, because a function that returned them would copy them for every zone.
-    pub fn search(&self, s: &[i64; AMOUNTS]) -> Labels
+    pub fn search(&self, s: &[i64]) -> Labels
+        requires { 96 ≤ length s.now }
         ensures { SearchAnswer self.now.net_exports.now self.now.prices.now self.now.pairs.now s.now result }
     {
         let mut labels = self.seed_zones(s);

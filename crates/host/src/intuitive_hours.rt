@@ -37,7 +37,7 @@ pub extern "C" fn lta_intuitive(
     ensures refused { 0 < result.number → (result.intuitive ≡ 0) × (result.total.0 ≡ pos 0) }
     ensures yes_rent { result.number ≡ 0 → result.intuitive ≡ 1 → pos 0 ≤ℤ imports_worth net_exports.now zone_prices.now }
 {
-    intuitive_in::<SCRATCH>(net_exports, zone_prices, pairs, scratch)
+    intuitive_in(net_exports, zone_prices, pairs, scratch, SCRATCH)
 }
 
 // The same question for an hour. The hour is judged first; if it is not accepted, the answer is the judgement's
@@ -62,7 +62,7 @@ pub extern "C" fn lta_hour_intuitive(
     ensures refused { 0 < result.number → (result.intuitive ≡ 0) × (result.total.0 ≡ pos 0) }
     ensures yes_rent { result.number ≡ 0 → result.intuitive ≡ 1 → pos 0 ≤ℤ hour_rent «case».now proposal.now }
 {
-    hour_intuitive_in::<SCRATCH>(case, proposal, pairs, scratch)
+    hour_intuitive_in(case, proposal, pairs, scratch, SCRATCH)
 }
 
 // The same with a smaller scratch of 96 numbers (S-13): one per pair, one per zone for export used, one per zone
@@ -89,7 +89,7 @@ pub extern "C" fn lta_intuitive_small(
     ensures refused { 0 < result.number → (result.intuitive ≡ 0) × (result.total.0 ≡ pos 0) }
     ensures yes_rent { result.number ≡ 0 → result.intuitive ≡ 1 → pos 0 ≤ℤ imports_worth net_exports.now zone_prices.now }
 {
-    intuitive_in::<SMALL_SCRATCH>(net_exports, zone_prices, pairs, scratch)
+    intuitive_in(net_exports, zone_prices, pairs, scratch, SMALL_SCRATCH)
 }
 
 // The same question for an hour, with 96 numbers. An entry of its own too.
@@ -111,5 +111,5 @@ pub extern "C" fn lta_hour_intuitive_small(
     ensures refused { 0 < result.number → (result.intuitive ≡ 0) × (result.total.0 ≡ pos 0) }
     ensures yes_rent { result.number ≡ 0 → result.intuitive ≡ 1 → pos 0 ≤ℤ hour_rent «case».now proposal.now }
 {
-    hour_intuitive_in::<SMALL_SCRATCH>(case, proposal, pairs, scratch)
+    hour_intuitive_in(case, proposal, pairs, scratch, SMALL_SCRATCH)
 }

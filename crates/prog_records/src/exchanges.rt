@@ -58,7 +58,7 @@ fn print_answer<const N: usize>(
         index,
         intuitive,
         total,
-    } = flow_intuitive::intuitive_in::<N>(net, prices, pairs, scratch);
+    } = flow_intuitive::intuitive_in(net, prices, pairs, scratch, N);
     let tenths = total.bits().0;
     let zeros = scratch.iter().take_while(|x| **x == 0).count();
     print!(rt; "{number} {index} {intuitive} {tenths} {zeros}")

@@ -1,7 +1,8 @@
 -- `flow_augment::augment` meets its contract: the import used, the walk back, the export used. Assumes nothing.
 use Rattle.std.proofs.Common.{◌≡◌, List, ℕ, ◌+◌, ◌≤◌, ◌<◌, arith}
-use Rattle.std.specs.Prelude.{ℤ}
+use Rattle.std.specs.Prelude.{ℤ, pos}
 use Rattle.flow_scratch.specs.Meaning.Places.{amount_at}
+use Rattle.flow_scratch.specs.Steps.Scratch.{rest-to, rest-trans}
 use Rattle.flow_augment.specs.Meaning.Path.{Augment, trail_of}
 use Rattle.flow_augment.specs.Steps.Path.{PathBack, path-start-at, path-end-at, root-left}
 use Rattle.flow_augment.proofs.augment.Goals as goal
@@ -68,6 +69,11 @@ pub returns : goal.returns
 returns c =
     let w = (goal.at.returns c).After-walk_back-z in
     let a = c.amount-export_used in
+    let p = c.requires.augment in
     record {
       state = λ net_exports prices total h. path-end-at net_exports prices total _ c.walk_back-z.new.s _ _ _ a.result c.store-2.new.s a.ensures c.store-2.ensures (walked w net_exports prices total h) c.walk_back-z.ensures.root;
+      rest =
+          rest-trans
+          (rest-trans (rest-to _ _ (80 + c.args.t) (pos (c.amount-import_used.result + c.args.d)) (omega (arith, p.inside, p.sized.zones)) c.store.ensures) c.walk_back-z.ensures.rest)
+          (rest-to _ _ (64 + c.walk_back-z.result) (pos (a.result + c.args.d)) (omega (arith, low w)) c.store-2.ensures);
     }

@@ -4,6 +4,7 @@ use Rattle.base_integers.specs.Meaning.Difference.{up, dn}
 use Rattle.flow_network.specs.Meaning.Network.{Placed}
 use Rattle.flow_pairs.specs.Meaning.Pairs.{pair_count, first_zone, second_zone, network_of}
 use Rattle.flow_scratch.specs.Meaning.Places.{amount_at, flow_of}
+use Rattle.flow_scratch.specs.Steps.Scratch.{Rest}
 use Rattle.flow_augment.specs.declared.Label.{Label}
 use Rattle.flow_augment.specs.declared.Labels.{Labels}
 use Rattle.flow_augment.specs.Steps.Lacking.{State}
@@ -56,3 +57,4 @@ pub record SomeAugment (bytes : List ℕ) (s : List ℤ) (m : Trail) (d t : ℕ)
 
 pub record Augmented (bytes : List ℕ) (s s' : List ℤ) (m : Trail) (d t : ℕ) : Type 0 where
   pub state : (net_exports prices : List ℤ) (total : ℕ) → Augment net_exports prices total bytes s m d t → State (network_of net_exports prices bytes) (flow_of s') (total + d)
+  pub rest : Rest s s'

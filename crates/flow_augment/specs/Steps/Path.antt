@@ -6,7 +6,7 @@ use Rattle.base_integers.specs.Meaning.Difference.{up}
 use Rattle.flow_network.specs.Meaning.Network.{Network}
 use Rattle.flow_pairs.specs.Meaning.Pairs.{pair_count, first_zone, second_zone, network_of}
 use Rattle.flow_scratch.specs.Meaning.Places.{amount_at, flow_of}
-use Rattle.flow_scratch.specs.Steps.Scratch.{set-flow, set-export-used, set-import-used}
+use Rattle.flow_scratch.specs.Steps.Scratch.{Rest, rest-set, set-flow, set-export-used, set-import-used}
 use Rattle.flow_augment.specs.Steps.Lacking.{Lacking, State, more-along, less-along, use-import, use-export}
 use Rattle.flow_augment.specs.Steps.Links.{Trail, Link, Links, links-on, links-back, links-import-used}
 use Rattle.flow_augment.specs.Meaning.Path.{InputsInRange, Augment}
@@ -79,21 +79,25 @@ module _ (net_exports prices : List ℤ) (total : ℕ) (bytes : List ℕ) (s : L
   pub step-safe : 0 < m.dep z → (m.by z < pair_count bytes) × ((amount_at s (m.by z) + d < 9223372036854775808) × ((second_zone bytes (m.by z) ≡ z → ⊥) → d ≤ amount_at s (m.by z)))
   step-safe h = (here.pair h, (omega (arith, ch.lacking.flows (m.by z) (here.pair h), ch.few), λ e. omega (arith, (here.back h e).enough, ch.lab)))
 
-  pub path-step : 0 < m.dep z → (s' : List ℤ) (r : ℕ) → Shifted bytes s s' (m.by z) z d r → PathBack net_exports prices total bytes s' m d r × (m.dep r < m.dep z)
+  pub path-step : 0 < m.dep z → (s' : List ℤ) (r : ℕ) → Shifted bytes s s' (m.by z) z d r → PathBack net_exports prices total bytes s' m d r × ((m.dep r < m.dep z) × Rest s s')
   path-step h s' r sh = by (ℕ_discrete (second_zone bytes (m.by z)) z)
     where
-      by : Dec (second_zone bytes (m.by z) ≡ z) → PathBack net_exports prices total bytes s' m d r × (m.dep r < m.dep z)
+      k96 : m.by z < 96
+      k96 = omega (arith, here.pair h, ch.sized.pairs)
+
+      by : Dec (second_zone bytes (m.by z) ≡ z) → PathBack net_exports prices total bytes s' m d r × ((m.dep r < m.dep z) × Rest s s')
       by (yes e) =
           let q = sh.on e in
-          rw (q.0, q.1) (path-on h e, (here.on h e).dep-lt)
+          rw (q.0, q.1) (path-on h e, ((here.on h e).dep-lt, rest-set s (m.by z) (pos (amount_at s (m.by z) + d)) k96))
       by (no e) =
           let q = sh.back e in
-          rw (q.0, q.1) (path-back h e, (here.back h e).dep-lt)
+          rw (q.0, q.1) (path-back h e, ((here.back h e).dep-lt, rest-set s (m.by z) (pos (amount_at s (m.by z) - d)) k96))
 
 -- where a walk ends: in a zone with export left
 pub record Walked (bytes : List ℕ) (s s' : List ℤ) (m : Trail) (d z r : ℕ) : Type 0 where
   pub path : (net_exports prices : List ℤ) (total : ℕ) → PathBack net_exports prices total bytes s m d z → PathBack net_exports prices total bytes s' m d r
   pub root : m.dep r ≡ 0
+  pub rest : Rest s s'
 
 module _ (bytes : List ℕ) (s s' : List ℤ) (k z d r b x : ℕ) (second : b ≡ second_zone bytes k) (old : x ≡ amount_at s k) where
   pub shifted-on : b ≡ z → r ≡ first_zone bytes k → s' ≡ set s k (pos (x + d)) → Shifted bytes s s' k z d r

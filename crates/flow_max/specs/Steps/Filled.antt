@@ -1,6 +1,6 @@
 -- A flow is augmented until no augmenting path is left. Its total is then the largest, and decides the yes or no.
 -- Assumes nothing.
-use Rattle.std.specs.Prelude.{◌≡◌, Bool, List, ℕ, ◌+◌, ◌-◌, ◌≤◌, ◌<◌, eqb, length, get_or, ℤ, pos, None, Some}
+use Rattle.std.specs.Prelude.{◌≡◌, Bool, List, ℕ, ◌+◌, ◌-◌, ◌≤◌, ◌<◌, eqb, length, ℤ, None, Some}
 use Rattle.std.proofs.Common.{ap, ◌∙◌, arith, mul-le-mul_right, eqb-true}
 use Rattle.std.proofs.Math.Decide.{dec_lt}
 use Rattle.std.proofs.lemmas.Bool.{eqb-false}
@@ -14,6 +14,7 @@ use Rattle.flow_positions.specs.Meaning.Positions.{position_at}
 use Rattle.flow_pairs.specs.Meaning.Pairs.{network_of}
 use Rattle.flow_pairs.specs.Meaning.Table.{Distinct}
 use Rattle.flow_scratch.specs.Meaning.Places.{amount_at, flow_of}
+use Rattle.flow_scratch.specs.Meaning.Cleared.{Cleared}
 use Rattle.flow_augment.specs.declared.Labels.{Labels}
 use Rattle.flow_augment.specs.Steps.Lacking.{State}
 use Rattle.flow_augment.specs.Meaning.Path.{trail_of, InputsInRange, Augment}
@@ -82,10 +83,10 @@ empty-state c b f e i = record {
   flows = λ k l. omega (arith, f k l);
 }
 
-pub blank-state : (net_exports prices : List ℤ) (bytes : List ℕ) (s : List ℤ) → InputsInRange net_exports prices bytes → ((i : ℕ) → i < 96 → get_or s i (pos 0) ≡ pos 0) → State (network_of net_exports prices bytes) (flow_of s) 0
-blank-state net_exports prices bytes s z w =
-    empty-state (network_of net_exports prices bytes) (flow_of s) (λ k l. ap up (w k (omega (arith, z.pairs)))) (λ y l. ap up (w (64 + y) (omega (arith, z.zones))))
-    (λ y l. ap up (w (80 + y) (omega (arith, z.zones))))
+pub cleared-state : (net_exports prices : List ℤ) (bytes : List ℕ) (n : ℕ) (s s' : List ℤ) → InputsInRange net_exports prices bytes → 96 ≤ n → Cleared n s s' → State (network_of net_exports prices bytes) (flow_of s') 0
+cleared-state net_exports prices bytes n s s' z h w =
+    empty-state (network_of net_exports prices bytes) (flow_of s') (λ k l. ap up (w.zeros k (omega (arith, z.pairs)))) (λ y l. ap up (w.zeros (64 + y) (omega (arith, z.zones))))
+    (λ y l. ap up (w.zeros (80 + y) (omega (arith, z.zones))))
 
 pub answer-of : (c : Network) (b : Flow) (total : ℕ) → Placed c → Filled c b total → MaxFlowAnswer c (eqb total (all_exports c)) total
 answer-of c b total ok d = record {

@@ -1,9 +1,26 @@
 -- What one store changes in the 96 numbers of a flow. Assumes nothing.
-use Rattle.std.specs.Prelude.{◌≡◌, List, ℕ, ◌+◌, ◌≤◌, ◌<◌, length, set, ℤ, pos}
-use Rattle.std.proofs.Common.{ap, arith, get_or-set_same, get_or-set_other}
+use Rattle.std.specs.Prelude.{◌≡◌, refl, List, ℕ, ◌+◌, ◌≤◌, ◌<◌, length, get_or, set, ℤ, pos}
+use Rattle.std.proofs.Common.{ap, ◌∙◌, arith, length-set, get_or-set_same, get_or-set_other}
 use Rattle.base_integers.specs.Meaning.Difference.{up}
 use Rattle.flow_network.specs.Meaning.Network.{Network, Flow}
 use Rattle.flow_scratch.specs.Meaning.Places.{amount_at, flow_of}
+
+-- the same list except for its first 96 numbers
+pub record Rest (s s' : List ℤ) : Type 0 where
+  pub len : length s' ≡ length s
+  pub past : (i : ℕ) → 96 ≤ i → get_or s' i (pos 0) ≡ get_or s i (pos 0)
+
+pub rest-refl : (s : List ℤ) → Rest s s
+rest-refl s = record { len = refl; past = λ i h. refl }
+
+pub rest-trans : {s t u : List ℤ} → Rest s t → Rest t u → Rest s u
+rest-trans a b = record { len = b.len ∙ a.len; past = λ i h. b.past i h ∙ a.past i h }
+
+pub rest-set : (s : List ℤ) (k : ℕ) (v : ℤ) → k < 96 → Rest s (set s k v)
+rest-set s k v h = record { len = length-set s k v; past = λ i l. get_or-set_other s k i v (pos 0) (λ e. omega arith) }
+
+pub rest-to : (s s' : List ℤ) (k : ℕ) (v : ℤ) → k < 96 → s' ≡ set s k v → Rest s s'
+rest-to s s' k v h e = rw e (rest-set s k v h)
 
 -- ONE NUMBER CHANGES: a flow, an export used, an import used
 pub record FlowSet (c : Network) (b b' : Flow) (k v : ℕ) : Type 0 where
