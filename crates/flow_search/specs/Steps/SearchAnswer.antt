@@ -59,8 +59,9 @@ module _ (net_exports prices : List ℤ) (bytes : List ℕ) (s : List ℤ) (z : 
   pub count-le : Progress net_exports prices bytes s m h → m.count ≤ 16
   count-le p = omega (arith, few p.search.listing, z.zones)
 
-  pub partway-start : (u : ℕ) → Progress net_exports prices bytes s m h → h < m.count → u ≡ queue_of m h → Partway net_exports prices bytes s m h u 0
-  partway-start u p here e = record { wide = p.wide; no-sink = p.no-sink; scan = record { search = p.search; here = here; is = sym e; part = λ v l. absurd (omega arith) } }
+  -- `w ≡ 0`, and no 0 in its place: another start of the loop is refused for what it leaves out, not for its form
+  pub partway-start : (u w : ℕ) → Progress net_exports prices bytes s m h → h < m.count → u ≡ queue_of m h → w ≡ 0 → Partway net_exports prices bytes s m h u w
+  partway-start u w p here e start = record { wide = p.wide; no-sink = p.no-sink; scan = record { search = p.search; here = here; is = sym e; part = λ v l. absurd (omega arith) } }
 
   module _ (u w : ℕ) (p : Partway net_exports prices bytes s m h u w) where
     -- what is known of the zone that it starts from
