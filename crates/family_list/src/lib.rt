@@ -180,12 +180,13 @@ fn least_on_circle(families: ReadableFamilies<'_>, i: usize, tip: usize) -> usiz
         return i;
     }
     let mut least = tip;
-    let mut at = families.parent(tip).unwrap();
+    // Each order on a circle has a parent. An `unwrap` would leave an instruction there that ends the program.
+    let mut at = families.parent(tip).unwrap_or(tip);
     // No `for`: it follows the parents. `steps` is for the proof alone: the way around ends.
     let mut steps: usize = 1;
     while at != tip {
         least = least.min(at);
-        at = families.parent(at).unwrap();
+        at = families.parent(at).unwrap_or(at);
         steps = steps + 1;
     }
     least

@@ -1,6 +1,6 @@
 -- THE PARENTS, copied from a family list into an array while row 17 is asked; no walk has visited them yet.
 -- Assumes nothing.
-use Rattle.std.specs.Prelude.{◌≡◌, Bool, true, false, cond, List, ℕ, ◌+◌, ◌≤◌, ◌<◌, eqb, length, set}
+use Rattle.std.specs.Prelude.{◌≡◌, Bool, true, false, cond, List, ℕ, ◌+◌, ◌≤◌, ◌<◌, eqb, length, set, unwrap_or}
 use Rattle.std.proofs.Common.{sym, ◌∙◌, arith, ne_eqb, length-set}
 use Rattle.std.proofs.Math.Path.{ap}
 use Rattle.std.specs.declared.option.Option as code
@@ -37,8 +37,8 @@ pub parent-found : (o : code.Option ℕ) {k : ℕ} → place_of o ≡ some k →
 parent-found (Some j) e = ap Some (some-injective _ _ e)
 parent-found None e = absurd (none-ne-some _ e)
 
-pub parent-known : {o : code.Option ℕ} {j k : ℕ} → place_of o ≡ some k → o ≡ Some j → k ≡ j
-parent-known {o} {j} {k} e q = some-injective k j (sym e ∙ ap place_of q)
+pub parent-or : (o : code.Option ℕ) {k : ℕ} (d : ℕ) → place_of o ≡ some k → unwrap_or o d ≡ k
+parent-or o d e = ap (λ (x : code.Option ℕ). unwrap_or x d) (parent-found o e)
 
 -- a turn of the loop that copies them
 pub take_none : (f up : List ℕ) → length up ≡ 512 → ParentsTaken f 0 up
