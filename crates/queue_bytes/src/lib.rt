@@ -35,9 +35,9 @@ enum Refusal {
 // The hours that wait in one area: its cells, those with an hour first, and how many these are. An array with a
 // count, since the free cells are stored too.
 #[derive(Clone, Copy)]
-struct Waiting {
-    cells: [u8; 25],
-    count: usize,
+pub struct Waiting {
+    pub cells: [u8; 25],
+    pub count: usize,
 }
 
 // The bytes of a queue.
@@ -177,6 +177,7 @@ impl DeskQueue {
 
 // A post: 61 when the area is over 3, 62 when the hour is over 24, 63 when that area has it waiting already; else
 // 0, and the hour waits. A refused post stores nothing. A number and no `Result`: C gets it.
+#[tactic(auto, using(crate::proofs::Steps::Answers::refused_means))]
 pub fn post(queue: &mut [u8; 101], area: u32, hour: u32) -> u32
     ensures number { result ≡ post_number area hour (queue_of queue.old) }
     ensures queue { queue_of queue.new ≡ after_post area hour (queue_of queue.old) }

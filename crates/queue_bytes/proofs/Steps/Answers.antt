@@ -19,11 +19,11 @@ use Rattle.queue_bytes.specs.declared.Refusal.{Refusal}
 use Rattle.queue_bytes.specs.declared.Refusal.TheVariants.{UnknownArea, UnknownHour, WaitsAlready}
 use Rattle.queue_bytes.specs.declared.DeskQueue.{DeskQueue}
 use Rattle.queue_bytes.specs.declared.Taken.{Taken}
-use Rattle.queue_turns.specs.Meaning.Queue.{Pair, pair, among, post_causes, next, serve_answer}
+use Rattle.queue_turns.specs.Meaning.Queue.{Pair, pair, among, post_causes, after_post, next, serve_answer}
 use Rattle.queue_turns.specs.Steps.Invariant.{Hours, also}
 use Rattle.queue_turns.proofs.Steps.Invariant.{at-most-25, Heads, next-heads, refused-61, refused-62, refused-63, not-refused, number_by, answer_by, answer-by}
 use Rattle.queue_bytes.specs.Meaning.Bytes.{cells_of, hours_at, queue_of, with_hours, bytes_unless, bytes_after_post, bytes_without, bytes_after_serve}
-use Rattle.queue_bytes.proofs.Steps.ReadBack.{good-bytes}
+use Rattle.queue_bytes.proofs.Steps.ReadBack.{good-bytes, post-means}
 use Rattle.queue_bytes.specs.Steps.Cells.{waiting_of, Addable}
 use Rattle.queue_bytes.proofs.Steps.Cells.{addable, among_of, cells-less}
 use Rattle.queue_bytes.specs.Meaning.Answer.{given}
@@ -63,6 +63,10 @@ module _ (a h : ℕ) (b : List ℕ) where
     post-taken p q r g =
         let e = not-refused a h (queue_of b) p q r in
         record { number_is = sym (number_by a h (queue_of b) none e); bytes-are = g ∙ bytes-by none e; size = size }
+
+  -- the bytes that a refused post leaves mean the queue after it
+  pub refused_means : (r : Result DeskQueue Refusal) (e : Refusal) → PostStep r → r ≡ Err e → queue_of b ≡ after_post a h (queue_of b)
+  refused_means r e s is = ap queue_of (sym (ap (shown.bytes_unless_refused b) is) ∙ s.bytes-are) ∙ post-means a h b s.size
 
 -- ---- serves
 

@@ -10,9 +10,3 @@ returns-in-Ok-clause-queue c =
     let b = c.args.queue.now in
     let r = c.post.ensures in
     ap queue_of (sym (ap (bytes_unless_refused b) c.in-Ok.is) ∙ r.bytes-are) ∙ post-means c.args.area c.args.hour b r.size
-
-pub returns-in-Err-clause-queue : goal.returns-in-Err-clause-queue
-returns-in-Err-clause-queue c =
-    let b = c.args.queue.now in
-    let r = c.post.ensures in
-    ap queue_of (sym (ap (bytes_unless_refused b) c.in-Err.is) ∙ r.bytes-are) ∙ post-means c.args.area c.args.hour b r.size
