@@ -1,0 +1,2 @@
+-- STEPS that a reader may cite, and no contract does
+pub mod Amounts

@@ -1,0 +1,2 @@
+-- Proofs: the steps that no contract cites.
+pub mod Steps
