@@ -52,7 +52,7 @@ struct Decimals {
     end: usize,
 }
 
-// A size above every limit. Larger sizes are cut to it, so that no count of digits overflows. Three contracts ask
+// A size above every limit. Larger sizes are cut to it, so that no count of digits overflows. Four contracts ask
 // that a size is cut; it has no type of its own, since the definitions `whole_at`, `decimals_at` and `held_number`
 // speak of its number.
 const CAP: u64 = 1_000_000_000;
