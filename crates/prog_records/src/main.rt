@@ -117,11 +117,7 @@ fn parts_length(opening: &[u8; OPENING]) -> usize {
 
 // Reads the parts of a record and runs it. The buffer is the first thing that this does: in `run_record`, after a way
 // out, it would be made zero twice, which takes as long as a short record.
-fn run_parts(
-    rt: &impl Print,
-    input: &mut impl Read,
-    opening: &[u8; OPENING],
-) -> io::Result<()> {
+fn run_parts(rt: &impl Print, input: &mut impl Read, opening: &[u8; OPENING]) -> io::Result<()> {
     let mut buffer = [0u8; PARTS];
     let parts = prog_common::lent(&mut buffer, parts_length(opening));
     let kept = prog_common::read_full(input, parts)?;
