@@ -174,7 +174,7 @@ fn read_later(s: &[u8], at: usize) -> (bool, usize)
 }
 
 // All digits after a point. The size is cut at the cap once, at the end. A loop for those that count and one for those
-// past them: with one loop for both, a sheet took up to twice as long where its jumps lay across lines of 32 bytes.
+// past them: one loop for both took 1.66 times as long for many zeros, as its jumps lay across lines of 32 bytes.
 fn read_decimals(s: &[u8], at: usize, x: u64, k: usize) -> Decimals
     requires at_in_bounds { at ≤ length s.now }
     requires x_le_cap { x ≤ cap }
