@@ -2,18 +2,18 @@
 // later decimal is not zero.
 #![tactic(auto)]
 
-ghost use Rattle.std.specs.Prelude.{◌≡◌, false, [], ◌+◌, ◌*◌, ◌-◌, ◌≤◌, ◌<◌, length, drop};
+ghost use Rattle.std.specs.Prelude.{◌≡◌, [], ◌+◌, ◌*◌, ◌-◌, ◌≤◌, length, drop};
 ghost use Rattle.text_rules.specs.Meaning.Text.{value_from};
-ghost use Rattle.sheet_numbers.specs.Meaning.Numeral.{starts, first_of, non_zero};
+ghost use Rattle.sheet_numbers.specs.Meaning.Numeral.{starts, first_of};
 ghost use Rattle.sheet_numbers.specs.Steps.Capped.{cap, capped};
 ghost use Rattle.sheet_numbers.specs.Meaning.Scan.{Separator};
-ghost use Rattle.sheet_numbers.specs.Steps.Scan.{stops, leading};
+ghost use Rattle.sheet_numbers.specs.Steps.Scan.{stops, sign_length};
 ghost use Rattle.sheet_numbers.specs.Meaning.Pieces.{piece_to, number_at};
-ghost use Rattle.sheet_numbers.specs.Steps.Pieces.{whole_at, decimals_from, decimals_at};
+ghost use Rattle.sheet_numbers.specs.Steps.Pieces.{whole_at, decimals_at};
 
 // Where the next piece of a text starts. The text stands beside it, with the bound on the place: a cursor that held
 // the text would put a reference into each answer, and no equation could say in a contract what the answer is. Slices
-// in place of places took 4 in 100 longer, and for numbers with many zeros more than in plain C.
+// in place of places took 4 in 100 longer.
 #[derive(Clone, Copy)]
 pub struct TextCursor {
     pub at: usize,
@@ -52,7 +52,7 @@ struct Decimals {
     end: usize,
 }
 
-// A size above every limit. Larger sizes are cut to it, so that no count of digits overflows. Four contracts ask
+// A size above every limit. Larger sizes are cut to it, so that no count of digits overflows. Three contracts ask
 // that a size is cut; it has no type of its own, since the definitions `whole_at`, `decimals_at` and `held_number`
 // speak of its number.
 const CAP: u64 = 1_000_000_000;
@@ -89,7 +89,7 @@ fn piece_to(s: &[u8], end: usize) -> Piece
 }
 
 // DIGITS. One digit more. The size is tested before it grows, so that the test and the product can run in parallel;
-// where `min` cut it after that, a large sheet took 7 in 100 longer, and more than in plain C.
+// where `min` cut it after that, a large sheet took 7 in 100 longer.
 #[tactic(auto, unfolding(crate::specs::Steps::Capped::capped))]
 fn with_digit(x: u64, b: u8) -> u64
     requires le_b { 48 ≤ b }
@@ -114,6 +114,13 @@ fn padded(x: u64, n: usize) -> u64
     value
 }
 
+// A size cut at the cap.
+fn held(x: u64) -> u64
+    ensures { result ≡ capped x }
+{
+    x.min(CAP)
+}
+
 // The digits at a place.
 fn read_whole(s: &[u8], at: usize) -> Whole
     requires { at ≤ length s.now }
@@ -133,67 +140,52 @@ fn read_whole(s: &[u8], at: usize) -> Whole
     }
 }
 
-// Those after a point that count, k at most, after the digits of x: the size with them, and where they end. So few
-// cannot overflow, so the size is not cut.
-fn read_counted(s: &[u8], at: usize, x: u64, k: usize) -> (u64, usize)
-    requires at_in_bounds { at ≤ length s.now }
-    requires x_le_cap { x ≤ cap }
-    requires k_bound { k ≤ 9 }
-    ensures same { decimals_from result.0 (at + k - result.1) false result.1 (drop result.1 s.now) ≡ decimals_at s.now at x k }
-    ensures inside { result.1 ≤ length s.now }
-    ensures last { result.1 ≤ at + k }
-    ensures all { result.1 < at + k → leading (drop result.1 s.now) ≡ [] }
-{
-    let last = (at + k).min(s.len());
-    let mut value = x;
-    for i in at..last {
-        let b = s[i];
-        if !b.is_ascii_digit() {
-            return (value, i);
-        }
-        value = 10 * value + u64::from(b - b'0');
-    }
-    (value, last)
-}
-
-// Those past them, from a place on: whether one is not zero, and where they end.
-fn read_later(s: &[u8], at: usize) -> (bool, usize)
-    requires { at ≤ length s.now }
-    ensures finer { result.0 ≡ non_zero (leading (drop at s.now)) }
-    ensures end { result.1 ≡ at + length (leading (drop at s.now)) }
-{
-    let mut finer = false;
-    for i in at..s.len() {
-        let b = s[i];
-        if !b.is_ascii_digit() {
-            return (finer, i);
-        }
-        finer |= b != b'0';
-    }
-    (finer, s.len())
-}
-
-// All digits after a point. The size is cut at the cap once, at the end. A loop for those that count and one for those
-// past them: one loop for both took 1.66 times as long for many zeros, as its jumps lay across lines of 32 bytes.
+// The same after a point: the first k count after the digits of x. So few cannot overflow, so the size is cut at
+// the cap once, at the end.
 fn read_decimals(s: &[u8], at: usize, x: u64, k: usize) -> Decimals
     requires at_in_bounds { at ≤ length s.now }
     requires x_le_cap { x ≤ cap }
     requires k_bound { k ≤ 9 }
     ensures { result ≡ decimals_at s.now at x k }
 {
-    let last = at + k;
-    let (value, counted) = read_counted(s, at, x, k);
-    let (finer, end) = if counted < last {
-        (false, counted)
-    } else {
-        read_later(s, last)
-    };
-    Decimals {
-        value: value.min(CAP),
-        missing: last - counted,
-        finer,
-        end,
+    let mut value = x;
+    let mut left = k;
+    let mut finer = false;
+    for i in at..s.len() {
+        let b = s[i];
+        if !b.is_ascii_digit() {
+            return Decimals {
+                value: held(value),
+                missing: left,
+                finer,
+                end: i,
+            };
+        }
+        if 0 < left {
+            value = 10 * value + u64::from(b - b'0');
+            left -= 1;
+        } else {
+            finer |= b != b'0';
+        }
     }
+    Decimals {
+        value: held(value),
+        missing: left,
+        finer,
+        end: s.len(),
+    }
+}
+
+// Past the minus sign, if one stands there. It asks anew: with `at + usize::from(negative)` the processor waited for
+// the value of the number before, and a sheet took up to 2.1 times as long.
+fn past_sign(s: &[u8], at: usize) -> usize
+    requires { at ≤ length s.now }
+    ensures { result ≡ at + sign_length (drop at s.now) }
+{
+    if starts_at(s, at, b'-') {
+        return at + 1;
+    }
+    at
 }
 
 // THE NEXT NUMBER of a text, up to a mark or the end of the text, in units of decimal k.
@@ -206,7 +198,7 @@ impl TextCursor {
     {
         let at = self.at;
         let negative = starts_at(s, at, b'-');
-        let start = at + usize::from(negative);
+        let start = past_sign(s, at);
         let whole = read_whole(s, start);
         let end = whole.end;
         if end <= start {

@@ -1,7 +1,6 @@
 -- A number whose parts the walk found: the sign at `at`, the digits before the point from `start` on, and those
 -- after it. Assumes nothing.
-use Rattle.std.specs.Prelude.{◌≡◌, refl, Bool, true, false, cond, ℕ, ◌+◌, ◌-◌, ◌≤◌, ◌<◌, take, None, Some}
-use Rattle.std.specs.Int.{from_bool}
+use Rattle.std.specs.Prelude.{◌≡◌, Bool, true, false, ℕ, ◌+◌, ◌-◌, ◌≤◌, ◌<◌, take, None, Some}
 use Rattle.std.proofs.Math.Path.{sym, ap}
 use Rattle.std.proofs.Common.{◌∙◌, arith, length-drop, length-append}
 use mathlib.Core.List.{List, []}
@@ -23,15 +22,6 @@ use Rattle.sheet_numbers.specs.Steps.Pieces.{whole_at, decimals_at}
 
 pub start-in : (s : List ℕ) (at : ℕ) {start : ℕ} → at ≤ length s → start ≡ at + sign_length (drop at s) → start ≤ length s
 start-in s at h p = omega (arith, p, sign-length (drop at s), length-drop at s)
-
--- the byte that a sign takes
-pub past-sign : (s : List ℕ) (at : ℕ) (b : Bool) {n : ℕ} → n ≡ from_bool b → b ≡ starts 45 (drop at s) → at + n ≡ at + sign_length (drop at s)
-unfolding negative
-past-sign s at b p q = ap (λ (m : ℕ). at + m) (p ∙ length-of b ∙ ap (λ (c : Bool). cond c 1 0) q)
-  where
-    length-of : (c : Bool) → from_bool c ≡ cond c 1 0
-    length-of true = refl
-    length-of false = refl
 
 -- past the sign, at `start`, stand the digits w
 pub record WholeRead (mark k : ℕ) (s : List ℕ) (at start : ℕ) (w : Whole) : Type 0 where

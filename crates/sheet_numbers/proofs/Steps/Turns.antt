@@ -107,22 +107,6 @@ digits-done v left i f t e =
     here : i + 0 ≡ i
     here = omega arith
 
--- those that count, of which some may be missing, and then the later ones
-pub counted-then : (v left i : ℕ) (t : List ℕ) → (0 < left → leading t ≡ [])
-    → decimals_from v left false i t ≡ record { value = capped v; missing = left; finer = non_zero (leading t); end = i + length (leading t) }
-unfolding value_from non_zero
-counted-then v zero i t h = λ j. record { value = capped v; missing = none j; finer = non_zero (leading t); end = i + length (leading t) }
-  where
-    none : 0 - length (leading t) ≡ 0
-    none = omega arith
-counted-then v (suc n) i t h =
-    digits-done v (suc n) i false t (h (omega arith))
-    ∙ (λ j. record { value = capped v; missing = suc n; finer = false; end = here j })
-    ∙ ap (λ (l : List ℕ). record { value = capped v; missing = suc n; finer = non_zero l; end = i + length l }) (sym (h (omega arith)))
-  where
-    here : i ≡ i + 0
-    here = omega arith
-
 pub zero_more : (v n : ℕ) → 0 < n → capped (value_from v (first_of n [])) ≡ capped (value_from (capped (10 * v + 0)) (first_of (n - 1) []))
 unfolding value_from first_of
 zero_more v zero h = absurd (omega arith)
@@ -178,27 +162,3 @@ module _ (s : List ℕ) (at x k value left : ℕ) (f : Bool) (i : ℕ) (w : Deci
 
   pub turns-done : {v : ℕ} → leading (drop i s) ≡ [] → v ≡ capped value → record { value = v; missing = left; finer = f; end = i } ≡ decimals_at s at x k
   turns-done e q = (λ j. record { value = q j; missing = left; finer = f; end = i }) ∙ sym (digits-done value left i f (drop i s) e) ∙ w.same
-
--- past those that count
-pub later-done : (s : List ℕ) (at : ℕ) (f : Bool) (i : ℕ) → DecimalsSoFar s at 0 0 0 0 f i → leading (drop i s) ≡ [] → (f ≡ non_zero (leading (drop at s))) × (i ≡ at + length (leading (drop at s)))
-later-done s at f i w e =
-    let done = turns-done s at 0 0 0 0 f i w {v = capped 0} e refl in
-    (ap (λ (d : Decimals). d.finer) done, ap (λ (d : Decimals). d.end) done)
-
--- where some of those that count are missing none is left; else they are the ones at n
-module _ (s : List ℕ) (i : ℕ) (p : Bool × ℕ) where
-  abbrev Later : Type 0
-  Later = (p.0 ≡ non_zero (leading (drop i s))) × (p.1 ≡ i + length (leading (drop i s)))
-
-  pub later-none : p ≡ (false, i) → leading (drop i s) ≡ [] → Later
-  unfolding non_zero
-  later-none q e = (ap (λ (w : Bool × ℕ). w.0) q ∙ ap non_zero (sym e), ap (λ (w : Bool × ℕ). w.1) q ∙ here)
-    where
-      here : i ≡ i + length (leading (drop i s))
-      here = omega (arith, ap length e)
-
-  pub later-at : (n : ℕ) {r : Bool × ℕ} → p ≡ r → n ≡ i → r.0 ≡ non_zero (leading (drop n s)) → r.1 ≡ n + length (leading (drop n s)) → Later
-  later-at n q h f e = (
-    ap (λ (w : Bool × ℕ). w.0) q ∙ f ∙ ap (λ (m : ℕ). non_zero (leading (drop m s))) h,
-    ap (λ (w : Bool × ℕ). w.1) q ∙ e ∙ ap (λ (m : ℕ). m + length (leading (drop m s))) h,
-  )

@@ -1,22 +1,33 @@
--- `sheet_numbers::read_decimals` meets its contract: those that count, then those past them. Assumes nothing.
-use Rattle.std.proofs.Common.{◌≡◌, ◌+◌, ◌-◌, sym, ◌∙◌, arith, length, drop}
-use Rattle.sheet_numbers.specs.Meaning.Numeral.{non_zero}
-use Rattle.sheet_numbers.specs.Steps.Scan.{leading}
-use Rattle.sheet_numbers.proofs.Steps.Capped.{capped-min}
-use Rattle.sheet_numbers.proofs.Steps.Turns.{counted-then, later-none, later-at}
+-- `sheet_numbers::read_decimals` meets its contract: a digit that counts, one past those, another byte, and the end of
+-- the text. Assumes nothing.
+use Rattle.std.proofs.Common.{◌≡◌, ◌∙◌, arith, length}
+use Rattle.sheet_numbers.proofs.Steps.Scan.{as_digit, lead-other, lead-end}
+use Rattle.sheet_numbers.proofs.Steps.Turns.{turn-counts, turn-past, turns-done}
 use Rattle.sheet_numbers.proofs.read_decimals.Goals as goal
-use Rattle.sheet_numbers.proofs.read_decimals.Goals.{then-counted-last, else-counted-last}
+use Rattle.sheet_numbers.proofs.read_decimals.Goals.{then-left-gt0, else-left-gt0}
+
+pub returns-then-not-is_ascii_digit : goal.returns-then-not-is_ascii_digit
+returns-then-not-is_ascii_digit c =
+    let a = c.args in
+    let l = c.loop-i in
+    let other = lead-other a.s.now l.i c.loop-i-test.true (as_digit _ c.if-not-is_ascii_digit.ensures.value) in
+    turns-done a.s.now a.at a.x a.k l.value l.left l.finer l.i l.invariant other c.held.ensures
+
+pub loop-i-preserved : goal.loop-i-preserved
+loop-i-preserved c =
+    let a = c.args in
+    let l = c.loop-i in
+    let digit = as_digit _ c.if-not-is_ascii_digit.ensures.value in
+    elim c.if-left-gt0.branch [
+      | then-left-gt0 w ↦ turn-counts a.s.now a.at a.x a.k l.value l.left l.finer l.i l.invariant c.loop-i-test.true digit w.if-left-gt0.true (omega (arith, w.value-is, w.from.ensures)) w.left-is w.finer-is
+      | else-left-gt0 w ↦ turn-past a.s.now a.at a.x a.k l.value l.left l.finer l.i l.invariant c.loop-i-test.true digit w.if-left-gt0.false w.value-is w.left-is w.finer-is
+    ]
 
 pub returns : goal.returns
 returns c =
-    let s = c.args.s.now in
-    let last = c.args.at + c.args.k in
-    let r = c.read_counted-value in
-    let i = r.result.1 in
-    let later : (c.if-counted-last.finer.0 ≡ non_zero (leading (drop i s))) × (c.if-counted-last.finer.1 ≡ i + length (leading (drop i s))) = elim c.if-counted-last.branch [
-      | then-counted-last w ↦ later-none s i _ w.finer-is (r.ensures.all w.if-counted-last.true)
-      | else-counted-last w ↦ later-at s i _ last w.finer-is (omega (arith, r.ensures.last, w.if-counted-last.false)) w.read_later.ensures.finer w.read_later.ensures.end
-    ] in
-    (λ j. record { value = (c.min.ensures ∙ sym (capped-min r.result.0)) j; missing = last - i; finer = later.0 j; end = later.1 j })
-    ∙ sym (counted-then r.result.0 (last - i) i (drop i s) (λ h. r.ensures.all (omega arith)))
-    ∙ r.ensures.same
+    let a = c.args in
+    let l = c.loop-i in
+    let none = lead-end a.s.now l.i c.loop-i-test.false in
+    let end : length a.s.now ≡ l.i = omega arith in
+    (λ j. record { value = c.held-2.result; missing = l.left; finer = l.finer; end = end j })
+    ∙ turns-done a.s.now a.at a.x a.k l.value l.left l.finer l.i l.invariant none c.held-2.ensures

@@ -2,16 +2,16 @@
 -- Assumes nothing.
 use Rattle.std.proofs.Common.{◌+◌, refl, sym, arith}
 use Rattle.sheet_numbers.specs.Meaning.Numeral.{negative}
-use Rattle.sheet_numbers.proofs.Steps.Parts.{start-in, past-sign, WholeRead, value-le, end-in, point-in, none_read, other-read, whole-read, PointRead, last-in, held-le, point-none, point-other, point-read}
+use Rattle.sheet_numbers.proofs.Steps.Parts.{start-in, WholeRead, value-le, end-in, point-in, none_read, other-read, whole-read, PointRead, last-in, held-le, point-none, point-other, point-read}
 use Rattle.sheet_numbers.proofs.TextCursor.number.Goals as goal
 use Rattle.sheet_numbers.proofs.TextCursor.number.Goals.{After-read_whole-whole, After-read_decimals-decimals}
 
 pub read_whole-whole-requires : goal.read_whole-whole-requires
-read_whole-whole-requires c = start-in c.args.s.now c.args.self.at c.requires.at_in_bounds (past-sign c.args.s.now c.args.self.at _ c.from.ensures c.starts_at-negative.ensures)
+read_whole-whole-requires c = start-in c.args.s.now c.args.self.at c.requires.at_in_bounds c.past_sign-start.ensures
 
 -- the digits before a point
-whole_is : (c : After-read_whole-whole) → WholeRead c.args.mark c.args.k c.args.s.now c.args.self.at (c.args.self.at + c.from.result) c.read_whole-whole.result
-whole_is c = record { separates = c.requires.separator; inside = c.requires.at_in_bounds; start_is = past-sign c.args.s.now c.args.self.at _ c.from.ensures c.starts_at-negative.ensures; digits_are = c.read_whole-whole.ensures }
+whole_is : (c : After-read_whole-whole) → WholeRead c.args.mark c.args.k c.args.s.now c.args.self.at c.past_sign-start.result c.read_whole-whole.result
+whole_is c = record { separates = c.requires.separator; inside = c.requires.at_in_bounds; start_is = c.past_sign-start.ensures; digits_are = c.read_whole-whole.ensures }
 
 pub returns-then-end-start : goal.returns-then-end-start
 returns-then-end-start c = none_read (whole_is (goal.at.returns-then-end-start c).After-read_whole-whole) c.if-end-start.true
@@ -28,8 +28,8 @@ pub read_decimals-decimals-requires-clause-x_le_cap : goal.read_decimals-decimal
 read_decimals-decimals-requires-clause-x_le_cap c = value-le (whole_is (goal.at.read_decimals-decimals-requires-clause-x_le_cap c).After-read_whole-whole)
 
 -- the digits after it
-point_is : (c : After-read_decimals-decimals) → WholeRead c.args.mark c.args.k c.args.s.now c.args.self.at (c.args.self.at + c.from.result) c.read_whole-whole.result
-    → PointRead c.args.mark c.args.k c.args.s.now c.args.self.at (c.args.self.at + c.from.result) c.read_whole-whole.result (c.read_whole-whole.result.end + 1) c.read_decimals-decimals.result
+point_is : (c : After-read_decimals-decimals) → WholeRead c.args.mark c.args.k c.args.s.now c.args.self.at c.past_sign-start.result c.read_whole-whole.result
+    → PointRead c.args.mark c.args.k c.args.s.now c.args.self.at c.past_sign-start.result c.read_whole-whole.result (c.read_whole-whole.result.end + 1) c.read_decimals-decimals.result
 point_is c w = record { whole = w; some = c.if-end-start.false; point = sym c.if-starts_at.ensures; next-is = refl; digits_are = c.read_decimals-decimals.ensures }
 
 pub returns-then-last-next : goal.returns-then-last-next
