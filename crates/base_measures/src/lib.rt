@@ -64,9 +64,9 @@ pub struct ExactMicrocents {
     parts: u64,
 }
 
-// A MEASURE is a number with a name and limits of its own. No other crate makes a measure of a number or takes the
-// number out. This module is private, so none names its trait; and both functions ask for a key, which none can make,
-// so none calls them through `Measure` either.
+// A MEASURE is a number with a name and limits of its own. By this trait no other crate makes a measure of a number or
+// takes the number out. The module is private, so none names the trait; and both functions ask for a key, which none
+// can make, so none calls them through `Measure` either.
 mod sealed {
     #[derive(Clone, Copy)]
     pub struct Key(pub(crate) ());
@@ -106,9 +106,10 @@ pub trait Measure: Number {
         Self::of_number(self.number(KEY) - other.number(KEY), KEY)
     }
 
-    // Two's complement.
+    // Two's complement. The number fits 64 bits, so none of it is lost.
     fn bits(self) -> Bits
-        ensures { result.0 ≡ of_z w64 (Self.number self) }
+        ensures value { result.0 ≡ of_z w64 (Self.number self) }
+        ensures fits { SFits w64 (Self.number self) }
     {
         Bits(self.number(KEY).cast_unsigned())
     }

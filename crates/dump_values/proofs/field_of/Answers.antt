@@ -17,19 +17,19 @@ use Rattle.dump_values.proofs.field_of.Goals as goal
 -- the order's quantity, as bits of its measure, is at most 100,000
 pub overflow_cast-quantity : goal.overflow_cast-quantity
 overflow_cast-quantity c =
-    let is : c.bits-quantity.result.0 ≡ quantity_in c.args.«case».bytes.now c.args.i = c.bits-quantity.ensures ∙ ap (λ (r : Order). of_z w64 r.quantity.0) c.order_at.ensures in
+    let is : c.bits-quantity.result.0 ≡ quantity_in c.args.«case».bytes.now c.args.i = c.bits-quantity.ensures.value ∙ ap (λ (r : Order). of_z w64 r.quantity.0) c.order_at.ensures in
     let small : quantity_in c.args.«case».bytes.now c.args.i ≤ 100000 = quantity-most c.args.«case».readable c.args.i c.if-i-orders.true in
     record { fits = omega arith }
 
 pub share_of-requires : goal.share_of-requires
 share_of-requires c =
-    let is : c.bits-quantity.result.0 ≡ quantity_in c.args.«case».bytes.now c.args.i = c.bits-quantity.ensures ∙ ap (λ (r : Order). of_z w64 r.quantity.0) c.order_at.ensures in
+    let is : c.bits-quantity.result.0 ≡ quantity_in c.args.«case».bytes.now c.args.i = c.bits-quantity.ensures.value ∙ ap (λ (r : Order). of_z w64 r.quantity.0) c.order_at.ensures in
     let small : quantity_in c.args.«case».bytes.now c.args.i ≤ 100000 = quantity-most c.args.«case».readable c.args.i c.if-i-orders.true in
     omega arith
 
 pub returns-then-i-orders : goal.returns-then-i-orders
 returns-then-i-orders c =
-    let is : c.bits-quantity.result.0 ≡ quantity_in c.args.«case».bytes.now c.args.i = c.bits-quantity.ensures ∙ ap (λ (r : Order). of_z w64 r.quantity.0) c.order_at.ensures in
+    let is : c.bits-quantity.result.0 ≡ quantity_in c.args.«case».bytes.now c.args.i = c.bits-quantity.ensures.value ∙ ap (λ (r : Order). of_z w64 r.quantity.0) c.order_at.ensures in
     c.share_of.ensures
     ∙ (λ j. share_field (c.value-x.ensures j) (is j))
     ∙ share-agrees c.args.bits c.requires.bits_value (quantity_in c.args.«case».bytes.now c.args.i) (quantity-most c.args.«case».readable c.args.i c.if-i-orders.true)

@@ -18,5 +18,5 @@ pub loop-z-preserved : goal.loop-z-preserved
 unfolding signed64
 loop-z-preserved c =
     let z = c.loop-z.z in
-    let e = c.bits.ensures ∙ ap (λ (g : Grains). of_z w64 g.0) (get_or-take c.args.zones c.args.prices z no_grains (omega (arith, length-take c.args.zones c.args.prices))) in
+    let e = c.bits.ensures.value ∙ ap (λ (g : Grains). of_z w64 g.0) (get_or-take c.args.zones c.args.prices z no_grains (omega (arith, length-take c.args.zones c.args.prices))) in
     c.put.ensures ∙ (λ j. sets (c.loop-z.invariant j) (48 + 8 * z) (bytes_of 8 (e j))) ∙ next-price c.args.report.now z (grains_at c.args.prices)
