@@ -15,7 +15,7 @@ unfolding total_line
 put_text-amount-requires c = omega (arith, simp length-append at c.requires)
 
 amount-is : (c : After-bits) → amount_text 8 (to_z w64 c.bits.result.0) ≡ amount_text 8 c.args.total.0
-amount-is c = bits-text 8 (record { sfits = omega arith }) c.bits.ensures.value
+amount-is c = bits-text 8 c.bits.ensures.fits c.bits.ensures.value
 
 pub put_amount-end-requires-clause-x_in_bounds : goal.put_amount-end-requires-clause-x_in_bounds
 unfolding total_line
@@ -25,7 +25,7 @@ put_amount-end-requires-clause-x_in_bounds c =
 
 -- the name and the amount
 both : (c : After-put_amount-end) → Put c.args.out.now c.args.at (c.args.name.now ++ amount_text 8 c.args.total.0) c.put_amount-end.new.out c.put_amount-end.result
-both c = put_then c.put_text-amount.ensures (put_as (bits-text 8 (record { sfits = omega arith }) c.bits.ensures.value) c.put_amount-end.ensures)
+both c = put_then c.put_text-amount.ensures (put_as (bits-text 8 c.bits.ensures.fits c.bits.ensures.value) c.put_amount-end.ensures)
 
 pub put_text-requires : goal.put_text-requires
 unfolding total_line

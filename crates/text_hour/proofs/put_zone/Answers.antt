@@ -16,7 +16,7 @@ unfolding price_line
 put_named-amount-requires c = simp length-append (omega (arith, simp length-append at c.requires))
 
 amount-is : (c : After-bits) → amount_text 7 (to_z w64 c.bits.result.0) ≡ amount_text 7 c.args.price.0
-amount-is c = bits-text 7 (record { sfits = omega arith }) c.bits.ensures.value
+amount-is c = bits-text 7 c.bits.ensures.fits c.bits.ensures.value
 
 pub put_amount-end-requires-clause-x_in_bounds : goal.put_amount-end-requires-clause-x_in_bounds
 unfolding price_line
@@ -26,7 +26,7 @@ put_amount-end-requires-clause-x_in_bounds c =
 
 -- the zone and its price
 both : (c : After-put_amount-end) → Put c.args.out.now c.args.at (ascii "price " ++ count_text c.args.zone ++ ascii " " ++ amount_text 7 c.args.price.0) c.put_amount-end.new.out c.put_amount-end.result
-both c = put_then c.put_named-amount.ensures (put_as (bits-text 7 (record { sfits = omega arith }) c.bits.ensures.value) c.put_amount-end.ensures)
+both c = put_then c.put_named-amount.ensures (put_as (bits-text 7 c.bits.ensures.fits c.bits.ensures.value) c.put_amount-end.ensures)
 
 pub put_text-requires : goal.put_text-requires
 unfolding price_line
